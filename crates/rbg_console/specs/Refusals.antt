@@ -6,14 +6,11 @@ use Rattle.rbg_game.specs.declared.error.LoadError.{LoadError}
 use Rattle.rbg_game.specs.declared.error.LoadError.TheVariants.{Text, Macro, Syntax, Game}
 use Rattle.rbg_game.specs.declared.game_error.GameError.{GameError}
 use Rattle.rbg_game.specs.declared.game_error.GameError.TheVariants as games
-use Rattle.rbg_game.specs.declared.game_error.Thing.{Thing}
-use Rattle.rbg_game.specs.declared.game_error.Thing.TheVariants as things
+use Rattle.rbg_game.specs.Names.{thing_name}
 use Rattle.rbg_macro.specs.declared.error.MacroError.{MacroError}
 use Rattle.rbg_macro.specs.declared.error.MacroError.TheVariants as macros
-use Rattle.rbg_macro.specs.declared.source.SectionKind.{SectionKind}
-use Rattle.rbg_macro.specs.declared.source.SectionKind.TheVariants as kinds
-use Rattle.rbg_syntax.specs.declared.error.Expectation.{Expectation}
-use Rattle.rbg_syntax.specs.declared.error.Expectation.TheVariants as parts
+use Rattle.rbg_macro.specs.Names.{section_name}
+use Rattle.rbg_syntax.specs.Names.{part_name}
 use Rattle.rbg_syntax.specs.declared.error.SyntaxError.{SyntaxError}
 use Rattle.rbg_syntax.specs.declared.error.SyntaxError.TheVariants as phrases
 use Rattle.rbg_tokens.specs.declared.error.TextError.{TextError}
@@ -34,28 +31,6 @@ macro_refusal macros.TooManyTokens = codes "macro 5 TooManyTokens"
 macro_refusal (macros.BadJoin at) = codes "macro 6 BadJoin " ++ decimal at
 macro_refusal macros.Memory = codes "macro Memory"
 
--- what is needed where a token doesn't fit
-unfoldable pub part_name : Expectation → List ℕ
-part_name parts.Name = codes "Name"
-part_name parts.Number = codes "Number"
-part_name parts.Opening = codes "Opening"
-part_name parts.Closing = codes "Closing"
-part_name parts.Equals = codes "Equals"
-part_name parts.Comma = codes "Comma"
-part_name parts.Colon = codes "Colon"
-part_name parts.Item = codes "Item"
-part_name parts.Factor = codes "Factor"
-part_name parts.Relation = codes "Relation"
-part_name parts.Generator = codes "Generator"
-part_name parts.End = codes "End"
-
-unfoldable pub section_name : SectionKind → List ℕ
-section_name kinds.Players = codes "players"
-section_name kinds.Pieces = codes "pieces"
-section_name kinds.Variables = codes "variables"
-section_name kinds.Board = codes "board"
-section_name kinds.Rules = codes "rules"
-
 unfoldable pub syntax_refusal : SyntaxError → List ℕ
 syntax_refusal (phrases.Expected at what) =
     codes "syntax 1 Expected " ++ (decimal at ++ (codes " " ++ part_name what))
@@ -72,14 +47,6 @@ board_refusal boards.SameDirection = codes "board 4 SameDirection"
 board_refusal boards.UnknownVertex = codes "board 5 UnknownVertex"
 board_refusal boards.SameVertex = codes "board 6 SameVertex"
 board_refusal boards.Memory = codes "board Memory"
-
--- what there are too many of
-unfoldable pub thing_name : Thing → List ℕ
-thing_name things.Players = codes "players"
-thing_name things.Pieces = codes "pieces"
-thing_name things.Variables = codes "variables"
-thing_name things.Directions = codes "directions"
-thing_name things.Positions = codes "positions"
 
 unfoldable pub game_refusal : GameError → List ℕ
 game_refusal (games.UnknownName at) = codes "game 1 UnknownName " ++ decimal at

@@ -6,18 +6,15 @@ ghost use Rattle.rbg_console.specs.Refusals.{
   board_refusal,
   game_refusal,
   macro_refusal,
-  part_name,
   refusal_text,
-  section_name,
   syntax_refusal,
   text_refusal,
-  thing_name,
 };
 
 use rbg_board::BoardError;
-use rbg_game::{GameError, LoadError, Thing};
-use rbg_macro::{MacroError, SectionKind};
-use rbg_syntax::{Expectation, SyntaxError};
+use rbg_game::{GameError, LoadError};
+use rbg_macro::MacroError;
+use rbg_syntax::SyntaxError;
 use rbg_tokens::TextError;
 use std::fmt::{self, Formatter};
 
@@ -72,15 +69,15 @@ fn write_syntax<W: fmt::Write>(f: &mut Formatter<W>, error: &SyntaxError) -> fmt
 {
     match error {
         SyntaxError::Expected { at, what } => {
-            let part = name_of_part(*what);
+            let part = what.name();
             write!(f, "syntax 1 Expected {at} {part}")
         }
         SyntaxError::MissingSection { which } => {
-            let name = name_of_section(*which);
+            let name = which.name();
             write!(f, "syntax 2 MissingSection {name}")
         }
         SyntaxError::SectionTwice { which } => {
-            let name = name_of_section(*which);
+            let name = which.name();
             write!(f, "syntax 3 SectionTwice {name}")
         }
         SyntaxError::TooDeep { at } => write!(f, "syntax 4 TooDeep {at}"),
@@ -99,7 +96,7 @@ fn write_game<W: fmt::Write>(f: &mut Formatter<W>, error: &GameError) -> fmt::Re
         GameError::SwitchInPattern { at } => write!(f, "game 4 SwitchInPattern {at}"),
         GameError::PatternTooDeep { at } => write!(f, "game 5 PatternTooDeep {at}"),
         GameError::TooMany { what } => {
-            let thing = name_of_thing(*what);
+            let thing = what.name();
             write!(f, "game 6 TooMany {thing}")
         }
         GameError::Memory => write!(f, "game Memory"),
@@ -119,54 +116,5 @@ fn write_board<W: fmt::Write>(f: &mut Formatter<W>, error: &BoardError) -> fmt::
         BoardError::UnknownVertex => write!(f, "board 5 UnknownVertex"),
         BoardError::SameVertex => write!(f, "board 6 SameVertex"),
         BoardError::Memory => write!(f, "board Memory"),
-    }
-}
-
-/// What is needed where a token does not fit.
-#[tactic(auto, unfolding(crate::specs::Refusals::part_name))]
-fn name_of_part(part: Expectation) -> &'static str
-    ensures { result.now ≡ part_name part }
-{
-    match part {
-        Expectation::Name => "Name",
-        Expectation::Number => "Number",
-        Expectation::Opening => "Opening",
-        Expectation::Closing => "Closing",
-        Expectation::Equals => "Equals",
-        Expectation::Comma => "Comma",
-        Expectation::Colon => "Colon",
-        Expectation::Item => "Item",
-        Expectation::Factor => "Factor",
-        Expectation::Relation => "Relation",
-        Expectation::Generator => "Generator",
-        Expectation::End => "End",
-    }
-}
-
-/// A section as it is named in a text.
-#[tactic(auto, unfolding(crate::specs::Refusals::section_name))]
-fn name_of_section(section: SectionKind) -> &'static str
-    ensures { result.now ≡ section_name section }
-{
-    match section {
-        SectionKind::Players => "players",
-        SectionKind::Pieces => "pieces",
-        SectionKind::Variables => "variables",
-        SectionKind::Board => "board",
-        SectionKind::Rules => "rules",
-    }
-}
-
-/// What there are too many of.
-#[tactic(auto, unfolding(crate::specs::Refusals::thing_name))]
-fn name_of_thing(thing: Thing) -> &'static str
-    ensures { result.now ≡ thing_name thing }
-{
-    match thing {
-        Thing::Players => "players",
-        Thing::Pieces => "pieces",
-        Thing::Variables => "variables",
-        Thing::Directions => "directions",
-        Thing::Positions => "positions",
     }
 }

@@ -20,8 +20,11 @@ pub(crate) fn board_place<'a>(error: &BoardError, board: &'a [Token<'a>]) -> Opt
 
 /// The first row without a cell, or else the name of the generator.
 fn empty_row<'a>(board: &'a [Token<'a>]) -> Option<Token<'a>> {
-    for (token, next) in board.iter().zip(board.iter().skip(1)) {
-        if token.is(Symbol::OpenBracket) && next.is(Symbol::CloseBracket) {
+    for pair in board.windows(2) {
+        if let [token, next] = pair
+            && token.is(Symbol::OpenBracket)
+            && next.is(Symbol::CloseBracket)
+        {
             return Some(*token);
         }
     }
@@ -121,8 +124,11 @@ fn stands_before(tokens: &[Token<'_>], name: &[u8], symbol: Symbol) -> bool {
 
 /// The first target of an edge that is no vertex.
 fn unknown_target<'a>(board: &'a [Token<'a>]) -> Option<Token<'a>> {
-    for (token, next) in board.iter().zip(board.iter().skip(1)) {
-        if token.is(Symbol::Colon) && !stands_before(board, next.text, Symbol::OpenBracket) {
+    for pair in board.windows(2) {
+        if let [token, next] = pair
+            && token.is(Symbol::Colon)
+            && !stands_before(board, next.text, Symbol::OpenBracket)
+        {
             return Some(*next);
         }
     }

@@ -6,7 +6,7 @@ use crate::exact::find_place;
 use crate::joined::{joined_text, push_joins};
 use crate::message::{Found, Message};
 use crate::origin::faulty_call;
-use crate::output::{line_and_column, push_made};
+use crate::output::{File, line_and_column, push_location, push_made};
 use crate::spot::{Spot, head_name};
 use rbg_console::Refusal;
 use rbg_game::LoadError;
@@ -27,29 +27,44 @@ pub fn explain(
     error: LoadError,
 ) -> Result<Vec<u8>, AllocError> {
     let mut output = Vec::new(alloc);
-    match find_place(alloc, &error, text, tokens)? {
-        Some(at) => push_refused(alloc, &mut output, file, text, tokens, error, at)?,
-        None => {
-            let message = Message {
-                error,
-                spot: None,
-                joined: None,
-                has_mark: begins_with_mark(text, &error),
-            };
-            push_made(&mut output, format!(in alloc; "{file}: {message}\n"))?;
-        }
-    }
-    let refusal = Refusal(error);
-    push_made(&mut output, format!(in alloc; "refused {refusal}\n"))?;
+    let file = File { name: file, text };
+    push_explanation(alloc, &mut output, file, tokens, error)?;
+    push_refusal(alloc, &mut output, error)?;
     Ok(output)
+}
+
+/// The printed line of the refusal.
+fn push_refusal(alloc: Global, output: &mut Vec<u8>, error: LoadError) -> Result<(), AllocError> {
+    let refusal = Refusal(error);
+    push_made(output, format!(in alloc; "refused {refusal}\n"))
+}
+
+/// What is told of the text before the refusal itself.
+fn push_explanation(
+    alloc: Global,
+    output: &mut Vec<u8>,
+    file: File<'_>,
+    tokens: Option<&Tokens<'_>>,
+    error: LoadError,
+) -> Result<(), AllocError> {
+    if let Some(at) = find_place(alloc, &error, file.text, tokens)? {
+        return push_refused(alloc, output, file, tokens, error, at);
+    }
+    let message = Message {
+        error,
+        spot: None,
+        joined: None,
+        has_mark: begins_with_mark(file.text, &error),
+    };
+    let name = file.name;
+    push_made(output, format!(in alloc; "{name}: {message}\n"))
 }
 
 /// What is told of a text that is refused at an offset.
 fn push_refused(
     alloc: Global,
     output: &mut Vec<u8>,
-    file: &str,
-    text: &[u8],
+    file: File<'_>,
     tokens: Option<&Tokens<'_>>,
     error: LoadError,
     at: usize,
@@ -60,26 +75,25 @@ fn push_refused(
         error,
         spot: Spot::find(cut, at),
         joined: joined.as_deref(),
-        has_mark: begins_with_mark(text, &error),
+        has_mark: begins_with_mark(file.text, &error),
     };
-    push_message(alloc, output, file, text, cut, at, message)
+    push_message(alloc, output, file, cut, at, message)
 }
 
 /// The place with the message, where its token is joined, and what else is told of it.
 fn push_message(
     alloc: Global,
     output: &mut Vec<u8>,
-    file: &str,
-    text: &[u8],
+    file: File<'_>,
     tokens: &[Token<'_>],
     at: usize,
     message: Message<'_>,
 ) -> Result<(), AllocError> {
-    push_place(alloc, output, file, text, at, message)?;
+    push_place(alloc, output, file, at, message)?;
     if let Some(joined) = message.joined {
-        push_joins(alloc, output, text, tokens, at, joined)?;
+        push_joins(alloc, output, file.text, tokens, at, joined)?;
     }
-    push_notes(alloc, output, text, tokens, message)
+    push_notes(alloc, output, file.text, tokens, message)
 }
 
 fn slice_of<'a>(tokens: Option<&'a Tokens<'a>>) -> &'a [Token<'a>] {
@@ -99,22 +113,18 @@ fn begins_with_mark(text: &[u8], error: &LoadError) -> bool {
 fn push_place(
     alloc: Global,
     output: &mut Vec<u8>,
-    file: &str,
-    text: &[u8],
+    file: File<'_>,
     at: usize,
     message: Message<'_>,
 ) -> Result<(), AllocError> {
-    let at = at.min(text.len());
-    let line = TextLine::of(text, at);
+    let at = at.min(file.text.len());
+    let line = TextLine::of(file.text, at);
     let offset = at - line.start;
-    let number = line.number;
-    let column = offset.saturating_add(1);
-    push_made(
-        output,
-        format!(in alloc; "{file}:{number}:{column}: {message}\n"),
-    )?;
+    let place = (line.number, offset.saturating_add(1));
+    push_location(alloc, output, file, place)?;
+    push_made(output, format!(in alloc; "{message}\n"))?;
     let excerpt = Excerpt {
-        number,
+        number: line.number,
         bytes: line.bytes.strip_suffix(b"\r").unwrap_or(line.bytes),
         offset,
         width: message.spot.map_or(1, |spot| spot.token.text.len()),

@@ -36,7 +36,7 @@ fn joined_in(
 ) -> Result<Option<Vec<u8>>, AllocError> {
     let found = texts_at(alloc, source, at)?;
     match chosen(error, source, found.as_slice()) {
-        Some(text) if !stands_at(tokens, at, text) => Ok(Some(text.to_vec(alloc)?)),
+        Some(text) if !stands_at(tokens, at, text) => text.to_vec(alloc).map(Some),
         _ => Ok(None),
     }
 }
@@ -81,7 +81,7 @@ fn push_texts<'a>(
 ) -> Result<(), AllocError> {
     for index in 0..section.len() {
         let token = section.token(index);
-        if token.at == at && !texts.iter().any(|text| *text == token.text) {
+        if token.at == at && !texts.contains(&token.text) {
             texts.push(token.text)?;
         }
     }
@@ -209,5 +209,5 @@ fn is_other_in(
     joined: &[u8],
 ) -> Result<bool, AllocError> {
     let texts = texts_at(alloc, source, at)?;
-    Ok(!texts.iter().any(|text| *text == joined))
+    Ok(!texts.contains(&joined))
 }

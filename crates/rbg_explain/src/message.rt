@@ -29,11 +29,11 @@ pub struct Message<'a> {
 impl fmt::Display for Message<'_> {
     fn fmt<W: fmt::Write>(&self, f: &mut Formatter<W>) -> fmt::Result {
         let found = Found(self.found());
-        match self.error {
-            LoadError::Text(error) => write_text(f, &error, self.has_mark),
-            LoadError::Macro(error) => write_macro(f, &error, self.spot, &found),
-            LoadError::Syntax(error) => write_syntax(f, &error, self.spot, &found),
-            LoadError::Game(error) => write_game(f, &error, self.spot, &found),
+        match &self.error {
+            LoadError::Text(error) => write_text(f, error, self.has_mark),
+            LoadError::Macro(error) => write_macro(f, error, self.spot, &found),
+            LoadError::Syntax(error) => write_syntax(f, error, self.spot, &found),
+            LoadError::Game(error) => write_game(f, error, self.spot, &found),
         }
     }
 }
@@ -122,20 +122,20 @@ fn write_call<W: fmt::Write>(
     let form = spot.map(|spot| spot.call_form());
     match (wanted, form) {
         (Some(wanted), Some(CallForm::NoParenthesis)) => {
-            let word = argument_word(wanted);
+            let wanted = ArgumentCount(wanted);
             write!(
                 f,
-                "expected `(` and {wanted} {word} behind the macro's name {found}"
+                "expected `(` and {wanted} behind the macro's name {found}"
             )
         }
         (Some(_), Some(CallForm::Open)) => {
             write!(f, "expected a `)` behind the arguments of {found}")
         }
         (Some(wanted), Some(CallForm::Arguments(count))) if count != wanted => {
-            let word = argument_word(wanted);
+            let wanted = ArgumentCount(wanted);
             write!(
                 f,
-                "expected {wanted} {word} of {found}, separated by `;`, found {count}"
+                "expected {wanted} of {found}, separated by `;`, found {count}"
             )
         }
         _ => write!(
@@ -145,8 +145,16 @@ fn write_call<W: fmt::Write>(
     }
 }
 
-fn argument_word(count: usize) -> &'static str {
-    if count == 1 { "argument" } else { "arguments" }
+/// So many arguments.
+#[derive(Clone, Copy)]
+struct ArgumentCount(usize);
+
+impl fmt::Display for ArgumentCount {
+    fn fmt<W: fmt::Write>(&self, f: &mut Formatter<W>) -> fmt::Result {
+        let count = self.0;
+        let ending = if count == 1 { "" } else { "s" };
+        write!(f, "{count} argument{ending}")
+    }
 }
 
 /// What is wrong with the head of a definition.
@@ -161,8 +169,17 @@ fn write_head<W: fmt::Write>(
     if spot.starts_definition() {
         return f.write_str("expected a whole head of a definition, found the end of the text");
     }
-    let expected = head_words(spot.definition());
-    write!(f, "expected {expected}, found {found}")
+    write_instead(f, head_words(spot.definition()), found, "")
+}
+
+/// What was expected, and what was found in its place.
+fn write_instead<W: fmt::Write>(
+    f: &mut Formatter<W>,
+    expected: &str,
+    found: &Found<'_>,
+    behind: &str,
+) -> fmt::Result {
+    write!(f, "expected {expected}, found {found}{behind}")
 }
 
 /// What fits behind the first tokens of a definition's head.
@@ -209,7 +226,7 @@ fn write_expected<W: fmt::Write>(
         Some(token) if token.is(Symbol::Hash) => {
             write!(f, "expected {expected}, found the end of the section")
         }
-        _ => write!(f, "expected {expected}, found {found}{comma}"),
+        _ => write_instead(f, expected, found, comma),
     }
 }
 
@@ -237,11 +254,8 @@ fn write_game<W: fmt::Write>(
     found: &Found<'_>,
 ) -> fmt::Result {
     match error {
-        GameError::UnknownName { .. } => {
-            let expected = needed_words(spot);
-            write!(f, "expected the name of {expected}, found {found}")
-        }
-        GameError::SameName { .. } => write!(f, "expected a new name, found {found} again"),
+        GameError::UnknownName { .. } => write_instead(f, needed_words(spot), found, ""),
+        GameError::SameName { .. } => write_instead(f, "a new name", found, " again"),
         GameError::Bound { .. } => write!(
             f,
             "expected a bound of at most {MAX_BOUND}, or in arithmetic a number of at most {}, found {found}",
@@ -274,12 +288,12 @@ fn needed_words(spot: Option<Spot<'_>>) -> &'static str {
         None => Needed::Anything,
     };
     match needed {
-        Needed::Direction => "a direction",
-        Needed::Piece => "a piece",
-        Needed::Player => "a player",
-        Needed::Variable => "a variable",
-        Needed::Value => "a variable or a piece",
-        Needed::Anything => "a direction, a piece, a player or a variable",
+        Needed::Direction => "the name of a direction",
+        Needed::Piece => "the name of a piece",
+        Needed::Player => "the name of a player",
+        Needed::Variable => "the name of a variable",
+        Needed::Value => "the name of a variable or a piece",
+        Needed::Anything => "the name of a direction, a piece, a player or a variable",
     }
 }
 
@@ -316,5 +330,5 @@ fn write_board<W: fmt::Write>(
         }
         BoardError::Memory => return f.write_str("out of memory"),
     };
-    write!(f, "expected {expected}, found {found}{again}")
+    write_instead(f, expected, found, again)
 }

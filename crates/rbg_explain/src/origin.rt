@@ -42,8 +42,10 @@ pub(crate) fn faulty_call(
 /// The text of the definition of a macro behind its name.
 fn behind_name<'a>(text: &'a [u8], tokens: &[Token<'_>], name: &[u8]) -> Option<&'a [u8]> {
     let mut start = None;
-    for (hash, head) in tokens.iter().zip(tokens.iter().skip(1)) {
-        if hash.is(Symbol::Hash) {
+    for pair in tokens.windows(2) {
+        if let [hash, head] = pair
+            && hash.is(Symbol::Hash)
+        {
             if let Some(start) = start {
                 return text.get(start..hash.at);
             }
@@ -77,16 +79,20 @@ fn with_copy(
     name: &[u8],
     definition: &[u8],
 ) -> Result<Variant, AllocError> {
+    let before = text.get(..call).unwrap_or(&[]);
+    let behind = text.get(call.saturating_add(len)..).unwrap_or(&[]);
     let mut bytes = Vec::new(alloc);
-    bytes.extend_from_slice(text.get(..call).unwrap_or(&[]))?;
-    bytes.extend_from_slice(name)?;
-    bytes.extend_from_slice(text.get(call.saturating_add(len)..).unwrap_or(&[]))?;
-    bytes.extend_from_slice(b"\n")?;
+    push_all(&mut bytes, &[before, name, behind, b"\n"])?;
     let copy = bytes.len();
-    bytes.extend_from_slice(b"#")?;
-    bytes.extend_from_slice(name)?;
-    bytes.extend_from_slice(definition)?;
+    push_all(&mut bytes, &[b"#", name, definition])?;
     Ok(Variant { bytes, copy })
+}
+
+fn push_all(bytes: &mut Vec<u8>, parts: &[&[u8]]) -> Result<(), AllocError> {
+    for part in parts {
+        bytes.extend_from_slice(part)?;
+    }
+    Ok(())
 }
 
 /// The offset of the fault of a text, if it has one.

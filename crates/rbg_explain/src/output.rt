@@ -1,7 +1,7 @@
 //! Text that is added to what an author is told, and the line and the column of a place.
 
 use rbg_tokens::TextLine;
-use std::alloc::AllocError;
+use std::alloc::{AllocError, Global};
 
 /// Adds a text, where there was memory to make it.
 pub(crate) fn push_made(
@@ -10,6 +10,25 @@ pub(crate) fn push_made(
 ) -> Result<(), AllocError> {
     let text = made?;
     output.extend_from_slice(text.as_bytes())
+}
+
+/// A file's name, and its text.
+#[derive(Clone, Copy)]
+pub(crate) struct File<'a> {
+    pub(crate) name: &'a str,
+    pub(crate) text: &'a [u8],
+}
+
+/// Adds the place of what is told, as `name:line:column: `.
+pub(crate) fn push_location(
+    alloc: Global,
+    output: &mut Vec<u8>,
+    file: File<'_>,
+    place: (usize, usize),
+) -> Result<(), AllocError> {
+    let name = file.name;
+    let (line, column) = place;
+    push_made(output, format!(in alloc; "{name}:{line}:{column}: "))
 }
 
 /// The line and the column of an offset of a text, both counted from 1. Where the text ends before, those of its end.

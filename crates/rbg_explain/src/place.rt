@@ -40,7 +40,7 @@ fn place_in_sections(error: &SyntaxError, tokens: &[Token<'_>]) -> Option<usize>
     match error {
         SyntaxError::Expected { at, .. } | SyntaxError::TooDeep { at } => Some(*at),
         SyntaxError::SectionTwice { which } => {
-            let second = head_name(tokens, section_name(*which), 1)?;
+            let second = head_name(tokens, which.name().as_bytes(), 1)?;
             Some(second.at)
         }
         SyntaxError::MissingSection { .. } | SyntaxError::Memory => None,
@@ -58,7 +58,7 @@ fn place_in_game(error: &GameError, tokens: &[Token<'_>]) -> Option<usize> {
         GameError::Board { .. } => SectionKind::Board,
         GameError::Memory => return None,
     };
-    let head = head_name(tokens, section_name(section), 0)?;
+    let head = head_name(tokens, section.name().as_bytes(), 0)?;
     Some(head.at)
 }
 
@@ -70,15 +70,5 @@ fn section_of(thing: Thing) -> SectionKind {
         Thing::Variables => SectionKind::Variables,
         Thing::Directions => SectionKind::Board,
         Thing::Positions => SectionKind::Rules,
-    }
-}
-
-fn section_name(kind: SectionKind) -> &'static [u8] {
-    match kind {
-        SectionKind::Players => b"players",
-        SectionKind::Pieces => b"pieces",
-        SectionKind::Variables => b"variables",
-        SectionKind::Board => b"board",
-        SectionKind::Rules => b"rules",
     }
 }

@@ -88,16 +88,12 @@ impl<'a> Spot<'a> {
     /// How many parameters the macro of the token's name has.
     pub fn parameters(&self) -> Option<usize> {
         let name = self.token.text;
-        for index in 0..self.tokens.len() {
-            let rest = self.tokens.get(index..).unwrap_or(&[]);
-            match rest {
-                [hash, head, parameters @ ..] if hash.is(Symbol::Hash) && head.text == name => {
-                    return Some(parameter_count(parameters));
-                }
-                _ => {}
-            }
-        }
-        None
+        let head = self.tokens.windows(2).position(|pair| match pair {
+            [hash, head] => hash.is(Symbol::Hash) && head.text == name,
+            _ => false,
+        })?;
+        let behind = self.tokens.get(head.saturating_add(2)..).unwrap_or(&[]);
+        Some(parameter_count(behind))
     }
 
     /// What is said of a comma between rows or vertices of a board.
@@ -242,8 +238,11 @@ pub fn is_section(name: &[u8]) -> bool {
 /// The name in the head of the definition with this name, counted from 0 among those of one name.
 pub fn head_name<'a>(tokens: &'a [Token<'a>], name: &[u8], count: usize) -> Option<Token<'a>> {
     let mut left = count;
-    for (hash, head) in tokens.iter().zip(tokens.iter().skip(1)) {
-        if hash.is(Symbol::Hash) && head.text == name {
+    for pair in tokens.windows(2) {
+        if let [hash, head] = pair
+            && hash.is(Symbol::Hash)
+            && head.text == name
+        {
             if left == 0 {
                 return Some(*head);
             }

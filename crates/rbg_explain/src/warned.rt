@@ -1,8 +1,8 @@
 //! What an author is warned of, in words.
 
 use crate::boards::nth_direction;
-use crate::calls::called_lines;
-use crate::output::{line_and_column, push_made};
+use crate::calls::calls_of;
+use crate::output::{File, line_and_column, push_location, push_made};
 use crate::sections::{cut, expanded, nth_name, section_tokens};
 use crate::spot::is_section;
 use rbg_game::Game;
@@ -18,9 +18,9 @@ use std::str;
 pub fn warn(alloc: Global, file: &str, text: &[u8], game: &Game) -> Result<Vec<u8>, AllocError> {
     let mut output = Vec::new(alloc);
     if let Some(tokens) = cut(alloc, text)? {
-        let place = Place { file, text };
-        push_warnings(alloc, &mut output, place, &tokens, game)?;
-        push_uncalled(alloc, &mut output, place, tokens.as_slice())?;
+        let file = File { name: file, text };
+        push_warnings(alloc, &mut output, file, &tokens, game)?;
+        push_uncalled(alloc, &mut output, file, tokens.as_slice())?;
     }
     if output.is_empty() {
         output.extend_from_slice(b"no warnings\n")?;
@@ -28,63 +28,77 @@ pub fn warn(alloc: Global, file: &str, text: &[u8], game: &Game) -> Result<Vec<u
     Ok(output)
 }
 
-/// A file and its text.
-#[derive(Clone, Copy)]
-struct Place<'a> {
-    file: &'a str,
-    text: &'a [u8],
-}
-
 /// Adds the line of a warning about a token, with a name between two parts of its words.
 fn push_line(
     alloc: Global,
     output: &mut Vec<u8>,
-    place: Place<'_>,
+    file: File<'_>,
     token: Token<'_>,
     words: [&str; 2],
 ) -> Result<(), AllocError> {
-    let (number, column) = line_and_column(place.text, token.at);
-    let file = place.file;
+    let place = line_and_column(file.text, token.at);
+    push_location(alloc, output, file, place)?;
     let [before, behind] = words;
     let name = str::from_utf8(token.text).unwrap_or("");
-    push_made(
-        output,
-        format!(in alloc; "{file}:{number}:{column}: {before} `{name}`{behind}\n"),
-    )
+    push_made(output, format!(in alloc; "{before} `{name}`{behind}\n"))
 }
 
 /// Adds a line for each warning of the game, where the macros of the text are expanded.
 fn push_warnings(
     alloc: Global,
     output: &mut Vec<u8>,
-    place: Place<'_>,
+    file: File<'_>,
     tokens: &Tokens<'_>,
     game: &Game,
 ) -> Result<(), AllocError> {
     let Some(source) = expanded(alloc, tokens)? else {
         return Ok(());
     };
-    let found = warnings(alloc, game)?;
     let rules = section_tokens(alloc, &source, SectionKind::Rules)?;
-    let actions = actions(alloc, &rules)?;
-    for warning in &found {
+    push_warnings_in(alloc, output, file, &source, &rules, game)
+}
+
+/// Adds a line for each warning of the game with these sections and rules.
+fn push_warnings_in(
+    alloc: Global,
+    output: &mut Vec<u8>,
+    file: File<'_>,
+    source: &Source<'_>,
+    rules: &[Token<'_>],
+    game: &Game,
+) -> Result<(), AllocError> {
+    let actions = actions(alloc, rules)?;
+    for warning in &warnings(alloc, game)? {
         match warning {
             Warning::TooGreat { position } => {
                 let index = (*position as usize).saturating_sub(1);
-                if let Some(token) = actions.get(index).and_then(|action| first_name(action)) {
-                    let words = [
-                        "the number is above the bound of",
-                        ", so this assignment is never valid",
-                    ];
-                    push_line(alloc, output, place, token, words)?;
-                }
+                push_too_great(alloc, output, file, actions.get(index).copied())?;
             }
             Warning::Unused { thing } => {
-                push_unused(alloc, output, place, &source, game.players(), *thing)?;
+                push_unused(alloc, output, file, source, game.players(), *thing)?;
             }
         }
     }
     Ok(())
+}
+
+/// Adds the line of an assignment whose number is above the bound of its variable.
+fn push_too_great(
+    alloc: Global,
+    output: &mut Vec<u8>,
+    file: File<'_>,
+    action: Option<&[Token<'_>]>,
+) -> Result<(), AllocError> {
+    match action.and_then(first_name) {
+        Some(token) => {
+            let words = [
+                "the number is above the bound of",
+                ", so this assignment is never valid",
+            ];
+            push_line(alloc, output, file, token, words)
+        }
+        None => Ok(()),
+    }
 }
 
 /// The first name of an action: of an assignment, its variable.
@@ -96,14 +110,14 @@ fn first_name<'a>(action: &[Token<'a>]) -> Option<Token<'a>> {
 fn push_unused(
     alloc: Global,
     output: &mut Vec<u8>,
-    place: Place<'_>,
+    file: File<'_>,
     source: &Source<'_>,
     players: usize,
     thing: Thing,
 ) -> Result<(), AllocError> {
     let tokens = section_tokens(alloc, source, section_of(thing))?;
     match named_token(&tokens, players, thing) {
-        Some(token) => push_line(alloc, output, place, token, unused_words(thing)),
+        Some(token) => push_line(alloc, output, file, token, unused_words(thing)),
         None => Ok(()),
     }
 }
@@ -147,20 +161,39 @@ fn unused_words(thing: Thing) -> [&'static str; 2] {
 fn push_uncalled(
     alloc: Global,
     output: &mut Vec<u8>,
-    place: Place<'_>,
+    file: File<'_>,
     tokens: &[Token<'_>],
 ) -> Result<(), AllocError> {
     if tokens.iter().any(|token| token.is(Symbol::Tilde)) {
         return Ok(());
     }
-    for (hash, head) in tokens.iter().zip(tokens.iter().skip(1)) {
-        if hash.is(Symbol::Hash) && !is_section(head.text) {
-            let lines = called_lines(alloc, place.text, tokens, head.text)?;
-            if lines.is_empty() {
-                let words = ["nothing calls the macro", ""];
-                push_line(alloc, output, place, *head, words)?;
-            }
+    for pair in tokens.windows(2) {
+        if let [hash, head] = pair
+            && hash.is(Symbol::Hash)
+            && !is_section(head.text)
+        {
+            push_if_uncalled(alloc, output, file, tokens, *head)?;
         }
     }
     Ok(())
+}
+
+/// Adds the line of the macro with this name in its head, if nothing calls it.
+fn push_if_uncalled(
+    alloc: Global,
+    output: &mut Vec<u8>,
+    file: File<'_>,
+    tokens: &[Token<'_>],
+    head: Token<'_>,
+) -> Result<(), AllocError> {
+    if !is_called(alloc, tokens, head.text)? {
+        let words = ["nothing calls the macro", ""];
+        push_line(alloc, output, file, head, words)?;
+    }
+    Ok(())
+}
+
+fn is_called(alloc: Global, tokens: &[Token<'_>], name: &[u8]) -> Result<bool, AllocError> {
+    let calls = calls_of(alloc, tokens, name)?;
+    Ok(!calls.is_empty())
 }

@@ -1,4 +1,5 @@
 -- Which game a description is, which game a text is, and why one is none.
+pub mod Names
 pub mod Descriptions
 pub mod GameErrors
 pub mod Faults

@@ -2,6 +2,7 @@
 ghost use Rattle.std.specs.Prelude.{◌≡◌};
 ghost use Rattle.rbg_game.specs.declared.game_error.GameError.TheVariants as game_errors;
 ghost use Rattle.rbg_game.specs.GameErrors.{game_error_of};
+ghost use Rattle.rbg_game.specs.Names.{thing_name};
 
 use rbg_board::BoardError;
 use rbg_numbering::NumberingError;
@@ -47,15 +48,25 @@ pub enum Thing {
     Positions,
 }
 
+impl Thing {
+    /// The name that it prints.
+    #[tactic(auto, unfolding(crate::specs::Names::thing_name))]
+    pub fn name(self) -> &'static str
+        ensures { result.now ≡ thing_name self }
+    {
+        match self {
+            Thing::Players => "players",
+            Thing::Pieces => "pieces",
+            Thing::Variables => "variables",
+            Thing::Directions => "directions",
+            Thing::Positions => "positions",
+        }
+    }
+}
+
 impl fmt::Display for Thing {
     fn fmt<W: fmt::Write>(&self, f: &mut fmt::Formatter<W>) -> fmt::Result {
-        match self {
-            Thing::Players => write!(f, "players"),
-            Thing::Pieces => write!(f, "pieces"),
-            Thing::Variables => write!(f, "variables"),
-            Thing::Directions => write!(f, "directions"),
-            Thing::Positions => write!(f, "positions"),
-        }
+        f.write_str(self.name())
     }
 }
 

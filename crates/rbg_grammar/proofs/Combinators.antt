@@ -56,6 +56,37 @@ module _ {A : Type 0} (P : List Lexeme → A → List Lexeme → Type 0) (Follow
   unfolding repeated_at
   repeated_complete {ts} d stop = within_complete d stop (length ts) (omega arith)
 
+  pub repeated_read : IsReadBy 0 (Repeated P) (Stops Follow test) (repeated_at test read)
+  repeated_read = record { sound = repeated_sound; complete = λ ts xs rest d stop. repeated_complete d stop; shorter = λ ts xs rest d. omega (arith, repeated_shorter d) }
+
+-- a phrase and another one after it, whose values make one
+pub data FirstThen {A B C : Type 0} (P : List Lexeme → A → List Lexeme → Type 0) (Q : List Lexeme → B → List Lexeme → Type 0) (f : A → B → C) : List Lexeme → C → List Lexeme → Type 0 where
+  first_then : {ts mid rest : List Lexeme} {x : A} {y : B} → P ts x mid → Q mid y rest → FirstThen P Q f ts (f x y) rest
+
+module _ {A B C : Type 0} (P : List Lexeme → A → List Lexeme → Type 0) (First : List Lexeme → Type 0) (read : List Lexeme → Reading A) (reads : IsReadBy 1 P First read)
+    (least : ℕ) (Q : List Lexeme → B → List Lexeme → Type 0) (Follow : List Lexeme → Type 0) (next : List Lexeme → Reading B) (nexts : IsReadBy least Q Follow next)
+    (between : (mid : List Lexeme) (y : B) (rest : List Lexeme) → Q mid y rest → Follow rest → First mid)
+    (R : List Lexeme → C → List Lexeme → Type 0) (f : A → B → C) (join : (ts : List Lexeme) (x : A) (mid : List Lexeme) (y : B) (rest : List Lexeme) → P ts x mid → Q mid y rest → R ts (f x y) rest)
+    (parts : (ts : List Lexeme) (z : C) (rest : List Lexeme) → R ts z rest → FirstThen P Q f ts z rest) where
+  abbrev both_at : List Lexeme → Reading C
+  both_at ts = read ts >>= λ x. next x.1 >>= λ y. Ok (f x.0 y.0, y.1)
+
+  both_sound : (ts : List Lexeme) (z : C) (rest : List Lexeme) → both_at ts ≡ Ok (z, rest) → R ts z rest
+  both_sound ts z rest e =
+      let (x, first, further) = bind_ok (read ts) (λ (x : A × List Lexeme). next x.1 >>= λ y. Ok (f x.0 y.0, y.1)) (z, rest) e in
+      let (y, last, given) = bind_ok (next x.1) (λ (y : B × List Lexeme). Ok (f x.0 y.0, y.1)) (z, rest) further in
+      subst (λ (q : C × List Lexeme). R ts q.0 q.1) (ok_one (f x.0 y.0, y.1) (z, rest) given)
+      (join ts x.0 x.1 y.0 y.1 (reads.sound ts x.0 x.1 first) (nexts.sound x.1 y.0 y.1 last))
+
+  parts_complete : {ts rest : List Lexeme} {z : C} → FirstThen P Q f ts z rest → Follow rest → both_at ts ≡ Ok (z, rest)
+  parts_complete {ts} {rest} (first_then {mid = mid} {x = x} {y = y} d e) stop = rw (reads.complete ts x mid d (between mid y rest e stop), nexts.complete mid y rest e stop)
+
+  parts_shorter : {ts rest : List Lexeme} {z : C} → FirstThen P Q f ts z rest → 1 + length rest ≤ length ts
+  parts_shorter {ts} {rest} (first_then {mid = mid} {x = x} {y = y} d e) = omega (arith, reads.shorter ts x mid d, nexts.shorter mid y rest e)
+
+  pub both_read : IsReadBy 1 R Follow both_at
+  both_read = record { sound = both_sound; complete = λ ts z rest d stop. parts_complete (parts ts z rest d) stop; shorter = λ ts z rest d. parts_shorter (parts ts z rest d) }
+
 -- after a symbol
 module _ {A : Type 0} (least : ℕ) (P : List Lexeme → A → List Lexeme → Type 0) (Follow : List Lexeme → Type 0) (read : List Lexeme → Reading A)
     (reads : IsReadBy least P Follow read) (s : Symbol) where
@@ -108,27 +139,17 @@ module _ {A : Type 0} (P : List Lexeme → A → List Lexeme → Type 0) (Follow
   after_begins : Begins (After s P) Follow (is_symbol s)
   after_begins = record { starts = λ ts x rest d. after_begins_at d; goes_on = separator }
 
-  separated_sound : (ts : List Lexeme) (xs : List A) (rest : List Lexeme) → separated_at s read ts ≡ Ok (xs, rest) → Separated s P ts xs rest
-  unfolding separated_at
-  separated_sound ts xs rest e =
-      let (f, first, further) = bind_ok (read ts) (λ (f : A × List Lexeme). repeated_at (is_symbol s) (after_at s read) f.1 >>= λ more. Ok (f.0 ∷ more.0, more.1)) (xs, rest) e in
-      let (m, more, given) = bind_ok (repeated_at (is_symbol s) (after_at s read) f.1) (λ (m : List A × List Lexeme). Ok (f.0 ∷ m.0, m.1)) (xs, rest) further in
-      subst (λ (q : List A × List Lexeme). Separated s P ts q.0 q.1) (ok_one (f.0 ∷ m.0, m.1) (xs, rest) given)
-      (separated (reads.sound ts f.0 f.1 first) (repeated_sound (After s P) Follow (after_at s read) (is_symbol s) (after_read 1 P Follow read reads s) after_begins f.1 m.0 m.1 more))
-
-  separated_complete : {ts rest : List Lexeme} {xs : List A} → Separated s P ts xs rest → Stops Follow (is_symbol s) rest → separated_at s read ts ≡ Ok (xs, rest)
-  unfolding separated_at
-  separated_complete {ts} {rest} (separated {mid = mid} {x = x} {xs = xs} d more) stop =
-      let after_reads = after_read 1 P Follow read reads s in
-      let follows = may_follow (After s P) Follow (after_at s read) (is_symbol s) after_reads after_begins more stop in
-      rw (reads.complete ts x mid d follows, repeated_complete (After s P) Follow (after_at s read) (is_symbol s) after_reads after_begins more stop)
-
-  separated_shorter : {ts rest : List Lexeme} {xs : List A} → Separated s P ts xs rest → 1 + length rest ≤ length ts
-  separated_shorter {ts} (separated {mid = mid} {x = x} d more) =
-      omega (arith, reads.shorter ts x mid d, repeated_shorter (After s P) Follow (after_at s read) (is_symbol s) (after_read 1 P Follow read reads s) after_begins more)
+  separated_parts : (ts : List Lexeme) (xs : List A) (rest : List Lexeme) → Separated s P ts xs rest → FirstThen P (Repeated (After s P)) (λ (x : A) (xs : List A). x ∷ xs) ts xs rest
+  separated_parts ts _ rest (separated d more) = first_then d more
 
   pub separated_read : IsReadBy 1 (Separated s P) (Stops Follow (is_symbol s)) (separated_at s read)
-  separated_read = record { sound = separated_sound; complete = λ ts x rest d stop. separated_complete d stop; shorter = λ ts x rest d. separated_shorter d }
+  unfolding separated_at
+  separated_read =
+      let after_reads = after_read 1 P Follow read reads s in
+      both_read P Follow read reads 0 (Repeated (After s P)) (Stops Follow (is_symbol s)) (repeated_at (is_symbol s) (after_at s read))
+      (repeated_read (After s P) Follow (after_at s read) (is_symbol s) after_reads after_begins)
+      (λ mid xs rest more stop. may_follow (After s P) Follow (after_at s read) (is_symbol s) after_reads after_begins more stop)
+      (Separated s P) (λ (x : A) (xs : List A). x ∷ xs) (λ ts x mid y rest d e. separated d e) separated_parts
 
 -- What may follow a list that may be empty: no further part, and no part at all.
 pub record EndsList (Follow : List Lexeme → Type 0) (test : TokenKind → Bool) (rest : List Lexeme) : Type 0 where

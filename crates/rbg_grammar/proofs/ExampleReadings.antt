@@ -3,8 +3,8 @@ use Rattle.std.proofs.Common.{◌≡◌, ℕ, zero, suc, List, [], ◌∷◌, So
 use Rattle.rbg_tokens.specs.Token.{Lexeme}
 use Rattle.rbg_tokens.specs.declared.token.Symbol.TheVariants as symbols
 use Rattle.rbg_grammar.specs.Examples.{sign, signs, letter, letter_name, in_parentheses, SumInParentheses, NegatedFactor, StarredAssignments, DeepestBrackets, TooManyBrackets, TwoStars, TwoMinuses, TooDeepAlone, MisspeltAlone}
-use Rattle.rbg_grammar.specs.Reading.{Fault, misfit, too_deep, symbol_at, name_at, repeated_at, after_at, separated_at, within_at, open_atom_at, whole_at}
-use Rattle.rbg_grammar.specs.RuleReading.{number_or_name_at, factor_at, further_factor_at, term_at, further_term_at, sum_over_at, primary_at, sum_at, assignment_at, assignments_at, in_brackets_at, bracket_atom_at, item_at, sequence_at, rules_over_at, atom_at, rules_at}
+use Rattle.rbg_grammar.specs.Reading.{Fault, misfit, too_deep, symbol_at, name_at, one_of_at, repeated_at, after_at, separated_at, within_at, open_atom_at, whole_at}
+use Rattle.rbg_grammar.specs.RuleReading.{number_or_name_at, factor_at, further_operand_at, chain_at, primary_at, sum_at, assignment_at, assignments_at, in_brackets_at, bracket_atom_at, item_at, sequence_at, rules_over_at, atom_at, rules_at}
 use Rattle.rbg_grammar.specs.Tree.{SpeltRule, act, shift, star}
 use Rattle.rbg_macro.specs.declared.source.SectionKind.TheVariants.{Rules}
 use Rattle.rbg_grammar.specs.Grammar.{AreRules}
@@ -12,21 +12,21 @@ use Rattle.rbg_grammar.specs.Spells.{IsSpelt, open_after}
 use Rattle.rbg_grammar.proofs.Depths.{spells_nothing, too_deep_here, one_too_deep}
 use Rattle.rbg_grammar.proofs.Readers.{ok_one}
 use Rattle.rbg_grammar.proofs.RuleReaders.{rules_read, nothing_ends_rules}
-use Rattle.rbg_grammar.proofs.SumReaders.{sum_read, EndsSum}
+use Rattle.rbg_grammar.proofs.SumReaders.{sum_read, EndsSum, ends_sum}
 
 nothing_ends_sum : EndsSum []
-nothing_ends_sum = record { ends = refl; follows = refl }
+nothing_ends_sum = ends_sum [] refl refl
 
 pub sum_in_parentheses : SumInParentheses
-unfolding sum_at sum_over_at term_at further_term_at factor_at further_factor_at primary_at number_or_name_at symbol_at name_at repeated_at after_at within_at
+unfolding sum_at chain_at further_operand_at one_of_at factor_at primary_at number_or_name_at symbol_at name_at repeated_at after_at within_at
 sum_in_parentheses = (sum_read 128).sound _ _ [] refl
 
 pub negated_factor : NegatedFactor
-unfolding sum_at sum_over_at term_at further_term_at factor_at further_factor_at primary_at number_or_name_at symbol_at name_at repeated_at after_at within_at
+unfolding sum_at chain_at further_operand_at one_of_at factor_at primary_at number_or_name_at symbol_at name_at repeated_at after_at within_at
 negated_factor = (sum_read 128).sound _ _ [] refl
 
 pub starred_assignments : StarredAssignments
-unfolding rules_at atom_at rules_over_at sequence_at item_at bracket_atom_at in_brackets_at assignments_at assignment_at open_atom_at separated_at sum_at sum_over_at term_at further_term_at factor_at further_factor_at primary_at number_or_name_at symbol_at name_at repeated_at after_at within_at
+unfolding rules_at atom_at rules_over_at sequence_at item_at bracket_atom_at in_brackets_at assignments_at assignment_at open_atom_at separated_at sum_at chain_at further_operand_at one_of_at factor_at primary_at number_or_name_at symbol_at name_at repeated_at after_at within_at
 starred_assignments = (rules_read 128).sound _ _ [] refl
 
 pub deepest_brackets : DeepestBrackets
@@ -63,7 +63,7 @@ abbrev minuses : List Lexeme
 minuses = sign symbols.Minus 0 ∷ sign symbols.Minus 1 ∷ letter 97 2 ∷ []
 
 pub two_minuses : TwoMinuses
-unfolding sum_at sum_over_at term_at factor_at primary_at number_or_name_at symbol_at name_at after_at
+unfolding sum_at chain_at factor_at primary_at number_or_name_at symbol_at name_at after_at
 two_minuses zero e d = err_no_ok (sum_at zero minuses) (misfit (Some 1)) (e, []) refl ((sum_read zero).complete minuses e [] d nothing_ends_sum)
 two_minuses (suc n) e d = err_no_ok (sum_at (suc n) minuses) (misfit (Some 1)) (e, []) refl ((sum_read (suc n)).complete minuses e [] d nothing_ends_sum)
 

@@ -1,17 +1,20 @@
 -- What the grammar spells is a tree without a sequence, a sum or a product of fewer than two parts.
-use Rattle.std.proofs.Common.{◌≡◌, ◌<◌, ◌&&◌, ℕ, zero, suc, List, [], ◌∷◌, length, Bool, true, refl, inl, inr, arith}
+use Rattle.std.proofs.Common.{◌≡◌, ◌<◌, ◌&&◌, ◌||◌, ℕ, zero, suc, List, [], ◌∷◌, length, Bool, true, false, Some, refl, inl, inr, arith}
 use Rattle.std.specs.Prelude.{All}
 use Rattle.std.proofs.lemmas.List.Elements.{All-nil, All-cons, All-head, All-tail}
 use Rattle.rbg_tokens.specs.Token.{Lexeme}
 use Rattle.rbg_tokens.specs.declared.token.Symbol.{Symbol}
-use Rattle.rbg_grammar.specs.declared.expression.Additive.{Additive}
-use Rattle.rbg_grammar.specs.declared.expression.Additive.TheVariants.{Plus}
-use Rattle.rbg_grammar.specs.declared.expression.Multiplicative.{Multiplicative}
-use Rattle.rbg_grammar.specs.declared.expression.Multiplicative.TheVariants.{Times}
-use Rattle.rbg_grammar.specs.Tree.{SpeltExpression, SpeltTerms, no_terms, more_terms, SpeltFactors, no_factors, more_factors, SpeltRule, SpeltRules, no_rules, more_rules, SpeltBoard, terms_after, factors_after, rules_after, sum_of, product_of, sequence_of, choice_of}
-use Rattle.rbg_grammar.specs.Phrase.{Repeated, done, again, After, after, Separated, separated, Within, within}
-use Rattle.rbg_grammar.specs.Grammar.{IsFactor, plain, minus, IsFurtherFactor, times, over, IsTerm, term, IsFurtherTerm, plus, minus as less, IsSumOver, sum, IsNumberOrName, number, name, IsPrimary, IsSum, IsOpenAtom, moves, switches, keeps, IsComparison, comparison, IsAssignment, assignment, AreAssignments, assignments, IsBracketAtom, groups, stands_on, puts, compares, assigns, holds, fails, IsItem, once, starred, IsSequence, in_turn, AreRulesOver, either, IsAtom, AreRules, IsRectangle, four, IsHexagon, six, IsGraph, vertices, generated, IsBoard, rectangular, hexagonal, graphic}
-use Rattle.rbg_grammar.specs.Formed.{make_a_sum, make_a_product, has_two_rules, is_formed_expression, are_formed_terms, are_formed_factors, is_formed, are_formed, has_its_directions}
+use Rattle.rbg_tokens.specs.declared.token.Symbol.TheVariants as symbols
+use Rattle.rbg_tokens.specs.declared.token.TokenKind.{TokenKind}
+use Rattle.rbg_tokens.specs.declared.token.TokenKind.TheVariants as kinds
+use Rattle.rbg_grammar.specs.declared.expression.Operator.{Operator}
+use Rattle.rbg_grammar.specs.declared.expression.Operator.TheVariants as operators
+use Rattle.rbg_grammar.specs.declared.expression.Rank.{Rank}
+use Rattle.rbg_grammar.specs.declared.expression.Rank.TheVariants as ranks
+use Rattle.rbg_grammar.specs.Tree.{SpeltExpression, SpeltOperands, no_operands, more_operands, SpeltOperand, SpeltRule, SpeltRules, no_rules, more_rules, SpeltBoard, operands_after, first_of, in_chain, rules_after, sequence_of, choice_of}
+use Rattle.rbg_grammar.specs.Phrase.{one_of, Repeated, done, again, After, after, Separated, separated, Within, within}
+use Rattle.rbg_grammar.specs.Grammar.{operator_of, IsOperator, IsFurtherOperand, further_operand, IsChain, chained, IsFactor, plain, minus, IsTerm, IsSumOver, IsNumberOrName, number, name, IsPrimary, IsSum, IsOpenAtom, moves, switches, keeps, IsComparison, comparison, IsAssignment, assignment, AreAssignments, assignments, IsBracketAtom, groups, stands_on, puts, compares, assigns, holds, fails, IsItem, once, starred, IsSequence, in_turn, AreRulesOver, either, IsAtom, AreRules, IsRectangle, four, IsHexagon, six, IsGraph, vertices, generated, IsBoard, rectangular, hexagonal, graphic}
+use Rattle.rbg_grammar.specs.Formed.{is_of_rank, is_first_of, are_of_rank, make_a_chain, has_two_rules, is_formed_expression, are_formed_operands, is_formed, are_formed, has_its_directions}
 
 pub both : {a b : Bool} → a ≡ true → b ≡ true → (a && b) ≡ true
 both h k = rw (h, k)
@@ -38,69 +41,77 @@ all_separated Q each (separated {ts = ts} {mid = mid} {x = x} {xs = xs} d more) 
 abbrev IsFormedExpression : SpeltExpression → Type 0
 IsFormedExpression e = is_formed_expression e ≡ true
 
-abbrev IsFormedTerm : Additive × SpeltExpression → Type 0
-IsFormedTerm t = is_formed_expression t.1 ≡ true
+-- an operand of the rank
+record IsFormedOperand (rank : Rank) (o : SpeltOperand) : Type 0 where
+  formed : IsFormedExpression o.1
+  of_rank : is_of_rank rank o.0 ≡ true
 
-abbrev IsFormedFactor : Multiplicative × SpeltExpression → Type 0
-IsFormedFactor f = is_formed_expression f.1 ≡ true
+module _ (rank : Rank) where
+  chain-more : (os : SpeltOperands) (p : Operator) (e : SpeltExpression) → are_of_rank rank os ≡ true → is_of_rank rank p ≡ true → are_of_rank rank (more_operands os p e) ≡ true
+  chain-more no_operands p e h k = cc
+  chain-more (more_operands no_operands q f) p e h k = cc
+  chain-more (more_operands (more_operands os r g) q f) p e h k = both h k
 
-two_terms-more : (ts : SpeltTerms) (p : Additive) (e : SpeltExpression) → make_a_sum ts ≡ true → make_a_sum (more_terms ts p e) ≡ true
-two_terms-more no_terms p e h = cc
-two_terms-more (more_terms no_terms q f) p e h = cc
-two_terms-more (more_terms (more_terms ts r g) q f) p e h = h
+  chain-after : (first : SpeltOperands) (os : List SpeltOperand) → are_of_rank rank first ≡ true → All (IsFormedOperand rank) os → are_of_rank rank (operands_after first os) ≡ true
+  chain-after first [] h k = h
+  chain-after first (o ∷ os) h k =
+      chain-after (more_operands first o.0 o.1) os (chain-more first o.0 o.1 h (All-head (IsFormedOperand rank) o os k).of_rank) (All-tail (IsFormedOperand rank) o os k)
 
-terms-two : (first : SpeltTerms) (ts : List (Additive × SpeltExpression)) → make_a_sum first ≡ true → make_a_sum (terms_after first ts) ≡ true
-terms-two first [] h = h
-terms-two first (t ∷ ts) h = terms-two (more_terms first t.0 t.1) ts (two_terms-more first t.0 t.1 h)
+  operands-formed : (first : SpeltOperands) (os : List SpeltOperand) → are_formed_operands first ≡ true → All (IsFormedOperand rank) os → are_formed_operands (operands_after first os) ≡ true
+  operands-formed first [] h k = h
+  operands-formed first (o ∷ os) h k =
+      operands-formed (more_operands first o.0 o.1) os (both h (All-head (IsFormedOperand rank) o os k).formed) (All-tail (IsFormedOperand rank) o os k)
 
-terms-formed : (first : SpeltTerms) (ts : List (Additive × SpeltExpression)) → are_formed_terms first ≡ true → All IsFormedTerm ts → are_formed_terms (terms_after first ts) ≡ true
-terms-formed first [] h k = h
-terms-formed first (t ∷ ts) h k = terms-formed (more_terms first t.0 t.1) ts (both h (All-head IsFormedTerm t ts k)) (All-tail IsFormedTerm t ts k)
+first_of_rank : (rank : Rank) → (is_first_of rank (first_of rank) ≡ true) × (is_of_rank rank (first_of rank) ≡ true)
+first_of_rank ranks.Sum = (refl, refl)
+first_of_rank ranks.Product = (refl, refl)
 
-sum-formed : (e : SpeltExpression) (ts : List (Additive × SpeltExpression)) → IsFormedExpression e → All IsFormedTerm ts → IsFormedExpression (sum_of e ts)
-sum-formed e [] h k = h
-sum-formed e (t ∷ ts) h k =
-    both (terms-two (more_terms (more_terms no_terms Plus e) t.0 t.1) ts refl)
-    (terms-formed no_terms ((Plus, e) ∷ t ∷ ts) refl (All-cons IsFormedTerm (Plus, e) (t ∷ ts) h k))
+of_some_rank : (rank : Rank) (os : SpeltOperands) → are_of_rank rank os ≡ true → make_a_chain os ≡ true
+of_some_rank ranks.Sum os h = rw h
+of_some_rank ranks.Product os h = either_way (are_of_rank ranks.Sum os) h
+  where
+    either_way : (b : Bool) {c : Bool} → c ≡ true → (b || c) ≡ true
+    either_way true h = refl
+    either_way false h = h
 
-two_factors-more : (fs : SpeltFactors) (p : Multiplicative) (e : SpeltExpression) → make_a_product fs ≡ true → make_a_product (more_factors fs p e) ≡ true
-two_factors-more no_factors p e h = cc
-two_factors-more (more_factors no_factors q f) p e h = cc
-two_factors-more (more_factors (more_factors fs r g) q f) p e h = h
+chain-formed : (rank : Rank) (e : SpeltExpression) (os : List SpeltOperand) → IsFormedExpression e → All (IsFormedOperand rank) os → IsFormedExpression (in_chain ((first_of rank, e) ∷ os))
+chain-formed rank e [] h k = h
+chain-formed rank e (o ∷ os) h k =
+    let first = first_of_rank rank in
+    let second = All-head (IsFormedOperand rank) o os k in
+    let two : are_of_rank rank (more_operands (more_operands no_operands (first_of rank) e) o.0 o.1) ≡ true = both first.0 second.of_rank in
+    both (of_some_rank rank (operands_after no_operands ((first_of rank, e) ∷ o ∷ os)) (chain-after rank (more_operands (more_operands no_operands (first_of rank) e) o.0 o.1) os two (All-tail (IsFormedOperand rank) o os k)))
+    (operands-formed rank no_operands ((first_of rank, e) ∷ o ∷ os) refl (All-cons (IsFormedOperand rank) (first_of rank, e) (o ∷ os) (record { formed = h; of_rank = first.1 }) k))
 
-factors-two : (first : SpeltFactors) (fs : List (Multiplicative × SpeltExpression)) → make_a_product first ≡ true → make_a_product (factors_after first fs) ≡ true
-factors-two first [] h = h
-factors-two first (f ∷ fs) h = factors-two (more_factors first f.0 f.1) fs (two_factors-more first f.0 f.1 h)
+-- what a token that is an operator of the rank stands for
+operator_of_rank : (rank : Rank) (k : TokenKind) (o : Operator) → operator_of rank k ≡ Some o → is_of_rank rank o ≡ true
+operator_of_rank rank kinds.Name o e = cc
+operator_of_rank rank kinds.Number o e = cc
+operator_of_rank ranks.Sum (kinds.Symbol symbols.Plus) o e = let same : operators.Plus ≡ o = cc in rw (← same) refl
+operator_of_rank ranks.Sum (kinds.Symbol symbols.Minus) o e = let same : operators.Minus ≡ o = cc in rw (← same) refl
+operator_of_rank ranks.Sum (kinds.Symbol _) o e = cc
+operator_of_rank ranks.Product (kinds.Symbol symbols.Star) o e = let same : operators.Times ≡ o = cc in rw (← same) refl
+operator_of_rank ranks.Product (kinds.Symbol symbols.Slash) o e = let same : operators.Over ≡ o = cc in rw (← same) refl
+operator_of_rank ranks.Product (kinds.Symbol _) o e = cc
 
-factors-formed : (first : SpeltFactors) (fs : List (Multiplicative × SpeltExpression)) → are_formed_factors first ≡ true → All IsFormedFactor fs → are_formed_factors (factors_after first fs) ≡ true
-factors-formed first [] h k = h
-factors-formed first (f ∷ fs) h k = factors-formed (more_factors first f.0 f.1) fs (both h (All-head IsFormedFactor f fs k)) (All-tail IsFormedFactor f fs k)
-
-product-formed : (e : SpeltExpression) (fs : List (Multiplicative × SpeltExpression)) → IsFormedExpression e → All IsFormedFactor fs → IsFormedExpression (product_of e fs)
-product-formed e [] h k = h
-product-formed e (f ∷ fs) h k =
-    both (factors-two (more_factors (more_factors no_factors Times e) f.0 f.1) fs refl)
-    (factors-formed no_factors ((Times, e) ∷ f ∷ fs) refl (All-cons IsFormedFactor (Times, e) (f ∷ fs) h k))
+operator_ranked : (rank : Rank) {ts rest : List Lexeme} {o : Operator} → IsOperator rank ts o rest → is_of_rank rank o ≡ true
+operator_ranked rank {o = o} (one_of {t = t} k) = operator_of_rank rank t.kind o k
 
 -- arithmetic, by the depth of its brackets
+module _ (rank : Rank) (Operand : List Lexeme → SpeltExpression → List Lexeme → Type 0) (operand : (ts : List Lexeme) (e : SpeltExpression) (rest : List Lexeme) → Operand ts e rest → IsFormedExpression e) where
+  further_formed : (ts : List Lexeme) (o : SpeltOperand) (rest : List Lexeme) → IsFurtherOperand rank Operand ts o rest → IsFormedOperand rank o
+  further_formed ts o rest (further_operand {mid = mid} {e = e} operator d) = record { formed = operand mid e rest d; of_rank = operator_ranked rank operator }
+
+  over_formed : (ts : List Lexeme) (e : SpeltExpression) (rest : List Lexeme) → IsChain rank Operand ts e rest → IsFormedExpression e
+  over_formed ts f rest (chained {mid = mid} {e = e} {os = os} d more) = chain-formed rank e os (operand ts e mid d) (all_repeated (IsFormedOperand rank) further_formed more)
+
 module _ (Primary : List Lexeme → SpeltExpression → List Lexeme → Type 0) (primary : (ts : List Lexeme) (e : SpeltExpression) (rest : List Lexeme) → Primary ts e rest → IsFormedExpression e) where
   factor_formed : (ts : List Lexeme) (e : SpeltExpression) (rest : List Lexeme) → IsFactor Primary ts e rest → IsFormedExpression e
   factor_formed ts e rest (plain d) = primary ts e rest d
   factor_formed ts f rest (minus {e = e} d) = inside_after IsFormedExpression primary ts e rest d
 
-  further_factor_formed : (ts : List Lexeme) (f : Multiplicative × SpeltExpression) (rest : List Lexeme) → IsFurtherFactor Primary ts f rest → IsFormedFactor f
-  further_factor_formed ts f rest (times {e = e} d) = inside_after IsFormedExpression factor_formed ts e rest d
-  further_factor_formed ts f rest (over {e = e} d) = inside_after IsFormedExpression factor_formed ts e rest d
-
-  term_formed : (ts : List Lexeme) (e : SpeltExpression) (rest : List Lexeme) → IsTerm Primary ts e rest → IsFormedExpression e
-  term_formed ts f rest (term {mid = mid} {e = e} {fs = fs} d more) = product-formed e fs (factor_formed ts e mid d) (all_repeated IsFormedFactor further_factor_formed more)
-
-  further_term_formed : (ts : List Lexeme) (t : Additive × SpeltExpression) (rest : List Lexeme) → IsFurtherTerm Primary ts t rest → IsFormedTerm t
-  further_term_formed ts t rest (plus {e = e} d) = inside_after IsFormedExpression term_formed ts e rest d
-  further_term_formed ts t rest (less {e = e} d) = inside_after IsFormedExpression term_formed ts e rest d
-
   sum_over_formed : (ts : List Lexeme) (e : SpeltExpression) (rest : List Lexeme) → IsSumOver Primary ts e rest → IsFormedExpression e
-  sum_over_formed ts f rest (sum {mid = mid} {e = e} {es = es} d more) = sum-formed e es (term_formed ts e mid d) (all_repeated IsFormedTerm further_term_formed more)
+  sum_over_formed = over_formed ranks.Sum (IsTerm Primary) (over_formed ranks.Product (IsFactor Primary) factor_formed)
 
 number_or_name_formed : {ts rest : List Lexeme} {e : SpeltExpression} → IsNumberOrName ts e rest → IsFormedExpression e
 number_or_name_formed (number d) = refl

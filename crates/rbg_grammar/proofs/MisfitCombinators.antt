@@ -1,5 +1,5 @@
 -- Where readings of single tokens, and of phrases that are put together of others, stop.
-use Rattle.std.proofs.Common.{◌≡◌, ◌≤◌, ℕ, zero, suc, List, [], ◌∷◌, ◌++◌, length, Bool, true, false, cond, Some, None, Result, Ok, Err, refl, sym, ap, ◌∙◌, subst, arith}
+use Rattle.std.proofs.Common.{◌≡◌, ◌≤◌, ℕ, zero, suc, List, [], ◌∷◌, ◌++◌, length, Bool, true, false, cond, Option, Some, None, Result, Ok, Err, refl, sym, ap, ◌∙◌, subst, arith}
 use denote.Enum.Bare.{true_same}
 use Rattle.std.specs.Prelude.{◌&&◌}
 use Rattle.std.specs.Str.{bytes_eq}
@@ -12,11 +12,29 @@ use Rattle.rbg_tokens.specs.declared.token.Symbol.TheVariants.{Comma}
 use Rattle.rbg_tokens.specs.declared.token.TokenKind.{TokenKind}
 use Rattle.rbg_tokens.specs.declared.token.TokenKind.TheVariants as kinds
 use Rattle.rbg_grammar.specs.Tree.{SpeltName, SpeltNumber}
-use Rattle.rbg_grammar.specs.Phrase.{IsSymbol, symbol, IsName, name, IsNumber, number, IsWord, word, Repeated, done, again, After, after, Separated, separated, Listed, nothing, listed, Within, within, WithComma, with_comma}
-use Rattle.rbg_grammar.specs.Reading.{Fault, misfit, Reading, ◌>>=◌, TakesSome, next_is, is_name, is_number, is_symbol, symbol_at, name_at, number_at, word_at, repeated_within, repeated_at, after_at, separated_at, listed_at, within_at, with_comma_at}
+use Rattle.rbg_grammar.specs.Phrase.{IsSymbol, symbol, IsName, name, IsNumber, number, IsWord, word, IsOneOf, one_of, Repeated, done, again, After, after, Separated, separated, Listed, nothing, listed, Within, within, WithComma, with_comma}
+use Rattle.rbg_grammar.specs.Reading.{Fault, misfit, Reading, ◌>>=◌, TakesSome, next_is, is_name, is_number, is_symbol, symbol_at, name_at, number_at, word_at, or_misfit, one_of_at, repeated_within, repeated_at, after_at, separated_at, listed_at, within_at, with_comma_at}
 use Rattle.rbg_grammar.proofs.Misfits.{Begun, Judged, Judges, Behind, seen, given, bind, bind_at, choose, choose_at, same_reader, as_read}
 use Rattle.rbg_grammar.proofs.Readers.{kind_of-is_symbol, kind_of-is_name, kind_of-is_number}
 use Rattle.rbg_grammar.proofs.Turns.{after_some, within_enough}
+
+-- what is read of one token that is in a table, where there is such a token
+module _ {A : Type 0} (table : TokenKind → Option A) (sample : Lexeme) (value : A) (is : table sample.kind ≡ Some value) where
+  may_begin_one : Begun (IsOneOf table) []
+  may_begin_one = record { other = sample ∷ []; value = value; spells = λ tail. one_of is }
+
+  front_judged : (t : Lexeme) (ts : List Lexeme) (o : Option A) → table t.kind ≡ o → Judged (IsOneOf table) (one_of_at table) (t ∷ ts) (or_misfit o (t, ts))
+  unfolding one_of_at
+  front_judged t ts (Some x) e = record { used = t ∷ []; whole = refl; spells = λ tail. one_of e; same = λ u behind other left. rw e }
+  front_judged t ts None e = record { before = []; token = t; behind = ts; whole = refl; place = refl; begun = may_begin_one; same = λ other. rw e }
+
+  some_front : (ts : List Lexeme) → Judged (IsOneOf table) (one_of_at table) ts (one_of_at table ts)
+  unfolding one_of_at
+  some_front [] = may_begin_one
+  some_front (t ∷ ts) = front_judged t ts (table t.kind) refl
+
+  pub one_of_judged : Judges (IsOneOf table) (one_of_at table)
+  one_of_judged = record { at = some_front }
 
 -- what is read of one token that passes a test
 abbrev pub one_token : {A : Type 0} → (Lexeme → Bool) → (Lexeme → A) → List Lexeme → Reading A

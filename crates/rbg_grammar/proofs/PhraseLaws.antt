@@ -1,14 +1,15 @@
 -- Each phrase has at least one token.
 use Rattle.std.proofs.Common.{ℕ, List, arith}
 use Rattle.rbg_tokens.specs.Token.{Lexeme}
+use Rattle.rbg_grammar.specs.declared.expression.Rank.{Rank}
 use Rattle.rbg_grammar.specs.Phrase.{IsName}
-use Rattle.rbg_grammar.specs.Grammar.{IsBounded, IsRow, IsEdge, IsVertex, IsAssignment, IsFurtherFactor, IsFurtherTerm, IsItem, IsSequence, IsAtom, IsPrimary, IsSum}
+use Rattle.rbg_grammar.specs.Grammar.{IsBounded, IsRow, IsEdge, IsVertex, IsAssignment, IsItem, IsSequence, IsAtom, IsPrimary, IsSum}
 use Rattle.rbg_grammar.specs.Reading.{Reading, TakesSome, bounded_at, edge_at, name_at, row_at, vertex_at}
-use Rattle.rbg_grammar.specs.RuleReading.{assignment_at, atom_at, further_factor_at, further_term_at, item_at, primary_at, sequence_at, sum_at}
+use Rattle.rbg_grammar.specs.RuleReading.{assignment_at, atom_at, further_operand_at, item_at, operand_at, primary_at, sequence_at, sum_at}
 use Rattle.rbg_grammar.proofs.Readers.{Always, IsReadBy, name_read}
 use Rattle.rbg_grammar.proofs.SectionReaders.{bounded_read, edge_read, row_read, vertex_read}
 use Rattle.rbg_grammar.proofs.RuleReaders.{EndsItem, EndsSequence, assignment_read, item_read, sequence_read, atom_reader}
-use Rattle.rbg_grammar.proofs.SumReaders.{EndsProduct, EndsSum, further_factor_read, further_term_read, primary_no_minus, primary_read, sum_read}
+use Rattle.rbg_grammar.proofs.SumReaders.{EndsSum, further_operand_read, primary_no_minus, primary_read, sum_read}
 
 takes_some : {A : Type 0} (P : List Lexeme → A → List Lexeme → Type 0) (Follow : List Lexeme → Type 0) (read : List Lexeme → Reading A) → IsReadBy 1 P Follow read → TakesSome read
 takes_some P Follow read reads ts x rest e = omega (arith, reads.shorter ts x rest (reads.sound ts x rest e))
@@ -28,11 +29,8 @@ edge_takes_some = takes_some IsEdge Always edge_at edge_read
 pub vertex_takes_some : TakesSome vertex_at
 vertex_takes_some = takes_some IsVertex Always vertex_at vertex_read
 
-pub further_factor_takes_some : (n : ℕ) → TakesSome (further_factor_at (primary_at n))
-further_factor_takes_some n = takes_some (IsFurtherFactor (IsPrimary n)) Always (further_factor_at (primary_at n)) (further_factor_read (IsPrimary n) (primary_at n) (primary_read n) (primary_no_minus n))
-
-pub further_term_takes_some : (n : ℕ) → TakesSome (further_term_at (primary_at n))
-further_term_takes_some n = takes_some (IsFurtherTerm (IsPrimary n)) EndsProduct (further_term_at (primary_at n)) (further_term_read (IsPrimary n) (primary_at n) (primary_read n) (primary_no_minus n))
+pub further_operand_takes_some : (rank : Rank) (n : ℕ) → TakesSome (further_operand_at rank (operand_at rank (primary_at n)))
+further_operand_takes_some rank n = further_operand_read (IsPrimary n) (primary_at n) (primary_read n) (primary_no_minus n) rank
 
 pub assignment_takes_some : (n : ℕ) → TakesSome (assignment_at (sum_at n))
 assignment_takes_some n = takes_some (IsAssignment (IsSum n)) EndsSum (assignment_at (sum_at n)) (assignment_read (IsSum n) (sum_at n) (sum_read n))

@@ -1,5 +1,6 @@
 -- When a function reads a phrase: what it gives is such a phrase, and each such phrase is given.
-use Rattle.std.proofs.Common.{◌≡◌, ◌≤◌, ◌+◌, ℕ, List, [], ◌∷◌, length, Bool, true, false, cond, Some, Result, Ok, Err, refl, sym, ap, subst, arith}
+use Rattle.std.specs.Prelude.{is_some}
+use Rattle.std.proofs.Common.{◌≡◌, ◌≤◌, ◌+◌, ℕ, List, [], ◌∷◌, length, Bool, true, false, cond, Option, Some, None, Result, Ok, Err, refl, sym, ap, subst, arith}
 use denote.Enum.Bare.{same_true, true_same}
 use Rattle.std.specs.Str.{bytes_eq}
 use Rattle.std.proofs.lemmas.Slice.Eq.{bytes_eq-Decides}
@@ -10,8 +11,8 @@ use Rattle.rbg_tokens.specs.declared.token.Symbol.{Symbol}
 use Rattle.rbg_tokens.specs.declared.token.TokenKind.{TokenKind}
 use Rattle.rbg_tokens.specs.declared.token.TokenKind.TheVariants as kinds
 use Rattle.rbg_grammar.specs.Tree.{SpeltName, SpeltNumber}
-use Rattle.rbg_grammar.specs.Phrase.{IsSymbol, symbol, IsName, name, IsNumber, number, IsWord, word}
-use Rattle.rbg_grammar.specs.Reading.{Fault, misfit, Reading, ◌>>=◌, next_is, is_name, is_number, is_symbol, token_at, symbol_at, name_at, number_at, word_at}
+use Rattle.rbg_grammar.specs.Phrase.{IsSymbol, symbol, IsName, name, IsNumber, number, IsWord, word, IsOneOf, one_of}
+use Rattle.rbg_grammar.specs.Reading.{Fault, misfit, Reading, ◌>>=◌, next_is, is_name, is_number, is_symbol, token_at, symbol_at, name_at, number_at, word_at, is_in, or_misfit, one_of_at}
 
 pub bind_ok : {A B : Type 0} (r : Result A Fault) (f : A → Result B Fault) (y : B) → (r >>= f) ≡ Ok y → (x : A) × (r ≡ Ok x) × (f x ≡ Ok y)
 bind_ok (Ok x) f y e = (x, refl, e)
@@ -127,6 +128,33 @@ word_shorter (word k same) = omega arith
 
 pub word_read : (text : List ℕ) → IsReadBy 1 (IsWord text) Always (word_at text)
 word_read text = record { sound = word_sound text; complete = λ ts x rest d f. word_complete d; shorter = λ ts x rest d. word_shorter d }
+
+module _ {A : Type 0} (table : TokenKind → Option A) where
+  one_of_sound : (ts : List Lexeme) (x : A) (rest : List Lexeme) → one_of_at table ts ≡ Ok (x, rest) → IsOneOf table ts x rest
+  unfolding one_of_at
+  one_of_sound [] x rest e = cc
+  one_of_sound (t ∷ ts) x rest e = go (table t.kind) refl e
+    where
+      go : (o : Option A) → table t.kind ≡ o → or_misfit o (t, ts) ≡ Ok (x, rest) → IsOneOf table (t ∷ ts) x rest
+      go (Some y) is e = subst (λ (q : A × List Lexeme). IsOneOf table (t ∷ ts) q.0 q.1) (ok_one (y, ts) (x, rest) e) (one_of is)
+      go None is e = cc
+
+  pub one_of_complete : {ts rest : List Lexeme} {x : A} → IsOneOf table ts x rest → one_of_at table ts ≡ Ok (x, rest)
+  unfolding one_of_at
+  one_of_complete (one_of k) = rw k
+
+  one_of_shorter : {ts rest : List Lexeme} {x : A} → IsOneOf table ts x rest → 1 + length rest ≤ length ts
+  one_of_shorter (one_of k) = omega arith
+
+  pub one_of_read : IsReadBy 1 (IsOneOf table) Always (one_of_at table)
+  one_of_read = record { sound = one_of_sound; complete = λ ts x rest d f. one_of_complete d; shorter = λ ts x rest d. one_of_shorter d }
+
+  -- what a test says of its token
+  pub one_of_next : {ts rest : List Lexeme} {x : A} → IsOneOf table ts x rest → next_is (is_in table) ts ≡ true
+  one_of_next (one_of k) = rw k
+
+  pub one_of_test : (test : TokenKind → Bool) (b : Bool) → ((k : TokenKind) → is_in table k ≡ true → test k ≡ b) → {ts rest : List Lexeme} {x : A} → IsOneOf table ts x rest → next_is test ts ≡ b
+  one_of_test test b all (one_of {t = t} k) = all t.kind (ap is_some k)
 
 symbol_next_at : {s : Symbol} {ts rest : List Lexeme} {at : ℕ} → IsSymbol s ts at rest → next_is (is_symbol s) ts ≡ true
 symbol_next_at {s} (symbol k) = rw (k, true_same the_type s s refl)

@@ -2,20 +2,21 @@
 use Rattle.std.proofs.Common.{◌≡◌, ℕ, zero, suc, List, [], ◌∷◌, ◌++◌, drop, Bool, true, false, cond, Some, None, Result, Ok, Err, refl, ap, ◌∙◌, inl, inr}
 use Rattle.rbg_tokens.specs.Token.{Lexeme}
 use Rattle.rbg_tokens.specs.declared.token.Symbol.{Symbol}
-use Rattle.rbg_tokens.specs.declared.token.Symbol.TheVariants.{DoubleArrow, Arrow, DoubleEquals, Equals, Plus, Minus, Star, Slash, OpenParenthesis, CloseParenthesis, OpenBracket, CloseBracket, OpenBrace, CloseBrace, Comma, Dollar, Question, Exclamation}
+use Rattle.rbg_tokens.specs.declared.token.Symbol.TheVariants.{DoubleArrow, Arrow, DoubleEquals, Equals, Plus, Minus, Star, OpenParenthesis, CloseParenthesis, OpenBracket, CloseBracket, OpenBrace, CloseBrace, Comma, Dollar, Question, Exclamation}
 use Rattle.rbg_tokens.specs.declared.token.TokenKind.{TokenKind}
 use Rattle.rbg_tokens.specs.declared.token.TokenKind.TheVariants as kinds
-use Rattle.rbg_grammar.specs.declared.expression.Additive.TheVariants as additive
-use Rattle.rbg_grammar.specs.declared.expression.Multiplicative.TheVariants as multiplicative
-use Rattle.rbg_grammar.specs.Tree.{SpeltExpression, SpeltRule, SpeltAction, act, shift, switch, assign, compare, positive, negative, star, sum_of, product_of, sequence_of}
+use Rattle.rbg_base.specs.declared.relation.Relation.TheVariants as relations
+use Rattle.rbg_grammar.specs.declared.expression.Operator.TheVariants as operators
+use Rattle.rbg_grammar.specs.declared.expression.Rank.{Rank}
+use Rattle.rbg_grammar.specs.declared.expression.Rank.TheVariants as ranks
+use Rattle.rbg_grammar.specs.Tree.{SpeltExpression, SpeltRule, SpeltAction, act, shift, switch, assign, compare, positive, negative, star, first_of, in_chain, sequence_of}
 use Rattle.rbg_grammar.specs.Phrase.{IsSymbol, Separated, separated, within}
-use Rattle.rbg_grammar.specs.Grammar.{IsFactor, plain, minus, IsFurtherFactor, times, over, IsTerm, term, IsFurtherTerm, plus, minus as less, IsSumOver, sum, IsNumberOrName, number as a_number, name as a_name, IsPrimary, IsSum, IsRelation, IsOpenAtom, moves, switches, keeps, IsComparison, comparison, IsAssignment, assignment, AreAssignments, assignments, IsBracketAtom, groups, stands_on, puts, compares, assigns, holds, fails, IsItem, once, starred, IsSequence, in_turn, AreRulesOver, either, IsAtom, AreRules}
-use Rattle.rbg_grammar.specs.Reading.{Fault, misfit, Reading, ◌>>=◌, TakesSome, next_is, is_name, is_number, is_symbol, symbol_at, name_at, repeated_at, after_at, listed_at, within_at, open_atom_at, on_at, off_at, in_sequence}
-use Rattle.rbg_grammar.specs.RuleReading.{too_deep_at, is_product_sign, is_sum_sign, number_or_name_at, factor_at, further_factor_at, term_at, further_term_at, sum_over_at, primary_at, sum_at, is_relation, relation_of, relation_at, comparison_at, assignment_at, assignments_at, in_choice, positive_at, negative_at, in_braces_at, in_brackets_at, is_opening, bracket_atom_at, item_at, begins_atom, sequence_at, rules_over_at, atom_at, rules_at}
+use Rattle.rbg_grammar.specs.Grammar.{relation_of, operator_of, IsOperator, IsFurtherOperand, further_operand, IsChain, chained, IsFactor, plain, minus, IsSumOver, IsNumberOrName, number as a_number, name as a_name, IsPrimary, IsSum, IsRelation, IsOpenAtom, moves, switches, keeps, IsComparison, comparison, IsAssignment, assignment, AreAssignments, assignments, IsBracketAtom, groups, stands_on, puts, compares, assigns, holds, fails, IsItem, once, starred, IsSequence, in_turn, AreRulesOver, either, IsAtom, AreRules}
+use Rattle.rbg_grammar.specs.Reading.{Fault, misfit, Reading, ◌>>=◌, TakesSome, next_is, is_name, is_number, is_symbol, symbol_at, name_at, one_of_at, repeated_at, after_at, listed_at, within_at, open_atom_at, on_at, off_at, in_sequence}
+use Rattle.rbg_grammar.specs.RuleReading.{too_deep_at, is_operator, number_or_name_at, factor_at, further_operand_at, chain_at, operand_at, sum_over_at, primary_at, sum_at, comparison_at, assignment_at, assignments_at, in_choice, positive_at, negative_at, in_braces_at, in_brackets_at, is_opening, bracket_atom_at, item_at, begins_atom, sequence_at, rules_over_at, atom_at, rules_at}
 use Rattle.rbg_grammar.proofs.Misfits.{Judged, Judges, Behind, seen, given, bind, choose, choose_at, same_reader}
-use Rattle.rbg_grammar.proofs.MisfitCombinators.{one_token, token_judged, symbol_judged, name_judged, number_judged, after_judged, closed_as, closed_at, closed_judged, within_judged, repeated_judged, separated_judged}
-use Rattle.rbg_grammar.proofs.PhraseLaws.{further_factor_takes_some, further_term_takes_some, assignment_takes_some, item_takes_some, sequence_takes_some}
-use Rattle.rbg_grammar.proofs.RuleReaders.{relation_here}
+use Rattle.rbg_grammar.proofs.MisfitCombinators.{one_of_judged, symbol_judged, name_judged, number_judged, after_judged, closed_as, closed_at, closed_judged, within_judged, repeated_judged, separated_judged}
+use Rattle.rbg_grammar.proofs.PhraseLaws.{further_operand_takes_some, assignment_takes_some, item_takes_some, sequence_takes_some}
 use Rattle.rbg_grammar.proofs.SectionMisfits.{names_judged}
 
 number_or_name_judged : Judges IsNumberOrName number_or_name_at
@@ -23,6 +24,25 @@ unfolding number_or_name_at
 number_or_name_judged =
     choose (next_is is_number) (λ t us vs. refl) (bind number_judged (λ n. Ok (SpeltExpression.number n.0, n.1)) (λ x u d. given (λ tail. a_number (d tail))))
     (bind name_judged (λ n. Ok (SpeltExpression.name n.0, n.1)) (λ x u d. given (λ tail. a_name (d tail))))
+
+-- a sum or a product, by its operands
+operator_judged : (rank : Rank) → Judges (IsOperator rank) (one_of_at (operator_of rank))
+operator_judged ranks.Sum = one_of_judged (operator_of ranks.Sum) (record { kind = kinds.Symbol Plus; text = []; at = 0 }) operators.Plus refl
+operator_judged ranks.Product = one_of_judged (operator_of ranks.Product) (record { kind = kinds.Symbol Star; text = []; at = 0 }) operators.Times refl
+
+module _ (rank : Rank) {Operand : List Lexeme → SpeltExpression → List Lexeme → Type 0} {operand : List Lexeme → Reading SpeltExpression} (j : Judges Operand operand) where
+  further_judged : Judges (IsFurtherOperand rank Operand) (further_operand_at rank operand)
+  unfolding further_operand_at
+  further_judged =
+      bind (operator_judged rank) (λ o. operand o.1 >>= λ e. Ok ((o.0, e.0), e.1))
+      (λ o u d. bind j (λ e. Ok ((o, e.0), e.1)) (λ x v e. given (λ tail. further_operand (d (v ++ tail)) (e tail))))
+
+  chain_judged : TakesSome (further_operand_at rank operand) → Judges (IsChain rank Operand) (chain_at rank operand)
+  unfolding chain_at
+  chain_judged some =
+      bind j (λ e. repeated_at (is_operator rank) (further_operand_at rank operand) e.1 >>= λ os. Ok (in_chain ((first_of rank, e.0) ∷ os.0), os.1))
+      (λ x u d. bind (repeated_judged (IsFurtherOperand rank Operand) (further_operand_at rank operand) (is_operator rank) some further_judged) (λ os. Ok (in_chain ((first_of rank, x) ∷ os.0), os.1))
+      (λ os v e. given (λ tail. chained (d (v ++ tail)) (e tail))))
 
 -- arithmetic over its smallest parts
 module _ (Primary : List Lexeme → SpeltExpression → List Lexeme → Type 0) (primary : List Lexeme → Reading SpeltExpression) (j : Judges Primary primary) where
@@ -32,32 +52,8 @@ module _ (Primary : List Lexeme → SpeltExpression → List Lexeme → Type 0) 
       choose (next_is (is_symbol Minus)) (λ t us vs. refl) (bind (after_judged Minus j) (λ e. Ok (SpeltExpression.negated e.0, e.1)) (λ x u d. given (λ tail. minus (d tail))))
       (seen (λ ts x rest d. plain d) j)
 
-  further_factor_judged : Judges (IsFurtherFactor Primary) (further_factor_at primary)
-  unfolding further_factor_at
-  further_factor_judged =
-      choose (next_is (is_symbol Star)) (λ t us vs. refl) (bind (after_judged Star factor_judged) (λ e. Ok ((multiplicative.Times, e.0), e.1)) (λ x u d. given (λ tail. times (d tail))))
-      (bind (after_judged Slash factor_judged) (λ e. Ok ((multiplicative.Over, e.0), e.1)) (λ x u d. given (λ tail. over (d tail))))
-
-  module _ (some_factor : TakesSome (further_factor_at primary)) where
-    term_judged : Judges (IsTerm Primary) (term_at primary)
-    unfolding term_at
-    term_judged =
-        bind factor_judged (λ e. repeated_at is_product_sign (further_factor_at primary) e.1 >>= λ fs. Ok (product_of e.0 fs.0, fs.1))
-        (λ x u d. bind (repeated_judged (IsFurtherFactor Primary) (further_factor_at primary) is_product_sign some_factor further_factor_judged) (λ fs. Ok (product_of x fs.0, fs.1))
-        (λ fs v e. given (λ tail. term (d (v ++ tail)) (e tail))))
-
-    further_term_judged : Judges (IsFurtherTerm Primary) (further_term_at primary)
-    unfolding further_term_at
-    further_term_judged =
-        choose (next_is (is_symbol Plus)) (λ t us vs. refl) (bind (after_judged Plus term_judged) (λ e. Ok ((additive.Plus, e.0), e.1)) (λ x u d. given (λ tail. plus (d tail))))
-        (bind (after_judged Minus term_judged) (λ e. Ok ((additive.Minus, e.0), e.1)) (λ x u d. given (λ tail. less (d tail))))
-
-    sum_over_judged : TakesSome (further_term_at primary) → Judges (IsSumOver Primary) (sum_over_at primary)
-    unfolding sum_over_at
-    sum_over_judged some_term =
-        bind term_judged (λ e. repeated_at is_sum_sign (further_term_at primary) e.1 >>= λ es. Ok (sum_of e.0 es.0, es.1))
-        (λ x u d. bind (repeated_judged (IsFurtherTerm Primary) (further_term_at primary) is_sum_sign some_term further_term_judged) (λ es. Ok (sum_of x es.0, es.1))
-        (λ es v e. given (λ tail. sum (d (v ++ tail)) (e tail))))
+  sum_over_judged : TakesSome (further_operand_at ranks.Product (operand_at ranks.Product primary)) → TakesSome (further_operand_at ranks.Sum (operand_at ranks.Sum primary)) → Judges (IsSumOver Primary) (sum_over_at primary)
+  sum_over_judged some_factor some_term = chain_judged ranks.Sum (chain_judged ranks.Product factor_judged some_factor) some_term
 
 -- where no bracket may be opened
 deep_at : {A : Type 0} (P : List Lexeme → A → List Lexeme → Type 0) (test : TokenKind → Bool) (ts : List Lexeme) → next_is test ts ≡ true → Judged P too_deep_at ts (too_deep_at ts)
@@ -75,7 +71,7 @@ module _ (n : ℕ) (j : Judges (IsPrimary n) (primary_at n)) where
   unfolding primary_at
   brackets_judged =
       choose (next_is (is_symbol OpenParenthesis)) (λ t us vs. refl)
-      (seen (λ ts x rest d. inr d) (within_judged OpenParenthesis CloseParenthesis (sum_over_judged (IsPrimary n) (primary_at n) j (further_factor_takes_some n) (further_term_takes_some n))))
+      (seen (λ ts x rest d. inr d) (within_judged OpenParenthesis CloseParenthesis (sum_over_judged (IsPrimary n) (primary_at n) j (further_operand_takes_some ranks.Product n) (further_operand_takes_some ranks.Sum n))))
       (seen (λ ts x rest d. inl d) number_or_name_judged)
 
 primary_judged : (n : ℕ) → Judges (IsPrimary n) (primary_at n)
@@ -84,25 +80,17 @@ primary_judged (suc n) = brackets_judged n (primary_judged n)
 
 sum_judged : (n : ℕ) → Judges (IsSum n) (sum_at n)
 unfolding sum_at
-sum_judged n = sum_over_judged (IsPrimary n) (primary_at n) (primary_judged n) (further_factor_takes_some n) (further_term_takes_some n)
+sum_judged n = sum_over_judged (IsPrimary n) (primary_at n) (primary_judged n) (further_operand_takes_some ranks.Product n) (further_operand_takes_some ranks.Sum n)
 
--- relations
-relation_same : (ts : List Lexeme) → relation_at ts ≡ one_token (λ (t : Lexeme). is_relation t.kind) (λ (t : Lexeme). relation_of t.kind) ts
-unfolding relation_at
-relation_same [] = refl
-relation_same (t ∷ ts) = refl
-
-relation_judged : Judges IsRelation relation_at
-relation_judged =
-    same_reader relation_same
-    (token_judged IsRelation (λ (t : Lexeme). is_relation t.kind) (λ (t : Lexeme). relation_of t.kind) (λ t e tail. relation_here t tail t.kind refl e) (record { kind = kinds.Symbol DoubleEquals; text = []; at = 0 }) refl)
+relation_judged : Judges IsRelation (one_of_at relation_of)
+relation_judged = one_of_judged relation_of (record { kind = kinds.Symbol DoubleEquals; text = []; at = 0 }) relations.Equal refl
 
 -- comparisons and assignments
 module _ (Sum : List Lexeme → SpeltExpression → List Lexeme → Type 0) (sum' : List Lexeme → Reading SpeltExpression) (j : Judges Sum sum') where
   comparison_judged : Judges (IsComparison Sum) (comparison_at sum')
   unfolding comparison_at
   comparison_judged =
-      bind j (λ e. relation_at e.1 >>= λ r. sum' r.1 >>= λ f. Ok (act (compare e.0 r.0 f.0), f.1))
+      bind j (λ e. one_of_at relation_of e.1 >>= λ r. sum' r.1 >>= λ f. Ok (act (compare e.0 r.0 f.0), f.1))
       (λ x u d. bind relation_judged (λ r. sum' r.1 >>= λ f. Ok (act (compare x r.0 f.0), f.1))
       (λ r v e. bind j (λ f. Ok (act (compare x r f.0), f.1)) (λ y w f. given (λ tail. comparison (d (v ++ (w ++ tail))) (e (w ++ tail)) (f tail)))))
 

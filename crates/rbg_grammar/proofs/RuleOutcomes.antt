@@ -2,40 +2,25 @@
 use Rattle.std.proofs.Common.{◌≡◌, ℕ, zero, suc, List, [], ◌∷◌, ◌++◌, drop, Bool, true, false, cond, Some, None, Ok, Err, refl, ap, inl, inr, arith}
 use Rattle.rbg_tokens.specs.Token.{Lexeme}
 use Rattle.rbg_tokens.specs.declared.token.Symbol.{Symbol}
-use Rattle.rbg_tokens.specs.declared.token.Symbol.TheVariants.{DoubleArrow, Arrow, DoubleEquals, NotEquals, LessOrEqual, GreaterOrEqual, Equals, LessThan, GreaterThan, Plus, Star, OpenParenthesis, CloseParenthesis, OpenBracket, CloseBracket, OpenBrace, CloseBrace, Comma, Dollar, Question, Exclamation}
+use Rattle.rbg_tokens.specs.declared.token.Symbol.TheVariants.{DoubleArrow, Arrow, DoubleEquals, Equals, Plus, Star, OpenParenthesis, CloseParenthesis, OpenBracket, CloseBracket, OpenBrace, CloseBrace, Comma, Dollar, Question, Exclamation}
 use Rattle.rbg_tokens.specs.declared.token.TokenKind.{TokenKind}
 use Rattle.rbg_tokens.specs.declared.token.TokenKind.TheVariants as kinds
 use Rattle.rbg_base.specs.declared.relation.Relation.{Relation}
 use Rattle.rbg_base.specs.declared.relation.Relation.TheVariants as relations
 use Rattle.rbg_grammar.specs.Tree.{SpeltName, SpeltExpression, SpeltRule, SpeltAction, act, shift, switch, assign, compare, positive, negative, star, sequence_of}
-use Rattle.rbg_grammar.specs.Phrase.{IsSymbol, symbol, IsName, name, Repeated, done, After, Separated, separated, Listed, nothing, Within, within}
-use Rattle.rbg_grammar.specs.Grammar.{IsRelation, equal, not_equal, less, less_or_equal, greater, greater_or_equal, IsSum, IsOpenAtom, moves, switches, keeps, IsComparison, comparison, IsAssignment, assignment, AreAssignments, assignments, IsBracketAtom, groups, stands_on, puts, compares, assigns, holds, fails, IsItem, once, starred, IsSequence, in_turn, AreRulesOver, either, IsAtom, AreRules}
+use Rattle.rbg_grammar.specs.Phrase.{IsSymbol, symbol, IsName, name, one_of, Repeated, done, After, Separated, separated, Listed, nothing, Within, within}
+use Rattle.rbg_grammar.specs.Grammar.{relation_of, IsRelation, IsSum, IsOpenAtom, moves, switches, keeps, IsComparison, comparison, IsAssignment, assignment, AreAssignments, assignments, IsBracketAtom, groups, stands_on, puts, compares, assigns, holds, fails, IsItem, once, starred, IsSequence, in_turn, AreRulesOver, either, IsAtom, AreRules}
 use Rattle.rbg_grammar.specs.Spells.{opens, closes}
-use Rattle.rbg_grammar.specs.Reading.{misfit, too_deep, Reading, ◌>>=◌, next_is, is_name, is_symbol, symbol_at, name_at, listed_at, repeated_at, after_at, separated_at, within_at, open_atom_at, on_at, off_at, in_sequence}
-use Rattle.rbg_grammar.specs.RuleReading.{is_relation, relation_of, relation_at, comparison_at, assignment_at, assignments_at, in_choice, positive_at, negative_at, in_braces_at, in_brackets_at, is_opening, bracket_atom_at, item_at, begins_atom, sequence_at, rules_over_at, atom_at, rules_at, sum_at}
+use Rattle.rbg_grammar.specs.Reading.{too_deep, Reading, ◌>>=◌, next_is, is_name, is_symbol, symbol_at, name_at, one_of_at, listed_at, repeated_at, after_at, separated_at, within_at, open_atom_at, on_at, off_at, in_sequence}
+use Rattle.rbg_grammar.specs.RuleReading.{comparison_at, assignment_at, assignments_at, in_choice, positive_at, negative_at, in_braces_at, in_brackets_at, is_opening, bracket_atom_at, item_at, begins_atom, sequence_at, rules_over_at, atom_at, rules_at, sum_at}
 use Rattle.rbg_grammar.proofs.Pieces.{Piece, Deep, Sample, Outcome, bind, seen_piece, seen_deep, pieces, first_deep, symbol_piece}
-use Rattle.rbg_grammar.proofs.Readers.{symbol_read}
-use Rattle.rbg_grammar.proofs.RuleReaders.{relation_read}
-use Rattle.rbg_grammar.proofs.SharedOutcomes.{bind_same, map_outcome, seen_outcome, later, both_outcome, none_sample, symbol_never, name_never, name_piece, name_outcome, names_outcome, repeated_outcome, after_outcome, separated_outcome, bracket_outcome}
+use Rattle.rbg_grammar.proofs.Readers.{symbol_read, one_of_read}
+use Rattle.rbg_grammar.proofs.SharedOutcomes.{bind_same, map_outcome, seen_outcome, later, both_outcome, none_sample, symbol_never, name_never, name_piece, one_of_never, one_of_piece, no_bracket, name_outcome, names_outcome, repeated_outcome, after_outcome, separated_outcome, bracket_outcome}
 use Rattle.rbg_grammar.proofs.SumOutcomes.{a_token, name_sum, sum_outcome}
 use Rattle.rbg_grammar.proofs.Readers.{name_read}
 
 relation_piece : (n : ℕ) {ts rest : List Lexeme} {x : Relation} → IsRelation ts x rest → Piece IsRelation n ts x rest
-relation_piece n {ts} {rest} (equal {at = at} d) = seen_piece (IsSymbol DoubleEquals) IsRelation (λ (at : ℕ). relations.Equal) n (λ ts x rest d. equal d) ts at rest (symbol_piece n refl refl d)
-relation_piece n {ts} {rest} (not_equal {at = at} d) = seen_piece (IsSymbol NotEquals) IsRelation (λ (at : ℕ). relations.NotEqual) n (λ ts x rest d. not_equal d) ts at rest (symbol_piece n refl refl d)
-relation_piece n {ts} {rest} (less {at = at} d) = seen_piece (IsSymbol LessThan) IsRelation (λ (at : ℕ). relations.Less) n (λ ts x rest d. less d) ts at rest (symbol_piece n refl refl d)
-relation_piece n {ts} {rest} (less_or_equal {at = at} d) = seen_piece (IsSymbol LessOrEqual) IsRelation (λ (at : ℕ). relations.LessOrEqual) n (λ ts x rest d. less_or_equal d) ts at rest (symbol_piece n refl refl d)
-relation_piece n {ts} {rest} (greater {at = at} d) = seen_piece (IsSymbol GreaterThan) IsRelation (λ (at : ℕ). relations.Greater) n (λ ts x rest d. greater d) ts at rest (symbol_piece n refl refl d)
-relation_piece n {ts} {rest} (greater_or_equal {at = at} d) = seen_piece (IsSymbol GreaterOrEqual) IsRelation (λ (at : ℕ). relations.GreaterOrEqual) n (λ ts x rest d. greater_or_equal d) ts at rest (symbol_piece n refl refl d)
-
-relation_never : (ts : List Lexeme) (at : ℕ) → relation_at ts ≡ Err (too_deep at) → ⊥
-unfolding relation_at
-relation_never [] at e = cc
-relation_never (t ∷ ts) at e = go (is_relation t.kind) e
-  where
-    go : (b : Bool) → cond {A = Reading Relation} b (Ok (relation_of t.kind, ts)) (Err (misfit (Some t.at))) ≡ Err (too_deep at) → ⊥
-    go true e = cc
-    go false e = cc
+relation_piece = one_of_piece relation_of (no_bracket relation_of refl refl refl refl refl refl)
 
 -- a sum and a relation, and a relation and a sum
 data Half (Sum : List Lexeme → SpeltExpression → List Lexeme → Type 0) : List Lexeme → SpeltExpression × Relation → List Lexeme → Type 0 where
@@ -62,19 +47,19 @@ module _ (Sum : List Lexeme → SpeltExpression → List Lexeme → Type 0) (n :
   other_sample = record {
     tokens = equals_token ∷ a_token ∷ [];
     value = (relations.Equal, SpeltExpression.name (record { text = a_token.text; at = a_token.at }));
-    spells = λ tail. other (equal (symbol refl)) (named a_token refl tail);
+    spells = λ tail. other (one_of refl) (named a_token refl tail);
   }
 
   comparison_outcome : (ts : List Lexeme) → Outcome (IsComparison Sum) n ts (comparison_at sum' ts) (comparison_at more ts)
   unfolding comparison_at
   comparison_outcome ts =
       bind Sum (IsComparison Sum) n ts ts (sum' ts) (more ts)
-      (λ e. relation_at e.1 >>= λ r. sum' r.1 >>= λ f. Ok (act (compare e.0 r.0 f.0), f.1)) (λ e. relation_at e.1 >>= λ r. more r.1 >>= λ f. Ok (act (compare e.0 r.0 f.0), f.1)) (reads ts)
-      (λ e p. bind_same (IsComparison Sum) n ts (relation_at e.1) (λ r. sum' r.1 >>= λ f. Ok (act (compare e.0 r.0 f.0), f.1)) (λ r. more r.1 >>= λ f. Ok (act (compare e.0 r.0 f.0), f.1))
+      (λ e. one_of_at relation_of e.1 >>= λ r. sum' r.1 >>= λ f. Ok (act (compare e.0 r.0 f.0), f.1)) (λ e. one_of_at relation_of e.1 >>= λ r. more r.1 >>= λ f. Ok (act (compare e.0 r.0 f.0), f.1)) (reads ts)
+      (λ e p. bind_same (IsComparison Sum) n ts (one_of_at relation_of e.1) (λ r. sum' r.1 >>= λ f. Ok (act (compare e.0 r.0 f.0), f.1)) (λ r. more r.1 >>= λ f. Ok (act (compare e.0 r.0 f.0), f.1))
       (λ r mid k. later (Half Sum) Sum (IsComparison Sum) (λ (x : SpeltExpression × Relation) (f : SpeltExpression). act (compare x.0 x.1 f)) (half_first Sum) n ts (e.0, r) mid
-      (pieces Sum IsRelation (Half Sum) (λ (x : SpeltExpression) (r : Relation). (x, r)) (λ ts x mid y rest d k. half d k) n ts e.0 e.1 r mid p (relation_piece n (relation_read.sound e.1 r mid k)))
+      (pieces Sum IsRelation (Half Sum) (λ (x : SpeltExpression) (r : Relation). (x, r)) (λ ts x mid y rest d k. half d k) n ts e.0 e.1 r mid p (relation_piece n ((one_of_read relation_of).sound e.1 r mid k)))
       (sum' mid) (more mid) (reads mid))
-      (relation_never e.1))
+      (one_of_never relation_of e.1))
       (λ at d. first_deep Sum (Other Sum) (IsComparison Sum) (λ (e : SpeltExpression) (x : Relation × SpeltExpression). act (compare e x.0 x.1)) (half_last Sum) n ts at d other_sample)
 
   assignment_outcome : (ts : List Lexeme) → Outcome (IsAssignment Sum) n ts (assignment_at sum' ts) (assignment_at more ts)

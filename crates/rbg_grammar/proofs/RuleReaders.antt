@@ -1,20 +1,22 @@
 -- The readers of rules.
-use Rattle.std.proofs.Common.{◌≡◌, ◌≤◌, ◌+◌, ℕ, zero, suc, List, [], ◌∷◌, length, drop, Bool, true, false, cond, Some, Ok, Err, refl, ◌∙◌, subst, arith, inl, inr}
+use Rattle.std.proofs.Common.{◌≡◌, ◌≤◌, ◌+◌, ℕ, zero, suc, List, [], ◌∷◌, length, drop, Bool, true, false, cond, Ok, refl, ◌∙◌, subst, arith, inl, inr}
 use Rattle.rbg_tokens.specs.Token.{Lexeme}
 use Rattle.rbg_tokens.specs.declared.token.Symbol.{Symbol}
-use Rattle.rbg_tokens.specs.declared.token.Symbol.TheVariants.{DoubleEquals, NotEquals, LessOrEqual, GreaterOrEqual, Equals, LessThan, GreaterThan, Plus, Star, OpenParenthesis, CloseParenthesis, OpenBracket, CloseBracket, OpenBrace, CloseBrace, Comma, Dollar, Question, Exclamation}
+use Rattle.rbg_tokens.specs.declared.token.Symbol.TheVariants.{Equals, Plus, Minus, Star, Slash, OpenParenthesis, CloseParenthesis, OpenBracket, CloseBracket, OpenBrace, CloseBrace, Comma, Dollar, Question, Exclamation}
 use Rattle.rbg_tokens.specs.declared.token.TokenKind.{TokenKind}
 use Rattle.rbg_tokens.specs.declared.token.TokenKind.TheVariants as kinds
 use Rattle.rbg_base.specs.declared.relation.Relation.{Relation}
-use Rattle.rbg_grammar.specs.Tree.{SpeltName, SpeltExpression, SpeltRule, SpeltAction, act, positive, negative, star}
-use Rattle.rbg_grammar.specs.Phrase.{IsSymbol, symbol, IsName, After, Separated, separated, Listed, nothing, listed, Within, within}
-use Rattle.rbg_grammar.specs.Grammar.{IsRelation, equal, not_equal, less, less_or_equal, greater, greater_or_equal, IsSum, IsOpenAtom, IsComparison, comparison, IsAssignment, assignment, AreAssignments, assignments, IsBracketAtom, groups, stands_on, puts, compares, assigns, holds, fails, IsItem, once, starred, IsSequence, in_turn, AreRulesOver, either, IsAtom, AreRules}
-use Rattle.rbg_grammar.specs.Reading.{Reading, misfit, ◌>>=◌, next_is, is_symbol, symbol_at, after_at, separated_at, within_at, open_atom_at, on_at, off_at, in_sequence}
-use Rattle.rbg_grammar.specs.RuleReading.{too_deep_at, is_product_sign, is_sum_sign, is_relation, relation_of, relation_at, comparison_at, assignment_at, assignments_at, in_choice, positive_at, negative_at, in_braces_at, in_brackets_at, is_opening, bracket_atom_at, item_at, begins_atom, sequence_at, rules_over_at, atom_at, rules_at, sum_at}
-use Rattle.rbg_grammar.proofs.Readers.{bind_ok, ok_one, IsReadBy, Always, symbol_read, symbol_next, name_read, next_test-symbol}
-use Rattle.rbg_grammar.proofs.Combinators.{Begins, Stops, after_read, within_read, separated_read, repeated_sound, repeated_complete, repeated_shorter, may_follow}
+use Rattle.rbg_grammar.specs.declared.expression.Rank.{Rank}
+use Rattle.rbg_grammar.specs.declared.expression.Rank.TheVariants as ranks
+use Rattle.rbg_grammar.specs.Tree.{SpeltName, SpeltExpression, SpeltRule, SpeltAction, act, assign, positive, negative, star, sequence_of}
+use Rattle.rbg_grammar.specs.Phrase.{IsSymbol, symbol, IsName, Repeated, After, Separated, separated, Listed, nothing, listed, Within, within}
+use Rattle.rbg_grammar.specs.Grammar.{relation_of, IsRelation, IsSum, IsOpenAtom, IsComparison, comparison, IsAssignment, assignment, AreAssignments, assignments, IsBracketAtom, groups, stands_on, puts, compares, assigns, holds, fails, IsItem, once, starred, IsSequence, in_turn, AreRulesOver, either, IsAtom, AreRules}
+use Rattle.rbg_grammar.specs.Reading.{Reading, ◌>>=◌, next_is, is_symbol, is_in, symbol_at, name_at, repeated_at, after_at, separated_at, within_at, open_atom_at, on_at, off_at, in_sequence}
+use Rattle.rbg_grammar.specs.RuleReading.{too_deep_at, is_operator, comparison_at, assignment_at, assignments_at, in_choice, positive_at, negative_at, in_braces_at, in_brackets_at, is_opening, bracket_atom_at, item_at, begins_atom, sequence_at, rules_over_at, atom_at, rules_at, sum_at}
+use Rattle.rbg_grammar.proofs.Readers.{bind_ok, ok_one, IsReadBy, Always, symbol_read, symbol_next, name_read, one_of_complete, one_of_read, one_of_test, next_test-symbol}
+use Rattle.rbg_grammar.proofs.Combinators.{FirstThen, first_then, both_read, repeated_read, Begins, Stops, after_read, within_read, separated_read, may_follow}
 use Rattle.rbg_grammar.proofs.SectionReaders.{piece_read}
-use Rattle.rbg_grammar.proofs.SumReaders.{symbol_test, name_test, after_test, within_test, after_here, within_here, EndsSum, symbol_ends_sum, sum_read}
+use Rattle.rbg_grammar.proofs.SumReaders.{symbol_test, name_test, after_test, within_test, after_here, within_here, EndsSum, ends_sum, symbol_ends_sum, sum_read}
 use Rattle.rbg_grammar.proofs.AtomReaders.{open_atom_read, open_atom_begins, set_read}
 
 -- the second token
@@ -22,59 +24,22 @@ second_test : {s : Symbol} {ts rest : List Lexeme} {at : ℕ} → IsSymbol s ts 
 second_test (symbol k) test = refl
 
 -- relations
-pub relation_here : (t : Lexeme) (rest : List Lexeme) (k : TokenKind) → t.kind ≡ k → is_relation k ≡ true → IsRelation (t ∷ rest) (relation_of k) rest
-relation_here t rest kinds.Name same e = cc
-relation_here t rest kinds.Number same e = cc
-relation_here t rest (kinds.Symbol DoubleEquals) same e = equal (symbol same)
-relation_here t rest (kinds.Symbol NotEquals) same e = not_equal (symbol same)
-relation_here t rest (kinds.Symbol LessThan) same e = less (symbol same)
-relation_here t rest (kinds.Symbol LessOrEqual) same e = less_or_equal (symbol same)
-relation_here t rest (kinds.Symbol GreaterThan) same e = greater (symbol same)
-relation_here t rest (kinds.Symbol GreaterOrEqual) same e = greater_or_equal (symbol same)
-relation_here t rest (kinds.Symbol _) same e = cc
+relation-no_operator : (rank : Rank) (k : TokenKind) → is_in relation_of k ≡ true → is_operator rank k ≡ false
+relation-no_operator rank kinds.Name e = cc
+relation-no_operator rank kinds.Number e = cc
+relation-no_operator ranks.Sum (kinds.Symbol Plus) e = cc
+relation-no_operator ranks.Sum (kinds.Symbol Minus) e = cc
+relation-no_operator ranks.Sum (kinds.Symbol _) e = refl
+relation-no_operator ranks.Product (kinds.Symbol Star) e = cc
+relation-no_operator ranks.Product (kinds.Symbol Slash) e = cc
+relation-no_operator ranks.Product (kinds.Symbol _) e = refl
 
-relation_sound : (ts : List Lexeme) (x : Relation) (rest : List Lexeme) → relation_at ts ≡ Ok (x, rest) → IsRelation ts x rest
-unfolding relation_at
-relation_sound [] x rest e = cc
-relation_sound (t ∷ ts) x rest e = first (is_relation t.kind) (relation_here t ts t.kind refl) e
-  where
-    first : (b : Bool) → (b ≡ true → IsRelation (t ∷ ts) (relation_of t.kind) ts) → cond {A = Reading Relation} b (Ok (relation_of t.kind, ts)) (Err (misfit (Some t.at))) ≡ Ok (x, rest) → IsRelation (t ∷ ts) x rest
-    first true here e = subst (λ (q : Relation × List Lexeme). IsRelation (t ∷ ts) q.0 q.1) (ok_one _ (x, rest) e) (here refl)
-    first false here e = cc
-
-relation_complete : {ts rest : List Lexeme} {x : Relation} → IsRelation ts x rest → relation_at ts ≡ Ok (x, rest)
-unfolding relation_at
-relation_complete (equal (symbol k)) = rw k
-relation_complete (not_equal (symbol k)) = rw k
-relation_complete (less (symbol k)) = rw k
-relation_complete (less_or_equal (symbol k)) = rw k
-relation_complete (greater (symbol k)) = rw k
-relation_complete (greater_or_equal (symbol k)) = rw k
+relation_ends_sum : {ts rest : List Lexeme} {x : Relation} → IsRelation ts x rest → EndsSum ts
+relation_ends_sum {ts} d =
+    ends_sum ts (one_of_test relation_of (is_operator ranks.Sum) false (relation-no_operator ranks.Sum) d) (one_of_test relation_of (is_operator ranks.Product) false (relation-no_operator ranks.Product) d)
 
 symbol_shorter : {s : Symbol} {ts rest : List Lexeme} {at : ℕ} → IsSymbol s ts at rest → 1 + length rest ≤ length ts
 symbol_shorter (symbol k) = omega arith
-
-relation_shorter : {ts rest : List Lexeme} {x : Relation} → IsRelation ts x rest → 1 + length rest ≤ length ts
-relation_shorter (equal d) = symbol_shorter d
-relation_shorter (not_equal d) = symbol_shorter d
-relation_shorter (less d) = symbol_shorter d
-relation_shorter (less_or_equal d) = symbol_shorter d
-relation_shorter (greater d) = symbol_shorter d
-relation_shorter (greater_or_equal d) = symbol_shorter d
-
-pub relation_read : IsReadBy 1 IsRelation Always relation_at
-relation_read = record { sound = relation_sound; complete = λ ts x rest d stop. relation_complete d; shorter = λ ts x rest d. relation_shorter d }
-
-ends_sum : {s : Symbol} {ts rest : List Lexeme} {at : ℕ} → IsSymbol s ts at rest → is_sum_sign (kinds.Symbol s) ≡ false → is_product_sign (kinds.Symbol s) ≡ false → EndsSum ts
-ends_sum d no_sum no_product = record { ends = symbol_test d is_sum_sign ∙ no_sum; follows = symbol_test d is_product_sign ∙ no_product }
-
-relation_ends_sum : {ts rest : List Lexeme} {x : Relation} → IsRelation ts x rest → EndsSum ts
-relation_ends_sum (equal d) = ends_sum d refl refl
-relation_ends_sum (not_equal d) = ends_sum d refl refl
-relation_ends_sum (less d) = ends_sum d refl refl
-relation_ends_sum (less_or_equal d) = ends_sum d refl refl
-relation_ends_sum (greater d) = ends_sum d refl refl
-relation_ends_sum (greater_or_equal d) = ends_sum d refl refl
 
 -- comparisons and assignments
 module _ (Sum : List Lexeme → SpeltExpression → List Lexeme → Type 0) (sum : List Lexeme → Reading SpeltExpression) (reads : IsReadBy 1 Sum EndsSum sum) where
@@ -85,16 +50,16 @@ module _ (Sum : List Lexeme → SpeltExpression → List Lexeme → Type 0) (sum
       let (r, middle, further) = bind_ok _ _ _ further in
       let (g, last, given) = bind_ok _ _ _ further in
       subst (λ (q : SpeltRule × List Lexeme). IsComparison Sum ts q.0 q.1) (ok_one _ (x, rest) given)
-      (comparison (reads.sound ts f.0 f.1 first) (relation_sound f.1 r.0 r.1 middle) (reads.sound r.1 g.0 g.1 last))
+      (comparison (reads.sound ts f.0 f.1 first) ((one_of_read relation_of).sound f.1 r.0 r.1 middle) (reads.sound r.1 g.0 g.1 last))
 
   comparison_complete : {ts rest : List Lexeme} {x : SpeltRule} → IsComparison Sum ts x rest → EndsSum rest → comparison_at sum ts ≡ Ok (x, rest)
   unfolding comparison_at
   comparison_complete {ts} {rest} (comparison {t1 = t1} {t2 = t2} {e = e} {f = f} {r = r} d relation k) stop =
-      rw (reads.complete ts e t1 d (relation_ends_sum relation), relation_complete relation, reads.complete t2 f rest k stop)
+      rw (reads.complete ts e t1 d (relation_ends_sum relation), one_of_complete relation_of relation, reads.complete t2 f rest k stop)
 
   comparison_shorter : {ts rest : List Lexeme} {x : SpeltRule} → IsComparison Sum ts x rest → 1 + length rest ≤ length ts
-  comparison_shorter {ts} {rest} (comparison {t1 = t1} {t2 = t2} {e = e} {f = f} d relation k) =
-      omega (arith, reads.shorter ts e t1 d, relation_shorter relation, reads.shorter t2 f rest k)
+  comparison_shorter {ts} {rest} (comparison {t1 = t1} {t2 = t2} {e = e} {f = f} {r = r} d relation k) =
+      omega (arith, reads.shorter ts e t1 d, (one_of_read relation_of).shorter t1 r t2 relation, reads.shorter t2 f rest k)
 
   pub comparison_read : IsReadBy 1 (IsComparison Sum) EndsSum (comparison_at sum)
   comparison_read = record { sound = comparison_sound; complete = λ ts x rest d stop. comparison_complete d stop; shorter = λ ts x rest d. comparison_shorter d }
@@ -102,23 +67,14 @@ module _ (Sum : List Lexeme → SpeltExpression → List Lexeme → Type 0) (sum
   value_read : IsReadBy 1 (After Equals Sum) EndsSum (after_at Equals sum)
   value_read = after_read 1 Sum EndsSum sum reads Equals
 
-  assignment_sound : (ts : List Lexeme) (x : SpeltRule) (rest : List Lexeme) → assignment_at sum ts ≡ Ok (x, rest) → IsAssignment Sum ts x rest
-  unfolding assignment_at
-  assignment_sound ts x rest e =
-      let (n, first, further) = bind_ok _ _ _ e in
-      let (f, last, given) = bind_ok _ _ _ further in
-      subst (λ (q : SpeltRule × List Lexeme). IsAssignment Sum ts q.0 q.1) (ok_one _ (x, rest) given)
-      (assignment (name_read.sound ts n.0 n.1 first) (value_read.sound n.1 f.0 f.1 last))
-
-  assignment_complete : {ts rest : List Lexeme} {x : SpeltRule} → IsAssignment Sum ts x rest → EndsSum rest → assignment_at sum ts ≡ Ok (x, rest)
-  unfolding assignment_at
-  assignment_complete {ts} {rest} (assignment {mid = mid} {n = n} {e = e} named d) stop = rw (name_read.complete ts n mid named tt, value_read.complete mid e rest d stop)
-
-  assignment_shorter : {ts rest : List Lexeme} {x : SpeltRule} → IsAssignment Sum ts x rest → 1 + length rest ≤ length ts
-  assignment_shorter {ts} {rest} (assignment {mid = mid} {n = n} {e = e} named d) = omega (arith, name_read.shorter ts n mid named, value_read.shorter mid e rest d)
+  assignment_parts : (ts : List Lexeme) (x : SpeltRule) (rest : List Lexeme) → IsAssignment Sum ts x rest → FirstThen IsName (After Equals Sum) (λ (n : SpeltName) (e : SpeltExpression). act (assign n e)) ts x rest
+  assignment_parts ts _ rest (assignment d e) = first_then d e
 
   pub assignment_read : IsReadBy 1 (IsAssignment Sum) EndsSum (assignment_at sum)
-  assignment_read = record { sound = assignment_sound; complete = λ ts x rest d stop. assignment_complete d stop; shorter = λ ts x rest d. assignment_shorter d }
+  unfolding assignment_at
+  assignment_read =
+      both_read IsName Always name_at name_read 1 (After Equals Sum) EndsSum (after_at Equals sum) value_read (λ mid e rest d stop. tt)
+      (IsAssignment Sum) (λ (n : SpeltName) (e : SpeltExpression). act (assign n e)) (λ ts x mid y rest d e. assignment d e) assignment_parts
 
   pub assignment_list_read : IsReadBy 1 (Separated Comma (IsAssignment Sum)) (Stops EndsSum (is_symbol Comma)) (separated_at Comma (assignment_at sum))
   assignment_list_read = separated_read (IsAssignment Sum) EndsSum (assignment_at sum) assignment_read Comma (symbol_ends_sum Comma refl refl)
@@ -159,7 +115,7 @@ closing_ends_rules c no_plus no_atom no_star ts e = record {
   follows = record { ends = next_test-symbol c begins_atom ts e ∙ no_atom; follows = next_test-symbol c (is_symbol Star) ts e ∙ no_star };
 }
 
-comma_and_sum : (c : Symbol) → is_symbol Comma (kinds.Symbol c) ≡ false → is_sum_sign (kinds.Symbol c) ≡ false → is_product_sign (kinds.Symbol c) ≡ false
+comma_and_sum : (c : Symbol) → is_symbol Comma (kinds.Symbol c) ≡ false → is_operator ranks.Sum (kinds.Symbol c) ≡ false → is_operator ranks.Product (kinds.Symbol c) ≡ false
     → (ts : List Lexeme) → next_is (is_symbol c) ts ≡ true → Stops EndsSum (is_symbol Comma) ts
 comma_and_sum c no_comma no_sum no_product ts e = record { ends = next_test-symbol c (is_symbol Comma) ts e ∙ no_comma; follows = symbol_ends_sum c no_sum no_product ts e }
 
@@ -385,25 +341,16 @@ module _ (Atom : List Lexeme → SpeltRule → List Lexeme → Type 0) (atom : L
   pub items_begin : Begins (IsItem Atom) EndsItem begins_atom
   items_begin = record { starts = λ ts x rest d. item_next d; goes_on = atom_ends_item }
 
-  sequence_sound : (ts : List Lexeme) (x : SpeltRule) (rest : List Lexeme) → sequence_at atom ts ≡ Ok (x, rest) → IsSequence Atom ts x rest
-  unfolding sequence_at
-  sequence_sound ts x rest e =
-      let (r, first, further) = bind_ok _ _ _ e in
-      let (rs, more, given) = bind_ok _ _ _ further in
-      subst (λ (q : SpeltRule × List Lexeme). IsSequence Atom ts q.0 q.1) (ok_one _ (x, rest) given)
-      (in_turn (item_sound ts r.0 r.1 first) (repeated_sound (IsItem Atom) EndsItem (item_at atom) begins_atom item_read items_begin r.1 rs.0 rs.1 more))
-
-  sequence_complete : {ts rest : List Lexeme} {x : SpeltRule} → IsSequence Atom ts x rest → EndsSequence rest → sequence_at atom ts ≡ Ok (x, rest)
-  unfolding sequence_at
-  sequence_complete (in_turn d more) stop =
-      let follows = may_follow (IsItem Atom) EndsItem (item_at atom) begins_atom item_read items_begin more stop in
-      rw (item_complete d follows, repeated_complete (IsItem Atom) EndsItem (item_at atom) begins_atom item_read items_begin more stop)
-
-  sequence_shorter : {ts rest : List Lexeme} {x : SpeltRule} → IsSequence Atom ts x rest → 1 + length rest ≤ length ts
-  sequence_shorter (in_turn d more) = omega (arith, item_shorter d, repeated_shorter (IsItem Atom) EndsItem (item_at atom) begins_atom item_read items_begin more)
+  sequence_parts : (ts : List Lexeme) (x : SpeltRule) (rest : List Lexeme) → IsSequence Atom ts x rest → FirstThen (IsItem Atom) (Repeated (IsItem Atom)) sequence_of ts x rest
+  sequence_parts ts _ rest (in_turn d more) = first_then d more
 
   pub sequence_read : IsReadBy 1 (IsSequence Atom) EndsSequence (sequence_at atom)
-  sequence_read = record { sound = sequence_sound; complete = λ ts x rest d stop. sequence_complete d stop; shorter = λ ts x rest d. sequence_shorter d }
+  unfolding sequence_at
+  sequence_read =
+      both_read (IsItem Atom) EndsItem (item_at atom) item_read 0 (Repeated (IsItem Atom)) EndsSequence (repeated_at begins_atom (item_at atom))
+      (repeated_read (IsItem Atom) EndsItem (item_at atom) begins_atom item_read items_begin)
+      (λ mid rs rest more stop. may_follow (IsItem Atom) EndsItem (item_at atom) begins_atom item_read items_begin more stop)
+      (IsSequence Atom) sequence_of (λ ts x mid y rest d e. in_turn d e) sequence_parts
 
   plus_ends_sequence : (ts : List Lexeme) → next_is (is_symbol Plus) ts ≡ true → EndsSequence ts
   plus_ends_sequence ts e = record { ends = next_test-symbol Plus begins_atom ts e; follows = next_test-symbol Plus (is_symbol Star) ts e }

@@ -5,32 +5,24 @@ use Rattle.rbg_tokens.specs.Token.{Lexeme}
 use Rattle.rbg_tokens.specs.declared.token.Symbol.{Symbol}
 use Rattle.rbg_tokens.specs.declared.token.Symbol.TheVariants.{Comma, Colon, OpenParenthesis, CloseParenthesis, OpenBracket, CloseBracket, OpenBrace, CloseBrace}
 use Rattle.rbg_tokens.specs.declared.token.TokenKind.TheVariants as kinds
-use Rattle.rbg_grammar.specs.Tree.{SpeltName, SpeltBounded, SpeltEdge, SpeltVertex, SpeltBoard}
+use Rattle.rbg_grammar.specs.Tree.{SpeltName, SpeltNumber, SpeltBounded, SpeltEdge, SpeltVertex, SpeltBoard}
 use Rattle.rbg_grammar.specs.Phrase.{IsName, IsNumber, IsWord, word, Repeated, After, Separated, Listed, Within, within, WithComma}
 use Rattle.rbg_grammar.specs.Grammar.{IsBounded, bounded, IsRow, IsEdge, edge, IsVertex, vertex, IsRectangle, four, IsHexagon, six, IsGraph, vertices, IsGenerated, generated, IsBoard, rectangular, hexagonal, graphic}
 use Rattle.rbg_grammar.specs.Reading.{Reading, next_is, next_word, is_name, is_symbol, name_at, number_at, after_at, separated_at, listed_at, within_at, with_comma_at, bounded_at, row_at, edge_at, vertex_at, rows_at, direction_at, rectangle_at, hexagon_at, graph_at, generated_at, board_at}
 use Rattle.rbg_grammar.proofs.Readers.{bind_ok, ok_one, IsReadBy, Always, symbol_next, name_read, name_next, number_read, word_read, next_test-symbol}
-use Rattle.rbg_grammar.proofs.Combinators.{Begins, Stops, EndsList, after_read, within_read, separated_read, listed_read, with_comma_read, repeated_sound, repeated_complete, repeated_shorter}
+use Rattle.rbg_grammar.proofs.Combinators.{FirstThen, first_then, both_read, Begins, Stops, EndsList, after_read, within_read, separated_read, listed_read, with_comma_read, repeated_sound, repeated_complete, repeated_shorter}
 
 bound_read : IsReadBy 1 (Within OpenParenthesis CloseParenthesis IsNumber) Always (within_at OpenParenthesis CloseParenthesis number_at)
 bound_read = within_read 1 IsNumber Always number_at number_read OpenParenthesis CloseParenthesis (λ ts e. tt)
 
-bounded_sound : (ts : List Lexeme) (x : SpeltBounded) (rest : List Lexeme) → bounded_at ts ≡ Ok (x, rest) → IsBounded ts x rest
-unfolding bounded_at
-bounded_sound ts x rest e =
-    let (n, first, further) = bind_ok _ _ _ e in
-    let (b, last, given) = bind_ok _ _ _ further in
-    subst (λ (q : SpeltBounded × List Lexeme). IsBounded ts q.0 q.1) (ok_one _ (x, rest) given) (bounded (name_read.sound ts n.0 n.1 first) (bound_read.sound n.1 b.0 b.1 last))
-
-bounded_complete : {ts rest : List Lexeme} {x : SpeltBounded} → IsBounded ts x rest → bounded_at ts ≡ Ok (x, rest)
-unfolding bounded_at
-bounded_complete {ts} {rest} (bounded {mid = mid} {n = n} {b = b} d e) = rw (name_read.complete ts n mid d tt, bound_read.complete mid b rest e tt)
-
-bounded_shorter : {ts rest : List Lexeme} {x : SpeltBounded} → IsBounded ts x rest → 1 + length rest ≤ length ts
-bounded_shorter {ts} {rest} (bounded {mid = mid} {n = n} {b = b} d e) = omega (arith, name_read.shorter ts n mid d, bound_read.shorter mid b rest e)
+bounded_parts : (ts : List Lexeme) (x : SpeltBounded) (rest : List Lexeme) → IsBounded ts x rest → FirstThen IsName (Within OpenParenthesis CloseParenthesis IsNumber) (λ (n : SpeltName) (b : SpeltNumber). record { name = n; bound = b }) ts x rest
+bounded_parts ts _ rest (bounded d e) = first_then d e
 
 pub bounded_read : IsReadBy 1 IsBounded Always bounded_at
-bounded_read = record { sound = bounded_sound; complete = λ ts x rest d stop. bounded_complete d; shorter = λ ts x rest d. bounded_shorter d }
+unfolding bounded_at
+bounded_read =
+    both_read IsName Always name_at name_read 1 (Within OpenParenthesis CloseParenthesis IsNumber) Always (within_at OpenParenthesis CloseParenthesis number_at) bound_read (λ mid b rest d stop. tt)
+    IsBounded (λ (n : SpeltName) (b : SpeltNumber). record { name = n; bound = b }) (λ ts x mid y rest d e. bounded d e) bounded_parts
 
 -- lists of names, separated or in brackets
 pub names_read : IsReadBy 1 (Separated Comma IsName) (Stops Always (is_symbol Comma)) (separated_at Comma name_at)
@@ -56,22 +48,14 @@ row_read = row_within
 target_read : IsReadBy 1 (After Colon IsName) Always (after_at Colon name_at)
 target_read = after_read 1 IsName Always name_at name_read Colon
 
-edge_sound : (ts : List Lexeme) (x : SpeltEdge) (rest : List Lexeme) → edge_at ts ≡ Ok (x, rest) → IsEdge ts x rest
-unfolding edge_at
-edge_sound ts x rest e =
-    let (d, first, further) = bind_ok _ _ _ e in
-    let (t, last, given) = bind_ok _ _ _ further in
-    subst (λ (q : SpeltEdge × List Lexeme). IsEdge ts q.0 q.1) (ok_one _ (x, rest) given) (edge (name_read.sound ts d.0 d.1 first) (target_read.sound d.1 t.0 t.1 last))
-
-edge_complete : {ts rest : List Lexeme} {x : SpeltEdge} → IsEdge ts x rest → edge_at ts ≡ Ok (x, rest)
-unfolding edge_at
-edge_complete {ts} {rest} (edge {mid = mid} {d = d} {t = t} p q) = rw (name_read.complete ts d mid p tt, target_read.complete mid t rest q tt)
-
-edge_shorter : {ts rest : List Lexeme} {x : SpeltEdge} → IsEdge ts x rest → 1 + length rest ≤ length ts
-edge_shorter {ts} {rest} (edge {mid = mid} {d = d} {t = t} p q) = omega (arith, name_read.shorter ts d mid p, target_read.shorter mid t rest q)
+edge_parts : (ts : List Lexeme) (x : SpeltEdge) (rest : List Lexeme) → IsEdge ts x rest → FirstThen IsName (After Colon IsName) (λ (d : SpeltName) (t : SpeltName). record { direction = d; target = t }) ts x rest
+edge_parts ts _ rest (edge d e) = first_then d e
 
 pub edge_read : IsReadBy 1 IsEdge Always edge_at
-edge_read = record { sound = edge_sound; complete = λ ts x rest d stop. edge_complete d; shorter = λ ts x rest d. edge_shorter d }
+unfolding edge_at
+edge_read =
+    both_read IsName Always name_at name_read 1 (After Colon IsName) Always (after_at Colon name_at) target_read (λ mid t rest d stop. tt)
+    IsEdge (λ (d : SpeltName) (t : SpeltName). record { direction = d; target = t }) (λ ts x mid y rest d e. edge d e) edge_parts
 
 edge_next_at : {ts rest : List Lexeme} {x : SpeltEdge} → IsEdge ts x rest → next_is is_name ts ≡ true
 edge_next_at {ts} (edge {mid = mid} {d = d} p q) = name_next ts d mid p

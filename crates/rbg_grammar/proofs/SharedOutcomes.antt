@@ -1,15 +1,15 @@
 -- What one more bracket makes of readings that are put together of others.
-use Rattle.std.proofs.Common.{◌≡◌, ◌+◌, ℕ, zero, suc, List, [], ◌∷◌, length, Bool, true, false, cond, Option, Some, Result, Ok, Err, refl, sym, ap, subst}
+use Rattle.std.proofs.Common.{◌≡◌, ◌+◌, ℕ, zero, suc, List, [], ◌∷◌, length, Bool, true, false, cond, Option, Some, None, Result, Ok, Err, refl, sym, ap, ◌∙◌, subst}
 use Rattle.rbg_tokens.specs.Token.{Lexeme}
 use Rattle.rbg_tokens.specs.declared.token.Symbol.{Symbol}
-use Rattle.rbg_tokens.specs.declared.token.Symbol.TheVariants.{Comma}
+use Rattle.rbg_tokens.specs.declared.token.Symbol.TheVariants.{Comma, OpenParenthesis, CloseParenthesis, OpenBracket, CloseBracket, OpenBrace, CloseBrace}
 use Rattle.rbg_tokens.specs.declared.token.TokenKind.{TokenKind}
 use Rattle.rbg_tokens.specs.declared.token.TokenKind.TheVariants as kinds
 use Rattle.rbg_base.specs.Decimals.{number_of_digits}
-use Rattle.rbg_grammar.specs.Phrase.{IsSymbol, IsName, name, IsNumber, number, Repeated, done, again as more_of, After, after, Separated, separated, Listed, nothing, listed}
+use Rattle.rbg_grammar.specs.Phrase.{IsSymbol, IsName, name, IsNumber, number, IsOneOf, one_of, Repeated, done, again as more_of, After, after, Separated, separated, Listed, nothing, listed}
 use Rattle.rbg_grammar.specs.Spells.{opens, closes}
 use Rattle.rbg_grammar.specs.Tree.{SpeltName, SpeltNumber}
-use Rattle.rbg_grammar.specs.Reading.{Fault, misfit, too_deep, Reading, ◌>>=◌, next_is, is_name, is_number, is_symbol, token_at, symbol_at, name_at, number_at, repeated_within, repeated_at, after_at, separated_at, listed_at}
+use Rattle.rbg_grammar.specs.Reading.{Fault, misfit, too_deep, Reading, ◌>>=◌, next_is, is_name, is_number, is_symbol, token_at, symbol_at, name_at, number_at, or_misfit, one_of_at, repeated_within, repeated_at, after_at, separated_at, listed_at}
 use Rattle.rbg_grammar.proofs.Nesting.{passed, plain_fits}
 use Rattle.rbg_grammar.proofs.Pieces.{Piece, Sample, Outcome, bind, seen_piece, seen_deep, pieces, second_deep, first_deep, symbol_piece, within_piece, within_deep}
 use Rattle.rbg_grammar.proofs.Readers.{symbol_read, name_read, number_read}
@@ -98,6 +98,34 @@ name_piece n (name {t = t} k) = token_piece IsName n t _ _ (ap opens k) (ap clos
 
 pub number_piece : (n : ℕ) {ts rest : List Lexeme} {x : SpeltNumber} → IsNumber ts x rest → Piece IsNumber n ts x rest
 number_piece n (number {t = t} k) = token_piece IsNumber n t _ _ (ap opens k) (ap closes k) (λ tail. number k)
+
+-- tokens that are in a table are no brackets
+pub no_bracket : {A : Type 0} (table : TokenKind → Option A)
+    → table (kinds.Symbol OpenParenthesis) ≡ None → table (kinds.Symbol OpenBracket) ≡ None → table (kinds.Symbol OpenBrace) ≡ None
+    → table (kinds.Symbol CloseParenthesis) ≡ None → table (kinds.Symbol CloseBracket) ≡ None → table (kinds.Symbol CloseBrace) ≡ None
+    → (k : TokenKind) (x : A) → table k ≡ Some x → (opens k ≡ false) × (closes k ≡ false)
+no_bracket table a b c d e f kinds.Name x is = (refl, refl)
+no_bracket table a b c d e f kinds.Number x is = (refl, refl)
+no_bracket table a b c d e f (kinds.Symbol OpenParenthesis) x is = let wrong : None ≡ Some x = sym a ∙ is in cc
+no_bracket table a b c d e f (kinds.Symbol OpenBracket) x is = let wrong : None ≡ Some x = sym b ∙ is in cc
+no_bracket table a b c d e f (kinds.Symbol OpenBrace) x is = let wrong : None ≡ Some x = sym c ∙ is in cc
+no_bracket table a b c d e f (kinds.Symbol CloseParenthesis) x is = let wrong : None ≡ Some x = sym d ∙ is in cc
+no_bracket table a b c d e f (kinds.Symbol CloseBracket) x is = let wrong : None ≡ Some x = sym e ∙ is in cc
+no_bracket table a b c d e f (kinds.Symbol CloseBrace) x is = let wrong : None ≡ Some x = sym f ∙ is in cc
+no_bracket table a b c d e f (kinds.Symbol _) x is = (refl, refl)
+
+module _ {A : Type 0} (table : TokenKind → Option A) where
+  pub one_of_piece : ((k : TokenKind) (x : A) → table k ≡ Some x → (opens k ≡ false) × (closes k ≡ false)) → (n : ℕ) {ts rest : List Lexeme} {x : A} → IsOneOf table ts x rest → Piece (IsOneOf table) n ts x rest
+  one_of_piece none n {x = x} (one_of {t = t} k) = let plain = none t.kind x k in token_piece (IsOneOf table) n t _ x plain.0 plain.1 (λ tail. one_of k)
+
+  found_never : (o : Option A) (t : Lexeme × List Lexeme) (at : ℕ) → or_misfit o t ≡ Err (too_deep at) → ⊥
+  found_never (Some x) t at e = cc
+  found_never None t at e = cc
+
+  pub one_of_never : (ts : List Lexeme) (at : ℕ) → one_of_at table ts ≡ Err (too_deep at) → ⊥
+  unfolding one_of_at
+  one_of_never [] at e = cc
+  one_of_never (t ∷ ts) at e = found_never (table t.kind) (t, ts) at e
 
 alone : {A : Type 0} (P : List Lexeme → A → List Lexeme → Type 0) (n : ℕ) (ts : List Lexeme) (r : Reading A)
     → ((x : A) (rest : List Lexeme) → r ≡ Ok (x, rest) → Piece P n ts x rest) → ((at : ℕ) → r ≡ Err (too_deep at) → ⊥) → Outcome P n ts r r

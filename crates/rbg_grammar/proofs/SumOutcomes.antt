@@ -1,21 +1,42 @@
 -- What one more bracket makes of readings of arithmetic.
 use Rattle.std.proofs.Common.{◌≡◌, ℕ, zero, suc, List, [], ◌∷◌, Bool, true, false, cond, Ok, Err, refl, ap, inl, inr, arith}
 use Rattle.rbg_tokens.specs.Token.{Lexeme}
-use Rattle.rbg_tokens.specs.declared.token.Symbol.TheVariants.{Plus, Minus, Star, Slash, OpenParenthesis, CloseParenthesis}
+use Rattle.rbg_tokens.specs.declared.token.Symbol.TheVariants.{Minus, OpenParenthesis, CloseParenthesis}
 use Rattle.rbg_tokens.specs.declared.token.TokenKind.TheVariants as kinds
-use Rattle.rbg_grammar.specs.declared.expression.Additive.{Additive}
-use Rattle.rbg_grammar.specs.declared.expression.Additive.TheVariants as additive
-use Rattle.rbg_grammar.specs.declared.expression.Multiplicative.{Multiplicative}
-use Rattle.rbg_grammar.specs.declared.expression.Multiplicative.TheVariants as multiplicative
-use Rattle.rbg_grammar.specs.Tree.{SpeltExpression, sum_of, product_of}
+use Rattle.rbg_grammar.specs.declared.expression.Operator.{Operator}
+use Rattle.rbg_grammar.specs.declared.expression.Rank.{Rank}
+use Rattle.rbg_grammar.specs.declared.expression.Rank.TheVariants as ranks
+use Rattle.rbg_grammar.specs.Tree.{SpeltExpression, SpeltOperand, first_of, in_chain}
 use Rattle.rbg_grammar.specs.Phrase.{IsName, name, IsNumber, symbol, Repeated, done, After, Within, within}
-use Rattle.rbg_grammar.specs.Grammar.{IsFactor, plain, minus, IsFurtherFactor, times, over, IsTerm, term, IsFurtherTerm, plus, minus as less, IsSumOver, sum, IsNumberOrName, number as a_number, name as a_name, IsPrimary, IsSum}
+use Rattle.rbg_grammar.specs.Grammar.{operator_of, IsOperator, IsFurtherOperand, further_operand, IsChain, chained, IsFactor, plain, minus, IsTerm, IsSumOver, IsNumberOrName, number as a_number, name as a_name, IsPrimary, IsSum}
 use Rattle.rbg_grammar.specs.Spells.{opens}
-use Rattle.rbg_grammar.specs.Reading.{too_deep, Reading, ◌>>=◌, next_is, is_number, is_symbol, name_at, number_at, repeated_at, after_at, within_at}
-use Rattle.rbg_grammar.specs.RuleReading.{is_product_sign, is_sum_sign, number_or_name_at, factor_at, further_factor_at, term_at, further_term_at, sum_over_at, primary_at, sum_at}
-use Rattle.rbg_grammar.proofs.Pieces.{Deep, Outcome}
-use Rattle.rbg_grammar.proofs.Readers.{kind_of-is_symbol}
-use Rattle.rbg_grammar.proofs.SharedOutcomes.{map_outcome, seen_outcome, both_outcome, none_sample, name_outcome, number_outcome, repeated_outcome, after_outcome, bracket_outcome}
+use Rattle.rbg_grammar.specs.Reading.{too_deep, Reading, ◌>>=◌, next_is, is_number, is_symbol, name_at, number_at, one_of_at, repeated_at, after_at, within_at}
+use Rattle.rbg_grammar.specs.RuleReading.{is_operator, number_or_name_at, factor_at, further_operand_at, chain_at, operand_at, sum_over_at, primary_at, sum_at}
+use Rattle.rbg_grammar.proofs.Pieces.{Piece, Deep, Outcome}
+use Rattle.rbg_grammar.proofs.Readers.{kind_of-is_symbol, one_of_read}
+use Rattle.rbg_grammar.proofs.SharedOutcomes.{bind_same, map_outcome, seen_outcome, later, both_outcome, none_sample, no_bracket, one_of_piece, one_of_never, name_outcome, number_outcome, repeated_outcome, after_outcome, bracket_outcome}
+
+operator_piece : (rank : Rank) (n : ℕ) {ts rest : List Lexeme} {o : Operator} → IsOperator rank ts o rest → Piece (IsOperator rank) n ts o rest
+operator_piece ranks.Sum = one_of_piece (operator_of ranks.Sum) (no_bracket (operator_of ranks.Sum) refl refl refl refl refl refl)
+operator_piece ranks.Product = one_of_piece (operator_of ranks.Product) (no_bracket (operator_of ranks.Product) refl refl refl refl refl refl)
+
+module _ (rank : Rank) (Operand : List Lexeme → SpeltExpression → List Lexeme → Type 0) (n : ℕ) (operand operand' : List Lexeme → Reading SpeltExpression)
+    (reads : (ts : List Lexeme) → Outcome Operand n ts (operand ts) (operand' ts)) where
+  further_outcome : (ts : List Lexeme) → Outcome (IsFurtherOperand rank Operand) n ts (further_operand_at rank operand ts) (further_operand_at rank operand' ts)
+  unfolding further_operand_at
+  further_outcome ts =
+      bind_same (IsFurtherOperand rank Operand) n ts (one_of_at (operator_of rank) ts) (λ o. operand o.1 >>= λ e. Ok ((o.0, e.0), e.1)) (λ o. operand' o.1 >>= λ e. Ok ((o.0, e.0), e.1))
+      (λ o mid k. later (IsOperator rank) Operand (IsFurtherOperand rank Operand) (λ (o : Operator) (e : SpeltExpression). (o, e)) (λ ts o mid e rest d k. further_operand d k) n ts o mid
+      (operator_piece rank n ((one_of_read (operator_of rank)).sound ts o mid k)) (operand mid) (operand' mid) (reads mid))
+      (one_of_never (operator_of rank) ts)
+
+  chain_outcome : (ts : List Lexeme) → Outcome (IsChain rank Operand) n ts (chain_at rank operand ts) (chain_at rank operand' ts)
+  unfolding chain_at
+  chain_outcome ts =
+      both_outcome Operand (Repeated (IsFurtherOperand rank Operand)) (IsChain rank Operand) (λ (e : SpeltExpression) (os : List SpeltOperand). in_chain ((first_of rank, e) ∷ os))
+      (λ ts x mid os rest d more. chained d more) n (none_sample (IsFurtherOperand rank Operand)) ts
+      (operand ts) (operand' ts) (repeated_at (is_operator rank) (further_operand_at rank operand)) (repeated_at (is_operator rank) (further_operand_at rank operand')) (reads ts)
+      (repeated_outcome (IsFurtherOperand rank Operand) n (further_operand_at rank operand) (further_operand_at rank operand') further_outcome (is_operator rank))
 
 module _ (Primary : List Lexeme → SpeltExpression → List Lexeme → Type 0) (n : ℕ) (primary primary' : List Lexeme → Reading SpeltExpression) (reads : (ts : List Lexeme) → Outcome Primary n ts (primary ts) (primary' ts)) where
   factor_outcome : (ts : List Lexeme) → Outcome (IsFactor Primary) n ts (factor_at primary ts) (factor_at primary' ts)
@@ -28,43 +49,10 @@ module _ (Primary : List Lexeme → SpeltExpression → List Lexeme → Type 0) 
           (after_outcome Primary n primary primary' reads Minus refl refl ts)
       go false = seen_outcome Primary (IsFactor Primary) n (λ ts x rest d. plain d) ts (primary ts) (primary' ts) (reads ts)
 
-  further_factor_outcome : (ts : List Lexeme) → Outcome (IsFurtherFactor Primary) n ts (further_factor_at primary ts) (further_factor_at primary' ts)
-  unfolding further_factor_at
-  further_factor_outcome ts = go (next_is (is_symbol Star) ts)
-    where
-      go : (b : Bool) → Outcome (IsFurtherFactor Primary) n ts
-          (cond {A = Reading (Multiplicative × SpeltExpression)} b (after_at Star (factor_at primary) ts >>= λ f. Ok ((multiplicative.Times, f.0), f.1)) (after_at Slash (factor_at primary) ts >>= λ f. Ok ((multiplicative.Over, f.0), f.1)))
-          (cond {A = Reading (Multiplicative × SpeltExpression)} b (after_at Star (factor_at primary') ts >>= λ f. Ok ((multiplicative.Times, f.0), f.1)) (after_at Slash (factor_at primary') ts >>= λ f. Ok ((multiplicative.Over, f.0), f.1)))
-      go true = map_outcome (After Star (IsFactor Primary)) (IsFurtherFactor Primary) (λ (e : SpeltExpression). (multiplicative.Times, e)) n (λ ts x rest d. times d) ts
-          (after_at Star (factor_at primary) ts) (after_at Star (factor_at primary') ts) (after_outcome (IsFactor Primary) n (factor_at primary) (factor_at primary') factor_outcome Star refl refl ts)
-      go false = map_outcome (After Slash (IsFactor Primary)) (IsFurtherFactor Primary) (λ (e : SpeltExpression). (multiplicative.Over, e)) n (λ ts x rest d. over d) ts
-          (after_at Slash (factor_at primary) ts) (after_at Slash (factor_at primary') ts) (after_outcome (IsFactor Primary) n (factor_at primary) (factor_at primary') factor_outcome Slash refl refl ts)
-
-  term_outcome : (ts : List Lexeme) → Outcome (IsTerm Primary) n ts (term_at primary ts) (term_at primary' ts)
-  unfolding term_at
-  term_outcome ts =
-      both_outcome (IsFactor Primary) (Repeated (IsFurtherFactor Primary)) (IsTerm Primary) product_of (λ ts x mid y rest d more. term d more) n (none_sample (IsFurtherFactor Primary)) ts
-      (factor_at primary ts) (factor_at primary' ts) (repeated_at is_product_sign (further_factor_at primary)) (repeated_at is_product_sign (further_factor_at primary')) (factor_outcome ts)
-      (repeated_outcome (IsFurtherFactor Primary) n (further_factor_at primary) (further_factor_at primary') further_factor_outcome is_product_sign)
-
-  further_term_outcome : (ts : List Lexeme) → Outcome (IsFurtherTerm Primary) n ts (further_term_at primary ts) (further_term_at primary' ts)
-  unfolding further_term_at
-  further_term_outcome ts = go (next_is (is_symbol Plus) ts)
-    where
-      go : (b : Bool) → Outcome (IsFurtherTerm Primary) n ts
-          (cond {A = Reading (Additive × SpeltExpression)} b (after_at Plus (term_at primary) ts >>= λ f. Ok ((additive.Plus, f.0), f.1)) (after_at Minus (term_at primary) ts >>= λ f. Ok ((additive.Minus, f.0), f.1)))
-          (cond {A = Reading (Additive × SpeltExpression)} b (after_at Plus (term_at primary') ts >>= λ f. Ok ((additive.Plus, f.0), f.1)) (after_at Minus (term_at primary') ts >>= λ f. Ok ((additive.Minus, f.0), f.1)))
-      go true = map_outcome (After Plus (IsTerm Primary)) (IsFurtherTerm Primary) (λ (e : SpeltExpression). (additive.Plus, e)) n (λ ts x rest d. plus d) ts
-          (after_at Plus (term_at primary) ts) (after_at Plus (term_at primary') ts) (after_outcome (IsTerm Primary) n (term_at primary) (term_at primary') term_outcome Plus refl refl ts)
-      go false = map_outcome (After Minus (IsTerm Primary)) (IsFurtherTerm Primary) (λ (e : SpeltExpression). (additive.Minus, e)) n (λ ts x rest d. less d) ts
-          (after_at Minus (term_at primary) ts) (after_at Minus (term_at primary') ts) (after_outcome (IsTerm Primary) n (term_at primary) (term_at primary') term_outcome Minus refl refl ts)
-
   sum_over_outcome : (ts : List Lexeme) → Outcome (IsSumOver Primary) n ts (sum_over_at primary ts) (sum_over_at primary' ts)
-  unfolding sum_over_at
-  sum_over_outcome ts =
-      both_outcome (IsTerm Primary) (Repeated (IsFurtherTerm Primary)) (IsSumOver Primary) sum_of (λ ts x mid y rest d more. sum d more) n (none_sample (IsFurtherTerm Primary)) ts
-      (term_at primary ts) (term_at primary' ts) (repeated_at is_sum_sign (further_term_at primary)) (repeated_at is_sum_sign (further_term_at primary')) (term_outcome ts)
-      (repeated_outcome (IsFurtherTerm Primary) n (further_term_at primary) (further_term_at primary') further_term_outcome is_sum_sign)
+  sum_over_outcome =
+      chain_outcome ranks.Sum (IsTerm Primary) n (operand_at ranks.Sum primary) (operand_at ranks.Sum primary')
+      (chain_outcome ranks.Product (IsFactor Primary) n (factor_at primary) (factor_at primary') factor_outcome)
 
 number_or_name_outcome : (n : ℕ) (ts : List Lexeme) → Outcome IsNumberOrName n ts (number_or_name_at ts) (number_or_name_at ts)
 unfolding number_or_name_at
@@ -82,7 +70,7 @@ a_token = record { kind = kinds.Name; text = 97 ∷ []; at = 0 }
 
 name_spells_sum : (Primary : List Lexeme → SpeltExpression → List Lexeme → Type 0) → ((ts : List Lexeme) (e : SpeltExpression) (rest : List Lexeme) → IsNumberOrName ts e rest → Primary ts e rest)
     → (t : Lexeme) → t.kind ≡ kinds.Name → (tail : List Lexeme) → IsSumOver Primary (t ∷ tail) (SpeltExpression.name (record { text = t.text; at = t.at })) tail
-name_spells_sum Primary see t k tail = sum (term (plain (see (t ∷ tail) _ tail (a_name (name k)))) done) done
+name_spells_sum Primary see t k tail = chained (chained (plain (see (t ∷ tail) _ tail (a_name (name k)))) done) done
 
 number_or_name_primary : (n : ℕ) (ts : List Lexeme) (e : SpeltExpression) (rest : List Lexeme) → IsNumberOrName ts e rest → IsPrimary n ts e rest
 number_or_name_primary zero ts e rest d = d

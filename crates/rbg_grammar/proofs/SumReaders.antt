@@ -2,20 +2,19 @@
 use Rattle.std.proofs.Common.{◌≡◌, ◌≤◌, ◌+◌, ℕ, zero, suc, List, [], ◌∷◌, length, Bool, true, false, cond, Ok, Err, refl, ap, ◌∙◌, subst, arith, inl, inr}
 use Rattle.rbg_tokens.specs.Token.{Lexeme}
 use Rattle.rbg_tokens.specs.declared.token.Symbol.{Symbol}
-use Rattle.rbg_tokens.specs.declared.token.Symbol.TheVariants.{Plus, Minus, Star, Slash, OpenParenthesis, CloseParenthesis}
+use Rattle.rbg_tokens.specs.declared.token.Symbol.TheVariants.{Plus, Minus, OpenParenthesis, CloseParenthesis}
 use Rattle.rbg_tokens.specs.declared.token.TokenKind.{TokenKind}
 use Rattle.rbg_tokens.specs.declared.token.TokenKind.TheVariants as kinds
-use Rattle.rbg_grammar.specs.declared.expression.Additive.{Additive}
-use Rattle.rbg_grammar.specs.declared.expression.Additive.TheVariants as additive
-use Rattle.rbg_grammar.specs.declared.expression.Multiplicative.{Multiplicative}
-use Rattle.rbg_grammar.specs.declared.expression.Multiplicative.TheVariants as multiplicative
-use Rattle.rbg_grammar.specs.Tree.{SpeltName, SpeltNumber, SpeltExpression}
-use Rattle.rbg_grammar.specs.Phrase.{IsSymbol, symbol, IsName, name, IsNumber, number, After, after, Within, within}
-use Rattle.rbg_grammar.specs.Grammar.{IsFactor, plain, minus, IsFurtherFactor, times, over, IsTerm, term, IsFurtherTerm, plus, minus as less, IsSumOver, sum, IsNumberOrName, number as a_number, name as a_name, IsPrimary, IsSum}
-use Rattle.rbg_grammar.specs.Reading.{misfit, Reading, ◌>>=◌, next_is, is_name, is_number, is_symbol, name_at, number_at, place_of, after_at, within_at}
-use Rattle.rbg_grammar.specs.RuleReading.{too_deep_at, is_product_sign, is_sum_sign, number_or_name_at, factor_at, further_factor_at, term_at, further_term_at, sum_over_at, primary_at, sum_at}
-use Rattle.rbg_grammar.proofs.Readers.{bind_ok, ok_one, IsReadBy, Always, symbol_next, name_read, number_read, next_test-symbol}
-use Rattle.rbg_grammar.proofs.Combinators.{Begins, Stops, after_read, within_read, repeated_sound, repeated_complete, repeated_shorter, may_follow}
+use Rattle.rbg_grammar.specs.declared.expression.Operator.{Operator}
+use Rattle.rbg_grammar.specs.declared.expression.Rank.{Rank}
+use Rattle.rbg_grammar.specs.declared.expression.Rank.TheVariants as ranks
+use Rattle.rbg_grammar.specs.Tree.{SpeltName, SpeltNumber, SpeltExpression, SpeltOperand, first_of, in_chain}
+use Rattle.rbg_grammar.specs.Phrase.{IsSymbol, symbol, IsName, name, IsNumber, number, Repeated, After, after, Within, within}
+use Rattle.rbg_grammar.specs.Grammar.{operator_of, IsOperator, IsFurtherOperand, further_operand, IsChain, chained, IsFactor, plain, minus, IsTerm, IsSumOver, IsNumberOrName, number as a_number, name as a_name, IsPrimary, IsSum}
+use Rattle.rbg_grammar.specs.Reading.{misfit, Reading, TakesSome, ◌>>=◌, next_is, is_name, is_number, is_symbol, name_at, number_at, one_of_at, repeated_at, place_of, after_at, within_at}
+use Rattle.rbg_grammar.specs.RuleReading.{too_deep_at, is_operator, number_or_name_at, factor_at, further_operand_at, chain_at, operand_at, sum_over_at, primary_at, sum_at}
+use Rattle.rbg_grammar.proofs.Readers.{bind_ok, ok_one, IsReadBy, Always, symbol_next, name_read, number_read, one_of_read, one_of_next, next_test-symbol}
+use Rattle.rbg_grammar.proofs.Combinators.{FirstThen, first_then, both_read, repeated_read, Begins, Stops, after_read, within_read, may_follow}
 
 -- what any test says of the first token of a phrase
 pub symbol_test : {s : Symbol} {ts rest : List Lexeme} {at : ℕ} → IsSymbol s ts at rest → (test : TokenKind → Bool) → next_is test ts ≡ test (kinds.Symbol s)
@@ -41,24 +40,56 @@ within_here {o = o} {ts = ts} (within {first = first} {at = at} d e f) = symbol_
 
 -- what may follow a product, and a sum
 abbrev pub EndsProduct : List Lexeme → Type 0
-EndsProduct rest = next_is is_product_sign rest ≡ false
+EndsProduct rest = Stops Always (is_operator ranks.Product) rest
 
 abbrev pub EndsSum : List Lexeme → Type 0
-EndsSum rest = Stops EndsProduct is_sum_sign rest
+EndsSum rest = Stops EndsProduct (is_operator ranks.Sum) rest
 
-pub symbol_ends_sum : (s : Symbol) → is_sum_sign (kinds.Symbol s) ≡ false → is_product_sign (kinds.Symbol s) ≡ false → (ts : List Lexeme) → next_is (is_symbol s) ts ≡ true → EndsSum ts
-symbol_ends_sum s no_sum no_product ts e = record { ends = next_test-symbol s is_sum_sign ts e ∙ no_sum; follows = next_test-symbol s is_product_sign ts e ∙ no_product }
+pub ends_sum : (ts : List Lexeme) → next_is (is_operator ranks.Sum) ts ≡ false → next_is (is_operator ranks.Product) ts ≡ false → EndsSum ts
+ends_sum ts no_sum no_product = record { ends = no_sum; follows = record { ends = no_product; follows = tt } }
 
-sum_sign-product_sign : (k : TokenKind) → is_sum_sign k ≡ true → is_product_sign k ≡ false
-sum_sign-product_sign kinds.Name e = refl
-sum_sign-product_sign kinds.Number e = refl
-sum_sign-product_sign (kinds.Symbol Plus) e = refl
-sum_sign-product_sign (kinds.Symbol Minus) e = refl
-sum_sign-product_sign (kinds.Symbol _) e = cc
+pub symbol_ends_sum : (s : Symbol) → is_operator ranks.Sum (kinds.Symbol s) ≡ false → is_operator ranks.Product (kinds.Symbol s) ≡ false → (ts : List Lexeme) → next_is (is_symbol s) ts ≡ true → EndsSum ts
+symbol_ends_sum s no_sum no_product ts e = ends_sum ts (next_test-symbol s (is_operator ranks.Sum) ts e ∙ no_sum) (next_test-symbol s (is_operator ranks.Product) ts e ∙ no_product)
 
-sum_sign_ends_product : (ts : List Lexeme) → next_is is_sum_sign ts ≡ true → EndsProduct ts
-sum_sign_ends_product [] e = refl
-sum_sign_ends_product (t ∷ ts) e = sum_sign-product_sign t.kind e
+sum_operator-product_operator : (k : TokenKind) → is_operator ranks.Sum k ≡ true → is_operator ranks.Product k ≡ false
+sum_operator-product_operator kinds.Name e = refl
+sum_operator-product_operator kinds.Number e = refl
+sum_operator-product_operator (kinds.Symbol Plus) e = refl
+sum_operator-product_operator (kinds.Symbol Minus) e = refl
+sum_operator-product_operator (kinds.Symbol _) e = cc
+
+sum_operator_ends_product : (ts : List Lexeme) → next_is (is_operator ranks.Sum) ts ≡ true → EndsProduct ts
+sum_operator_ends_product [] e = record { ends = refl; follows = tt }
+sum_operator_ends_product (t ∷ ts) e = record { ends = sum_operator-product_operator t.kind e; follows = tt }
+
+-- a sum or a product, by its operands
+module _ (rank : Rank) (Operand : List Lexeme → SpeltExpression → List Lexeme → Type 0) (Follow : List Lexeme → Type 0) (operand : List Lexeme → Reading SpeltExpression)
+    (reads : IsReadBy 1 Operand Follow operand) (goes_on : (ts : List Lexeme) → next_is (is_operator rank) ts ≡ true → Follow ts) where
+  further_parts : (ts : List Lexeme) (x : SpeltOperand) (rest : List Lexeme) → IsFurtherOperand rank Operand ts x rest → FirstThen (IsOperator rank) Operand (λ (o : Operator) (e : SpeltExpression). (o, e)) ts x rest
+  further_parts ts _ rest (further_operand o d) = first_then o d
+
+  pub further_read : IsReadBy 1 (IsFurtherOperand rank Operand) Follow (further_operand_at rank operand)
+  unfolding further_operand_at
+  further_read =
+      both_read (IsOperator rank) Always (one_of_at (operator_of rank)) (one_of_read (operator_of rank)) 1 Operand Follow operand reads (λ mid e rest d stop. tt)
+      (IsFurtherOperand rank Operand) (λ (o : Operator) (e : SpeltExpression). (o, e)) (λ ts x mid y rest d e. further_operand d e) further_parts
+
+  further_next : {ts rest : List Lexeme} {x : SpeltOperand} → IsFurtherOperand rank Operand ts x rest → next_is (is_operator rank) ts ≡ true
+  further_next (further_operand o d) = one_of_next (operator_of rank) o
+
+  further_begins : Begins (IsFurtherOperand rank Operand) Follow (is_operator rank)
+  further_begins = record { starts = λ ts x rest d. further_next d; goes_on = goes_on }
+
+  chain_parts : (ts : List Lexeme) (x : SpeltExpression) (rest : List Lexeme) → IsChain rank Operand ts x rest → FirstThen Operand (Repeated (IsFurtherOperand rank Operand)) (λ (e : SpeltExpression) (os : List SpeltOperand). in_chain ((first_of rank, e) ∷ os)) ts x rest
+  chain_parts ts _ rest (chained d more) = first_then d more
+
+  pub chain_read : IsReadBy 1 (IsChain rank Operand) (Stops Follow (is_operator rank)) (chain_at rank operand)
+  unfolding chain_at
+  chain_read =
+      both_read Operand Follow operand reads 0 (Repeated (IsFurtherOperand rank Operand)) (Stops Follow (is_operator rank)) (repeated_at (is_operator rank) (further_operand_at rank operand))
+      (repeated_read (IsFurtherOperand rank Operand) Follow (further_operand_at rank operand) (is_operator rank) further_read further_begins)
+      (λ mid os rest more stop. may_follow (IsFurtherOperand rank Operand) Follow (further_operand_at rank operand) (is_operator rank) further_read further_begins more stop)
+      (IsChain rank Operand) (λ (e : SpeltExpression) (os : List SpeltOperand). in_chain ((first_of rank, e) ∷ os)) (λ ts x mid y rest d e. chained d e) chain_parts
 
 module _ (Primary : List Lexeme → SpeltExpression → List Lexeme → Type 0) (primary : List Lexeme → Reading SpeltExpression) (reads : IsReadBy 1 Primary Always primary)
     (no_minus : (ts : List Lexeme) (e : SpeltExpression) (rest : List Lexeme) → Primary ts e rest → next_is (is_symbol Minus) ts ≡ false) where
@@ -87,120 +118,19 @@ module _ (Primary : List Lexeme → SpeltExpression → List Lexeme → Type 0) 
   pub factor_read : IsReadBy 1 (IsFactor Primary) Always (factor_at primary)
   factor_read = record { sound = factor_sound; complete = λ ts x rest d stop. factor_complete d; shorter = λ ts x rest d. factor_shorter d }
 
-  times_read : IsReadBy 1 (After Star (IsFactor Primary)) Always (after_at Star (factor_at primary))
-  times_read = after_read 1 (IsFactor Primary) Always (factor_at primary) factor_read Star
+  pub term_read : IsReadBy 1 (IsTerm Primary) EndsProduct (operand_at ranks.Sum primary)
+  term_read = chain_read ranks.Product (IsFactor Primary) Always (factor_at primary) factor_read (λ ts e. tt)
 
-  over_read : IsReadBy 1 (After Slash (IsFactor Primary)) Always (after_at Slash (factor_at primary))
-  over_read = after_read 1 (IsFactor Primary) Always (factor_at primary) factor_read Slash
-
-  further_factor_sound : (ts : List Lexeme) (x : Multiplicative × SpeltExpression) (rest : List Lexeme) → further_factor_at primary ts ≡ Ok (x, rest) → IsFurtherFactor Primary ts x rest
-  unfolding further_factor_at
-  further_factor_sound ts x rest e = first (next_is (is_symbol Star) ts) e
-    where
-      first : (b : Bool) → cond {A = Reading (Multiplicative × SpeltExpression)} b (after_at Star (factor_at primary) ts >>= λ f. Ok ((multiplicative.Times, f.0), f.1))
-          (after_at Slash (factor_at primary) ts >>= λ f. Ok ((multiplicative.Over, f.0), f.1)) ≡ Ok (x, rest) → IsFurtherFactor Primary ts x rest
-      first true e =
-          let (f, read, given) = bind_ok _ _ _ e in
-          subst (λ (q : (Multiplicative × SpeltExpression) × List Lexeme). IsFurtherFactor Primary ts q.0 q.1) (ok_one _ (x, rest) given) (times (times_read.sound ts f.0 f.1 read))
-      first false e =
-          let (f, read, given) = bind_ok _ _ _ e in
-          subst (λ (q : (Multiplicative × SpeltExpression) × List Lexeme). IsFurtherFactor Primary ts q.0 q.1) (ok_one _ (x, rest) given) (over (over_read.sound ts f.0 f.1 read))
-
-  further_factor_complete : {ts rest : List Lexeme} {x : Multiplicative × SpeltExpression} → IsFurtherFactor Primary ts x rest → further_factor_at primary ts ≡ Ok (x, rest)
-  unfolding further_factor_at
-  further_factor_complete {ts} {rest} (times {e = e} d) = rw (after_here d, times_read.complete ts e rest d tt)
-  further_factor_complete {ts} {rest} (over {e = e} d) = rw (after_test d (is_symbol Star), over_read.complete ts e rest d tt)
-
-  further_factor_shorter : {ts rest : List Lexeme} {x : Multiplicative × SpeltExpression} → IsFurtherFactor Primary ts x rest → 1 + length rest ≤ length ts
-  further_factor_shorter {ts} {rest} (times {e = e} d) = times_read.shorter ts e rest d
-  further_factor_shorter {ts} {rest} (over {e = e} d) = over_read.shorter ts e rest d
-
-  further_factor_next : {ts rest : List Lexeme} {x : Multiplicative × SpeltExpression} → IsFurtherFactor Primary ts x rest → next_is is_product_sign ts ≡ true
-  further_factor_next (times d) = after_test d is_product_sign
-  further_factor_next (over d) = after_test d is_product_sign
-
-  pub further_factor_read : IsReadBy 1 (IsFurtherFactor Primary) Always (further_factor_at primary)
-  further_factor_read = record { sound = further_factor_sound; complete = λ ts x rest d stop. further_factor_complete d; shorter = λ ts x rest d. further_factor_shorter d }
-
-  pub further_factor_begins : Begins (IsFurtherFactor Primary) Always is_product_sign
-  further_factor_begins = record { starts = λ ts x rest d. further_factor_next d; goes_on = λ ts e. tt }
-
-  term_sound : (ts : List Lexeme) (x : SpeltExpression) (rest : List Lexeme) → term_at primary ts ≡ Ok (x, rest) → IsTerm Primary ts x rest
-  unfolding term_at
-  term_sound ts x rest e =
-      let (f, first, further) = bind_ok _ _ _ e in
-      let (fs, more, given) = bind_ok _ _ _ further in
-      subst (λ (q : SpeltExpression × List Lexeme). IsTerm Primary ts q.0 q.1) (ok_one _ (x, rest) given)
-      (term (factor_sound ts f.0 f.1 first) (repeated_sound (IsFurtherFactor Primary) Always (further_factor_at primary) is_product_sign further_factor_read further_factor_begins f.1 fs.0 fs.1 more))
-
-  term_complete : {ts rest : List Lexeme} {x : SpeltExpression} → IsTerm Primary ts x rest → EndsProduct rest → term_at primary ts ≡ Ok (x, rest)
-  unfolding term_at
-  term_complete (term d more) stop =
-      rw (factor_complete d, repeated_complete (IsFurtherFactor Primary) Always (further_factor_at primary) is_product_sign further_factor_read further_factor_begins more (record { ends = stop; follows = tt }))
-
-  term_shorter : {ts rest : List Lexeme} {x : SpeltExpression} → IsTerm Primary ts x rest → 1 + length rest ≤ length ts
-  term_shorter (term d more) = omega (arith, factor_shorter d, repeated_shorter (IsFurtherFactor Primary) Always (further_factor_at primary) is_product_sign further_factor_read further_factor_begins more)
-
-  pub term_read : IsReadBy 1 (IsTerm Primary) EndsProduct (term_at primary)
-  term_read = record { sound = term_sound; complete = λ ts x rest d stop. term_complete d stop; shorter = λ ts x rest d. term_shorter d }
-
-  plus_read : IsReadBy 1 (After Plus (IsTerm Primary)) EndsProduct (after_at Plus (term_at primary))
-  plus_read = after_read 1 (IsTerm Primary) EndsProduct (term_at primary) term_read Plus
-
-  minus_read : IsReadBy 1 (After Minus (IsTerm Primary)) EndsProduct (after_at Minus (term_at primary))
-  minus_read = after_read 1 (IsTerm Primary) EndsProduct (term_at primary) term_read Minus
-
-  further_term_sound : (ts : List Lexeme) (x : Additive × SpeltExpression) (rest : List Lexeme) → further_term_at primary ts ≡ Ok (x, rest) → IsFurtherTerm Primary ts x rest
-  unfolding further_term_at
-  further_term_sound ts x rest e = first (next_is (is_symbol Plus) ts) e
-    where
-      first : (b : Bool) → cond {A = Reading (Additive × SpeltExpression)} b (after_at Plus (term_at primary) ts >>= λ f. Ok ((additive.Plus, f.0), f.1))
-          (after_at Minus (term_at primary) ts >>= λ f. Ok ((additive.Minus, f.0), f.1)) ≡ Ok (x, rest) → IsFurtherTerm Primary ts x rest
-      first true e =
-          let (f, read, given) = bind_ok _ _ _ e in
-          subst (λ (q : (Additive × SpeltExpression) × List Lexeme). IsFurtherTerm Primary ts q.0 q.1) (ok_one _ (x, rest) given) (plus (plus_read.sound ts f.0 f.1 read))
-      first false e =
-          let (f, read, given) = bind_ok _ _ _ e in
-          subst (λ (q : (Additive × SpeltExpression) × List Lexeme). IsFurtherTerm Primary ts q.0 q.1) (ok_one _ (x, rest) given) (less (minus_read.sound ts f.0 f.1 read))
-
-  further_term_complete : {ts rest : List Lexeme} {x : Additive × SpeltExpression} → IsFurtherTerm Primary ts x rest → EndsProduct rest → further_term_at primary ts ≡ Ok (x, rest)
-  unfolding further_term_at
-  further_term_complete {ts} {rest} (plus {e = e} d) stop = rw (after_here d, plus_read.complete ts e rest d stop)
-  further_term_complete {ts} {rest} (less {e = e} d) stop = rw (after_test d (is_symbol Plus), minus_read.complete ts e rest d stop)
-
-  further_term_shorter : {ts rest : List Lexeme} {x : Additive × SpeltExpression} → IsFurtherTerm Primary ts x rest → 1 + length rest ≤ length ts
-  further_term_shorter {ts} {rest} (plus {e = e} d) = plus_read.shorter ts e rest d
-  further_term_shorter {ts} {rest} (less {e = e} d) = minus_read.shorter ts e rest d
-
-  further_term_next : {ts rest : List Lexeme} {x : Additive × SpeltExpression} → IsFurtherTerm Primary ts x rest → next_is is_sum_sign ts ≡ true
-  further_term_next (plus d) = after_test d is_sum_sign
-  further_term_next (less d) = after_test d is_sum_sign
-
-  pub further_term_read : IsReadBy 1 (IsFurtherTerm Primary) EndsProduct (further_term_at primary)
-  further_term_read = record { sound = further_term_sound; complete = λ ts x rest d stop. further_term_complete d stop; shorter = λ ts x rest d. further_term_shorter d }
-
-  pub further_term_begins : Begins (IsFurtherTerm Primary) EndsProduct is_sum_sign
-  further_term_begins = record { starts = λ ts x rest d. further_term_next d; goes_on = sum_sign_ends_product }
-
-  sum_over_sound : (ts : List Lexeme) (x : SpeltExpression) (rest : List Lexeme) → sum_over_at primary ts ≡ Ok (x, rest) → IsSumOver Primary ts x rest
-  unfolding sum_over_at
-  sum_over_sound ts x rest e =
-      let (f, first, further) = bind_ok _ _ _ e in
-      let (fs, more, given) = bind_ok _ _ _ further in
-      subst (λ (q : SpeltExpression × List Lexeme). IsSumOver Primary ts q.0 q.1) (ok_one _ (x, rest) given)
-      (sum (term_sound ts f.0 f.1 first) (repeated_sound (IsFurtherTerm Primary) EndsProduct (further_term_at primary) is_sum_sign further_term_read further_term_begins f.1 fs.0 fs.1 more))
-
-  sum_over_complete : {ts rest : List Lexeme} {x : SpeltExpression} → IsSumOver Primary ts x rest → EndsSum rest → sum_over_at primary ts ≡ Ok (x, rest)
-  unfolding sum_over_at
-  sum_over_complete (sum d more) stop =
-      let follows = may_follow (IsFurtherTerm Primary) EndsProduct (further_term_at primary) is_sum_sign further_term_read further_term_begins more stop in
-      rw (term_complete d follows, repeated_complete (IsFurtherTerm Primary) EndsProduct (further_term_at primary) is_sum_sign further_term_read further_term_begins more stop)
-
-  sum_over_shorter : {ts rest : List Lexeme} {x : SpeltExpression} → IsSumOver Primary ts x rest → 1 + length rest ≤ length ts
-  sum_over_shorter (sum d more) = omega (arith, term_shorter d, repeated_shorter (IsFurtherTerm Primary) EndsProduct (further_term_at primary) is_sum_sign further_term_read further_term_begins more)
+  pub further_operand_read : (rank : Rank) → TakesSome (further_operand_at rank (operand_at rank primary))
+  further_operand_read ranks.Sum ts x rest e =
+      let further = further_read ranks.Sum (IsTerm Primary) EndsProduct (operand_at ranks.Sum primary) term_read sum_operator_ends_product in
+      omega (arith, further.shorter ts x rest (further.sound ts x rest e))
+  further_operand_read ranks.Product ts x rest e =
+      let further = further_read ranks.Product (IsFactor Primary) Always (factor_at primary) factor_read (λ ts e. tt) in
+      omega (arith, further.shorter ts x rest (further.sound ts x rest e))
 
   pub sum_over_read : IsReadBy 1 (IsSumOver Primary) EndsSum (sum_over_at primary)
-  sum_over_read = record { sound = sum_over_sound; complete = λ ts x rest d stop. sum_over_complete d stop; shorter = λ ts x rest d. sum_over_shorter d }
+  sum_over_read = chain_read ranks.Sum (IsTerm Primary) EndsProduct (operand_at ranks.Sum primary) term_read sum_operator_ends_product
 
 -- numbers and names
 number_or_name_sound : (ts : List Lexeme) (x : SpeltExpression) (rest : List Lexeme) → number_or_name_at ts ≡ Ok (x, rest) → IsNumberOrName ts x rest

@@ -2,17 +2,16 @@
 use Rattle.std.proofs.Common.{◌≡◌, ◌∙◌, ℕ, List, [], ◌∷◌, Option, length, map, option_map, rules, refl, arith, Vec, vec_len}
 use Rattle.std.proofs.lemmas.List.{length-map}
 use Rattle.rbg_grammar.specs.Reading.{in_sequence}
-use Rattle.rbg_grammar.specs.RuleReading.{in_choice, in_product, in_sum}
+use Rattle.rbg_grammar.specs.RuleReading.{in_choice}
 use Rattle.std.specs.declared.alloc.Global.{Global}
 use Rattle.std.specs.declared.boxed.Box.{Box}
-use Rattle.rbg_grammar.specs.Tree.{SpeltExpression, SpeltRule, SpeltAction, no_rules, no_terms, no_factors, rules_after, terms_after, factors_after}
-use Rattle.rbg_grammar.specs.Views.{SpeltFactor, SpeltTerm, name_of, number_of, expression_of, term_of, factor_of, action_of, rule_of}
+use Rattle.rbg_grammar.specs.Tree.{SpeltExpression, SpeltOperand, SpeltRule, SpeltAction, no_rules, no_operands, rules_after, operands_after, in_chain}
+use Rattle.rbg_grammar.specs.Views.{name_of, number_of, expression_of, operand_of, action_of, rule_of}
 use Rattle.rbg_grammar.specs.declared.names.Name.{Name}
 use Rattle.rbg_grammar.specs.declared.names.Number.{Number}
 use Rattle.rbg_grammar.specs.declared.expression.Expression.{Expression}
 use Rattle.rbg_grammar.specs.declared.expression.Expression as expressions
-use Rattle.rbg_grammar.specs.declared.expression.Term.{Term}
-use Rattle.rbg_grammar.specs.declared.expression.Factor.{Factor}
+use Rattle.rbg_grammar.specs.declared.expression.Operand.{Operand}
 use Rattle.rbg_base.specs.declared.relation.Relation.{Relation}
 use Rattle.rbg_grammar.specs.declared.rule.Rule.{Rule}
 use Rattle.rbg_grammar.specs.declared.rule.Rule as rules'
@@ -79,13 +78,9 @@ pub expression_of-Negated : (b : Box Expression Global) → expression_of (expre
 unfolding expression_of
 expression_of-Negated b = search (rules, expressions.the_lemmas)
 
-pub expression_of-Sum : (v : Vec Term Global) → expression_of (expressions.Sum v) ≡ SpeltExpression.sum (terms_after no_terms (map term_of v.items))
+pub expression_of-Chain : (v : Vec Operand Global) → expression_of (expressions.Chain v) ≡ SpeltExpression.chain (operands_after no_operands (map operand_of v.items))
 unfolding expression_of
-expression_of-Sum v = search (rules, expressions.the_lemmas)
-
-pub expression_of-Product : (v : Vec Factor Global) → expression_of (expressions.Product v) ≡ SpeltExpression.product (factors_after no_factors (map factor_of v.items))
-unfolding expression_of
-expression_of-Product v = search (rules, expressions.the_lemmas)
+expression_of-Chain v = search (rules, expressions.the_lemmas)
 
 -- rules that are one action
 pub ruleset atoms = (rule_of-Act, action_of-Shift, action_of-On, action_of-Off, action_of-Switch)
@@ -109,25 +104,15 @@ rule_of-in_sequence v several = rule_of-Then v ∙ many_in_sequence (map rule_of
 
 pub ruleset sequences = (rule_of-in_sequence)
 
-many_in_sum : (ts : List SpeltTerm) → (length ts ≡ 1 → ⊥) → SpeltExpression.sum (terms_after no_terms ts) ≡ in_sum ts
-many_in_sum [] several = refl
-many_in_sum (t ∷ []) several = absurd (several refl)
-many_in_sum (t ∷ u ∷ ts) several = refl
+many_in_chain : (os : List SpeltOperand) → (length os ≡ 1 → ⊥) → SpeltExpression.chain (operands_after no_operands os) ≡ in_chain os
+many_in_chain [] several = refl
+many_in_chain (o ∷ []) several = absurd (several refl)
+many_in_chain (o ∷ p ∷ os) several = refl
 
-pub expression_of-in_sum : (v : Vec Term Global) → (vec_len v ≡ 1 → ⊥) → expression_of (expressions.Sum v) ≡ in_sum (map term_of v.items)
-expression_of-in_sum v several = expression_of-Sum v ∙ many_in_sum (map term_of v.items) (λ e. several (omega (arith, e, length-map v.items term_of, v.ok.0)))
+pub expression_of-in_chain : (v : Vec Operand Global) → (vec_len v ≡ 1 → ⊥) → expression_of (expressions.Chain v) ≡ in_chain (map operand_of v.items)
+expression_of-in_chain v several = expression_of-Chain v ∙ many_in_chain (map operand_of v.items) (λ e. several (omega (arith, e, length-map v.items operand_of, v.ok.0)))
 
-pub ruleset sums = (expression_of-in_sum)
-
-many_in_product : (fs : List SpeltFactor) → (length fs ≡ 1 → ⊥) → SpeltExpression.product (factors_after no_factors fs) ≡ in_product fs
-many_in_product [] several = refl
-many_in_product (f ∷ []) several = absurd (several refl)
-many_in_product (f ∷ g ∷ fs) several = refl
-
-pub expression_of-in_product : (v : Vec Factor Global) → (vec_len v ≡ 1 → ⊥) → expression_of (expressions.Product v) ≡ in_product (map factor_of v.items)
-expression_of-in_product v several = expression_of-Product v ∙ many_in_product (map factor_of v.items) (λ e. several (omega (arith, e, length-map v.items factor_of, v.ok.0)))
-
-pub ruleset products = (expression_of-in_product)
+pub ruleset chains = (expression_of-in_chain)
 
 many_in_choice : (rs : List SpeltRule) → (length rs ≡ 1 → ⊥) → SpeltRule.choice (rules_after no_rules rs) ≡ in_choice rs
 many_in_choice [] several = refl

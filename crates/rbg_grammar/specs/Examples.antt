@@ -5,11 +5,10 @@ use Rattle.rbg_tokens.specs.Token.{Lexeme}
 use Rattle.rbg_tokens.specs.declared.token.Symbol.{Symbol}
 use Rattle.rbg_tokens.specs.declared.token.Symbol.TheVariants as symbols
 use Rattle.rbg_tokens.specs.declared.token.TokenKind.TheVariants as kinds
-use Rattle.rbg_grammar.specs.declared.expression.Additive.TheVariants as additive
-use Rattle.rbg_grammar.specs.declared.expression.Multiplicative.TheVariants as multiplicative
+use Rattle.rbg_grammar.specs.declared.expression.Operator.TheVariants as operators
 use Rattle.rbg_grammar.specs.Grammar.{IsSum, AreRules}
 use Rattle.rbg_grammar.specs.Spells.{max_brackets, IsTooDeep}
-use Rattle.rbg_grammar.specs.Tree.{SpeltName, SpeltExpression, sum, product, negated, no_terms, more_terms, no_factors, more_factors, SpeltRule, act, shift, assign, star, sequence, no_rules, more_rules}
+use Rattle.rbg_grammar.specs.Tree.{SpeltName, SpeltExpression, chain, negated, no_operands, more_operands, SpeltRule, act, shift, assign, star, sequence, no_rules, more_rules}
 
 -- a symbol at a place, and a name of one letter
 abbrev pub sign : Symbol → ℕ → Lexeme
@@ -30,9 +29,9 @@ SumInParentheses =
     IsSum max_brackets
     (sign symbols.OpenParenthesis 0 ∷ letter 97 1 ∷ sign symbols.Plus 2 ∷ letter 98 3 ∷ sign symbols.CloseParenthesis 4
     ∷ sign symbols.Star 5 ∷ letter 99 6 ∷ [])
-    (product (more_factors (more_factors no_factors multiplicative.Times
-    (sum (more_terms (more_terms no_terms additive.Plus (named 97 1)) additive.Plus (named 98 3))))
-    multiplicative.Times (named 99 6)))
+    (chain (more_operands (more_operands no_operands operators.Times
+    (chain (more_operands (more_operands no_operands operators.Plus (named 97 1)) operators.Plus (named 98 3))))
+    operators.Times (named 99 6)))
     []
 
 -- -a*b is a product whose first factor is negated.
@@ -40,8 +39,8 @@ abbrev pub NegatedFactor : Type 0
 NegatedFactor =
     IsSum max_brackets
     (sign symbols.Minus 0 ∷ letter 97 1 ∷ sign symbols.Star 2 ∷ letter 98 3 ∷ [])
-    (product (more_factors (more_factors no_factors multiplicative.Times (negated (named 97 1)))
-    multiplicative.Times (named 98 3)))
+    (chain (more_operands (more_operands no_operands operators.Times (negated (named 97 1)))
+    operators.Times (named 98 3)))
     []
 
 -- [$ a = b, c = d]* is the star of the sequence of its assignments.

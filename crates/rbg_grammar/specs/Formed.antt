@@ -1,33 +1,40 @@
 -- What holds of each description that the grammar can spell, whatever its names are.
-use Rattle.std.specs.Prelude.{◌≡◌, ◌<◌, ◌&&◌, Bool, true, false, length, nat_eq}
-use Rattle.rbg_grammar.specs.declared.expression.Additive.{Additive}
-use Rattle.rbg_grammar.specs.declared.expression.Additive.TheVariants.{Plus, Minus}
-use Rattle.rbg_grammar.specs.declared.expression.Multiplicative.{Multiplicative}
-use Rattle.rbg_grammar.specs.declared.expression.Multiplicative.TheVariants.{Times, Over}
-use Rattle.rbg_grammar.specs.Tree.{SpeltExpression, SpeltTerms, no_terms, more_terms, SpeltFactors, no_factors, more_factors, SpeltRule, SpeltRules, no_rules, more_rules, SpeltAction, SpeltBoard, rectangle, hexagon, graph, SpeltDescription}
+use Rattle.std.specs.Prelude.{◌≡◌, ◌<◌, ◌&&◌, ◌||◌, Bool, true, false, length, nat_eq}
+use Rattle.rbg_grammar.specs.declared.expression.Operator.{Operator}
+use Rattle.rbg_grammar.specs.declared.expression.Operator.TheVariants.{Plus, Minus, Times, Over}
+use Rattle.rbg_grammar.specs.declared.expression.Rank.{Rank}
+use Rattle.rbg_grammar.specs.declared.expression.Rank.TheVariants.{Sum, Product}
+use Rattle.rbg_grammar.specs.Tree.{SpeltExpression, SpeltOperands, no_operands, more_operands, SpeltRule, SpeltRules, no_rules, more_rules, SpeltAction, SpeltBoard, rectangle, hexagon, graph, SpeltDescription}
 
-abbrev is_plus : Additive → Bool
-is_plus Plus = true
-is_plus Minus = false
+-- the operator is one of this rank
+abbrev pub is_of_rank : Rank → Operator → Bool
+is_of_rank Sum Plus = true
+is_of_rank Sum Minus = true
+is_of_rank Sum Times = false
+is_of_rank Sum Over = false
+is_of_rank Product Plus = false
+is_of_rank Product Minus = false
+is_of_rank Product Times = true
+is_of_rank Product Over = true
 
-abbrev is_times : Multiplicative → Bool
-is_times Times = true
-is_times Over = false
+-- the operator of the rank that a first operand has
+abbrev pub is_first_of : Rank → Operator → Bool
+is_first_of Sum Plus = true
+is_first_of Sum _ = false
+is_first_of Product Times = true
+is_first_of Product _ = false
 
--- at least two terms, of which the first has a plus
-abbrev pub make_a_sum : SpeltTerms → Bool
-make_a_sum no_terms = false
-make_a_sum (more_terms no_terms p e) = false
-make_a_sum (more_terms (more_terms no_terms p e) q f) = is_plus p
-make_a_sum (more_terms (more_terms (more_terms ts p e) q f) r g) = make_a_sum (more_terms (more_terms ts p e) q f)
+-- at least two operands of this rank
+abbrev pub are_of_rank : Rank → SpeltOperands → Bool
+are_of_rank rank no_operands = false
+are_of_rank rank (more_operands no_operands p e) = false
+are_of_rank rank (more_operands (more_operands no_operands p e) q f) = is_first_of rank p && is_of_rank rank q
+are_of_rank rank (more_operands (more_operands (more_operands os p e) q f) r g) =
+    are_of_rank rank (more_operands (more_operands os p e) q f) && is_of_rank rank r
 
--- at least two factors, of which the first is one to multiply by
-abbrev pub make_a_product : SpeltFactors → Bool
-make_a_product no_factors = false
-make_a_product (more_factors no_factors p e) = false
-make_a_product (more_factors (more_factors no_factors p e) q f) = is_times p
-make_a_product (more_factors (more_factors (more_factors fs p e) q f) r g) =
-    make_a_product (more_factors (more_factors fs p e) q f)
+-- a sum or a product of at least two operands
+abbrev pub make_a_chain : SpeltOperands → Bool
+make_a_chain os = are_of_rank Sum os || are_of_rank Product os
 
 -- at least two parts
 abbrev pub has_two_rules : SpeltRules → Bool
@@ -36,21 +43,16 @@ has_two_rules (more_rules no_rules r) = false
 has_two_rules (more_rules (more_rules rs r) s) = true
 
 abbrev mutual
-  -- each sum and each product in the expression has at least two parts, of which the first has `Plus` or `Times`
+  -- each chain in the expression is a sum or a product of at least two operands
   pub is_formed_expression : SpeltExpression → Bool
   is_formed_expression (SpeltExpression.number n) = true
   is_formed_expression (SpeltExpression.name n) = true
   is_formed_expression (SpeltExpression.negated e) = is_formed_expression e
-  is_formed_expression (SpeltExpression.sum ts) = make_a_sum ts && are_formed_terms ts
-  is_formed_expression (SpeltExpression.product fs) = make_a_product fs && are_formed_factors fs
+  is_formed_expression (SpeltExpression.chain os) = make_a_chain os && are_formed_operands os
 
-  pub are_formed_terms : SpeltTerms → Bool
-  are_formed_terms no_terms = true
-  are_formed_terms (more_terms ts p e) = are_formed_terms ts && is_formed_expression e
-
-  pub are_formed_factors : SpeltFactors → Bool
-  are_formed_factors no_factors = true
-  are_formed_factors (more_factors fs p e) = are_formed_factors fs && is_formed_expression e
+  pub are_formed_operands : SpeltOperands → Bool
+  are_formed_operands no_operands = true
+  are_formed_operands (more_operands os p e) = are_formed_operands os && is_formed_expression e
 
 abbrev mutual
   -- each sequence and each sum in the rules has at least two parts, and so have those of their arithmetic

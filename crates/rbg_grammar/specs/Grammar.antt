@@ -1,13 +1,15 @@
 -- The grammar of a description's sections.
-use Rattle.std.specs.Prelude.{ℕ, zero, suc, List, [], ◌∷◌, ◌⊎◌, codes, Some, None}
+use Rattle.std.specs.Prelude.{ℕ, zero, suc, List, [], ◌∷◌, ◌⊎◌, codes, Option, Some, None}
 use Rattle.rbg_tokens.specs.Token.{Lexeme}
+use Rattle.rbg_tokens.specs.declared.token.TokenKind.{TokenKind}
+use Rattle.rbg_tokens.specs.declared.token.TokenKind.TheVariants as kinds
 use Rattle.rbg_tokens.specs.declared.token.Symbol.TheVariants.{DoubleArrow, Arrow, DoubleEquals, NotEquals, LessOrEqual, GreaterOrEqual, Equals, LessThan, GreaterThan, Plus, Minus, Star, Slash, OpenParenthesis, CloseParenthesis, OpenBracket, CloseBracket, OpenBrace, CloseBrace, Comma, Colon, Dollar, Question, Exclamation}
-use Rattle.rbg_grammar.specs.Tree.{SpeltName, SpeltNumber, SpeltBounded, SpeltEdge, SpeltVertex, SpeltBoard, rectangle, hexagon, graph, SpeltExpression, SpeltRule, act, shift, on, off, assign, compare, switch, positive, negative, star, sequence_of, choice_of, sum_of, product_of}
-use Rattle.rbg_grammar.specs.Phrase.{Phrase, IsSymbol, IsName, IsNumber, IsWord, Repeated, After, Separated, Listed, Within, WithComma}
-use Rattle.rbg_grammar.specs.declared.expression.Additive.{Additive}
-use Rattle.rbg_grammar.specs.declared.expression.Additive.TheVariants as additive
-use Rattle.rbg_grammar.specs.declared.expression.Multiplicative.{Multiplicative}
-use Rattle.rbg_grammar.specs.declared.expression.Multiplicative.TheVariants as multiplicative
+use Rattle.rbg_grammar.specs.Tree.{SpeltName, SpeltNumber, SpeltBounded, SpeltEdge, SpeltVertex, SpeltBoard, rectangle, hexagon, graph, SpeltExpression, SpeltOperand, first_of, in_chain, SpeltRule, act, shift, on, off, assign, compare, switch, positive, negative, star, sequence_of, choice_of}
+use Rattle.rbg_grammar.specs.Phrase.{Phrase, IsSymbol, IsName, IsNumber, IsWord, IsOneOf, Repeated, After, Separated, Listed, Within, WithComma}
+use Rattle.rbg_grammar.specs.declared.expression.Operator.{Operator}
+use Rattle.rbg_grammar.specs.declared.expression.Operator.TheVariants as operators
+use Rattle.rbg_grammar.specs.declared.expression.Rank.{Rank}
+use Rattle.rbg_grammar.specs.declared.expression.Rank.TheVariants as ranks
 use Rattle.rbg_base.specs.declared.relation.Relation.{Relation}
 use Rattle.rbg_base.specs.declared.relation.Relation.TheVariants as relations
 
@@ -96,26 +98,50 @@ pub data IsBoard : List Lexeme → SpeltBoard → List Lexeme → Type 0 where
       → IsGenerated (codes "graph") IsGraph ts b rest
       → IsBoard ts b rest
 
--- relation = "==" | "!=" | "<" | "<=" | ">" | ">="
-pub data IsRelation : List Lexeme → Relation → List Lexeme → Type 0 where
-  equal : {ts rest : List Lexeme} {at : ℕ}
-      → IsSymbol DoubleEquals ts at rest
-      → IsRelation ts relations.Equal rest
-  not_equal : {ts rest : List Lexeme} {at : ℕ}
-      → IsSymbol NotEquals ts at rest
-      → IsRelation ts relations.NotEqual rest
-  less : {ts rest : List Lexeme} {at : ℕ}
-      → IsSymbol LessThan ts at rest
-      → IsRelation ts relations.Less rest
-  less_or_equal : {ts rest : List Lexeme} {at : ℕ}
-      → IsSymbol LessOrEqual ts at rest
-      → IsRelation ts relations.LessOrEqual rest
-  greater : {ts rest : List Lexeme} {at : ℕ}
-      → IsSymbol GreaterThan ts at rest
-      → IsRelation ts relations.Greater rest
-  greater_or_equal : {ts rest : List Lexeme} {at : ℕ}
-      → IsSymbol GreaterOrEqual ts at rest
-      → IsRelation ts relations.GreaterOrEqual rest
+-- "==" | "!=" | "<" | "<=" | ">" | ">="
+abbrev pub relation_of : TokenKind → Option Relation
+relation_of kinds.Name = None
+relation_of kinds.Number = None
+relation_of (kinds.Symbol DoubleEquals) = Some relations.Equal
+relation_of (kinds.Symbol NotEquals) = Some relations.NotEqual
+relation_of (kinds.Symbol LessThan) = Some relations.Less
+relation_of (kinds.Symbol LessOrEqual) = Some relations.LessOrEqual
+relation_of (kinds.Symbol GreaterThan) = Some relations.Greater
+relation_of (kinds.Symbol GreaterOrEqual) = Some relations.GreaterOrEqual
+relation_of (kinds.Symbol _) = None
+
+abbrev pub IsRelation : Phrase Relation
+IsRelation = IsOneOf relation_of
+
+-- "+" | "-" in sums, and "*" | "/" in products
+abbrev pub operator_of : Rank → TokenKind → Option Operator
+operator_of rank kinds.Name = None
+operator_of rank kinds.Number = None
+operator_of ranks.Sum (kinds.Symbol Plus) = Some operators.Plus
+operator_of ranks.Sum (kinds.Symbol Minus) = Some operators.Minus
+operator_of ranks.Sum (kinds.Symbol _) = None
+operator_of ranks.Product (kinds.Symbol Star) = Some operators.Times
+operator_of ranks.Product (kinds.Symbol Slash) = Some operators.Over
+operator_of ranks.Product (kinds.Symbol _) = None
+
+abbrev pub IsOperator : Rank → Phrase Operator
+IsOperator rank = IsOneOf (operator_of rank)
+
+-- operator operand
+pub data IsFurtherOperand (rank : Rank) (Operand : Phrase SpeltExpression) :
+    List Lexeme → SpeltOperand → List Lexeme → Type 0 where
+  further_operand : {ts mid rest : List Lexeme} {o : Operator} {e : SpeltExpression}
+      → IsOperator rank ts o mid
+      → Operand mid e rest
+      → IsFurtherOperand rank Operand ts (o, e) rest
+
+-- operand (operator operand)..
+pub data IsChain (rank : Rank) (Operand : Phrase SpeltExpression) :
+    List Lexeme → SpeltExpression → List Lexeme → Type 0 where
+  chained : {ts mid rest : List Lexeme} {e : SpeltExpression} {os : List SpeltOperand}
+      → Operand ts e mid
+      → Repeated (IsFurtherOperand rank Operand) mid os rest
+      → IsChain rank Operand ts (in_chain ((first_of rank, e) ∷ os)) rest
 
 -- factor = "-"? primary
 pub data IsFactor (Primary : Phrase SpeltExpression) : List Lexeme → SpeltExpression → List Lexeme → Type 0 where
@@ -126,39 +152,13 @@ pub data IsFactor (Primary : Phrase SpeltExpression) : List Lexeme → SpeltExpr
       → After Minus Primary ts e rest
       → IsFactor Primary ts (SpeltExpression.negated e) rest
 
--- ("*" | "/") factor
-pub data IsFurtherFactor (Primary : Phrase SpeltExpression) :
-    List Lexeme → Multiplicative × SpeltExpression → List Lexeme → Type 0 where
-  times : {ts rest : List Lexeme} {e : SpeltExpression}
-      → After Star (IsFactor Primary) ts e rest
-      → IsFurtherFactor Primary ts (multiplicative.Times, e) rest
-  over : {ts rest : List Lexeme} {e : SpeltExpression}
-      → After Slash (IsFactor Primary) ts e rest
-      → IsFurtherFactor Primary ts (multiplicative.Over, e) rest
-
 -- term = factor (("*" | "/") factor)..
-pub data IsTerm (Primary : Phrase SpeltExpression) : List Lexeme → SpeltExpression → List Lexeme → Type 0 where
-  term : {ts mid rest : List Lexeme} {e : SpeltExpression} {fs : List (Multiplicative × SpeltExpression)}
-      → IsFactor Primary ts e mid
-      → Repeated (IsFurtherFactor Primary) mid fs rest
-      → IsTerm Primary ts (product_of e fs) rest
-
--- ("+" | "-") term
-pub data IsFurtherTerm (Primary : Phrase SpeltExpression) :
-    List Lexeme → Additive × SpeltExpression → List Lexeme → Type 0 where
-  plus : {ts rest : List Lexeme} {e : SpeltExpression}
-      → After Plus (IsTerm Primary) ts e rest
-      → IsFurtherTerm Primary ts (additive.Plus, e) rest
-  minus : {ts rest : List Lexeme} {e : SpeltExpression}
-      → After Minus (IsTerm Primary) ts e rest
-      → IsFurtherTerm Primary ts (additive.Minus, e) rest
+abbrev pub IsTerm : Phrase SpeltExpression → Phrase SpeltExpression
+IsTerm Primary = IsChain ranks.Product (IsFactor Primary)
 
 -- sum = term (("+" | "-") term)..
-pub data IsSumOver (Primary : Phrase SpeltExpression) : List Lexeme → SpeltExpression → List Lexeme → Type 0 where
-  sum : {ts mid rest : List Lexeme} {e : SpeltExpression} {es : List (Additive × SpeltExpression)}
-      → IsTerm Primary ts e mid
-      → Repeated (IsFurtherTerm Primary) mid es rest
-      → IsSumOver Primary ts (sum_of e es) rest
+abbrev pub IsSumOver : Phrase SpeltExpression → Phrase SpeltExpression
+IsSumOver Primary = IsChain ranks.Sum (IsTerm Primary)
 
 pub data IsNumberOrName : List Lexeme → SpeltExpression → List Lexeme → Type 0 where
   number : {ts rest : List Lexeme} {n : SpeltNumber}

@@ -1,10 +1,11 @@
 -- Phrases of a grammar, and how larger ones are made of them. A phrase relates a list of tokens to a value and to a
 -- second list: the tokens of the first list up to the second one spell the value, and the second one is what follows.
-use Rattle.std.specs.Prelude.{◌≡◌, ℕ, List, [], ◌∷◌}
+use Rattle.std.specs.Prelude.{◌≡◌, ℕ, List, [], ◌∷◌, Option, Some}
 use Rattle.rbg_base.specs.Decimals.{number_of_digits}
 use Rattle.rbg_tokens.specs.Token.{Lexeme}
 use Rattle.rbg_tokens.specs.declared.token.Symbol.{Symbol}
 use Rattle.rbg_tokens.specs.declared.token.Symbol.TheVariants as symbols
+use Rattle.rbg_tokens.specs.declared.token.TokenKind.{TokenKind}
 use Rattle.rbg_tokens.specs.declared.token.TokenKind.TheVariants as kinds
 use Rattle.rbg_grammar.specs.Tree.{SpeltName, SpeltNumber}
 
@@ -35,6 +36,12 @@ pub data IsWord (text : List ℕ) : List Lexeme → ℕ → List Lexeme → Type
       → t.kind ≡ kinds.Name
       → t.text ≡ text
       → IsWord text (t ∷ rest) t.at rest
+
+-- the next token is of a kind to which the table gives this value
+pub data IsOneOf {A : Type 0} (table : TokenKind → Option A) : List Lexeme → A → List Lexeme → Type 0 where
+  one_of : {t : Lexeme} {rest : List Lexeme} {x : A}
+      → table t.kind ≡ Some x
+      → IsOneOf table (t ∷ rest) x rest
 
 -- any number of phrases, one after the other
 pub data Repeated {A : Type 0} (P : Phrase A) : List Lexeme → List A → List Lexeme → Type 0 where

@@ -1,6 +1,6 @@
 -- What is read from the front of a list of tokens, phrase by phrase: a value and the tokens after it, or why there is
 -- none.
-use Rattle.std.specs.Prelude.{◌≡◌, ◌<◌, ◌&&◌, ℕ, zero, suc, List, [], ◌∷◌, Bool, true, false, codes, drop, length, Option, Some, None, Result, Ok, Err, if◌then◌else◌}
+use Rattle.std.specs.Prelude.{◌≡◌, ◌<◌, ◌&&◌, ℕ, zero, suc, List, [], ◌∷◌, Bool, true, false, codes, drop, length, Option, Some, None, is_some, Result, Ok, Err, if◌then◌else◌}
 use Rattle.std.specs.Str.{bytes_eq}
 use denote.Enum.Bare.{sameb}
 use Rattle.rbg_tokens.specs.Token.{Lexeme}
@@ -92,6 +92,21 @@ unfoldable pub word_at : List ℕ → List Lexeme → Reading ℕ
 word_at text ts = do
   t ← token_at is_name ts
   if bytes_eq t.0.text text then Ok (t.0.at, t.1) else Err (misfit (Some t.0.at))
+
+-- the table gives tokens of this kind a value
+abbrev pub is_in : {A : Type 0} → (TokenKind → Option A) → TokenKind → Bool
+is_in table k = is_some (table k)
+
+-- the value, if there is one, and the tokens after the front one
+abbrev pub or_misfit : {A : Type 0} → Option A → Lexeme × List Lexeme → Reading A
+or_misfit (Some x) t = Ok (x, t.1)
+or_misfit None t = Err (misfit (Some t.0.at))
+
+-- the value that the table gives the next token
+unfoldable pub one_of_at : {A : Type 0} → (TokenKind → Option A) → List Lexeme → Reading A
+one_of_at table ts = do
+  t ← front_at ts
+  or_misfit (table t.0.kind) t
 
 -- phrases as long as the next token passes the test; the number bounds the turns, and the count of the tokens is enough
 abbrev pub repeated_within :

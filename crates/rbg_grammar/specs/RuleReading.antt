@@ -1,37 +1,24 @@
 -- What is read of arithmetic and of rules, as deep as brackets may be nested.
-use Rattle.std.specs.Prelude.{◌≡◌, ℕ, Option, Some, None, zero, suc, List, [], ◌∷◌, Bool, true, false, drop, Ok, Err, if◌then◌else◌}
+use Rattle.std.specs.Prelude.{ℕ, None, zero, suc, List, [], ◌∷◌, Bool, true, false, drop, Ok, Err, if◌then◌else◌}
 use Rattle.rbg_tokens.specs.Token.{Lexeme}
 use Rattle.rbg_tokens.specs.declared.token.Symbol.{Symbol}
-use Rattle.rbg_tokens.specs.declared.token.Symbol.TheVariants.{DoubleArrow, Arrow, DoubleEquals, NotEquals, LessOrEqual, GreaterOrEqual, Equals, LessThan, GreaterThan, Plus, Minus, Star, Slash, OpenParenthesis, CloseParenthesis, OpenBracket, CloseBracket, OpenBrace, CloseBrace, Comma, Dollar, Question, Exclamation}
+use Rattle.rbg_tokens.specs.declared.token.Symbol.TheVariants.{DoubleArrow, Arrow, Equals, Plus, Minus, Star, OpenParenthesis, CloseParenthesis, OpenBracket, CloseBracket, OpenBrace, CloseBrace, Comma, Dollar, Question, Exclamation}
 use Rattle.rbg_tokens.specs.declared.token.TokenKind.{TokenKind}
 use Rattle.rbg_tokens.specs.declared.token.TokenKind.TheVariants as kinds
-use Rattle.rbg_base.specs.declared.relation.Relation.{Relation}
-use Rattle.rbg_base.specs.declared.relation.Relation.TheVariants as relations
-use Rattle.rbg_grammar.specs.declared.expression.Additive.{Additive}
-use Rattle.rbg_grammar.specs.declared.expression.Additive.TheVariants as additive
-use Rattle.rbg_grammar.specs.declared.expression.Multiplicative.{Multiplicative}
-use Rattle.rbg_grammar.specs.declared.expression.Multiplicative.TheVariants as multiplicative
-use Rattle.rbg_grammar.specs.Tree.{SpeltExpression, SpeltRule, no_terms, no_factors, terms_after, factors_after, act, assign, compare, positive, negative, star, choice, no_rules, sequence_of, choice_of, sum_of, product_of}
-use Rattle.rbg_grammar.specs.Reading.{misfit, too_deep, Reading, ◌>>=◌, next_is, is_number, is_symbol, front_at, symbol_at, name_at, number_at, repeated_at, after_at, separated_at, within_at, open_atom_at, on_at, off_at, in_sequence}
+use Rattle.rbg_grammar.specs.declared.expression.Rank.{Rank}
+use Rattle.rbg_grammar.specs.declared.expression.Rank.TheVariants as ranks
+use Rattle.rbg_grammar.specs.Grammar.{operator_of, relation_of}
+use Rattle.rbg_grammar.specs.Tree.{SpeltExpression, SpeltOperand, SpeltRule, first_of, in_chain, act, assign, compare, positive, negative, star, choice, no_rules, sequence_of, choice_of}
+use Rattle.rbg_grammar.specs.Reading.{misfit, too_deep, Reading, ◌>>=◌, next_is, is_number, is_symbol, symbol_at, name_at, number_at, is_in, one_of_at, repeated_at, after_at, separated_at, within_at, open_atom_at, on_at, off_at, in_sequence}
 
 -- the bracket at the front is one too many
 abbrev pub too_deep_at : {A : Type 0} → List Lexeme → Reading A
 too_deep_at [] = Err (misfit None)
 too_deep_at (t ∷ ts) = Err (too_deep t.at)
 
-abbrev pub is_product_sign : TokenKind → Bool
-is_product_sign kinds.Name = false
-is_product_sign kinds.Number = false
-is_product_sign (kinds.Symbol Star) = true
-is_product_sign (kinds.Symbol Slash) = true
-is_product_sign (kinds.Symbol _) = false
-
-abbrev pub is_sum_sign : TokenKind → Bool
-is_sum_sign kinds.Name = false
-is_sum_sign kinds.Number = false
-is_sum_sign (kinds.Symbol Plus) = true
-is_sum_sign (kinds.Symbol Minus) = true
-is_sum_sign (kinds.Symbol _) = false
+-- a token of this kind is an operator of this rank
+abbrev pub is_operator : Rank → TokenKind → Bool
+is_operator rank k = is_in (operator_of rank) k
 
 unfoldable pub number_or_name_at : List Lexeme → Reading SpeltExpression
 number_or_name_at ts =
@@ -49,48 +36,26 @@ factor_at primary ts =
       Ok (SpeltExpression.negated e.0, e.1))
     else primary ts
 
-unfoldable pub further_factor_at :
-    (List Lexeme → Reading SpeltExpression) → List Lexeme → Reading (Multiplicative × SpeltExpression)
-further_factor_at primary ts =
-    if next_is (is_symbol Star) ts then (do
-      e ← after_at Star (factor_at primary) ts
-      Ok ((multiplicative.Times, e.0), e.1))
-    else (do
-      e ← after_at Slash (factor_at primary) ts
-      Ok ((multiplicative.Over, e.0), e.1))
+unfoldable pub further_operand_at :
+    Rank → (List Lexeme → Reading SpeltExpression) → List Lexeme → Reading SpeltOperand
+further_operand_at rank operand ts = do
+  o ← one_of_at (operator_of rank) ts
+  e ← operand o.1
+  Ok ((o.0, e.0), e.1)
 
-unfoldable pub term_at : (List Lexeme → Reading SpeltExpression) → List Lexeme → Reading SpeltExpression
-term_at primary ts = do
-  e ← factor_at primary ts
-  fs ← repeated_at is_product_sign (further_factor_at primary) e.1
-  Ok (product_of e.0 fs.0, fs.1)
+unfoldable pub chain_at : Rank → (List Lexeme → Reading SpeltExpression) → List Lexeme → Reading SpeltExpression
+chain_at rank operand ts = do
+  e ← operand ts
+  os ← repeated_at (is_operator rank) (further_operand_at rank operand) e.1
+  Ok (in_chain ((first_of rank, e.0) ∷ os.0), os.1)
 
-unfoldable pub further_term_at :
-    (List Lexeme → Reading SpeltExpression) → List Lexeme → Reading (Additive × SpeltExpression)
-further_term_at primary ts =
-    if next_is (is_symbol Plus) ts then (do
-      e ← after_at Plus (term_at primary) ts
-      Ok ((additive.Plus, e.0), e.1))
-    else (do
-      e ← after_at Minus (term_at primary) ts
-      Ok ((additive.Minus, e.0), e.1))
+-- the operands of a sum are products, and those of a product are factors
+abbrev pub operand_at : Rank → (List Lexeme → Reading SpeltExpression) → List Lexeme → Reading SpeltExpression
+operand_at ranks.Sum primary = chain_at ranks.Product (factor_at primary)
+operand_at ranks.Product primary = factor_at primary
 
--- the parts of a product, and of a sum, as one expression
-abbrev pub in_product : List (Multiplicative × SpeltExpression) → SpeltExpression
-in_product [] = SpeltExpression.product no_factors
-in_product (f ∷ []) = f.1
-in_product (f ∷ g ∷ fs) = SpeltExpression.product (factors_after no_factors (f ∷ g ∷ fs))
-
-abbrev pub in_sum : List (Additive × SpeltExpression) → SpeltExpression
-in_sum [] = SpeltExpression.sum no_terms
-in_sum (t ∷ []) = t.1
-in_sum (t ∷ u ∷ ts) = SpeltExpression.sum (terms_after no_terms (t ∷ u ∷ ts))
-
-unfoldable pub sum_over_at : (List Lexeme → Reading SpeltExpression) → List Lexeme → Reading SpeltExpression
-sum_over_at primary ts = do
-  e ← term_at primary ts
-  es ← repeated_at is_sum_sign (further_term_at primary) e.1
-  Ok (sum_of e.0 es.0, es.1)
+abbrev pub sum_over_at : (List Lexeme → Reading SpeltExpression) → List Lexeme → Reading SpeltExpression
+sum_over_at primary = chain_at ranks.Sum (operand_at ranks.Sum primary)
 
 -- a number, a name or a sum in parentheses, with at most this many brackets open at once
 unfoldable pub primary_at : ℕ → List Lexeme → Reading SpeltExpression
@@ -103,43 +68,10 @@ primary_at (suc n) ts =
 unfoldable pub sum_at : ℕ → List Lexeme → Reading SpeltExpression
 sum_at n ts = sum_over_at (primary_at n) ts
 
--- the relation that a token is
-abbrev pub relation_of : TokenKind → Relation
-relation_of kinds.Name = relations.Equal
-relation_of kinds.Number = relations.Equal
-relation_of (kinds.Symbol DoubleEquals) = relations.Equal
-relation_of (kinds.Symbol NotEquals) = relations.NotEqual
-relation_of (kinds.Symbol LessThan) = relations.Less
-relation_of (kinds.Symbol LessOrEqual) = relations.LessOrEqual
-relation_of (kinds.Symbol GreaterThan) = relations.Greater
-relation_of (kinds.Symbol GreaterOrEqual) = relations.GreaterOrEqual
-relation_of (kinds.Symbol _) = relations.Equal
-
-abbrev pub is_relation : TokenKind → Bool
-is_relation kinds.Name = false
-is_relation kinds.Number = false
-is_relation (kinds.Symbol DoubleEquals) = true
-is_relation (kinds.Symbol NotEquals) = true
-is_relation (kinds.Symbol LessThan) = true
-is_relation (kinds.Symbol LessOrEqual) = true
-is_relation (kinds.Symbol GreaterThan) = true
-is_relation (kinds.Symbol GreaterOrEqual) = true
-is_relation (kinds.Symbol _) = false
-
--- the relation that a token of this kind is, if it is one
-abbrev pub IsRelationOf : TokenKind → Option Relation → Type 0
-IsRelationOf k (Some r) = (is_relation k ≡ true) × (relation_of k ≡ r)
-IsRelationOf k None = is_relation k ≡ false
-
-unfoldable pub relation_at : List Lexeme → Reading Relation
-relation_at ts = do
-  t ← front_at ts
-  if is_relation t.0.kind then Ok (relation_of t.0.kind, t.1) else Err (misfit (Some t.0.at))
-
 unfoldable pub comparison_at : (List Lexeme → Reading SpeltExpression) → List Lexeme → Reading SpeltRule
 comparison_at sum ts = do
   e ← sum ts
-  r ← relation_at e.1
+  r ← one_of_at relation_of e.1
   f ← sum r.1
   Ok (act (compare e.0 r.0 f.0), f.1)
 

@@ -1,9 +1,9 @@
 -- A description as its text spells it: a tree whose names and numbers have their places in the text.
 use Rattle.std.specs.Prelude.{ℕ, List, [], ◌∷◌, Option}
-use Rattle.rbg_grammar.specs.declared.expression.Additive.{Additive}
-use Rattle.rbg_grammar.specs.declared.expression.Additive.TheVariants.{Plus}
-use Rattle.rbg_grammar.specs.declared.expression.Multiplicative.{Multiplicative}
-use Rattle.rbg_grammar.specs.declared.expression.Multiplicative.TheVariants.{Times}
+use Rattle.rbg_grammar.specs.declared.expression.Operator.{Operator}
+use Rattle.rbg_grammar.specs.declared.expression.Operator.TheVariants.{Plus, Times}
+use Rattle.rbg_grammar.specs.declared.expression.Rank.{Rank}
+use Rattle.rbg_grammar.specs.declared.expression.Rank.TheVariants.{Sum, Product}
 use Rattle.rbg_base.specs.declared.relation.Relation.{Relation}
 
 -- a name, and the offset where it stands
@@ -22,23 +22,17 @@ pub record SpeltBounded : Type 0 where
   pub bound : SpeltNumber
 
 mutual
-  -- An arithmetic expression. Sums and products have at least two parts.
+  -- An arithmetic expression. A chain is a sum or a product, of at least two operands.
   pub data SpeltExpression : Type 0 where
     number : SpeltNumber → SpeltExpression
     name : SpeltName → SpeltExpression
     negated : SpeltExpression → SpeltExpression
-    sum : SpeltTerms → SpeltExpression
-    product : SpeltFactors → SpeltExpression
+    chain : SpeltOperands → SpeltExpression
 
-  -- the parts of a sum from the left, each with its sign
-  pub data SpeltTerms : Type 0 where
-    no_terms : SpeltTerms
-    more_terms : SpeltTerms → Additive → SpeltExpression → SpeltTerms
-
-  -- the parts of a product from the left, each with its operator
-  pub data SpeltFactors : Type 0 where
-    no_factors : SpeltFactors
-    more_factors : SpeltFactors → Multiplicative → SpeltExpression → SpeltFactors
+  -- the operands of a sum or a product from the left, each with its operator
+  pub data SpeltOperands : Type 0 where
+    no_operands : SpeltOperands
+    more_operands : SpeltOperands → Operator → SpeltExpression → SpeltOperands
 
 mutual
   -- A regular expression over actions. Sequences and sums have at least two parts.
@@ -95,15 +89,15 @@ abbrev pub rules_after : SpeltRules → List SpeltRule → SpeltRules
 rules_after first [] = first
 rules_after first (r ∷ rs) = rules_after (more_rules first r) rs
 
-abbrev pub terms_after : SpeltTerms → List (Additive × SpeltExpression) → SpeltTerms
-terms_after first [] = first
-terms_after first (t ∷ ts) = terms_after (more_terms first t.0 t.1) ts
+-- an operand with its operator
+abbrev pub SpeltOperand : Type 0
+SpeltOperand = Operator × SpeltExpression
 
-abbrev pub factors_after : SpeltFactors → List (Multiplicative × SpeltExpression) → SpeltFactors
-factors_after first [] = first
-factors_after first (f ∷ fs) = factors_after (more_factors first f.0 f.1) fs
+abbrev pub operands_after : SpeltOperands → List SpeltOperand → SpeltOperands
+operands_after first [] = first
+operands_after first (o ∷ os) = operands_after (more_operands first o.0 o.1) os
 
--- Parts after a first one, as a sequence, a sum or a product. One part is itself.
+-- Parts after a first one, as a sequence or a sum. One part is itself.
 abbrev pub sequence_of : SpeltRule → List SpeltRule → SpeltRule
 sequence_of r [] = r
 sequence_of r (s ∷ rs) = sequence (rules_after no_rules (r ∷ s ∷ rs))
@@ -112,10 +106,13 @@ abbrev pub choice_of : SpeltRule → List SpeltRule → SpeltRule
 choice_of r [] = r
 choice_of r (s ∷ rs) = choice (rules_after no_rules (r ∷ s ∷ rs))
 
-abbrev pub sum_of : SpeltExpression → List (Additive × SpeltExpression) → SpeltExpression
-sum_of e [] = e
-sum_of e (t ∷ ts) = sum (terms_after no_terms ((Plus, e) ∷ t ∷ ts))
+-- the operator of the first operand, which isn't spelt
+abbrev pub first_of : Rank → Operator
+first_of Sum = Plus
+first_of Product = Times
 
-abbrev pub product_of : SpeltExpression → List (Multiplicative × SpeltExpression) → SpeltExpression
-product_of e [] = e
-product_of e (f ∷ fs) = product (factors_after no_factors ((Times, e) ∷ f ∷ fs))
+-- The operands of a sum or a product as one expression. One operand is itself.
+abbrev pub in_chain : List SpeltOperand → SpeltExpression
+in_chain [] = chain no_operands
+in_chain (o ∷ []) = o.1
+in_chain (o ∷ p ∷ os) = chain (operands_after no_operands (o ∷ p ∷ os))

@@ -2,7 +2,7 @@
 use Rattle.std.specs.Prelude.{List, map, option_map}
 use Rattle.std.specs.declared.alloc.Global.{Global}
 use Rattle.std.specs.declared.vec.Vec.{Vec}
-use Rattle.rbg_grammar.specs.Tree.{SpeltName, SpeltNumber, SpeltBounded, SpeltEdge, SpeltVertex, SpeltBoard, SpeltDescription, SpeltExpression, no_terms, no_factors, SpeltRule, no_rules, SpeltAction, terms_after, factors_after, rules_after}
+use Rattle.rbg_grammar.specs.Tree.{SpeltName, SpeltNumber, SpeltBounded, SpeltEdge, SpeltVertex, SpeltBoard, SpeltDescription, SpeltExpression, SpeltOperand, no_operands, SpeltRule, no_rules, SpeltAction, operands_after, rules_after}
 use Rattle.rbg_grammar.specs.declared.names.Name.{Name}
 use Rattle.rbg_grammar.specs.declared.names.Number.{Number}
 use Rattle.rbg_grammar.specs.declared.description.Bounded.{Bounded}
@@ -10,12 +10,9 @@ use Rattle.rbg_grammar.specs.declared.description.Edge.{Edge}
 use Rattle.rbg_grammar.specs.declared.description.Vertex.{Vertex}
 use Rattle.rbg_grammar.specs.declared.description.Board.{Board}
 use Rattle.rbg_grammar.specs.declared.description.Board.TheVariants.{Rectangle, Hexagon, Graph}
-use Rattle.rbg_grammar.specs.declared.expression.Additive.{Additive}
-use Rattle.rbg_grammar.specs.declared.expression.Multiplicative.{Multiplicative}
 use Rattle.rbg_grammar.specs.declared.expression.Expression.{Expression, fold-Expression}
-use Rattle.rbg_grammar.specs.declared.expression.Factor.{Factor}
-use Rattle.rbg_grammar.specs.declared.expression.Term.{Term}
-use Rattle.rbg_grammar.specs.declared.expression.Expression.TheOpen.{Expression-F, Term-F, Factor-F}
+use Rattle.rbg_grammar.specs.declared.expression.Operand.{Operand}
+use Rattle.rbg_grammar.specs.declared.expression.Expression.TheOpen.{Expression-F, Operand-F}
 use Rattle.rbg_grammar.specs.declared.rule.Rule.{Rule, fold-Rule}
 use Rattle.rbg_grammar.specs.declared.rule.Action.{Action, fold-Action}
 use Rattle.rbg_grammar.specs.declared.rule.Action.TheOpen.{Action-F, Rule-F}
@@ -46,36 +43,22 @@ board_of (Rectangle directions rows) = SpeltBoard.rectangle (map name_of directi
 board_of (Hexagon directions rows) = SpeltBoard.hexagon (map name_of directions.names) (map names_of rows.items)
 board_of (Graph vertices) = SpeltBoard.graph (map vertex_of vertices.items)
 
--- a factor and a term, with its expression already seen as what it spells
-abbrev pub SpeltFactor : Type 0
-SpeltFactor = Multiplicative × SpeltExpression
-
-abbrev pub SpeltTerm : Type 0
-SpeltTerm = Additive × SpeltExpression
-
 -- one level of an expression, with each part already seen as its spelt expression
-abbrev pub expression_step : Expression-F SpeltExpression SpeltFactor SpeltTerm → SpeltExpression
+abbrev pub expression_step : Expression-F SpeltExpression SpeltOperand → SpeltExpression
 expression_step (Expression-F.Number n) = SpeltExpression.number (number_of n)
 expression_step (Expression-F.Name n) = SpeltExpression.name (name_of n)
 expression_step (Expression-F.Negated e) = SpeltExpression.negated e.value
-expression_step (Expression-F.Sum terms) = SpeltExpression.sum (terms_after no_terms terms.items)
-expression_step (Expression-F.Product factors) = SpeltExpression.product (factors_after no_factors factors.items)
+expression_step (Expression-F.Chain operands) = SpeltExpression.chain (operands_after no_operands operands.items)
 
-abbrev pub factor_step : Factor-F SpeltExpression SpeltFactor SpeltTerm → SpeltFactor
-factor_step f = (f.operator, f.value)
-
-abbrev pub term_step : Term-F SpeltExpression SpeltFactor SpeltTerm → SpeltTerm
-term_step t = (t.operator, t.value)
+abbrev pub operand_step : Operand-F SpeltExpression SpeltOperand → SpeltOperand
+operand_step o = (o.operator, o.value)
 
 unfoldable pub expression_of : Expression → SpeltExpression
-expression_of = fold-Expression SpeltExpression SpeltFactor SpeltTerm expression_step factor_step term_step
+expression_of = fold-Expression SpeltExpression SpeltOperand expression_step operand_step
 
--- a term and a factor of the code as their operators and spelt expressions
-abbrev pub term_of : Term → SpeltTerm
-term_of t = (t.operator, expression_of t.value)
-
-abbrev pub factor_of : Factor → SpeltFactor
-factor_of f = (f.operator, expression_of f.value)
+-- an operand of the code as its operator and its spelt expression
+abbrev pub operand_of : Operand → SpeltOperand
+operand_of o = (o.operator, expression_of o.value)
 
 -- one level of the rules, with each part already seen as what it spells
 abbrev pub action_step : Action-F SpeltAction SpeltRule → SpeltAction

@@ -9,10 +9,9 @@ pub enum Expression<'a> {
     Name(Name<'a>),
     /// 0 minus the expression, as `-x`.
     Negated(Box<Expression<'a>>),
-    /// At least two terms, taken from the left. The first has `Plus`.
-    Sum(Vec<Term<'a>>),
-    /// At least two factors, taken from the left. The first has `Times`.
-    Product(Vec<Factor<'a>>),
+    /// A sum or a product: at least two operands, taken from the left. The first one has `Plus` in a sum, and `Times` in a
+    /// product.
+    Chain(Vec<Operand<'a>>),
 }
 
 /// Written out, so that letting an expression go is one call in the proofs of those who hold one, not a step for each part.
@@ -23,38 +22,33 @@ impl Drop for Expression<'_> {
             Expression::Number(_)
             | Expression::Name(_)
             | Expression::Negated(_)
-            | Expression::Sum(_)
-            | Expression::Product(_) => {}
+            | Expression::Chain(_) => {}
         }
     }
 }
 
-/// A part of a sum.
+/// A part of a sum or of a product.
 #[cycle(expression)]
 #[derive(Drop)]
-pub struct Term<'a> {
-    pub operator: Additive,
+pub struct Operand<'a> {
+    pub operator: Operator,
     pub value: Expression<'a>,
 }
 
-/// A part of a product.
-#[cycle(expression)]
-#[derive(Drop)]
-pub struct Factor<'a> {
-    pub operator: Multiplicative,
-    pub value: Expression<'a>,
-}
-
-/// What is done with a term.
-#[derive(Clone, Copy, PartialEq, Eq)]
-pub enum Additive {
+/// What is done with an operand.
+#[derive(Clone, Copy)]
+pub enum Operator {
     Plus,
     Minus,
-}
-
-/// What is done with a factor.
-#[derive(Clone, Copy, PartialEq, Eq)]
-pub enum Multiplicative {
     Times,
     Over,
+}
+
+/// How tightly operators bind.
+#[derive(Clone, Copy)]
+pub enum Rank {
+    /// That of `+` and `-`.
+    Sum,
+    /// That of `*` and `/`.
+    Product,
 }

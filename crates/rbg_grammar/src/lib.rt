@@ -12,6 +12,6 @@ pub use description::{
     Board, Bounded, Description, DescriptionParts, Edge, HexagonDirections, RectangleDirections,
     Vertex,
 };
-pub use expression::{Additive, Expression, Factor, Multiplicative, Term};
+pub use expression::{Expression, Operand, Operator, Rank};
 pub use names::{Name, Number};
 pub use rule::{Action, Rule};

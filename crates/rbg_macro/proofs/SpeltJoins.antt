@@ -1,24 +1,20 @@
 -- What joining makes of texts that spell a token of their kind.
-use Rattle.std.proofs.Common.{ℕ, ◌≡◌, ◌+◌, Bool, true, false, ◌&&◌, ◌||◌, cond, nat_le, List, [], ◌∷◌, ◌++◌, length, Option, None, Some, Result, Ok, Err, refl, sym, ◌∙◌, ap, subst, arith, zero, suc, slice_get}
+use Rattle.std.proofs.Common.{ℕ, ◌≡◌, ◌+◌, Bool, true, false, ◌&&◌, ◌||◌, cond, nat_le, List, [], ◌∷◌, ◌++◌, length, Option, None, Some, Result, Ok, Err, refl, subst}
 use Rattle.std.proofs.lemmas.Bool.{and_parts}
-use Rattle.std.proofs.lemmas.List.Elements.{All-nil, All-cons}
 use Rattle.std.proofs.lemmas.List.Folds.{list_all-append}
 use Rattle.std.specs.Char.{is_ascii_digit}
-use Rattle.std.specs.List.{All, AllByRecursion, list_all}
+use Rattle.std.specs.List.{list_all}
 use Rattle.rbg_base.specs.Names.{is_name, is_name_start, is_name_part}
 use Rattle.rbg_macro.specs.declared.error.MacroError.{MacroError}
 use Rattle.rbg_macro.specs.declared.error.MacroError.TheVariants.{BadJoin}
-use Rattle.rbg_tokens.specs.declared.error.TextError.{TextError}
 use Rattle.rbg_macro.specs.declared.limits.TheConstants.{MAX_JOINED}
 use Rattle.rbg_tokens.specs.declared.token.TokenKind.{TokenKind}
 use Rattle.rbg_tokens.specs.declared.token.TokenKind.TheVariants.{Name, Number, Symbol as A_Symbol}
 use Rattle.rbg_macro.specs.Joining.{joined_kind, joined_token, with_kind, behind, join_at, joined_from, joined}
 use Rattle.rbg_tokens.specs.Kinds.{is_tilde}
 use Rattle.rbg_tokens.specs.Spelling.{is_number, Spells, IsLexeme}
-use Rattle.rbg_tokens.specs.Text.{Lexes, end, blank, comment, token, zero_byte, zero_in_comment, bad_byte, behind_token, HasTokens}
 use Rattle.rbg_tokens.specs.Token.{Lexeme}
 use Rattle.rbg_tokens.proofs.Words.{name_parts, number_digits}
-use Rattle.rbg_tokens.proofs.ZeroBytes.{tokens_behind}
 use Rattle.rbg_tokens.proofs.SpeltTokens.{Spelt}
 
 -- a digit is a part of a name

@@ -1,5 +1,6 @@
 -- Sections, macros and their expansion, by topic. The folder `internal` is for the crate's own proofs.
 pub mod Limits
+pub mod Names
 pub mod Sections
 pub mod Steps
 pub mod Errors

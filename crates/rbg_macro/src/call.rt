@@ -81,18 +81,18 @@ fn closing(kind: TokenKind, further: usize) -> Effect
     }
 }
 
-/// The arguments in the tokens after a call's `(`, and the number of their tokens together with the `)`. Returns `None`
-/// if the token that closes the call is missing or isn't `)`.
+/// Finds the arguments in the tokens after a call's `(`. Returns the number of their tokens together with the `)`, or
+/// `None` if the token that closes the call is missing or isn't `)`.
 fn find_arguments<'t, 'j>(
-    alloc: Global,
+    found: &mut Arguments<'t, 'j>,
     tokens: &'j [ReadToken<'t, 'j>],
-) -> Result<Option<(Arguments<'t, 'j>, usize)>, Memory>
+) -> Result<Option<usize>, Memory>
+    requires { found.old.items ≡ [] }
     ensures arguments { IfOk result (λ o.
         MatchOption o (arguments 0 (map read_lexeme tokens.now) ≡ None)
-        (λ x. AreArguments (map read_lexeme tokens.now) (lists_in x.0.items) x.1)) }
-    ensures marks { IfOk result (λ o. IfSome o (λ x. KeepsMarks tokens.now x.0.items)) }
+        (λ len. AreArguments (map read_lexeme tokens.now) (lists_in found.new.items) len)) }
+    ensures marks { IfOk result (λ o. IfSome o (λ _. KeepsMarks tokens.now found.new.items)) }
 {
-    let mut found = SmallVec::new(alloc);
     let mut further = 0;
     let mut start = 0;
     let mut at = 0;
@@ -105,7 +105,7 @@ fn find_arguments<'t, 'j>(
             }
             Effect::Ends => {
                 found.push(&tokens[start..at])?;
-                return Ok(Some((found, at + 1)));
+                return Ok(Some(at + 1));
             }
             Effect::Mismatched => return Ok(None),
         }
@@ -134,29 +134,25 @@ pub(crate) fn find_call<'m, 't, 'j>(
     let Some(template) = macros.get(name) else {
         return Ok(None);
     };
-    let body = template.body.as_slice();
+    let mut call = Call {
+        body: template.body.as_slice(),
+        arguments: SmallVec::new(alloc),
+        len: 0,
+    };
     if template.parameters == 0 {
-        let arguments = SmallVec::new(alloc);
-        return Ok(Some(Call {
-            body,
-            arguments,
-            len: 0,
-        }));
+        return Ok(Some(call));
     }
     if !begins_with_parenthesis(behind) {
         return Err(MacroError::ArgumentCount { at: name.at });
     }
-    let Some((arguments, len)) = find_arguments(alloc, &behind[1..])? else {
+    let Some(len) = find_arguments(&mut call.arguments, &behind[1..])? else {
         return Err(MacroError::ArgumentCount { at: name.at });
     };
-    if arguments.len() != template.parameters {
+    if call.arguments.len() != template.parameters {
         return Err(MacroError::ArgumentCount { at: name.at });
     }
-    Ok(Some(Call {
-        body,
-        arguments,
-        len: len + 1,
-    }))
+    call.len = len + 1;
+    Ok(Some(call))
 }
 
 /// Whether the first token is `(`.

@@ -1,6 +1,7 @@
 //! The expanded sections of a description, which share its text and own what macros joined.
 ghost use Rattle.std.specs.Prelude.{◌≡◌, ◌<◌, ◌==◌, IsTrue, Some, length, slice_get};
 ghost use Rattle.rbg_base.specs.Names.{is_name};
+ghost use Rattle.rbg_macro.specs.Names.{section_name};
 ghost use Rattle.rbg_tokens.specs.Spelling.{is_number};
 ghost use Rattle.rbg_tokens.specs.Token.{lexeme_of};
 
@@ -19,16 +20,25 @@ pub enum SectionKind {
     Rules,
 }
 
-/// The name of the section, as in the text.
+impl SectionKind {
+    /// The name of the section, as in the text.
+    #[tactic(auto, unfolding(crate::specs::Names::section_name))]
+    pub fn name(self) -> &'static str
+        ensures { result.now ≡ section_name self }
+    {
+        match self {
+            SectionKind::Players => "players",
+            SectionKind::Pieces => "pieces",
+            SectionKind::Variables => "variables",
+            SectionKind::Board => "board",
+            SectionKind::Rules => "rules",
+        }
+    }
+}
+
 impl fmt::Display for SectionKind {
     fn fmt<W: fmt::Write>(&self, f: &mut fmt::Formatter<W>) -> fmt::Result {
-        match self {
-            SectionKind::Players => write!(f, "players"),
-            SectionKind::Pieces => write!(f, "pieces"),
-            SectionKind::Variables => write!(f, "variables"),
-            SectionKind::Board => write!(f, "board"),
-            SectionKind::Rules => write!(f, "rules"),
-        }
+        f.write_str(self.name())
     }
 }
 

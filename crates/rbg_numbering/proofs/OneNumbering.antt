@@ -3,11 +3,11 @@
 use Rattle.std.proofs.Common.{◌≡◌, ℕ, zero, suc, ◌+◌, List, [], ◌∷◌, ◌++◌, inl, inr, Some, None, length, refl, sym, ap, ◌∙◌, subst}
 use Rattle.std.specs.List.{range_with_len}
 use Rattle.std.proofs.lemmas.Option.{same_Some}
-use Rattle.rbg_grammar.specs.Tree.{SpeltExpression, SpeltTerms, no_terms, more_terms, SpeltFactors, no_factors, more_factors, SpeltRule, SpeltRules, no_rules, more_rules, SpeltAction}
+use Rattle.rbg_grammar.specs.Tree.{SpeltExpression, SpeltOperands, no_operands, more_operands, SpeltRule, SpeltRules, no_rules, more_rules, SpeltAction}
 use Rattle.rbg_rules.specs.Expression.{AbstractArithmetic, number, variable, piece_count, negated, AbstractAction, shift, on, off, assignment, comparison, switch, positive, negative, Expression, act, sequence, choice, star}
 use Rattle.rbg_rules.specs.Positions.{positions_of, positions_inside, IsNumbered}
 use Rattle.rbg_numbering.specs.Names.{Names, IsNumberOf, HasDifferentNames}
-use Rattle.rbg_numbering.specs.Rules.{added, multiplied, ArithmeticIs, SumIs, ProductIs, ActionIs, RuleIs, SequenceIs, ChoiceIs}
+use Rattle.rbg_numbering.specs.Rules.{combined, ArithmeticIs, ChainIs, ActionIs, RuleIs, SequenceIs, ChoiceIs}
 use Rattle.rbg_base.proofs.CallerLemmas.{Contains-from_get}
 use Rattle.rbg_numbering.proofs.Lists.{AllZip-once}
 
@@ -19,24 +19,15 @@ mutual
   arithmetic_once names differ (SpeltExpression.name n) a b (inr (no_variable, _)) (inl (w, w_is, f)) = absurd (no_variable (Contains-from_get names.variables w n.text w_is))
   arithmetic_once names differ (SpeltExpression.name n) a b (inr (_, (p, p_is, e))) (inr (_, (q, q_is, f))) = e ∙ ap piece_count (differ.pieces.one_number p q n.text p_is q_is) ∙ sym f
   arithmetic_once names differ (SpeltExpression.negated spelt) a b (x, x_is, e) (y, y_is, f) = e ∙ ap negated (arithmetic_once names differ spelt x y x_is y_is) ∙ sym f
-  arithmetic_once names differ (SpeltExpression.sum terms) a b left right = sum_once names differ terms a b left right
-  arithmetic_once names differ (SpeltExpression.product factors) a b left right = product_once names differ factors a b left right
+  arithmetic_once names differ (SpeltExpression.chain operands) a b left right = chain_once names differ operands a b left right
 
-  sum_once : (names : Names) → HasDifferentNames names → (terms : SpeltTerms) (a b : AbstractArithmetic) → SumIs names terms a → SumIs names terms b → a ≡ b
-  sum_once names differ no_terms a b left right = absurd left
-  sum_once names differ (more_terms _ _ spelt) a b (inl (_, left)) (inl (_, right)) = arithmetic_once names differ spelt a b left right
-  sum_once names differ (more_terms _ _ _) a b (inl (none, _)) (inr (y, _, some, _, _)) = absurd (subst (λ ts. SumIs names ts y) none some)
-  sum_once names differ (more_terms _ _ _) a b (inr (x, _, some, _, _)) (inl (none, _)) = absurd (subst (λ ts. SumIs names ts x) none some)
-  sum_once names differ (more_terms terms operator spelt) a b (inr (x, z, x_is, z_is, e)) (inr (y, w, y_is, w_is, f)) =
-      e ∙ ap (λ l. added operator l z) (sum_once names differ terms x y x_is y_is) ∙ ap (added operator y) (arithmetic_once names differ spelt z w z_is w_is) ∙ sym f
-
-  product_once : (names : Names) → HasDifferentNames names → (factors : SpeltFactors) (a b : AbstractArithmetic) → ProductIs names factors a → ProductIs names factors b → a ≡ b
-  product_once names differ no_factors a b left right = absurd left
-  product_once names differ (more_factors _ _ spelt) a b (inl (_, left)) (inl (_, right)) = arithmetic_once names differ spelt a b left right
-  product_once names differ (more_factors _ _ _) a b (inl (none, _)) (inr (y, _, some, _, _)) = absurd (subst (λ fs. ProductIs names fs y) none some)
-  product_once names differ (more_factors _ _ _) a b (inr (x, _, some, _, _)) (inl (none, _)) = absurd (subst (λ fs. ProductIs names fs x) none some)
-  product_once names differ (more_factors factors operator spelt) a b (inr (x, z, x_is, z_is, e)) (inr (y, w, y_is, w_is, f)) =
-      e ∙ ap (λ l. multiplied operator l z) (product_once names differ factors x y x_is y_is) ∙ ap (multiplied operator y) (arithmetic_once names differ spelt z w z_is w_is) ∙ sym f
+  chain_once : (names : Names) → HasDifferentNames names → (operands : SpeltOperands) (a b : AbstractArithmetic) → ChainIs names operands a → ChainIs names operands b → a ≡ b
+  chain_once names differ no_operands a b left right = absurd left
+  chain_once names differ (more_operands _ _ spelt) a b (inl (_, left)) (inl (_, right)) = arithmetic_once names differ spelt a b left right
+  chain_once names differ (more_operands _ _ _) a b (inl (none, _)) (inr (y, _, some, _, _)) = absurd (subst (λ os. ChainIs names os y) none some)
+  chain_once names differ (more_operands _ _ _) a b (inr (x, _, some, _, _)) (inl (none, _)) = absurd (subst (λ os. ChainIs names os x) none some)
+  chain_once names differ (more_operands operands operator spelt) a b (inr (x, z, x_is, z_is, e)) (inr (y, w, y_is, w_is, f)) =
+      e ∙ ap (λ l. combined operator l z) (chain_once names differ operands x y x_is y_is) ∙ ap (combined operator y) (arithmetic_once names differ spelt z w z_is w_is) ∙ sym f
 
 -- the list is n, n + 1, ..
 abbrev CountsFrom : ℕ → List ℕ → Type 0

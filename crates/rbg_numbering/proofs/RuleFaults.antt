@@ -3,17 +3,17 @@ use Rattle.std.proofs.Common.{◌≡◌, ◌≢◌, ℕ, suc, ◌+◌, ◌≤◌
 use Rattle.std.specs.Prelude.{Contains}
 use Rattle.std.specs.List.{AllZip}
 use Rattle.std.proofs.lemmas.List.{length-append}
-use Rattle.rbg_grammar.specs.Tree.{SpeltName, SpeltExpression, SpeltTerms, no_terms, SpeltFactors, no_factors, SpeltRule, SpeltRules, no_rules, more_rules, SpeltAction}
-use Rattle.rbg_rules.specs.Expression.{AbstractArithmetic, AbstractAction, switch, positive, negative, Expression, act, sequence, choice, star}
+use Rattle.rbg_grammar.specs.Tree.{SpeltName, SpeltExpression, SpeltOperands, no_operands, SpeltRule, SpeltRules, no_rules, more_rules, SpeltAction}
+use Rattle.rbg_rules.specs.Expression.{AbstractArithmetic, AbstractAction, switch, Expression}
 use Rattle.rbg_rules.specs.Games.{NestsWithin, InsideNestsWithin}
 use Rattle.rbg_rules.specs.Positions.{HasAction, HasInside, positions_of, positions_inside, IsPatternOf, IsLevel, inside as level_of}
 use Rattle.rbg_rules.specs.Limits.{most_positions, most_nested_patterns}
 use Rattle.rbg_numbering.specs.declared.error.NumberingError.{NumberingError}
 use Rattle.rbg_numbering.specs.declared.error.NumberingError.TheVariants.{Memory}
 use Rattle.rbg_numbering.specs.Names.{Names, IsNumberOf}
-use Rattle.rbg_numbering.specs.Rules.{ArithmeticIs, SumIs, ProductIs, ActionIs, RuleIs, SequenceIs, ChoiceIs}
+use Rattle.rbg_numbering.specs.Rules.{ArithmeticIs, ChainIs, ActionIs, RuleIs, SequenceIs, ChoiceIs}
 use Rattle.rbg_numbering.specs.Faults.{HasUnknown, Purpose, as_piece, as_variable, names_for, Uses, shifts, stands_on, puts, assigns, gives_turn}
-use Rattle.rbg_numbering.specs.Faults.{HasPart, itself, in_negated, in_sum, in_product, SomeTermHasPart, earlier_term, last_term, SomeFactorHasPart, earlier_factor, last_factor}
+use Rattle.rbg_numbering.specs.Faults.{HasPart, itself, in_negated, in_chain, SomeOperandHasPart, earlier_operand, last_operand}
 use Rattle.rbg_numbering.specs.Faults.{HasArithmeticFault, unknown_value, great_number, arithmetic_memory, HasExpression, assigned, left_side, right_side}
 use Rattle.rbg_numbering.specs.Faults.{HasSpeltAction, this, in_sequence, in_choice, in_star, in_positive, in_negative, SomeHasSpeltAction, earlier, last, actions_in, actions_in_all, actions_of}
 use Rattle.rbg_numbering.specs.Faults.{IsSpeltPattern, positive_pattern, negative_pattern, HasPattern, HasPatternInside, in_none, in_one_more}
@@ -111,31 +111,21 @@ mutual
 
 -- Arithmetic.
 
-no_term : (part : SpeltExpression) → SomeTermHasPart no_terms part → ⊥
-no_term part h = elim h [ ]
-
-no_factor : (part : SpeltExpression) → SomeFactorHasPart no_factors part → ⊥
-no_factor part h = elim h [ ]
+no_operand : (part : SpeltExpression) → SomeOperandHasPart no_operands part → ⊥
+no_operand part h = elim h [ ]
 
 mutual
   -- each part of an expression is one by numbers
   part_is : (names : Names) (e part : SpeltExpression) (a : AbstractArithmetic) → HasPart e part → ArithmeticIs names e a → (b : AbstractArithmetic) × ArithmeticIs names part b
   part_is names _ part a itself is = (a, is)
   part_is names _ part a (in_negated {e = e} h) (b, is, f) = part_is names e part b h is
-  part_is names _ part a (in_sum {ts = ts} h) is = part_of_sum names ts part a h is
-  part_is names _ part a (in_product {fs = fs} h) is = part_of_product names fs part a h is
+  part_is names _ part a (in_chain {os = os} h) is = part_of_chain names os part a h is
 
-  part_of_sum : (names : Names) (ts : SpeltTerms) (part : SpeltExpression) (a : AbstractArithmetic) → SomeTermHasPart ts part → SumIs names ts a → (b : AbstractArithmetic) × ArithmeticIs names part b
-  part_of_sum names _ part a (earlier_term {ts = ts} h) (inl (none, is)) = absurd (no_term part (subst (λ l. SomeTermHasPart l part) none h))
-  part_of_sum names _ part a (earlier_term {ts = ts} h) (inr (b, c, before, is, f)) = part_of_sum names ts part b h before
-  part_of_sum names _ part a (last_term {e = e} h) (inl (none, is)) = part_is names e part a h is
-  part_of_sum names _ part a (last_term {e = e} h) (inr (b, c, before, is, f)) = part_is names e part c h is
-
-  part_of_product : (names : Names) (fs : SpeltFactors) (part : SpeltExpression) (a : AbstractArithmetic) → SomeFactorHasPart fs part → ProductIs names fs a → (b : AbstractArithmetic) × ArithmeticIs names part b
-  part_of_product names _ part a (earlier_factor {fs = fs} h) (inl (none, is)) = absurd (no_factor part (subst (λ l. SomeFactorHasPart l part) none h))
-  part_of_product names _ part a (earlier_factor {fs = fs} h) (inr (b, c, before, is, f)) = part_of_product names fs part b h before
-  part_of_product names _ part a (last_factor {e = e} h) (inl (none, is)) = part_is names e part a h is
-  part_of_product names _ part a (last_factor {e = e} h) (inr (b, c, before, is, f)) = part_is names e part c h is
+  part_of_chain : (names : Names) (os : SpeltOperands) (part : SpeltExpression) (a : AbstractArithmetic) → SomeOperandHasPart os part → ChainIs names os a → (b : AbstractArithmetic) × ArithmeticIs names part b
+  part_of_chain names _ part a (earlier_operand {os = os} h) (inl (none, is)) = absurd (no_operand part (subst (λ l. SomeOperandHasPart l part) none h))
+  part_of_chain names _ part a (earlier_operand {os = os} h) (inr (b, c, before, is, f)) = part_of_chain names os part b h before
+  part_of_chain names _ part a (last_operand {e = e} h) (inl (none, is)) = part_is names e part a h is
+  part_of_chain names _ part a (last_operand {e = e} h) (inr (b, c, before, is, f)) = part_is names e part c h is
 
 -- an expression with a fault has no numbers
 arithmetic_fails : (names : Names) (e : SpeltExpression) (error : NumberingError) (a : AbstractArithmetic) → HasArithmeticFault names e error → error ≢ Memory → ¬ ArithmeticIs names e a

@@ -6,12 +6,10 @@ use Rattle.std.proofs.lemmas.Bool.{and_parts}
 use Rattle.std.proofs.lemmas.List.FromFn.{length-range_with_len}
 use Rattle.std.proofs.lemmas.List.Elements.{All-nil, All-cons}
 use Rattle.std.proofs.lemmas.Option.{slice_get_within}
-use Rattle.rbg_grammar.specs.declared.expression.Additive.{Additive}
-use Rattle.rbg_grammar.specs.declared.expression.Additive.TheVariants.{Plus, Minus}
-use Rattle.rbg_grammar.specs.declared.expression.Multiplicative.{Multiplicative}
-use Rattle.rbg_grammar.specs.declared.expression.Multiplicative.TheVariants.{Times, Over}
+use Rattle.rbg_grammar.specs.declared.expression.Operator.{Operator}
+use Rattle.rbg_grammar.specs.declared.expression.Operator.TheVariants.{Plus, Minus, Times, Over}
 use Rattle.rbg_grammar.specs.Formed.{is_formed, are_formed, is_formed_action, has_two_rules}
-use Rattle.rbg_grammar.specs.Tree.{SpeltName, SpeltExpression, SpeltTerms, no_terms, more_terms, SpeltFactors, no_factors, more_factors, SpeltRule, SpeltRules, no_rules, more_rules, SpeltAction}
+use Rattle.rbg_grammar.specs.Tree.{SpeltName, SpeltExpression, SpeltOperands, no_operands, more_operands, SpeltRule, SpeltRules, no_rules, more_rules, SpeltAction}
 use Rattle.rbg_rules.specs.Expression.{AbstractArithmetic, AbstractAction, shift, on, off, assignment, comparison, switch, positive, negative, Expression, act, skip, sequence, fail, choice, star}
 use Rattle.rbg_rules.specs.Games.{HasNoEmptySum, HasNoEmptySumInside, NestsWithin, InsideNestsWithin, HasNamesOf, IsActionOf}
 use Rattle.rbg_rules.specs.Limits.{most_nested_patterns}
@@ -21,7 +19,7 @@ use Rattle.rbg_rules.specs.Translation.{expression_of}
 use Rattle.rbg_rules.specs.declared.rule.Action.{Action}
 use Rattle.rbg_rules.specs.declared.rule.Rule.{Rule}
 use Rattle.rbg_numbering.specs.Names.{Names, IsNumberOf}
-use Rattle.rbg_numbering.specs.Rules.{added, multiplied, ArithmeticIs, SumIs, ProductIs, ActionIs, RuleIs, SequenceIs, ChoiceIs}
+use Rattle.rbg_numbering.specs.Rules.{combined, ArithmeticIs, ChainIs, ActionIs, RuleIs, SequenceIs, ChoiceIs}
 use Rattle.rbg_numbering.specs.Faults.{actions_in}
 use Rattle.rbg_numbering.specs.Numbered.{HasAsMany, HasNoSwitchInPattern, IsRuleByNumbers}
 use Rattle.rbg_numbering.specs.internal.Steps.{IsLawful, IsLawfulAction, AddsRule}
@@ -64,13 +62,11 @@ mutual
 
 -- Names are those of the game.
 module _ (names : Names) (game : AbstractGame) (many : HasAsMany names game) where
-  added_names : (operator : Additive) (a b : AbstractArithmetic) → HasNamesOf game a → HasNamesOf game b → HasNamesOf game (added operator a b)
-  added_names Plus a b left right = (left, right)
-  added_names Minus a b left right = (left, right)
-
-  multiplied_names : (operator : Multiplicative) (a b : AbstractArithmetic) → HasNamesOf game a → HasNamesOf game b → HasNamesOf game (multiplied operator a b)
-  multiplied_names Times a b left right = (left, right)
-  multiplied_names Over a b left right = (left, right)
+  combined_names : (operator : Operator) (a b : AbstractArithmetic) → HasNamesOf game a → HasNamesOf game b → HasNamesOf game (combined operator a b)
+  combined_names Plus a b left right = (left, right)
+  combined_names Minus a b left right = (left, right)
+  combined_names Times a b left right = (left, right)
+  combined_names Over a b left right = (left, right)
 
   mutual
     arithmetic_names : (e : SpeltExpression) (a : AbstractArithmetic) → ArithmeticIs names e a → HasNamesOf game a
@@ -82,18 +78,12 @@ module _ (names : Names) (game : AbstractGame) (many : HasAsMany names game) whe
         let within : p < length game.pieces = omega (arith, slice_get_within names.pieces p n.text is, many.pieces) in
         subst (HasNamesOf game) (sym e) within
     arithmetic_names (SpeltExpression.negated f) a (b, is, e) = subst (HasNamesOf game) (sym e) (arithmetic_names f b is)
-    arithmetic_names (SpeltExpression.sum ts) a is = sum_names ts a is
-    arithmetic_names (SpeltExpression.product fs) a is = product_names fs a is
+    arithmetic_names (SpeltExpression.chain os) a is = chain_names os a is
 
-    sum_names : (ts : SpeltTerms) (a : AbstractArithmetic) → SumIs names ts a → HasNamesOf game a
-    sum_names no_terms a is = absurd is
-    sum_names (more_terms ts operator e) a (inl (none, is)) = arithmetic_names e a is
-    sum_names (more_terms ts operator e) a (inr (b, c, before, is, f)) = subst (HasNamesOf game) (sym f) (added_names operator b c (sum_names ts b before) (arithmetic_names e c is))
-
-    product_names : (fs : SpeltFactors) (a : AbstractArithmetic) → ProductIs names fs a → HasNamesOf game a
-    product_names no_factors a is = absurd is
-    product_names (more_factors fs operator e) a (inl (none, is)) = arithmetic_names e a is
-    product_names (more_factors fs operator e) a (inr (b, c, before, is, f)) = subst (HasNamesOf game) (sym f) (multiplied_names operator b c (product_names fs b before) (arithmetic_names e c is))
+    chain_names : (os : SpeltOperands) (a : AbstractArithmetic) → ChainIs names os a → HasNamesOf game a
+    chain_names no_operands a is = absurd is
+    chain_names (more_operands os operator e) a (inl (none, is)) = arithmetic_names e a is
+    chain_names (more_operands os operator e) a (inr (b, c, before, is, f)) = subst (HasNamesOf game) (sym f) (combined_names operator b c (chain_names os b before) (arithmetic_names e c is))
 
   pieces_within : (ns : List SpeltName) (xs : List ℕ) → AllZip (IsNumberOf names.pieces) ns xs → All (λ x. x < length game.pieces) xs
   pieces_within [] [] all = All-nil (λ x. x < length game.pieces)

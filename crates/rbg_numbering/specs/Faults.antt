@@ -1,9 +1,8 @@
 -- Why a rule has no numbers: the fault that an error names, at its place.
 use Rattle.std.specs.Prelude.{◌≡◌, ℕ, zero, suc, ◌+◌, ◌<◌, ◌≤◌, ◌^◌, List, [], ◌∷◌, Option, Some, Contains}
-use Rattle.rbg_grammar.specs.Tree.{SpeltName, SpeltNumber, SpeltExpression, SpeltTerms, more_terms, SpeltFactors, more_factors}
+use Rattle.rbg_grammar.specs.Tree.{SpeltName, SpeltNumber, SpeltExpression, SpeltOperands, more_operands}
 use Rattle.rbg_grammar.specs.Tree.{SpeltRule, SpeltRules, no_rules, more_rules, SpeltAction}
-use Rattle.rbg_grammar.specs.declared.expression.Additive.{Additive}
-use Rattle.rbg_grammar.specs.declared.expression.Multiplicative.{Multiplicative}
+use Rattle.rbg_grammar.specs.declared.expression.Operator.{Operator}
 use Rattle.rbg_base.specs.declared.relation.Relation.{Relation}
 use Rattle.rbg_rules.specs.Limits.{most_positions, most_nested_patterns}
 use Rattle.rbg_numbering.specs.declared.error.NumberingError.{NumberingError}
@@ -53,28 +52,17 @@ mutual
     in_negated : {e part : SpeltExpression}
         → HasPart e part
         → HasPart (SpeltExpression.negated e) part
-    in_sum : {ts : SpeltTerms} {part : SpeltExpression}
-        → SomeTermHasPart ts part
-        → HasPart (SpeltExpression.sum ts) part
-    in_product : {fs : SpeltFactors} {part : SpeltExpression}
-        → SomeFactorHasPart fs part
-        → HasPart (SpeltExpression.product fs) part
+    in_chain : {os : SpeltOperands} {part : SpeltExpression}
+        → SomeOperandHasPart os part
+        → HasPart (SpeltExpression.chain os) part
 
-  pub data SomeTermHasPart : SpeltTerms → SpeltExpression → Type 0 where
-    earlier_term : {ts : SpeltTerms} {operator : Additive} {e part : SpeltExpression}
-        → SomeTermHasPart ts part
-        → SomeTermHasPart (more_terms ts operator e) part
-    last_term : {ts : SpeltTerms} {operator : Additive} {e part : SpeltExpression}
+  pub data SomeOperandHasPart : SpeltOperands → SpeltExpression → Type 0 where
+    earlier_operand : {os : SpeltOperands} {operator : Operator} {e part : SpeltExpression}
+        → SomeOperandHasPart os part
+        → SomeOperandHasPart (more_operands os operator e) part
+    last_operand : {os : SpeltOperands} {operator : Operator} {e part : SpeltExpression}
         → HasPart e part
-        → SomeTermHasPart (more_terms ts operator e) part
-
-  pub data SomeFactorHasPart : SpeltFactors → SpeltExpression → Type 0 where
-    earlier_factor : {fs : SpeltFactors} {operator : Multiplicative} {e part : SpeltExpression}
-        → SomeFactorHasPart fs part
-        → SomeFactorHasPart (more_factors fs operator e) part
-    last_factor : {fs : SpeltFactors} {operator : Multiplicative} {e part : SpeltExpression}
-        → HasPart e part
-        → SomeFactorHasPart (more_factors fs operator e) part
+        → SomeOperandHasPart (more_operands os operator e) part
 
 -- A name in the expression, at this offset, is neither a variable nor a piece.
 pub record HasUnknownValue (names : Names) (e : SpeltExpression) (at : ℕ) : Type 0 where

@@ -2,13 +2,10 @@
 -- of text is a statement of its own (IsNumbered).
 use Rattle.std.specs.Prelude.{◌≡◌, ℕ, ◌+◌, ◌<◌, ◌^◌, ◌⊎◌, List, Some, None, Contains}
 use Rattle.std.specs.List.{AllZip}
-use Rattle.rbg_grammar.specs.Tree.{SpeltExpression, SpeltTerms, no_terms, more_terms}
-use Rattle.rbg_grammar.specs.Tree.{SpeltFactors, no_factors, more_factors}
+use Rattle.rbg_grammar.specs.Tree.{SpeltExpression, SpeltOperands, no_operands, more_operands}
 use Rattle.rbg_grammar.specs.Tree.{SpeltRule, SpeltRules, no_rules, more_rules, SpeltAction}
-use Rattle.rbg_grammar.specs.declared.expression.Additive.{Additive}
-use Rattle.rbg_grammar.specs.declared.expression.Additive.TheVariants.{Plus, Minus}
-use Rattle.rbg_grammar.specs.declared.expression.Multiplicative.{Multiplicative}
-use Rattle.rbg_grammar.specs.declared.expression.Multiplicative.TheVariants.{Times, Over}
+use Rattle.rbg_grammar.specs.declared.expression.Operator.{Operator}
+use Rattle.rbg_grammar.specs.declared.expression.Operator.TheVariants.{Plus, Minus, Times, Over}
 use Rattle.rbg_rules.specs.Expression.{AbstractArithmetic, number, variable, piece_count, negated}
 use Rattle.rbg_rules.specs.Expression.{sum, difference, product, quotient}
 use Rattle.rbg_rules.specs.Expression.{AbstractAction, shift, on, off, assignment, comparison, switch}
@@ -16,13 +13,12 @@ use Rattle.rbg_rules.specs.Expression.{positive, negative}
 use Rattle.rbg_rules.specs.Expression.{Expression, act, skip, sequence, fail, choice, star}
 use Rattle.rbg_numbering.specs.Names.{Names, IsNumberOf}
 
-abbrev pub added : Additive → AbstractArithmetic → AbstractArithmetic → AbstractArithmetic
-added Plus b c = sum b c
-added Minus b c = difference b c
-
-abbrev pub multiplied : Multiplicative → AbstractArithmetic → AbstractArithmetic → AbstractArithmetic
-multiplied Times b c = product b c
-multiplied Over b c = quotient b c
+-- what an operator makes of a value and of its operand
+abbrev pub combined : Operator → AbstractArithmetic → AbstractArithmetic → AbstractArithmetic
+combined Plus b c = sum b c
+combined Minus b c = difference b c
+combined Times b c = product b c
+combined Over b c = quotient b c
 
 abbrev mutual
   -- What an arithmetic expression is. A number fits signed 64 bits. A name is a variable if there is one of that name,
@@ -37,30 +33,18 @@ abbrev mutual
       ((v : ℕ) × IsNumberOf names.variables n v × (a ≡ variable v))
       ⊎ ((¬ Contains names.variables n.text) × ((p : ℕ) × IsNumberOf names.pieces n p × (a ≡ piece_count p)))
   ArithmeticIs names (SpeltExpression.negated e) a = (b : AbstractArithmetic) × ArithmeticIs names e b × (a ≡ negated b)
-  ArithmeticIs names (SpeltExpression.sum terms) a = SumIs names terms a
-  ArithmeticIs names (SpeltExpression.product factors) a = ProductIs names factors a
+  ArithmeticIs names (SpeltExpression.chain operands) a = ChainIs names operands a
 
-  -- a sum from the left: its first term, or what stands before with the last term added or taken away
-  pub SumIs : Names → SpeltTerms → AbstractArithmetic → Type 0
-  SumIs names no_terms a = ⊥
-  SumIs names (more_terms terms operator e) a =
-      ((terms ≡ no_terms) × ArithmeticIs names e a)
+  -- A sum or a product from the left: its first operand, or what stands before combined with the last operand.
+  pub ChainIs : Names → SpeltOperands → AbstractArithmetic → Type 0
+  ChainIs names no_operands a = ⊥
+  ChainIs names (more_operands operands operator e) a =
+      ((operands ≡ no_operands) × ArithmeticIs names e a)
       ⊎ ((b : AbstractArithmetic)
       × (c : AbstractArithmetic)
-      × SumIs names terms b
+      × ChainIs names operands b
       × ArithmeticIs names e c
-      × (a ≡ added operator b c))
-
-  -- a product from the left
-  pub ProductIs : Names → SpeltFactors → AbstractArithmetic → Type 0
-  ProductIs names no_factors a = ⊥
-  ProductIs names (more_factors factors operator e) a =
-      ((factors ≡ no_factors) × ArithmeticIs names e a)
-      ⊎ ((b : AbstractArithmetic)
-      × (c : AbstractArithmetic)
-      × ProductIs names factors b
-      × ArithmeticIs names e c
-      × (a ≡ multiplied operator b c))
+      × (a ≡ combined operator b c))
 
 abbrev mutual
   -- What an action is. The keeper's switch is that to player 0; players are numbered from 1.

@@ -1,18 +1,18 @@
 //! Arithmetic by numbers: a name is that of a variable or of a piece, and a sum or a product is a chain from the left.
 ghost use Rattle.std.specs.Prelude.{◌≡◌, ◌<◌, IfOk, IfErr, All, map, length, true, Some};
 ghost use Rattle.rbg_grammar.specs.Formed.{is_formed_expression};
-ghost use Rattle.rbg_grammar.specs.Tree.{SpeltExpression, no_terms, terms_after, no_factors, factors_after, sum, product};
-ghost use Rattle.rbg_grammar.specs.Views.{name_of, number_of, expression_of};
+ghost use Rattle.rbg_grammar.specs.Tree.{SpeltExpression, no_operands, operands_after, chain};
+ghost use Rattle.rbg_grammar.specs.Views.{name_of, number_of, expression_of, operand_of};
 ghost use Rattle.rbg_rules.specs.Translation.{arithmetic_of};
-ghost use Rattle.rbg_numbering.specs.Rules.{ArithmeticIs, SumIs, ProductIs};
+ghost use Rattle.rbg_numbering.specs.Rules.{ArithmeticIs, ChainIs};
 ghost use Rattle.rbg_numbering.specs.Names.{Names};
 ghost use Rattle.rbg_numbering.specs.Faults.{HasArithmeticFault};
 ghost use Rattle.rbg_numbering.specs.Numbered.{names_of, IsWithinLimits};
-ghost use Rattle.rbg_numbering.specs.internal.Arithmetic.{term_of, factor_of, AddsTerm, AddsFactor};
+ghost use Rattle.rbg_numbering.specs.internal.Arithmetic.{Combines};
 
 use crate::error::NumberingError;
 use crate::tables::NameTables;
-use rbg_grammar::{Additive, Expression, Factor, Multiplicative, Name, Number, Term};
+use rbg_grammar::{Expression, Name, Number, Operand};
 use rbg_rules::{Arithmetic, Operation, Operator};
 use std::alloc::Global;
 
@@ -37,31 +37,30 @@ pub(crate) fn number_expression(
             let operand = number_expression(alloc, names, operand)?;
             Ok(Arithmetic::Negated(Box::new(alloc, operand)?))
         }
-        Expression::Sum(terms) => number_terms(alloc, names, terms),
-        Expression::Product(factors) => number_factors(alloc, names, factors),
+        Expression::Chain(operands) => number_operands(alloc, names, operands),
     }
 }
 
-/// The terms of a sum, as a chain.
+/// The operands of a sum or a product, as a chain.
 #[cycle(arithmetic)]
-fn number_terms(
+fn number_operands(
     alloc: Global,
     names: &NameTables<'_>,
-    terms: &[Term<'_>],
+    operands: &[Operand<'_>],
 ) -> Result<Arithmetic, NumberingError>
-    requires some { 0 < length terms.now }
-    requires formed { All (λ t. is_formed_expression (expression_of t.value) ≡ true) terms.now }
+    requires some { 0 < length operands.now }
+    requires formed { All (λ o. is_formed_expression (expression_of o.value) ≡ true) operands.now }
     requires limits { IsWithinLimits (names_of names.now) }
     ensures value { IfOk result
-        (λ a. SumIs (names_of names.now) (terms_after no_terms (map term_of terms.now))
+        (λ a. ChainIs (names_of names.now) (operands_after no_operands (map operand_of operands.now))
         (arithmetic_of a)) }
     ensures fault { IfErr result (HasArithmeticFault (names_of names.now)
-        (sum (terms_after no_terms (map term_of terms.now)))) }
+        (chain (operands_after no_operands (map operand_of operands.now)))) }
 {
-    let first = number_expression(alloc, names, &terms[0].value)?;
-    let mut rest = Vec::with_capacity(alloc, terms.len() - 1)?;
-    for term in &terms[1..] {
-        rest.push(number_term(alloc, names, term)?)?;
+    let first = number_expression(alloc, names, &operands[0].value)?;
+    let mut rest = Vec::with_capacity(alloc, operands.len() - 1)?;
+    for operand in &operands[1..] {
+        rest.push(number_operand(alloc, names, operand)?)?;
     }
     Ok(Arithmetic::Chain {
         first: Box::new(alloc, first)?,
@@ -69,74 +68,27 @@ fn number_terms(
     })
 }
 
-/// What a term adds to the terms before it, or takes away.
+/// What an operand does with the value of the operands before it.
 #[cycle(arithmetic)]
-fn number_term(
+fn number_operand(
     alloc: Global,
     names: &NameTables<'_>,
-    term: &Term<'_>,
+    operand: &Operand<'_>,
 ) -> Result<Operation, NumberingError>
-    requires formed { is_formed_expression (expression_of term.now.value) ≡ true }
+    requires formed { is_formed_expression (expression_of operand.now.value) ≡ true }
     requires limits { IsWithinLimits (names_of names.now) }
-    ensures value { IfOk result (AddsTerm (names_of names.now) (term_of term.now)) }
+    ensures value { IfOk result (Combines (names_of names.now) (operand_of operand.now)) }
     ensures fault { IfErr result (HasArithmeticFault (names_of names.now)
-        (expression_of term.now.value)) }
+        (expression_of operand.now.value)) }
 {
     Ok(Operation {
-        operator: match term.operator {
-            Additive::Plus => Operator::Plus,
-            Additive::Minus => Operator::Minus,
+        operator: match operand.operator {
+            rbg_grammar::Operator::Plus => Operator::Plus,
+            rbg_grammar::Operator::Minus => Operator::Minus,
+            rbg_grammar::Operator::Times => Operator::Times,
+            rbg_grammar::Operator::Over => Operator::Over,
         },
-        operand: number_expression(alloc, names, &term.value)?,
-    })
-}
-
-/// The factors of a product, as a chain.
-#[cycle(arithmetic)]
-fn number_factors(
-    alloc: Global,
-    names: &NameTables<'_>,
-    factors: &[Factor<'_>],
-) -> Result<Arithmetic, NumberingError>
-    requires some { 0 < length factors.now }
-    requires formed { All (λ f. is_formed_expression (expression_of f.value) ≡ true) factors.now }
-    requires limits { IsWithinLimits (names_of names.now) }
-    ensures value { IfOk result
-        (λ a. ProductIs (names_of names.now) (factors_after no_factors (map factor_of factors.now))
-        (arithmetic_of a)) }
-    ensures fault { IfErr result (HasArithmeticFault (names_of names.now)
-        (product (factors_after no_factors (map factor_of factors.now)))) }
-{
-    let first = number_expression(alloc, names, &factors[0].value)?;
-    let mut rest = Vec::with_capacity(alloc, factors.len() - 1)?;
-    for factor in &factors[1..] {
-        rest.push(number_factor(alloc, names, factor)?)?;
-    }
-    Ok(Arithmetic::Chain {
-        first: Box::new(alloc, first)?,
-        rest,
-    })
-}
-
-/// By what a factor multiplies the factors before it, or divides them.
-#[cycle(arithmetic)]
-fn number_factor(
-    alloc: Global,
-    names: &NameTables<'_>,
-    factor: &Factor<'_>,
-) -> Result<Operation, NumberingError>
-    requires formed { is_formed_expression (expression_of factor.now.value) ≡ true }
-    requires limits { IsWithinLimits (names_of names.now) }
-    ensures value { IfOk result (AddsFactor (names_of names.now) (factor_of factor.now)) }
-    ensures fault { IfErr result (HasArithmeticFault (names_of names.now)
-        (expression_of factor.now.value)) }
-{
-    Ok(Operation {
-        operator: match factor.operator {
-            Multiplicative::Times => Operator::Times,
-            Multiplicative::Over => Operator::Over,
-        },
-        operand: number_expression(alloc, names, &factor.value)?,
+        operand: number_expression(alloc, names, &operand.value)?,
     })
 }
 

@@ -4,13 +4,10 @@ use Rattle.rbg_tokens.specs.Token.{Lexeme}
 use Rattle.rbg_tokens.specs.declared.token.Symbol.{Symbol}
 use Rattle.rbg_tokens.specs.declared.token.Symbol.TheVariants.{Plus, OpenParenthesis, CloseParenthesis, OpenBrace, CloseBrace, Question, Exclamation}
 use Rattle.rbg_tokens.specs.declared.token.TokenKind.{TokenKind}
-use Rattle.rbg_grammar.specs.declared.expression.Additive.{Additive}
-use Rattle.rbg_grammar.specs.declared.expression.Additive.TheVariants as additive
-use Rattle.rbg_grammar.specs.declared.expression.Multiplicative.{Multiplicative}
-use Rattle.rbg_grammar.specs.declared.expression.Multiplicative.TheVariants as multiplicative
-use Rattle.rbg_grammar.specs.Tree.{SpeltExpression, SpeltRule, act, positive, negative, sum_of, product_of, sequence_of}
+use Rattle.rbg_grammar.specs.declared.expression.Rank.{Rank}
+use Rattle.rbg_grammar.specs.Tree.{SpeltExpression, SpeltOperand, SpeltRule, first_of, in_chain, act, positive, negative, sequence_of}
 use Rattle.rbg_grammar.specs.Reading.{Fault, misfit, too_deep, Reading, ◌>>=◌, next_is, is_symbol, symbol_at, repeated_at, after_at, separated_at, within_at, further_at, in_sequence, open_atom_at}
-use Rattle.rbg_grammar.specs.RuleReading.{too_deep_at, factor_at, further_factor_at, further_term_at, in_choice, in_product, in_sum, is_opening, is_product_sign, is_sum_sign, number_or_name_at, primary_at, sum_at, term_at, sum_over_at, atom_at, begins_atom, bracket_atom_at, item_at, sequence_at, rules_over_at, rules_at, pattern_at, positive_at, negative_at}
+use Rattle.rbg_grammar.specs.RuleReading.{too_deep_at, chain_at, further_operand_at, in_choice, is_opening, is_operator, number_or_name_at, primary_at, sum_at, atom_at, begins_atom, bracket_atom_at, item_at, sequence_at, rules_over_at, rules_at, pattern_at, positive_at, negative_at}
 use Rattle.rbg_grammar.proofs.Turns.{repeated_ends}
 
 further_stops : {X : Type 0} (x : X) (test : TokenKind → Bool) (read : List Lexeme → Reading X) (ts : List Lexeme) → next_is test ts ≡ false → further_at x test read ts ≡ Ok (x ∷ [], ts)
@@ -50,23 +47,11 @@ module _ {A X : Type 0} (first : A → X) (test : TokenKind → Bool) (read : Li
   in_parts (Ok e) = joined e.0 (repeated_at test read e.1)
   in_parts (Err f) = refl
 
-sum_joined : (x : SpeltExpression) (ts : List (Additive × SpeltExpression)) → sum_of x ts ≡ in_sum ((additive.Plus, x) ∷ ts)
-sum_joined x [] = refl
-sum_joined x (t ∷ ts) = refl
-
-product_joined : (x : SpeltExpression) (fs : List (Multiplicative × SpeltExpression)) → product_of x fs ≡ in_product ((multiplicative.Times, x) ∷ fs)
-product_joined x [] = refl
-product_joined x (f ∷ fs) = refl
-
-pub sum_parts : (n : ℕ) (ts : List Lexeme)
-    → sum_at n ts ≡ (term_at (primary_at n) ts >>= λ e. further_at (additive.Plus, e.0) is_sum_sign (further_term_at (primary_at n)) e.1 >>= λ es. Ok (in_sum es.0, es.1))
-unfolding sum_at sum_over_at
-sum_parts n ts = in_parts (λ (x : SpeltExpression). (additive.Plus, x)) is_sum_sign (further_term_at (primary_at n)) in_sum sum_of sum_joined (term_at (primary_at n) ts)
-
-pub term_parts : (n : ℕ) (ts : List Lexeme)
-    → term_at (primary_at n) ts ≡ (factor_at (primary_at n) ts >>= λ e. further_at (multiplicative.Times, e.0) is_product_sign (further_factor_at (primary_at n)) e.1 >>= λ es. Ok (in_product es.0, es.1))
-unfolding term_at
-term_parts n ts = in_parts (λ (x : SpeltExpression). (multiplicative.Times, x)) is_product_sign (further_factor_at (primary_at n)) in_product product_of product_joined (factor_at (primary_at n) ts)
+pub chain_parts : (rank : Rank) (operand : List Lexeme → Reading SpeltExpression) (ts : List Lexeme)
+    → chain_at rank operand ts ≡ (operand ts >>= λ e. further_at (first_of rank, e.0) (is_operator rank) (further_operand_at rank operand) e.1 >>= λ os. Ok (in_chain os.0, os.1))
+unfolding chain_at
+chain_parts rank operand ts =
+    in_parts (λ (x : SpeltExpression). (first_of rank, x)) (is_operator rank) (further_operand_at rank operand) in_chain (λ (x : SpeltExpression) (os : List SpeltOperand). in_chain ((first_of rank, x) ∷ os)) (λ x os. refl) (operand ts)
 
 pub sequence_parts : (n : ℕ) (ts : List Lexeme)
     → sequence_at (atom_at n) ts ≡ (item_at (atom_at n) ts >>= λ e. further_at e.0 begins_atom (item_at (atom_at n)) e.1 >>= λ es. Ok (in_sequence es.0, es.1))
@@ -84,29 +69,20 @@ rules_parts n ts =
     regrouped (sequence_at (atom_at n) ts) (λ f. repeated_at (is_symbol Plus) (after_at Plus (sequence_at (atom_at n))) f.1 >>= λ more. Ok (f.0 ∷ more.0, more.1)) (λ rs. Ok (in_choice rs.0, rs.1))
 
 -- what is read of each, from its parts
-pub sum_fail : (n : ℕ) (ts : List Lexeme) (f : Fault) → term_at (primary_at n) ts ≡ Err f → sum_at n ts ≡ Err f
-sum_fail n ts = parts_fail (sum_at n ts) (term_at (primary_at n) ts) (λ (x : SpeltExpression). (additive.Plus, x)) is_sum_sign (further_term_at (primary_at n)) in_sum (sum_parts n ts) (λ x. refl)
+module _ (rank : Rank) (operand : List Lexeme → Reading SpeltExpression) (ts : List Lexeme) where
+  pub chain_fail : (f : Fault) → operand ts ≡ Err f → chain_at rank operand ts ≡ Err f
+  chain_fail = parts_fail (chain_at rank operand ts) (operand ts) (λ (x : SpeltExpression). (first_of rank, x)) (is_operator rank) (further_operand_at rank operand) in_chain (chain_parts rank operand ts) (λ x. refl)
 
-pub sum_alone : (n : ℕ) (ts : List Lexeme) (x : SpeltExpression) (rest : List Lexeme) → term_at (primary_at n) ts ≡ Ok (x, rest) → next_is is_sum_sign rest ≡ false → sum_at n ts ≡ Ok (x, rest)
-sum_alone n ts = parts_alone (sum_at n ts) (term_at (primary_at n) ts) (λ (x : SpeltExpression). (additive.Plus, x)) is_sum_sign (further_term_at (primary_at n)) in_sum (sum_parts n ts) (λ x. refl)
+  pub chain_alone : (x : SpeltExpression) (rest : List Lexeme) → operand ts ≡ Ok (x, rest) → next_is (is_operator rank) rest ≡ false → chain_at rank operand ts ≡ Ok (x, rest)
+  chain_alone = parts_alone (chain_at rank operand ts) (operand ts) (λ (x : SpeltExpression). (first_of rank, x)) (is_operator rank) (further_operand_at rank operand) in_chain (chain_parts rank operand ts) (λ x. refl)
 
-pub sum_more : (n : ℕ) (ts : List Lexeme) (x : SpeltExpression) (rest : List Lexeme) (es : List (Additive × SpeltExpression)) (last : List Lexeme) → term_at (primary_at n) ts ≡ Ok (x, rest) → further_at (additive.Plus, x) is_sum_sign (further_term_at (primary_at n)) rest ≡ Ok (es, last) → sum_at n ts ≡ Ok (in_sum es, last)
-sum_more n ts = parts_more (sum_at n ts) (term_at (primary_at n) ts) (λ (x : SpeltExpression). (additive.Plus, x)) is_sum_sign (further_term_at (primary_at n)) in_sum (sum_parts n ts) (λ x. refl)
+  pub chain_more : (x : SpeltExpression) (rest : List Lexeme) (os : List SpeltOperand) (last : List Lexeme) → operand ts ≡ Ok (x, rest)
+      → further_at (first_of rank, x) (is_operator rank) (further_operand_at rank operand) rest ≡ Ok (os, last) → chain_at rank operand ts ≡ Ok (in_chain os, last)
+  chain_more = parts_more (chain_at rank operand ts) (operand ts) (λ (x : SpeltExpression). (first_of rank, x)) (is_operator rank) (further_operand_at rank operand) in_chain (chain_parts rank operand ts) (λ x. refl)
 
-pub sum_more_fail : (n : ℕ) (ts : List Lexeme) (x : SpeltExpression) (rest : List Lexeme) (f : Fault) → term_at (primary_at n) ts ≡ Ok (x, rest) → further_at (additive.Plus, x) is_sum_sign (further_term_at (primary_at n)) rest ≡ Err f → sum_at n ts ≡ Err f
-sum_more_fail n ts = parts_more_fail (sum_at n ts) (term_at (primary_at n) ts) (λ (x : SpeltExpression). (additive.Plus, x)) is_sum_sign (further_term_at (primary_at n)) in_sum (sum_parts n ts) (λ x. refl)
-
-pub term_fail : (n : ℕ) (ts : List Lexeme) (f : Fault) → factor_at (primary_at n) ts ≡ Err f → term_at (primary_at n) ts ≡ Err f
-term_fail n ts = parts_fail (term_at (primary_at n) ts) (factor_at (primary_at n) ts) (λ (x : SpeltExpression). (multiplicative.Times, x)) is_product_sign (further_factor_at (primary_at n)) in_product (term_parts n ts) (λ x. refl)
-
-pub term_alone : (n : ℕ) (ts : List Lexeme) (x : SpeltExpression) (rest : List Lexeme) → factor_at (primary_at n) ts ≡ Ok (x, rest) → next_is is_product_sign rest ≡ false → term_at (primary_at n) ts ≡ Ok (x, rest)
-term_alone n ts = parts_alone (term_at (primary_at n) ts) (factor_at (primary_at n) ts) (λ (x : SpeltExpression). (multiplicative.Times, x)) is_product_sign (further_factor_at (primary_at n)) in_product (term_parts n ts) (λ x. refl)
-
-pub term_more : (n : ℕ) (ts : List Lexeme) (x : SpeltExpression) (rest : List Lexeme) (es : List (Multiplicative × SpeltExpression)) (last : List Lexeme) → factor_at (primary_at n) ts ≡ Ok (x, rest) → further_at (multiplicative.Times, x) is_product_sign (further_factor_at (primary_at n)) rest ≡ Ok (es, last) → term_at (primary_at n) ts ≡ Ok (in_product es, last)
-term_more n ts = parts_more (term_at (primary_at n) ts) (factor_at (primary_at n) ts) (λ (x : SpeltExpression). (multiplicative.Times, x)) is_product_sign (further_factor_at (primary_at n)) in_product (term_parts n ts) (λ x. refl)
-
-pub term_more_fail : (n : ℕ) (ts : List Lexeme) (x : SpeltExpression) (rest : List Lexeme) (f : Fault) → factor_at (primary_at n) ts ≡ Ok (x, rest) → further_at (multiplicative.Times, x) is_product_sign (further_factor_at (primary_at n)) rest ≡ Err f → term_at (primary_at n) ts ≡ Err f
-term_more_fail n ts = parts_more_fail (term_at (primary_at n) ts) (factor_at (primary_at n) ts) (λ (x : SpeltExpression). (multiplicative.Times, x)) is_product_sign (further_factor_at (primary_at n)) in_product (term_parts n ts) (λ x. refl)
+  pub chain_more_fail : (x : SpeltExpression) (rest : List Lexeme) (f : Fault) → operand ts ≡ Ok (x, rest)
+      → further_at (first_of rank, x) (is_operator rank) (further_operand_at rank operand) rest ≡ Err f → chain_at rank operand ts ≡ Err f
+  chain_more_fail = parts_more_fail (chain_at rank operand ts) (operand ts) (λ (x : SpeltExpression). (first_of rank, x)) (is_operator rank) (further_operand_at rank operand) in_chain (chain_parts rank operand ts) (λ x. refl)
 
 pub sequence_fail : (n : ℕ) (ts : List Lexeme) (f : Fault) → item_at (atom_at n) ts ≡ Err f → sequence_at (atom_at n) ts ≡ Err f
 sequence_fail n ts = parts_fail (sequence_at (atom_at n) ts) (item_at (atom_at n) ts) (λ (x : SpeltRule). x) begins_atom (item_at (atom_at n)) in_sequence (sequence_parts n ts) (λ x. refl)

@@ -1,135 +1,95 @@
 //! The readers of arithmetic. Each takes how many further brackets may be open at once, so a call is never nested
 //! deeper than that.
 ghost use Rattle.std.specs.Prelude.{◌≡◌, map};
-ghost use Rattle.rbg_grammar.specs.declared.expression.Additive.TheVariants as additive;
-ghost use Rattle.rbg_grammar.specs.declared.expression.Multiplicative.TheVariants as multiplicative;
-ghost use Rattle.rbg_syntax.specs.internal.Giving.{GivesWithin, FailsWithin};
-ghost use Rattle.rbg_grammar.specs.Reading.{further_at, next_is};
-ghost use Rattle.rbg_grammar.specs.RuleReading.{factor_at, further_factor_at, further_term_at, in_product, in_sum, is_product_sign, is_sum_sign, number_or_name_at, primary_at, sum_at, term_at};
-ghost use Rattle.rbg_grammar.specs.Views.{expression_of, factor_of, term_of};
+ghost use Rattle.rbg_syntax.specs.internal.Giving.{Gives, GivesWithin, FailsWithin};
+ghost use Rattle.rbg_grammar.specs.Grammar.{operator_of};
+ghost use Rattle.rbg_grammar.specs.Reading.{further_at, next_is, one_of_at};
+ghost use Rattle.rbg_grammar.specs.RuleReading.{chain_at, factor_at, further_operand_at, is_operator, number_or_name_at, operand_at, primary_at, sum_at};
+ghost use Rattle.rbg_grammar.specs.Tree.{first_of, in_chain};
+ghost use Rattle.rbg_grammar.specs.Views.{expression_of, operand_of};
 
-use crate::error::{Expectation, ReadError};
+use crate::error::{Expectation, Reading};
 use crate::parser::Parser;
-use rbg_grammar::{Additive, Expression, Factor, Multiplicative, Term};
+use rbg_grammar::{Expression, Operand, Operator, Rank};
 use rbg_tokens::{Symbol, TokenKind};
 use std::alloc::Global;
 
 impl<'a> Parser<'a> {
     /// A sum.
     #[cycle(sum)]
-    pub(crate) fn sum(&mut self, alloc: Global, brackets: u8) -> Result<Expression<'a>, ReadError>
+    #[tactic(auto, unfolding(rbg_grammar::specs::RuleReading::sum_at))]
+    pub(crate) fn sum(&mut self, alloc: Global, brackets: u8) -> Reading<Expression<'a>>
         ensures { GivesWithin (λ e. (expression_of e, self.new)) result (sum_at brackets self.old) }
     {
-        let first = self.term(alloc, brackets)?;
-        if !self.next_is_sum_sign() {
+        self.chain(alloc, Rank::Sum, brackets)
+    }
+
+    /// A sum or a product.
+    #[cycle(sum)]
+    fn chain(&mut self, alloc: Global, rank: Rank, brackets: u8) -> Reading<Expression<'a>>
+        ensures { GivesWithin (λ e. (expression_of e, self.new)) result
+            (chain_at rank (operand_at rank (primary_at brackets)) self.old) }
+    {
+        let first = self.operand(alloc, rank, brackets)?;
+        if !self.next_is_operator(rank) {
             return Ok(first);
         }
-        let terms = self.further_terms(alloc, first, brackets)?;
-        Ok(in_sum(terms))
+        let operands = self.further_operands(alloc, rank, first, brackets)?;
+        Ok(in_chain(operands))
     }
 
-    /// The terms after a first one, and that one before them.
+    /// The operands after a first one, and that one before them.
     #[cycle(sum)]
-    fn further_terms(
+    fn further_operands(
         &mut self,
         alloc: Global,
+        rank: Rank,
         first: Expression<'a>,
         brackets: u8,
-    ) -> Result<Vec<Term<'a>>, ReadError>
-        ensures { GivesWithin (λ v. (map term_of v.items, self.new)) result
-            (further_at (additive.Plus, expression_of first.entry) is_sum_sign
-            (further_term_at (primary_at brackets)) self.old) }
+    ) -> Reading<Vec<Operand<'a>>>
+        ensures { GivesWithin (λ v. (map operand_of v.items, self.new)) result
+            (further_at (first_of rank, expression_of first.entry) (is_operator rank)
+            (further_operand_at rank (operand_at rank (primary_at brackets))) self.old) }
     {
-        let mut terms = Vec::new(alloc);
-        terms.push(Term {
-            operator: Additive::Plus,
+        let mut operands = Vec::new(alloc);
+        operands.push(Operand {
+            operator: first_of(rank),
             value: first,
         })?;
-        while self.next_is_sum_sign() {
-            terms.push(self.further_term(alloc, brackets)?)?;
+        while self.next_is_operator(rank) {
+            operands.push(self.further_operand(alloc, rank, brackets)?)?;
         }
-        Ok(terms)
+        Ok(operands)
     }
 
-    /// A sign, and the term after it.
+    /// An operator, and the operand after it.
     #[cycle(sum)]
-    #[tactic(auto, unfolding(rbg_grammar::specs::RuleReading::further_term_at, rbg_grammar::specs::Reading::after_at))]
-    fn further_term(&mut self, alloc: Global, brackets: u8) -> Result<Term<'a>, ReadError>
-        ensures { GivesWithin (λ t.
-            (term_of t, self.new)) result (further_term_at (primary_at brackets) self.old) }
+    #[tactic(auto, unfolding(rbg_grammar::specs::RuleReading::further_operand_at))]
+    fn further_operand(&mut self, alloc: Global, rank: Rank, brackets: u8) -> Reading<Operand<'a>>
+        ensures { GivesWithin (λ o. (operand_of o, self.new)) result
+            (further_operand_at rank (operand_at rank (primary_at brackets)) self.old) }
     {
-        if self.next_is(Symbol::Plus) {
-            self.symbol(Symbol::Plus, Expectation::End)?;
-            let value = self.term(alloc, brackets)?;
-            let operator = Additive::Plus;
-            return Ok(Term { operator, value });
-        }
-        self.symbol(Symbol::Minus, Expectation::End)?;
-        let value = self.term(alloc, brackets)?;
-        let operator = Additive::Minus;
-        Ok(Term { operator, value })
+        let operator = self.operator(rank)?;
+        let value = self.operand(alloc, rank, brackets)?;
+        Ok(Operand { operator, value })
     }
 
-    /// A term.
+    /// An operand: a product in a sum, and a factor in a product.
     #[cycle(sum)]
-    fn term(&mut self, alloc: Global, brackets: u8) -> Result<Expression<'a>, ReadError>
-        ensures { GivesWithin (λ e.
-            (expression_of e, self.new)) result (term_at (primary_at brackets) self.old) }
+    fn operand(&mut self, alloc: Global, rank: Rank, brackets: u8) -> Reading<Expression<'a>>
+        ensures { GivesWithin (λ e. (expression_of e, self.new)) result
+            (operand_at rank (primary_at brackets) self.old) }
     {
-        let first = self.factor(alloc, brackets)?;
-        if !self.next_is_product_sign() {
-            return Ok(first);
+        match rank {
+            Rank::Sum => self.chain(alloc, Rank::Product, brackets),
+            Rank::Product => self.factor(alloc, brackets),
         }
-        let factors = self.further_factors(alloc, first, brackets)?;
-        Ok(in_product(factors))
-    }
-
-    /// The factors after a first one, and that one before them.
-    #[cycle(sum)]
-    fn further_factors(
-        &mut self,
-        alloc: Global,
-        first: Expression<'a>,
-        brackets: u8,
-    ) -> Result<Vec<Factor<'a>>, ReadError>
-        ensures { GivesWithin (λ v. (map factor_of v.items, self.new)) result
-            (further_at (multiplicative.Times, expression_of first.entry) is_product_sign
-            (further_factor_at (primary_at brackets)) self.old) }
-    {
-        let mut factors = Vec::new(alloc);
-        factors.push(Factor {
-            operator: Multiplicative::Times,
-            value: first,
-        })?;
-        while self.next_is_product_sign() {
-            factors.push(self.further_factor(alloc, brackets)?)?;
-        }
-        Ok(factors)
-    }
-
-    /// An operator, and the factor after it.
-    #[cycle(sum)]
-    #[tactic(auto, unfolding(rbg_grammar::specs::RuleReading::further_factor_at, rbg_grammar::specs::Reading::after_at))]
-    fn further_factor(&mut self, alloc: Global, brackets: u8) -> Result<Factor<'a>, ReadError>
-        ensures { GivesWithin (λ f.
-            (factor_of f, self.new)) result (further_factor_at (primary_at brackets) self.old) }
-    {
-        if self.next_is(Symbol::Star) {
-            self.symbol(Symbol::Star, Expectation::End)?;
-            let value = self.factor(alloc, brackets)?;
-            let operator = Multiplicative::Times;
-            return Ok(Factor { operator, value });
-        }
-        self.symbol(Symbol::Slash, Expectation::End)?;
-        let value = self.factor(alloc, brackets)?;
-        let operator = Multiplicative::Over;
-        Ok(Factor { operator, value })
     }
 
     /// A factor.
     #[cycle(sum)]
     #[tactic(auto, using(rbg_grammar::proofs::Trees::leaves), unfolding(rbg_grammar::specs::RuleReading::factor_at, rbg_grammar::specs::Reading::after_at))]
-    fn factor(&mut self, alloc: Global, brackets: u8) -> Result<Expression<'a>, ReadError>
+    fn factor(&mut self, alloc: Global, brackets: u8) -> Reading<Expression<'a>>
         ensures { GivesWithin (λ e.
             (expression_of e, self.new)) result (factor_at (primary_at brackets) self.old) }
     {
@@ -144,7 +104,7 @@ impl<'a> Parser<'a> {
     /// A number, a name, or a sum in parentheses.
     #[cycle(sum)]
     #[tactic(auto, unfolding(rbg_grammar::specs::Reading::within_at))]
-    fn primary(&mut self, alloc: Global, brackets: u8) -> Result<Expression<'a>, ReadError>
+    fn primary(&mut self, alloc: Global, brackets: u8) -> Reading<Expression<'a>>
         ensures { GivesWithin (λ e.
             (expression_of e, self.new)) result (primary_at brackets self.old) }
     {
@@ -162,7 +122,7 @@ impl<'a> Parser<'a> {
 
     /// A number or a name.
     #[tactic(auto, using(rbg_grammar::proofs::Trees::leaves), unfolding(rbg_grammar::specs::RuleReading::number_or_name_at))]
-    fn number_or_name(&mut self) -> Result<Expression<'a>, ReadError>
+    fn number_or_name(&mut self) -> Reading<Expression<'a>>
         ensures { GivesWithin (λ e.
             (expression_of e, self.new)) result (number_or_name_at self.old) }
     {
@@ -177,62 +137,64 @@ impl<'a> Parser<'a> {
         Ok(Expression::Name(name))
     }
 
-    /// Whether the next token is `+` or `-`.
-    fn next_is_sum_sign(&self) -> bool
-        ensures { result ≡ next_is is_sum_sign self.now }
+    /// An operator of this rank.
+    #[tactic(auto, unfolding(rbg_grammar::specs::Reading::one_of_at))]
+    fn operator(&mut self, rank: Rank) -> Reading<Operator>
+        ensures { Gives (λ o. (o, self.new)) result (one_of_at (operator_of rank) self.old) }
     {
-        match self.peek() {
-            Some(token) => is_sum_sign(token.kind),
-            None => false,
+        let token = self.front(Expectation::End)?;
+        match operator_of(rank, token.kind) {
+            Some(operator) => {
+                self.advance();
+                Ok(operator)
+            }
+            None => Err(self.misfit(Expectation::End)),
         }
     }
 
-    /// Whether the next token is `*` or `/`.
-    fn next_is_product_sign(&self) -> bool
-        ensures { result ≡ next_is is_product_sign self.now }
+    /// Whether the next token is an operator of this rank.
+    fn next_is_operator(&self, rank: Rank) -> bool
+        ensures { result ≡ next_is (is_operator rank) self.now }
     {
         match self.peek() {
-            Some(token) => is_product_sign(token.kind),
+            Some(token) => operator_of(rank, token.kind).is_some(),
             None => false,
         }
     }
 }
 
-fn is_sum_sign(kind: TokenKind) -> bool
-    ensures { result ≡ is_sum_sign kind }
+/// The operator of this rank that a token of this kind is.
+fn operator_of(rank: Rank, kind: TokenKind) -> Option<Operator>
+    ensures { result ≡ operator_of rank kind }
 {
-    matches!(kind, TokenKind::Symbol(Symbol::Plus | Symbol::Minus))
-}
-
-fn is_product_sign(kind: TokenKind) -> bool
-    ensures { result ≡ is_product_sign kind }
-{
-    matches!(kind, TokenKind::Symbol(Symbol::Star | Symbol::Slash))
-}
-
-/// The parts of a sum as one expression. One part is that part.
-#[tactic(auto, using(rbg_grammar::proofs::Trees::sums))]
-fn in_sum(mut terms: Vec<Term<'_>>) -> Expression<'_>
-    ensures { expression_of result ≡ in_sum (map term_of terms.entry.items) }
-{
-    if terms.len() != 1 {
-        return Expression::Sum(terms);
-    }
-    match terms.pop() {
-        Some(only) => only.value,
-        None => unreachable!(),
+    match (rank, kind) {
+        (Rank::Sum, TokenKind::Symbol(Symbol::Plus)) => Some(Operator::Plus),
+        (Rank::Sum, TokenKind::Symbol(Symbol::Minus)) => Some(Operator::Minus),
+        (Rank::Product, TokenKind::Symbol(Symbol::Star)) => Some(Operator::Times),
+        (Rank::Product, TokenKind::Symbol(Symbol::Slash)) => Some(Operator::Over),
+        _ => None,
     }
 }
 
-/// The parts of a product as one expression. One part is that part.
-#[tactic(auto, using(rbg_grammar::proofs::Trees::products))]
-fn in_product(mut factors: Vec<Factor<'_>>) -> Expression<'_>
-    ensures { expression_of result ≡ in_product (map factor_of factors.entry.items) }
+/// The operator of a first operand.
+fn first_of(rank: Rank) -> Operator
+    ensures { result ≡ first_of rank }
 {
-    if factors.len() != 1 {
-        return Expression::Product(factors);
+    match rank {
+        Rank::Sum => Operator::Plus,
+        Rank::Product => Operator::Times,
     }
-    match factors.pop() {
+}
+
+/// The operands of a sum or a product as one expression. One operand is that operand.
+#[tactic(auto, using(rbg_grammar::proofs::Trees::chains))]
+fn in_chain(mut operands: Vec<Operand<'_>>) -> Expression<'_>
+    ensures { expression_of result ≡ in_chain (map operand_of operands.entry.items) }
+{
+    if operands.len() != 1 {
+        return Expression::Chain(operands);
+    }
+    match operands.pop() {
         Some(only) => only.value,
         None => unreachable!(),
     }

@@ -4,11 +4,12 @@ ghost use Rattle.rbg_tokens.specs.declared.token.Symbol.TheVariants as symbols;
 ghost use Rattle.rbg_tokens.specs.declared.token.TokenKind.{TokenKind as Kind};
 ghost use Rattle.rbg_base.specs.declared.relation.Relation.{Relation as SpeltRelation};
 ghost use Rattle.rbg_syntax.specs.internal.Giving.{Gives, GivesWithin};
-ghost use Rattle.rbg_grammar.specs.Reading.{after_at, separated_at, within_at};
-ghost use Rattle.rbg_grammar.specs.RuleReading.{IsRelationOf, assignment_at, comparison_at, in_brackets_at, relation_at, sum_at};
+ghost use Rattle.rbg_grammar.specs.Reading.{after_at, one_of_at, separated_at, within_at};
+ghost use Rattle.rbg_grammar.specs.Grammar.{relation_of};
+ghost use Rattle.rbg_grammar.specs.RuleReading.{assignment_at, comparison_at, in_brackets_at, sum_at};
 ghost use Rattle.rbg_grammar.specs.Views.{rule_of};
 
-use crate::error::{Expectation, ReadError};
+use crate::error::{Expectation, Reading};
 use crate::parser::Parser;
 use crate::sequences::in_sequence;
 use rbg_base::Relation;
@@ -19,7 +20,7 @@ use std::alloc::Global;
 impl<'a> Parser<'a> {
     /// A comparison.
     #[tactic(auto, using(rbg_grammar::proofs::Trees::inner_atoms), unfolding(rbg_grammar::specs::RuleReading::comparison_at, rbg_grammar::specs::Reading::after_at, rbg_grammar::specs::Reading::within_at))]
-    pub(crate) fn comparison(&mut self, alloc: Global, brackets: u8) -> Result<Rule<'a>, ReadError>
+    pub(crate) fn comparison(&mut self, alloc: Global, brackets: u8) -> Reading<Rule<'a>>
         ensures { GivesWithin (λ r. (rule_of r, self.new)) result
             (within_at symbols.OpenBrace symbols.CloseBrace
             (after_at symbols.Dollar (comparison_at (sum_at brackets)))
@@ -38,9 +39,9 @@ impl<'a> Parser<'a> {
         }))
     }
 
-    #[tactic(auto, unfolding(rbg_grammar::specs::RuleReading::relation_at))]
-    fn relation(&mut self) -> Result<Relation, ReadError>
-        ensures { Gives (λ r. (r, self.new)) result (relation_at self.old) }
+    #[tactic(auto, unfolding(rbg_grammar::specs::Reading::one_of_at))]
+    fn relation(&mut self) -> Reading<Relation>
+        ensures { Gives (λ r. (r, self.new)) result (one_of_at relation_of self.old) }
     {
         let token = self.front(Expectation::Relation)?;
         match relation_of(token.kind) {
@@ -54,7 +55,7 @@ impl<'a> Parser<'a> {
 
     /// An off, or an assignment list: the sequence of its assignments.
     #[tactic(auto, unfolding(rbg_grammar::specs::RuleReading::in_brackets_at, rbg_grammar::specs::RuleReading::assignments_at, rbg_grammar::specs::Reading::within_at, rbg_grammar::specs::Reading::after_at))]
-    pub(crate) fn in_brackets(&mut self, alloc: Global, brackets: u8) -> Result<Rule<'a>, ReadError>
+    pub(crate) fn in_brackets(&mut self, alloc: Global, brackets: u8) -> Reading<Rule<'a>>
         ensures { GivesWithin (λ r.
             (rule_of r, self.new)) result (in_brackets_at (sum_at brackets) self.old) }
     {
@@ -68,7 +69,7 @@ impl<'a> Parser<'a> {
         Ok(in_sequence(parts))
     }
 
-    fn assignments(&mut self, alloc: Global, brackets: u8) -> Result<Vec<Rule<'a>>, ReadError>
+    fn assignments(&mut self, alloc: Global, brackets: u8) -> Reading<Vec<Rule<'a>>>
         ensures { GivesWithin (λ v. (map rule_of v.items, self.new)) result
             (separated_at symbols.Comma (assignment_at (sum_at brackets)) self.old) }
     {
@@ -82,7 +83,7 @@ impl<'a> Parser<'a> {
 
     /// An assignment.
     #[tactic(auto, using(rbg_grammar::proofs::Trees::inner_atoms), unfolding(rbg_grammar::specs::RuleReading::assignment_at, rbg_grammar::specs::Reading::after_at))]
-    fn assignment(&mut self, alloc: Global, brackets: u8) -> Result<Rule<'a>, ReadError>
+    fn assignment(&mut self, alloc: Global, brackets: u8) -> Reading<Rule<'a>>
         ensures { GivesWithin (λ r.
             (rule_of r, self.new)) result (assignment_at (sum_at brackets) self.old) }
     {
@@ -95,7 +96,7 @@ impl<'a> Parser<'a> {
 
 /// The relation that a token of this kind is.
 fn relation_of(kind: TokenKind) -> Option<Relation>
-    ensures { IsRelationOf kind result }
+    ensures { result ≡ relation_of kind }
 {
     match kind {
         TokenKind::Symbol(Symbol::DoubleEquals) => Some(Relation::Equal),

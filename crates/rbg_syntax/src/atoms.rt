@@ -3,7 +3,7 @@ ghost use Rattle.rbg_syntax.specs.internal.Giving.{Gives};
 ghost use Rattle.rbg_grammar.specs.Reading.{off_at, on_at, open_atom_at};
 ghost use Rattle.rbg_grammar.specs.Views.{rule_of};
 
-use crate::error::{Expectation, ReadError};
+use crate::error::{Expectation, Reading};
 use crate::parser::Parser;
 use rbg_grammar::{Action, Rule};
 use rbg_tokens::Symbol;
@@ -12,7 +12,7 @@ use std::alloc::Global;
 impl<'a> Parser<'a> {
     /// A shift or a switch.
     #[tactic(auto, using(rbg_grammar::proofs::Trees::atoms), unfolding(rbg_grammar::specs::Reading::open_atom_at))]
-    pub(crate) fn open_atom(&mut self) -> Result<Rule<'a>, ReadError>
+    pub(crate) fn open_atom(&mut self) -> Reading<Rule<'a>>
         ensures { Gives (λ r. (rule_of r, self.new)) result (open_atom_at self.old) }
     {
         if self.next_is_name() {
@@ -30,7 +30,7 @@ impl<'a> Parser<'a> {
 
     /// An on.
     #[tactic(auto, using(rbg_grammar::proofs::Trees::atoms, rbg_grammar::proofs::PhraseLaws::name_takes_some), unfolding(rbg_grammar::specs::Reading::on_at, rbg_grammar::specs::Reading::within_at))]
-    pub(crate) fn on(&mut self, alloc: Global) -> Result<Rule<'a>, ReadError>
+    pub(crate) fn on(&mut self, alloc: Global) -> Reading<Rule<'a>>
         ensures { Gives (λ r. (rule_of r, self.new)) result (on_at self.old) }
     {
         self.symbol(Symbol::OpenBrace, Expectation::Opening)?;
@@ -46,7 +46,7 @@ impl<'a> Parser<'a> {
 
     /// An off.
     #[tactic(auto, using(rbg_grammar::proofs::Trees::atoms), unfolding(rbg_grammar::specs::Reading::off_at, rbg_grammar::specs::Reading::within_at))]
-    pub(crate) fn off(&mut self) -> Result<Rule<'a>, ReadError>
+    pub(crate) fn off(&mut self) -> Reading<Rule<'a>>
         ensures { Gives (λ r. (rule_of r, self.new)) result (off_at self.old) }
     {
         self.symbol(Symbol::OpenBracket, Expectation::Opening)?;

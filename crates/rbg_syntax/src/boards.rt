@@ -4,7 +4,7 @@ ghost use Rattle.rbg_syntax.specs.internal.Giving.{Gives};
 ghost use Rattle.rbg_grammar.specs.Reading.{board_at, direction_at, generated_at, graph_at, hexagon_at, next_word, rectangle_at};
 ghost use Rattle.rbg_grammar.specs.Views.{board_of, name_of};
 
-use crate::error::{Expectation, ReadError};
+use crate::error::{Expectation, Reading};
 use crate::parser::Parser;
 use rbg_grammar::{Board, HexagonDirections, Name, RectangleDirections};
 use rbg_tokens::Symbol;
@@ -13,7 +13,7 @@ use std::alloc::Global;
 impl<'a> Parser<'a> {
     /// A board, by the name of its generator.
     #[tactic(auto, unfolding(rbg_grammar::specs::Reading::board_at))]
-    pub(crate) fn board(&mut self, alloc: Global) -> Result<Board<'a>, ReadError>
+    pub(crate) fn board(&mut self, alloc: Global) -> Reading<Board<'a>>
         ensures { Gives (λ b. (board_of b, self.new)) result (board_at self.old) }
     {
         if self.next_is_word(b"rectangle") {
@@ -26,7 +26,7 @@ impl<'a> Parser<'a> {
     }
 
     #[tactic(auto, unfolding(rbg_grammar::specs::Reading::generated_at, rbg_grammar::specs::Reading::within_at))]
-    fn rectangle_board(&mut self, alloc: Global) -> Result<Board<'a>, ReadError>
+    fn rectangle_board(&mut self, alloc: Global) -> Reading<Board<'a>>
         ensures { Gives (λ b.
             (board_of b, self.new)) result (generated_at (codes "rectangle") rectangle_at
             self.old) }
@@ -39,7 +39,7 @@ impl<'a> Parser<'a> {
     }
 
     #[tactic(auto, unfolding(rbg_grammar::specs::Reading::generated_at, rbg_grammar::specs::Reading::within_at))]
-    fn hexagon_board(&mut self, alloc: Global) -> Result<Board<'a>, ReadError>
+    fn hexagon_board(&mut self, alloc: Global) -> Reading<Board<'a>>
         ensures { Gives (λ b.
             (board_of b, self.new)) result (generated_at (codes "hexagon") hexagon_at self.old) }
     {
@@ -51,7 +51,7 @@ impl<'a> Parser<'a> {
     }
 
     #[tactic(auto, unfolding(rbg_grammar::specs::Reading::generated_at, rbg_grammar::specs::Reading::within_at))]
-    fn graph_board(&mut self, alloc: Global) -> Result<Board<'a>, ReadError>
+    fn graph_board(&mut self, alloc: Global) -> Reading<Board<'a>>
         ensures { Gives (λ b.
             (board_of b, self.new)) result (generated_at (codes "graph") graph_at self.old) }
     {
@@ -63,7 +63,7 @@ impl<'a> Parser<'a> {
     }
 
     #[tactic(auto, using(rbg_grammar::proofs::PhraseLaws::row_takes_some), unfolding(rbg_grammar::specs::Reading::rectangle_at, rbg_grammar::specs::Reading::rows_at))]
-    fn rectangle(&mut self, alloc: Global) -> Result<Board<'a>, ReadError>
+    fn rectangle(&mut self, alloc: Global) -> Reading<Board<'a>>
         ensures { Gives (λ b. (board_of b, self.new)) result (rectangle_at self.old) }
     {
         let up = self.direction()?;
@@ -80,7 +80,7 @@ impl<'a> Parser<'a> {
     }
 
     #[tactic(auto, using(rbg_grammar::proofs::PhraseLaws::row_takes_some), unfolding(rbg_grammar::specs::Reading::hexagon_at, rbg_grammar::specs::Reading::rows_at))]
-    fn hexagon(&mut self, alloc: Global) -> Result<Board<'a>, ReadError>
+    fn hexagon(&mut self, alloc: Global) -> Reading<Board<'a>>
         ensures { Gives (λ b. (board_of b, self.new)) result (hexagon_at self.old) }
     {
         let north_west = self.direction()?;
@@ -99,7 +99,7 @@ impl<'a> Parser<'a> {
     }
 
     #[tactic(auto, using(rbg_grammar::proofs::PhraseLaws::vertex_takes_some), unfolding(rbg_grammar::specs::Reading::graph_at))]
-    fn graph(&mut self, alloc: Global) -> Result<Board<'a>, ReadError>
+    fn graph(&mut self, alloc: Global) -> Reading<Board<'a>>
         ensures { Gives (λ b. (board_of b, self.new)) result (graph_at self.old) }
     {
         let vertices = self.repeated(alloc)?;
@@ -108,7 +108,7 @@ impl<'a> Parser<'a> {
 
     /// The name of a direction, with its comma.
     #[tactic(auto, unfolding(rbg_grammar::specs::Reading::direction_at, rbg_grammar::specs::Reading::with_comma_at))]
-    fn direction(&mut self) -> Result<Name<'a>, ReadError>
+    fn direction(&mut self) -> Reading<Name<'a>>
         ensures { Gives (λ n. (name_of n, self.new)) result (direction_at self.old) }
     {
         let name = self.name()?;

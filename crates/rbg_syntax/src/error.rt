@@ -1,5 +1,6 @@
 //! Why sections spell no description.
 ghost use Rattle.rbg_syntax.specs.declared.error.ReadError.TheVariants as errors;
+ghost use Rattle.rbg_syntax.specs.Names.{part_name};
 ghost use Rattle.rbg_syntax.specs.internal.Giving.{error_in};
 ghost use Rattle.std.specs.Prelude.{◌≡◌};
 
@@ -54,7 +55,10 @@ pub enum Expectation {
 
 impl Expectation {
     /// The name that it prints.
-    fn name(self) -> &'static str {
+    #[tactic(auto, unfolding(crate::specs::Names::part_name))]
+    pub fn name(self) -> &'static str
+        ensures { result.now ≡ part_name self }
+    {
         match self {
             Expectation::Name => "Name",
             Expectation::Number => "Number",
@@ -92,6 +96,9 @@ pub(crate) enum ReadError {
     },
     Memory,
 }
+
+/// What a reader returns.
+pub(crate) type Reading<T> = Result<T, ReadError>;
 
 impl ReadError {
     /// The error in a section whose `#` is at this offset.

@@ -5,7 +5,7 @@ ghost use Rattle.rbg_grammar.specs.Views.{bounded_of, edge_of, name_of, names_of
 ghost use Rattle.rbg_tokens.specs.declared.token.Symbol.TheVariants.{OpenBracket};
 ghost use Rattle.std.specs.Prelude.{◌≡◌, List};
 
-use crate::error::{Expectation, ReadError};
+use crate::error::{Expectation, Reading};
 use crate::parser::Parser;
 use crate::phrase::Phrase;
 use rbg_grammar::{Bounded, Edge, Name, Vertex};
@@ -21,7 +21,7 @@ impl<'a> Phrase<'a> for Name<'a> {
 
     ghost begins = { is_name };
 
-    fn read_from(parser: &mut Parser<'a>, _alloc: Global) -> Result<Name<'a>, ReadError> {
+    fn read_from(parser: &mut Parser<'a>, _alloc: Global) -> Reading<Name<'a>> {
         parser.name()
     }
 
@@ -43,7 +43,7 @@ impl<'a> Phrase<'a> for Bounded<'a> {
 
     /// A player or a variable with its bound.
     #[tactic(auto, unfolding(rbg_grammar::specs::Reading::bounded_at, rbg_grammar::specs::Reading::within_at))]
-    fn read_from(parser: &mut Parser<'a>, _alloc: Global) -> Result<Bounded<'a>, ReadError> {
+    fn read_from(parser: &mut Parser<'a>, _alloc: Global) -> Reading<Bounded<'a>> {
         let name = parser.name()?;
         parser.symbol(Symbol::OpenParenthesis, Expectation::Opening)?;
         let bound = parser.number()?;
@@ -69,7 +69,7 @@ impl<'a> Phrase<'a> for Vec<Name<'a>> {
     ghost begins = { is_symbol OpenBracket };
 
     #[tactic(auto, using(rbg_grammar::proofs::PhraseLaws::name_takes_some), unfolding(rbg_grammar::specs::Reading::row_at, rbg_grammar::specs::Reading::within_at))]
-    fn read_from(parser: &mut Parser<'a>, alloc: Global) -> Result<Vec<Name<'a>>, ReadError> {
+    fn read_from(parser: &mut Parser<'a>, alloc: Global) -> Reading<Vec<Name<'a>>> {
         parser.symbol(Symbol::OpenBracket, Expectation::Opening)?;
         let names = parser.listed(alloc)?;
         parser.symbol(Symbol::CloseBracket, Expectation::Closing)?;
@@ -94,7 +94,7 @@ impl<'a> Phrase<'a> for Edge<'a> {
 
     /// An edge to a vertex.
     #[tactic(auto, unfolding(rbg_grammar::specs::Reading::edge_at, rbg_grammar::specs::Reading::after_at))]
-    fn read_from(parser: &mut Parser<'a>, _alloc: Global) -> Result<Edge<'a>, ReadError> {
+    fn read_from(parser: &mut Parser<'a>, _alloc: Global) -> Reading<Edge<'a>> {
         let direction = parser.name()?;
         parser.symbol(Symbol::Colon, Expectation::Colon)?;
         let target = parser.name()?;
@@ -119,7 +119,7 @@ impl<'a> Phrase<'a> for Vertex<'a> {
 
     /// A vertex of a graph.
     #[tactic(auto, using(rbg_grammar::proofs::PhraseLaws::edge_takes_some), unfolding(rbg_grammar::specs::Reading::vertex_at, rbg_grammar::specs::Reading::within_at))]
-    fn read_from(parser: &mut Parser<'a>, alloc: Global) -> Result<Vertex<'a>, ReadError> {
+    fn read_from(parser: &mut Parser<'a>, alloc: Global) -> Reading<Vertex<'a>> {
         let name = parser.name()?;
         parser.symbol(Symbol::OpenBracket, Expectation::Opening)?;
         let piece = parser.name()?;

@@ -8,7 +8,7 @@ ghost use Rattle.rbg_syntax.specs.declared.error.ReadError.TheVariants as errors
 ghost use Rattle.rbg_grammar.specs.RuleReading.{too_deep_at};
 ghost use Rattle.rbg_grammar.specs.Views.{name_of, number_of};
 
-use crate::error::{Expectation, ReadError};
+use crate::error::{Expectation, ReadError, Reading};
 use rbg_base::number_of_digits;
 use rbg_grammar::{Name, Number};
 use rbg_macro::Section;
@@ -145,7 +145,7 @@ impl<'a> Parser<'a> {
     }
 
     /// The next token, or an error if there is none.
-    pub(crate) fn front(&self, what: Expectation) -> Result<Token<'a>, ReadError>
+    pub(crate) fn front(&self, what: Expectation) -> Reading<Token<'a>>
         ensures front { Gives (λ t. (lexeme_of t, drop 1 self.now)) result (front_at self.now) }
         ensures name { IfOk result (λ t. t.kind ≡ TokenKind.Name → IsTrue (is_a_name t.text.now)) }
     {
@@ -179,7 +179,7 @@ impl<'a> Parser<'a> {
     }
 
     /// Returns an error if a token is left.
-    pub(crate) fn end(&self, what: Expectation) -> Result<(), ReadError>
+    pub(crate) fn end(&self, what: Expectation) -> Reading<()>
         ensures { Gives (λ x. x) result (ended_at tt self.now) }
     {
         match self.peek() {
@@ -193,7 +193,7 @@ impl<'a> Parser<'a> {
 
     /// Passes the symbol, and returns its offset.
     #[tactic(auto, unfolding(rbg_grammar::specs::Reading::symbol_at))]
-    pub(crate) fn symbol(&mut self, symbol: Symbol, what: Expectation) -> Result<usize, ReadError>
+    pub(crate) fn symbol(&mut self, symbol: Symbol, what: Expectation) -> Reading<usize>
         ensures { Gives (λ at. (at, self.new)) result (symbol_at symbol self.old) }
     {
         let token = self.front(what)?;
@@ -209,7 +209,7 @@ impl<'a> Parser<'a> {
 
     /// Passes a name.
     #[tactic(auto, unfolding(rbg_grammar::specs::Reading::name_at))]
-    pub(crate) fn name(&mut self) -> Result<Name<'a>, ReadError>
+    pub(crate) fn name(&mut self) -> Reading<Name<'a>>
         ensures { Gives (λ n. (name_of n, self.new)) result (name_at self.old) }
     {
         let token = self.front(Expectation::Name)?;
@@ -228,7 +228,7 @@ impl<'a> Parser<'a> {
 
     /// Passes a name that is this word, and returns its offset.
     #[tactic(auto, unfolding(rbg_grammar::specs::Reading::word_at))]
-    pub(crate) fn word(&mut self, text: &[u8], what: Expectation) -> Result<usize, ReadError>
+    pub(crate) fn word(&mut self, text: &[u8], what: Expectation) -> Reading<usize>
         ensures { Gives (λ at. (at, self.new)) result (word_at text.now self.old) }
     {
         let token = self.front(what)?;
@@ -244,7 +244,7 @@ impl<'a> Parser<'a> {
 
     /// Passes a number.
     #[tactic(auto, unfolding(rbg_grammar::specs::Reading::number_at))]
-    pub(crate) fn number(&mut self) -> Result<Number, ReadError>
+    pub(crate) fn number(&mut self) -> Reading<Number>
         ensures { Gives (λ n. (number_of n, self.new)) result (number_at self.old) }
     {
         let token = self.front(Expectation::Number)?;

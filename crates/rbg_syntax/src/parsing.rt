@@ -13,7 +13,7 @@ ghost use Rattle.rbg_grammar.specs.Spells.{Spells, max_brackets};
 ghost use Rattle.rbg_grammar.specs.Tree.{SpeltDescription};
 ghost use Rattle.rbg_grammar.specs.Views.{board_of, bounded_list_of, names_of, rule_of};
 
-use crate::error::{Expectation, ReadError, SyntaxError};
+use crate::error::{Expectation, Reading, SyntaxError};
 use crate::parser::Parser;
 use crate::sections::{find, refuse_twice};
 use rbg_grammar::{Board, Bounded, Description, DescriptionParts, Name, Rule};
@@ -68,7 +68,7 @@ fn read_parts<'a>(
 }
 
 /// What was read of a section whose `#` is at this offset.
-fn placed<T>(start: usize, read: Result<T, ReadError>) -> Result<T, SyntaxError>
+fn placed<T>(start: usize, read: Reading<T>) -> Result<T, SyntaxError>
     ensures { result ≡ placed start read }
 {
     match read {
@@ -86,7 +86,7 @@ fn needed<'a>(source: &'a Source<'_>, which: SectionKind) -> Result<Section<'a>,
 }
 
 #[tactic(auto, using(crate::proofs::Answers::endings, rbg_grammar::proofs::PhraseLaws::bounded_takes_some), unfolding(rbg_grammar::specs::Reading::whole_at))]
-fn read_players(alloc: Global, section: Section<'_>) -> Result<Vec<Bounded<'_>>, ReadError>
+fn read_players(alloc: Global, section: Section<'_>) -> Reading<Vec<Bounded<'_>>>
     ensures { Gives bounded_list_of result
         (whole_at (separated_at Comma bounded_at) section.entry.tokens) }
 {
@@ -97,7 +97,7 @@ fn read_players(alloc: Global, section: Section<'_>) -> Result<Vec<Bounded<'_>>,
 }
 
 #[tactic(auto, using(crate::proofs::Answers::endings, rbg_grammar::proofs::PhraseLaws::name_takes_some), unfolding(rbg_grammar::specs::Reading::whole_at))]
-fn read_pieces(alloc: Global, section: Section<'_>) -> Result<Vec<Name<'_>>, ReadError>
+fn read_pieces(alloc: Global, section: Section<'_>) -> Reading<Vec<Name<'_>>>
     ensures { Gives names_of result (whole_at (separated_at Comma name_at) section.entry.tokens) }
 {
     let mut parser = Parser::new(section);
@@ -118,7 +118,7 @@ fn variables_of<'a>(alloc: Global, source: &'a Source<'_>) -> Result<Vec<Bounded
 }
 
 #[tactic(auto, using(crate::proofs::Answers::endings, rbg_grammar::proofs::PhraseLaws::bounded_takes_some), unfolding(rbg_grammar::specs::Reading::whole_at))]
-fn read_variables(alloc: Global, section: Section<'_>) -> Result<Vec<Bounded<'_>>, ReadError>
+fn read_variables(alloc: Global, section: Section<'_>) -> Reading<Vec<Bounded<'_>>>
     ensures { Gives bounded_list_of result
         (whole_at (listed_at is_name bounded_at) section.entry.tokens) }
 {
@@ -134,7 +134,7 @@ fn read_variables(alloc: Global, section: Section<'_>) -> Result<Vec<Bounded<'_>
 }
 
 #[tactic(auto, using(crate::proofs::Answers::endings), unfolding(rbg_grammar::specs::Reading::whole_at))]
-fn read_board(alloc: Global, section: Section<'_>) -> Result<Board<'_>, ReadError>
+fn read_board(alloc: Global, section: Section<'_>) -> Reading<Board<'_>>
     ensures { Gives board_of result (whole_at board_at section.entry.tokens) }
 {
     let mut parser = Parser::new(section);
@@ -144,7 +144,7 @@ fn read_board(alloc: Global, section: Section<'_>) -> Result<Board<'_>, ReadErro
 }
 
 #[tactic(auto, using(crate::proofs::Answers::endings), unfolding(rbg_grammar::specs::Reading::whole_at))]
-fn read_rules(alloc: Global, section: Section<'_>) -> Result<Rule<'_>, ReadError>
+fn read_rules(alloc: Global, section: Section<'_>) -> Reading<Rule<'_>>
     ensures { GivesWithin rule_of result (whole_at (rules_at max_brackets) section.entry.tokens) }
 {
     let mut parser = Parser::new(section);

@@ -3,7 +3,7 @@ ghost use Rattle.std.specs.Prelude.{◌≡◌, map};
 ghost use Rattle.rbg_syntax.specs.internal.Giving.{Gives};
 ghost use Rattle.rbg_grammar.specs.Reading.{TakesSome, listed_at, next_is, repeated_at, separated_at};
 
-use crate::error::ReadError;
+use crate::error::Reading;
 use crate::parser::Parser;
 use rbg_tokens::{Symbol, TokenKind};
 use std::alloc::Global;
@@ -28,7 +28,7 @@ pub(crate) trait Phrase<'a>: Sized + Drop {
     ghost begins: { TokenKind → Bool };
 
     /// Reads one phrase.
-    fn read_from(parser: &mut Parser<'a>, alloc: Global) -> Result<Self, ReadError>
+    fn read_from(parser: &mut Parser<'a>, alloc: Global) -> Reading<Self>
         ensures { Gives (λ x. (view x, parser.new)) result (read parser.old) };
 
     /// Whether such a phrase may begin with a token of this kind.
@@ -52,7 +52,7 @@ impl<'a> Parser<'a> {
         &mut self,
         alloc: Global,
         separator: Symbol,
-    ) -> Result<Vec<T>, ReadError>
+    ) -> Reading<Vec<T>>
         requires { TakesSome T.read }
         ensures { Gives (λ v.
             (map T.view v.items, self.new)) result (separated_at separator T.read self.old) }
@@ -67,7 +67,7 @@ impl<'a> Parser<'a> {
 
     /// Any number of phrases, with commas between them.
     #[tactic(auto, unfolding(rbg_grammar::specs::Reading::listed_at))]
-    pub(crate) fn listed<T: Phrase<'a>>(&mut self, alloc: Global) -> Result<Vec<T>, ReadError>
+    pub(crate) fn listed<T: Phrase<'a>>(&mut self, alloc: Global) -> Reading<Vec<T>>
         requires { TakesSome T.read }
         ensures { Gives (λ v.
             (map T.view v.items, self.new)) result (listed_at T.begins T.read self.old) }
@@ -80,7 +80,7 @@ impl<'a> Parser<'a> {
     }
 
     /// Any number of phrases, one after the other.
-    pub(crate) fn repeated<T: Phrase<'a>>(&mut self, alloc: Global) -> Result<Vec<T>, ReadError>
+    pub(crate) fn repeated<T: Phrase<'a>>(&mut self, alloc: Global) -> Reading<Vec<T>>
         requires { TakesSome T.read }
         ensures { Gives (λ v.
             (map T.view v.items, self.new)) result (repeated_at T.begins T.read self.old) }

@@ -7,7 +7,7 @@ ghost use Rattle.rbg_grammar.specs.Reading.{after_at, further_at, is_symbol, nex
 ghost use Rattle.rbg_grammar.specs.RuleReading.{atom_at, begins_atom, bracket_atom_at, in_braces_at, in_choice, is_opening, item_at, pattern_at, rules_at, sequence_at, sum_at};
 ghost use Rattle.rbg_grammar.specs.Views.{rule_of};
 
-use crate::error::{Expectation, ReadError};
+use crate::error::{Expectation, Reading};
 use crate::parser::Parser;
 use crate::sequences::in_sequence;
 use rbg_grammar::{Action, Rule};
@@ -17,7 +17,7 @@ use std::alloc::Global;
 impl<'a> Parser<'a> {
     /// Rules.
     #[cycle(rules)]
-    pub(crate) fn rules(&mut self, alloc: Global, brackets: u8) -> Result<Rule<'a>, ReadError>
+    pub(crate) fn rules(&mut self, alloc: Global, brackets: u8) -> Reading<Rule<'a>>
         ensures { GivesWithin (λ r. (rule_of r, self.new)) result (rules_at brackets self.old) }
     {
         let first = self.sequence(alloc, brackets)?;
@@ -35,7 +35,7 @@ impl<'a> Parser<'a> {
         alloc: Global,
         first: Rule<'a>,
         brackets: u8,
-    ) -> Result<Vec<Rule<'a>>, ReadError>
+    ) -> Reading<Vec<Rule<'a>>>
         ensures { GivesWithin (λ v.
             (map rule_of v.items, self.new)) result (further_at (rule_of first.entry)
             (is_symbol symbols.Plus) (after_at symbols.Plus (sequence_at (atom_at brackets)))
@@ -51,7 +51,7 @@ impl<'a> Parser<'a> {
 
     /// A sequence.
     #[cycle(rules)]
-    fn sequence(&mut self, alloc: Global, brackets: u8) -> Result<Rule<'a>, ReadError>
+    fn sequence(&mut self, alloc: Global, brackets: u8) -> Reading<Rule<'a>>
         ensures { GivesWithin (λ r.
             (rule_of r, self.new)) result (sequence_at (atom_at brackets) self.old) }
     {
@@ -70,7 +70,7 @@ impl<'a> Parser<'a> {
         alloc: Global,
         first: Rule<'a>,
         brackets: u8,
-    ) -> Result<Vec<Rule<'a>>, ReadError>
+    ) -> Reading<Vec<Rule<'a>>>
         ensures { GivesWithin (λ v. (map rule_of v.items, self.new)) result
             (further_at (rule_of first.entry) begins_atom (item_at (atom_at brackets)) self.old) }
     {
@@ -85,7 +85,7 @@ impl<'a> Parser<'a> {
     /// An atom, and the `*` after it where there is one.
     #[cycle(rules)]
     #[tactic(auto, using(rbg_grammar::proofs::Trees::stars), unfolding(rbg_grammar::specs::RuleReading::item_at))]
-    fn item(&mut self, alloc: Global, brackets: u8) -> Result<Rule<'a>, ReadError>
+    fn item(&mut self, alloc: Global, brackets: u8) -> Reading<Rule<'a>>
         ensures { GivesWithin (λ r.
             (rule_of r, self.new)) result (item_at (atom_at brackets) self.old) }
     {
@@ -99,7 +99,7 @@ impl<'a> Parser<'a> {
 
     /// An atom.
     #[cycle(rules)]
-    fn atom(&mut self, alloc: Global, brackets: u8) -> Result<Rule<'a>, ReadError>
+    fn atom(&mut self, alloc: Global, brackets: u8) -> Reading<Rule<'a>>
         ensures { GivesWithin (λ r. (rule_of r, self.new)) result (atom_at brackets self.old) }
     {
         if !self.next_is_opening() {
@@ -114,7 +114,7 @@ impl<'a> Parser<'a> {
     /// An atom in brackets, in which at most so many further ones may be open.
     #[cycle(rules)]
     #[tactic(auto, unfolding(rbg_grammar::specs::RuleReading::bracket_atom_at, rbg_grammar::specs::Reading::within_at))]
-    fn bracket_atom(&mut self, alloc: Global, brackets: u8) -> Result<Rule<'a>, ReadError>
+    fn bracket_atom(&mut self, alloc: Global, brackets: u8) -> Reading<Rule<'a>>
         ensures { GivesWithin (λ r. (rule_of r, self.new)) result
             (bracket_atom_at (rules_at brackets) (sum_at brackets) self.old) }
     {
@@ -133,7 +133,7 @@ impl<'a> Parser<'a> {
     /// A pattern, a comparison or an on.
     #[cycle(rules)]
     #[tactic(auto, using(rbg_grammar::proofs::Trees::inner_atoms, crate::proofs::Parts::patterns), unfolding(rbg_grammar::specs::RuleReading::in_braces_at))]
-    fn in_braces(&mut self, alloc: Global, brackets: u8) -> Result<Rule<'a>, ReadError>
+    fn in_braces(&mut self, alloc: Global, brackets: u8) -> Reading<Rule<'a>>
         ensures { GivesWithin (λ r. (rule_of r, self.new)) result
             (in_braces_at (rules_at brackets) (sum_at brackets) self.old) }
     {
@@ -156,12 +156,7 @@ impl<'a> Parser<'a> {
     /// The rules in a pattern that has this sign after its `{`, and the offset of that `{`.
     #[cycle(rules)]
     #[tactic(auto, unfolding(rbg_grammar::specs::RuleReading::pattern_at, rbg_grammar::specs::Reading::after_at))]
-    fn pattern(
-        &mut self,
-        alloc: Global,
-        sign: Symbol,
-        brackets: u8,
-    ) -> Result<(usize, Rule<'a>), ReadError>
+    fn pattern(&mut self, alloc: Global, sign: Symbol, brackets: u8) -> Reading<(usize, Rule<'a>)>
         ensures { GivesWithin (λ p. ((p.0, rule_of p.1), self.new)) result
             (pattern_at sign (rules_at brackets) self.old) }
     {
