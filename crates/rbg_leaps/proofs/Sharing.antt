@@ -7,8 +7,9 @@ use Rattle.rbg_rules.specs.Words.{after}
 use Rattle.rbg_leaps.specs.declared.lists.Lists.{Lists}
 use Rattle.rbg_leaps.specs.declared.table.Entry.{Entry}
 use Rattle.rbg_leaps.specs.declared.table.Table.{Table}
+use Rattle.rbg_leaps.specs.Entries.{end_of}
 use Rattle.rbg_leaps.specs.Leaps.{IsShiftAt}
-use Rattle.rbg_leaps.specs.internal.Tables.{entry_at, IsSoundEntry, IsSoundTable, targets_of, IsUnder, IsToldAt}
+use Rattle.rbg_leaps.specs.internal.Tables.{entry_at, IsSoundEntry, IsSoundTable, IsUnder, IsToldAt}
 use Rattle.rbg_leaps.specs.internal.Shelves.{list_at, may_end_at, IsNodeOf, AreListsOf}
 use Rattle.rbg_leaps.specs.internal.Steps.{Comes}
 use Rattle.rbg_leaps.proofs.Fillings.{told_behind}
@@ -57,5 +58,5 @@ pub shared_told : (game : AbstractGame) (lists : Lists) (table : Table) → IsSo
 shared_told game lists table right v p to k e ends is only below behind at more =
     let on_board : to < table.vertices = subst (λ (many : ℕ). to < many) (sym right.laid_out.vertices) below in
     let same : e ≡ entry_at table (get_or lists.afters.items p 0) to = at ∙ ap (λ (i : ℕ). entry_at table i to) behind in
-    told_behind game lists table (targets_of table e) ends v p to is only on_board
-    (subst (λ (x : Entry). IsUnder table x (targets_of table e) ends) same (record { tells = λ j u told. told; ends = more }))
+    told_behind game lists table e.start (end_of e) ends v p to is only on_board
+    (subst (λ (x : Entry). IsUnder table x e.start (end_of e) ends) same (record { tells = λ j u told. told; ends = more }))

@@ -17,7 +17,7 @@ use Rattle.rbg_leaps.specs.Origin.{start_of}
 use Rattle.rbg_leaps.specs.internal.Spans.{IsNodeWithin, no_node}
 use Rattle.rbg_leaps.specs.internal.Shelves.{node_in, list_at, may_end_at, IsKept, ExtendsShelf, IsNodeOf, AreListsUpTo, origin_node, AreListsOf}
 use Rattle.rbg_leaps.specs.internal.Steps.{IsAnswerAt}
-use Rattle.rbg_leaps.proofs.RowLemmas.{extends_none, extends_more, part_extended, item_extended, longer, LastPlace, before, last, last_place}
+use Rattle.rbg_leaps.proofs.Places.{extends_none, extends_more, part_extended, item_extended, longer, LastPlace, before, last, last_place}
 use Rattle.rbg_leaps.proofs.ShiftLemmas.{action_within}
 
 pub shelf_same : (s : Shelf) → ExtendsShelf s s

@@ -7,10 +7,11 @@ ghost use Rattle.rbg_leaps.specs.internal.Shelves.{AreListsOf, list_at, may_end_
 ghost use Rattle.rbg_leaps.specs.internal.Steps.{Comes, IsOnly};
 ghost use Rattle.rbg_leaps.specs.internal.Tables.{IsSoundEntry, IsRightSoFar, IsToldAt, FillsOne, FillsUpTo, FillsRightly, FillsDownTo, StepsBack, StepsForth, LeadsAway, LeadsBack, LeadsForth, LeadsOneWay, LeadsToMarked, IsMarked, AreClosedAt, AreFilled};
 
+use crate::adding::unit;
 use crate::gathering::gather;
 use crate::ground::Ground;
 use crate::lists::Lists;
-use crate::table::{Entry, RowTarget, Table};
+use crate::table::{Entry, Table};
 use rbg_base::{Memory, Position, Vertex};
 use std::alloc::Global;
 
@@ -18,7 +19,6 @@ use std::alloc::Global;
 #[inline(always)]
 fn fill_one(
     table: &mut Table,
-    parts: &mut Vec<RowTarget>,
     lists: &Lists,
     ground: &Ground<'_>,
     node: usize,
@@ -33,8 +33,9 @@ fn fill_one(
     requires vertex { vertex < length ground.now.board.first }
     ensures { OnOk result (FillsOne ground.now lists.now table.old table.new node vertex) }
 {
-    let ends = gather(table, parts, lists, ground, node, list, may_end, vertex)?;
-    table.put(node, vertex, parts, ends)?;
+    let start = table.targets.len();
+    let ends = gather(table, start, lists, ground, node, list, may_end, vertex)?;
+    table.put(node, vertex, start, ends)?;
     Ok(())
 }
 
@@ -160,9 +161,9 @@ fn place_one(
     requires may_end { may_end ≡ may_end_at lists.now.shelf node }
     ensures { OnOk result (FillsOne ground.now lists.now table.old table.new node vertex) }
 {
-    let row = table.unit(vertex);
-    let target = RowTarget { position, row };
-    table.put(node, vertex, &[target], may_end)?;
+    let start = table.targets.len();
+    table.add(start, unit(position, vertex))?;
+    table.put(node, vertex, start, may_end)?;
     Ok(())
 }
 
@@ -198,7 +199,6 @@ fn place_node(
 /// Fills the entries of a node forwards over the vertices.
 fn fill_forwards(
     table: &mut Table,
-    parts: &mut Vec<RowTarget>,
     lists: &Lists,
     ground: &Ground<'_>,
     node: usize,
@@ -212,7 +212,6 @@ fn fill_forwards(
     for vertex in 0..ground.vertices() {
         fill_one(
             table,
-            parts,
             lists,
             ground,
             node,
@@ -228,7 +227,6 @@ fn fill_forwards(
 /// its own alone.
 fn fill_backwards(
     table: &mut Table,
-    parts: &mut Vec<RowTarget>,
     lists: &Lists,
     ground: &Ground<'_>,
     node: usize,
@@ -242,7 +240,7 @@ fn fill_backwards(
     let vertices = ground.vertices();
     for index in 0..vertices {
         let vertex = (vertices - 1 - index) as Vertex;
-        fill_one(table, parts, lists, ground, node, list, may_end, vertex)?;
+        fill_one(table, lists, ground, node, list, may_end, vertex)?;
     }
     Ok(())
 }
@@ -250,7 +248,6 @@ fn fill_backwards(
 /// Fills the entries of a node from which no shift leads to the node again.
 fn fill_once(
     table: &mut Table,
-    parts: &mut Vec<RowTarget>,
     lists: &Lists,
     ground: &Ground<'_>,
     node: usize,
@@ -260,7 +257,7 @@ fn fill_once(
     ensures { OnOk result (FillsUpTo ground.now lists.now table.old table.new node (length ground.now.board.first)) }
 {
     let Some(position) = only_of(lists, node) else {
-        return fill_forwards(table, parts, lists, ground, node);
+        return fill_forwards(table, lists, ground, node);
     };
     if ground.is_shift(position) {
         share_node(table, lists, ground, node, position);
@@ -335,7 +332,6 @@ pub(crate) fn repeats(lists: &Lists, ground: &Ground<'_>, node: usize, later: bo
 /// backwards where they lead to later ones. Where they lead one way, nothing is missing then.
 pub(crate) fn fill_again(
     table: &mut Table,
-    parts: &mut Vec<RowTarget>,
     lists: &Lists,
     ground: &Ground<'_>,
     node: usize,
@@ -346,12 +342,12 @@ pub(crate) fn fill_again(
     ensures closed { OnOk result (LeadsOneWay ground.now lists.now node → AreClosedAt ground.now lists.now table.new node) }
 {
     if !repeats(lists, ground, node, true) {
-        fill_forwards(table, parts, lists, ground, node)?;
+        fill_forwards(table, lists, ground, node)?;
         return Ok(());
     }
-    fill_backwards(table, parts, lists, ground, node)?;
+    fill_backwards(table, lists, ground, node)?;
     if repeats(lists, ground, node, false) {
-        fill_forwards(table, parts, lists, ground, node)?;
+        fill_forwards(table, lists, ground, node)?;
     }
     Ok(())
 }
@@ -398,7 +394,6 @@ fn is_ready(lists: &Lists, ground: &Ground<'_>, filled: &[bool], node: usize) ->
 /// Fills the entries of a node.
 fn fill_node(
     table: &mut Table,
-    parts: &mut Vec<RowTarget>,
     lists: &Lists,
     ground: &Ground<'_>,
     node: usize,
@@ -409,17 +404,16 @@ fn fill_node(
     ensures closed { OnOk result (LeadsOneWay ground.now lists.now node → AreClosedAt ground.now lists.now table.new node) }
 {
     if leads_away(lists, ground, node) {
-        fill_once(table, parts, lists, ground, node)?;
+        fill_once(table, lists, ground, node)?;
         return Ok(());
     }
-    fill_again(table, parts, lists, ground, node)?;
+    fill_again(table, lists, ground, node)?;
     Ok(())
 }
 
 /// Fills a node that isn't filled, where it is ready. Returns whether it is filled then.
 fn fill_next(
     table: &mut Table,
-    parts: &mut Vec<RowTarget>,
     lists: &Lists,
     ground: &Ground<'_>,
     filled: &mut [bool],
@@ -436,7 +430,7 @@ fn fill_next(
     if is_marked(filled, node) || !is_ready(lists, ground, filled, node) {
         return Ok(false);
     }
-    fill_node(table, parts, lists, ground, node)?;
+    fill_node(table, lists, ground, node)?;
     filled[node] = true;
     Ok(true)
 }
@@ -444,7 +438,6 @@ fn fill_next(
 /// Fills the nodes that are ready. Returns whether there was one.
 fn fill_ready(
     table: &mut Table,
-    parts: &mut Vec<RowTarget>,
     lists: &Lists,
     ground: &Ground<'_>,
     filled: &mut [bool],
@@ -459,7 +452,7 @@ fn fill_ready(
     let nodes = lists.shelf.nodes.len();
     let mut some = false;
     for done in 0..nodes {
-        let more = fill_next(table, parts, lists, ground, filled, nodes - 1 - done)?;
+        let more = fill_next(table, lists, ground, filled, nodes - 1 - done)?;
         some = some || more;
     }
     Ok(some)
@@ -469,7 +462,6 @@ fn fill_ready(
 pub(crate) fn fill_in_order(
     alloc: Global,
     table: &mut Table,
-    parts: &mut Vec<RowTarget>,
     lists: &Lists,
     ground: &Ground<'_>,
 ) -> Result<Vec<bool>, Memory>
@@ -479,7 +471,7 @@ pub(crate) fn fill_in_order(
     let nodes = lists.shelf.nodes.len();
     let mut filled = vec![in alloc; false; nodes]?;
     for _ in 0..nodes {
-        if !fill_ready(table, parts, lists, ground, &mut filled)? {
+        if !fill_ready(table, lists, ground, &mut filled)? {
             return Ok(filled);
         }
     }

@@ -1,6 +1,7 @@
 //! Leaps: where shifts alone lead in a game, as a table that is made once.
 #![tactic(auto)]
 
+mod adding;
 mod asking;
 mod closing;
 mod entries;
@@ -11,9 +12,7 @@ mod laying;
 mod lists;
 mod making;
 mod origin;
-mod packing;
 mod rounds;
-mod rows;
 mod shelf;
 mod shifts;
 mod table;

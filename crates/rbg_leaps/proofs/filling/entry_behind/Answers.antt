@@ -1,7 +1,5 @@
-use Rattle.std.proofs.Common.{◌∙◌, inl, inr, sym, subst}
+use Rattle.std.proofs.Common.{◌∙◌, length, inl, inr, sym, subst}
 use Rattle.std.specs.Prelude.{IsTrue}
-use Rattle.rbg_leaps.specs.Made.{no_entry}
-use Rattle.rbg_leaps.specs.internal.Tables.{targets_of}
 use Rattle.rbg_leaps.proofs.Cases.{not_both, no_some, some_same}
 use Rattle.rbg_leaps.proofs.Fillings.{told_nowhere}
 use Rattle.rbg_leaps.proofs.Sharing.{behind_there, entry_step, shared_told}
@@ -27,7 +25,7 @@ returns-else-behind-clause-sound c =
 
 pub returns-in_default-clause-told : goal.returns-in_default-clause-told
 returns-in_default-clause-told c =
-    told_nowhere c.args.ground.now c.args.lists.now c.args.table.now (targets_of c.args.table.now no_entry) c.args.may_end c.args.vertex c.args.position c.requires.shift
+    told_nowhere c.args.ground.now c.args.lists.now c.args.table.now 0 0 c.args.may_end c.args.vertex c.args.position c.requires.shift
     (λ w comes. no_some (sym c.in_default.is ∙ (c.to.ensures.comes w).1 comes))
 
 pub returns-then-behind-clause-told : goal.returns-then-behind-clause-told
@@ -39,3 +37,9 @@ pub returns-else-behind-clause-told : goal.returns-else-behind-clause-told
 returns-else-behind-clause-told c =
     shared_told c.args.ground.now c.args.lists.now c.args.table.now c.requires.right.sound c.args.vertex c.args.position c.in-Some.to c.args.after c.entry_there-behind.result c.args.may_end c.requires.shift
     (λ w comes. some_same (sym c.in-Some.is ∙ (c.to.ensures.comes w).1 comes)) c.in-Some.ensures.is_vertex c.requires.after c.entry_there-behind.ensures.entry (λ t. absurd (not_both t c.if-behind.false))
+
+pub returns-then-behind-clause-within : goal.returns-then-behind-clause-within
+returns-then-behind-clause-within c = record { ends = (c.entry_there-behind.ensures.within (length c.args.table.now.targets.items) c.args.table.now.within).ends }
+
+pub returns-else-behind-clause-within : goal.returns-else-behind-clause-within
+returns-else-behind-clause-within c = record { ends = (c.entry_there-behind.ensures.within (length c.args.table.now.targets.items) c.args.table.now.within).ends }
