@@ -13,7 +13,7 @@ use Rattle.rbg_leaps.specs.Leaps.{IsShiftAt}
 use Rattle.rbg_leaps.specs.Made.{no_entry}
 use Rattle.rbg_leaps.specs.internal.Shelves.{list_at, may_end_at}
 use Rattle.rbg_leaps.specs.internal.Steps.{Comes, EndsBy, IsOnly}
-use Rattle.rbg_leaps.specs.internal.Tables.{entry_at, Tells, TellsAt, IsSoundTable, IsSoundEntry, IsGathered, IsUnder, IsToldBy, IsToldAt, IsToldFrom, IsWhole, IsWholeFrom, IsClosed, Keeps, Grows, Shares, TellsStill, KeepsTold, AddsAll, LeadsBack, LeadsForth, LeadsOneWay, Fills, FillsOne, FillsUpTo, FillsDownTo, FillsRightly, IsMarked, LeadsToMarked, AreFilled}
+use Rattle.rbg_leaps.specs.internal.Tables.{entry_at, Tells, IsSoundTable, IsSoundEntry, IsGathered, IsUnder, IsToldBy, IsToldFrom, IsWhole, IsWholeFrom, IsClosed, Keeps, Grows, Shares, KeepsTold, AddsAll, LeadsBack, LeadsForth, LeadsOneWay, Fills, FillsOne, FillsUpTo, FillsDownTo, FillsRightly, IsMarked, LeadsToMarked, AreFilled}
 use Rattle.rbg_leaps.proofs.Places.{below_or_not, same_or_not, one_place, same_item, LastPlace, before, last, last_place}
 use Rattle.rbg_leaps.proofs.Tabling.{entry_gathered, entry_same, entry_within, table_grown, table_shared, whole_end, within_at}
 use Rattle.rbg_leaps.proofs.Targets.{keeps_none, keeps_same, keeps_more, keeps_fewer, tells_kept, tells_before}
@@ -185,7 +185,7 @@ told_behind game lists t from to may_end v p there is only small under = record 
 }
 
 -- All targets of an entry were added.
-pub added_under : (start : ℕ) (old new : Table) (e : Entry) → IsWithin start e → AddsAll start old.targets.items new.targets.items e → IsUnder new e start (length new.targets.items) e.ends
+pub added_under : (start : ℕ) (old new : Table) (e : Entry) → IsWithin start e → AddsAll start old.targets.items new.targets.items e.start (end_of e) → IsUnder new e start (length new.targets.items) e.ends
 added_under start old new e within adds = record {
   tells = λ j u told. adds.has j u (tells_before start old.targets.items new.targets.items e.start (end_of e) adds.keeps within.ends j u told);
   ends = λ t. t;

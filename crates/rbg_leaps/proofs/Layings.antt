@@ -22,7 +22,7 @@ use Rattle.rbg_leaps.specs.Entries.{IsWithin}
 use Rattle.rbg_leaps.specs.Made.{no_entry, entry_in, entry_of, IsEntry, AreLeapsOf}
 use Rattle.rbg_leaps.specs.Origin.{start_of}
 use Rattle.rbg_leaps.specs.internal.Shelves.{IsNodeOf, AreListsOf, origin_node}
-use Rattle.rbg_leaps.specs.internal.Tables.{entry_at, AreLaid, IsFilled}
+use Rattle.rbg_leaps.specs.internal.Tables.{AreLaid, IsFilled}
 use Rattle.rbg_leaps.proofs.Places.{part_item, same_item, LastPlace, before, last, last_place}
 use Rattle.rbg_leaps.proofs.Shelving.{node_there}
 use Rattle.rbg_leaps.proofs.ShiftLemmas.{action_within}
@@ -101,7 +101,7 @@ are_leaps game numbered lists are table filled leaps vertices first insides are_
     same (After p) v below (a, stands) =
         let small = (action_within game.rules numbered p a stands).1 in
         ap (λ (m : ℕ). entry_in leaps.afters.items m p v) vertices
-        ∙ laid.each p v (let size = are.afters_size in omega (arith, size, small)) (subst (λ (k : ℕ). v < k) (sym on_board) below)
+        ∙ laid.each p v (let size = are.nodes.afters_size in omega (arith, size, small)) (subst (λ (k : ℕ). v < k) (sym on_board) below)
 
     of_node : (f : Start) (n v : ℕ) → IsNodeOf game.rules lists.shelf f n → v < length game.board.first → IsEntry game f v leaps.targets.items (here n v)
     of_node f n v node below =
@@ -130,15 +130,15 @@ module _ (game : AbstractGame) (lists : Lists) (table : Table) (are : AreListsOf
 
   pub after_rows : All (λ n. n * table.vertices + table.vertices ≤ length table.entries.items) lists.afters.items
   after_rows =
-      rows_there_by game.rules lists table.vertices entries size lists.afters.items after (λ p below. are.after_each p (let size = are.afters_size in omega (arith, size, below)))
+      rows_there_by game.rules lists table.vertices entries size lists.afters.items after (λ p below. are.nodes.after_each p (let size = are.nodes.afters_size in omega (arith, size, below)))
 
   pub inside_rows : All (λ n. n * table.vertices ≤ length table.entries.items) lists.insides.items
   inside_rows = λ i d below.
-      let rows = rows_there_by game.rules lists table.vertices entries size lists.insides.items (λ p. beginning (inside p)) (λ p small. are.inside_each p (let size = are.insides_size in omega (arith, size, small))) in
+      let rows = rows_there_by game.rules lists table.vertices entries size lists.insides.items (λ p. beginning (inside p)) (λ p small. are.nodes.inside_each p (let size = are.nodes.insides_size in omega (arith, size, small))) in
       let row = rows i d below in
       omega (arith, row)
 
   pub first_row : lists.rules * table.vertices ≤ length table.entries.items
   first_row =
-      let row = row_there table.vertices entries (length lists.shelf.nodes.items) lists.rules size are.begins.there in
+      let row = row_there table.vertices entries (length lists.shelf.nodes.items) lists.rules size are.nodes.begins.there in
       omega (arith, row)

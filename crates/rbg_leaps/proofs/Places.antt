@@ -1,5 +1,5 @@
 -- Numbers, places in lists, and lists that are extended.
-use Rattle.std.proofs.Common.{◌≡◌, ◌≢◌, ℕ, ◌+◌, ◌*◌, ◌/◌, ◌%◌, ◌<◌, ◌≤◌, ◌⊎◌, List, [], ◌∷◌, ◌++◌, append_assoc, length, get_or, take, drop, Bool, true, false, refl, sym, ap, ◌∙◌, subst, inl, inr, zero, suc, arith}
+use Rattle.std.proofs.Common.{◌≡◌, ◌≢◌, ℕ, ◌+◌, ◌*◌, ◌/◌, ◌%◌, ◌<◌, ◌≤◌, ◌⊎◌, List, [], ◌∷◌, ◌++◌, append_assoc, length, get_or, take, drop, Bool, true, false, refl, sym, ap, ◌∙◌, inl, inr, zero, suc, arith}
 use Rattle.std.specs.Prelude.{◌==◌, Decides, slice_range}
 use Rattle.std.proofs.lemmas.Bool.Decides.{Decides-eqb}
 use Rattle.std.proofs.lemmas.Nat.{div-mul-add, mod-mul-add}
@@ -60,6 +60,11 @@ pub item_extended : {X : Type 0} (old new : List X) → Extends old new → (i :
 item_extended old new extends i d within = ap (λ (xs : List _). get_or xs i d) extends.is ∙ get_or_append_left old extends.more d i within
 
 -- What is in a list doesn't depend on the default.
+pub any_default : {X : Type 0} (xs : List X) (k : ℕ) (c d : X) → k < length xs → get_or xs k c ≡ get_or xs k d
+any_default [] k c d below = absurd (omega (arith, below))
+any_default (x ∷ xs) zero c d below = refl
+any_default (x ∷ xs) (suc k) c d below = any_default xs k c d (omega (arith, below))
+
 pub same_item : (xs : List ℕ) (k d : ℕ) → k < length xs → get_or xs k d ≡ get_or xs k 0
 same_item [] k d below = absurd (omega (arith, below))
 same_item (x ∷ xs) zero d below = refl

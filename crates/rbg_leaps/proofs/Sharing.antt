@@ -32,7 +32,7 @@ right_behind game numbered lists are table right p w k e is below behind at = re
     m = get_or lists.afters.items p 0
 
     node : IsNodeOf game.rules lists.shelf (after p) m
-    node = are.after_each p (shift_within game.rules numbered p is)
+    node = are.nodes.after_each p (shift_within game.rules numbered p is)
 
     on_board : w < table.vertices
     on_board = subst (λ (many : ℕ). w < many) (sym right.laid_out.vertices) below
@@ -43,7 +43,7 @@ right_behind game numbered lists are table right p w k e is below behind at = re
 -- .. and that entry is there.
 pub behind_there : (game : AbstractGame) → IsNumbered game.rules → (lists : Lists) → AreListsOf game.rules lists → (table : Table) → IsSoundTable game lists table → (p w k : ℕ) → IsShiftAt game.rules p → w < length game.board.first → k ≡ get_or lists.afters.items p 0 → k * table.vertices + w < length table.entries.items
 behind_there game numbered lists are table right p w k is below behind =
-    let node : IsNodeOf game.rules lists.shelf (after p) (get_or lists.afters.items p 0) = are.after_each p (shift_within game.rules numbered p is) in
+    let node : IsNodeOf game.rules lists.shelf (after p) (get_or lists.afters.items p 0) = are.nodes.after_each p (shift_within game.rules numbered p is) in
     let there : k < length lists.shelf.nodes.items = subst (λ (n : ℕ). n < length lists.shelf.nodes.items) (sym behind) node.there in
     let on_board : w < table.vertices = subst (λ (many : ℕ). w < many) (sym right.laid_out.vertices) below in
     subst (λ (n : ℕ). k * table.vertices + w < n) (sym right.laid_out.size) (place_there (length lists.shelf.nodes.items) k table.vertices w there on_board)

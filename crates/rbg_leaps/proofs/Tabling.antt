@@ -1,5 +1,5 @@
 -- A table that is being made: what stays right when it grows.
-use Rattle.std.proofs.Common.{◌≡◌, ◌≢◌, ℕ, ◌+◌, ◌-◌, ◌*◌, ◌/◌, ◌<◌, ◌≤◌, ◌⊎◌, List, [], ◌∷◌, length, get_or, Bool, true, false, refl, sym, ap, ◌∙◌, subst, inl, inr, zero, suc, arith}
+use Rattle.std.proofs.Common.{◌≡◌, ◌≢◌, ℕ, ◌+◌, ◌-◌, ◌*◌, ◌/◌, ◌<◌, ◌≤◌, ◌⊎◌, List, length, get_or, Bool, true, false, refl, sym, ap, ◌∙◌, subst, inl, inr, zero, suc, arith}
 use Rattle.std.specs.Prelude.{All, Contains, IsTrue, slice_range, replicate}
 use Rattle.std.proofs.lemmas.List.{length-replicate}
 use Rattle.std.proofs.Math.ListN.{get_or-eq_default}
@@ -19,15 +19,9 @@ use Rattle.rbg_leaps.specs.Made.{no_entry, IsEntry}
 use Rattle.rbg_leaps.specs.internal.Shelves.{list_at, may_end_at, IsNodeOf, AreListsOf}
 use Rattle.rbg_leaps.specs.internal.Steps.{Comes, IsLeapBy, EndsBy}
 use Rattle.rbg_leaps.specs.internal.Tables.{entry_at, no_target, target_at, Tells, IsTargetOf, IsTargetBy, AreSound, AreSoundBy, TellsAt, IsSoundEntry, IsSoundTable, Keeps, Grows, IsGathered, Shares, IsFilled, IsClosed, StaysClosed, AreClosedFrom}
-use Rattle.rbg_leaps.proofs.Places.{below_or_not, same_or_not, one_place, part_item, part_long, part_short}
+use Rattle.rbg_leaps.proofs.Places.{any_default, below_or_not, same_or_not, one_place, part_item, part_long, part_short}
 use Rattle.rbg_leaps.proofs.Steppings.{leap_here, leap_on, ends_here, ends_on, all_told, all_ends_told}
 use Rattle.rbg_leaps.proofs.Targets.{keeps_none, keeps_same, keeps_more, sound_kept, sound_none}
-
--- What is in a list doesn't depend on the default.
-pub any_default : {X : Type 0} (xs : List X) (k : ℕ) (c d : X) → k < length xs → get_or xs k c ≡ get_or xs k d
-any_default [] k c d below = absurd (omega (arith, below))
-any_default (x ∷ xs) zero c d below = refl
-any_default (x ∷ xs) (suc k) c d below = any_default xs k c d (omega (arith, below))
 
 -- Each entry of a table is within as many targets as all of those that are there.
 pub entry_within : (size : ℕ) (t : Table) → All (IsWithin size) t.entries.items → (n v : ℕ) → IsWithin size (entry_at t n v)
@@ -217,11 +211,13 @@ asked_between game f v targets from to inside are all = record {
     listed : (i : ℕ) → from ≤ i → i < to → Contains (slice_range targets from to) (target_at targets i)
     listed i behind short =
         let at : from + (i - from) ≡ i = omega (arith, behind) in
-        let below : from + (i - from) < to = omega (arith, at, short) in
-        (i - from, part_long targets from to (i - from) inside below,
-        part_item targets from to (i - from) (target_at targets i) below
-        ∙ ap (λ (k : ℕ). get_or targets k (target_at targets i)) at
-        ∙ any_default targets i (target_at targets i) no_target (omega (arith, short, inside)))
+        let below : from + (i - from) < to = omega (arith, at, short) in (
+          i - from,
+          part_long targets from to (i - from) inside below,
+          part_item targets from to (i - from) (target_at targets i) below
+              ∙ ap (λ (k : ℕ). get_or targets k (target_at targets i)) at
+              ∙ any_default targets i (target_at targets i) no_target (omega (arith, short, inside)),
+        )
 
 -- Where nothing is missing, sound targets are exactly those of the leaps.
 module _ (game : AbstractGame) (numbered : IsNumbered game.rules) (lists : Lists) (are : AreListsOf game.rules lists) (table : Table) (filled : IsFilled game lists table) (f : Start) (n v : ℕ) (node : IsNodeOf game.rules lists.shelf f n) (below : v < length game.board.first) where

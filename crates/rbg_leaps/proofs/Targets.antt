@@ -1,16 +1,14 @@
 -- Targets: what their bits tell, and lists to which they are added.
 use native.Mathlib.Numerals.{unary_clauses}
-use Rattle.std.proofs.Common.{◌≡◌, ◌≢◌, ℕ, ◌+◌, ◌*◌, ◌/◌, ◌%◌, ◌^◌, ◌<◌, ◌≤◌, ◌⊎◌, List, [], ◌∷◌, ◌++◌, length, get_or, set, Bool, refl, sym, ap, ◌∙◌, subst, inl, inr, zero, suc, arith}
+use Rattle.std.proofs.Common.{◌≡◌, ◌≢◌, ℕ, ◌+◌, ◌*◌, ◌/◌, ◌%◌, ◌^◌, ◌<◌, ◌≤◌, ◌⊎◌, List, [], ◌∷◌, ◌++◌, length, set, Bool, refl, sym, ap, ◌∙◌, subst, inl, inr, zero, suc, arith}
 use Rattle.std.specs.Prelude.{bit_or, max}
 use Rattle.std.specs.Int.{bit_at, w64}
 use Rattle.std.proofs.lemmas.Nat.Bits.{bit_at-zero, bit_at_or, bit_at-lt, bit_at_set_same, bit_at_set_other}
 use Rattle.std.proofs.lemmas.List.{length-append, length-set, get_or-set_same, get_or-set_other, get_or_append_left, get_or_push}
 use Rattle.rbg_rules.specs.State.{AbstractGame}
-use Rattle.rbg_leaps.specs.declared.table.Entry.{Entry}
 use Rattle.rbg_leaps.specs.declared.target.Target.{Target}
 use Rattle.rbg_leaps.specs.Asked.{IsEndOf}
-use Rattle.rbg_leaps.specs.Entries.{end_of, IsWithin}
-use Rattle.rbg_leaps.specs.internal.Tables.{no_target, target_at, Tells, IsTargetOf, AreSound, IsTargetBy, AreSoundBy, Keeps, TellsStill, AddsTarget, AddsUpTo, AddsAll}
+use Rattle.rbg_leaps.specs.internal.Tables.{no_target, target_at, Tells, IsTargetOf, AreSound, IsTargetBy, AreSoundBy, Keeps, AddsTarget, AddsUpTo, AddsAll}
 use Rattle.rbg_leaps.proofs.Places.{same_or_not, LastPlace, before, last, last_place}
 
 -- A bit of two numbers joined is a bit of one of them.
@@ -155,12 +153,14 @@ sound_none Leap columns targets from to none = record { each = λ i behind short
 pub adds_pushed : (start : ℕ) (old : List Target) (t : Target) → start ≤ length old → AddsTarget start old (old ++ t ∷ []) t
 adds_pushed start old t inside = record {
   sound = λ game list may_end v are is. record { each = λ i behind short. sound_at game list may_end v are is i behind (last_place (length old) i (omega (arith, short, long))) };
-  kept = record { tells = λ j u told. record {
-    at = told.at;
-    behind = told.behind;
-    before = let short = told.before in omega (arith, short, long);
-    is = subst (λ (x : Target). IsEndOf x j u) (sym (item told.at told.before)) told.is;
-  } };
+  kept = record {
+    tells = λ j u told. record {
+      at = told.at;
+      behind = told.behind;
+      before = let short = told.before in omega (arith, short, long);
+      is = subst (λ (x : Target). IsEndOf x j u) (sym (item told.at told.before)) told.is;
+    };
+  };
   has = λ j u is. record {
     at = length old;
     behind = inside;
@@ -186,12 +186,14 @@ adds_pushed start old t inside = record {
 pub adds_joined : (start k : ℕ) (old : List Target) (t : Target) → start ≤ k → k < length old → (target_at old k).position ≡ t.position → (target_at old k).column ≡ t.column → AddsTarget start old (set old k (joined t (target_at old k).word)) t
 adds_joined start k old t from there position column = record {
   sound = λ game list may_end v are is. record { each = λ i behind short. sound_at game list may_end v are is i behind (below i short) (same_or_not i k) };
-  kept = record { tells = λ j u told. record {
-    at = told.at;
-    behind = told.behind;
-    before = let short = told.before in omega (arith, short, long);
-    is = still told.at j u (same_or_not told.at k) told.is;
-  } };
+  kept = record {
+    tells = λ j u told. record {
+      at = told.at;
+      behind = told.behind;
+      before = let short = told.before in omega (arith, short, long);
+      is = still told.at j u (same_or_not told.at k) told.is;
+    };
+  };
   has = λ j u is. record {
     at = k;
     behind = from;
@@ -232,35 +234,35 @@ adds_joined start k old t from there position column = record {
           column = is.column;
         })
 
--- Nothing was added of an entry yet, and then one target more.
-pub adds_none : (start : ℕ) (ts : List Target) (e : Entry) → AddsUpTo start ts ts e e.start
-adds_none start ts e = record {
+-- Nothing was added yet, and then one target more.
+pub adds_none : (start : ℕ) (ts : List Target) (from to place : ℕ) → place ≤ from → AddsUpTo start ts ts from to place
+adds_none start ts from to place none = record {
   keeps = keeps_none start ts;
-  sound = λ game list may_end v are of_entry. are;
+  sound = λ game list may_end v are others. are;
   kept = record { tells = λ j u told. told };
-  has = λ j u told. absurd (let behind = told.behind in let short = told.before in omega (arith, behind, short));
+  has = λ j u told. absurd (let behind = told.behind in let short = told.before in omega (arith, behind, short, none));
 }
 
-pub adds_one : (start k : ℕ) (old middle new : List Target) (e : Entry) → IsWithin start e → e.start ≤ k → k < end_of e → AddsUpTo start old middle e k → Keeps start middle new → AddsTarget start middle new (target_at middle k) → AddsUpTo start old new e (k + 1)
-adds_one start k old middle new e within starts ends adds keeps one = record {
+pub adds_one : (start k : ℕ) (old middle new : List Target) (from to : ℕ) → to ≤ start → from ≤ k → k < to → AddsUpTo start old middle from to k → Keeps start middle new → AddsTarget start middle new (target_at middle k) → AddsUpTo start old new from to (k + 1)
+adds_one start k old middle new from to inside starts ends adds keeps one = record {
   keeps = keeps_more start old middle new adds.keeps keeps;
-  sound = λ game list may_end v are of_entry.
-      one.sound game list may_end v (adds.sound game list may_end v are of_entry)
-      (subst (IsTargetBy game list may_end v) (sym same) (of_entry.each k starts ends));
+  sound = λ game list may_end v are others.
+      one.sound game list may_end v (adds.sound game list may_end v are others)
+      (subst (IsTargetBy game list may_end v) (sym same) (others.each k starts ends));
   kept = record { tells = λ j u told. one.kept.tells j u (adds.kept.tells j u told) };
   has = λ j u told. at j u told (last_place k told.at told.before);
 }
   where
     same : target_at middle k ≡ target_at old k
-    same = adds.keeps.same k (let inside = within.ends in omega (arith, ends, inside))
+    same = adds.keeps.same k (omega (arith, ends, inside))
 
-    at : (j u : ℕ) (told : Tells old e.start (k + 1) j u) → LastPlace k told.at → Tells new start (length new) j u
+    at : (j u : ℕ) (told : Tells old from (k + 1) j u) → LastPlace k told.at → Tells new start (length new) j u
     at j u told (before short) = one.kept.tells j u (adds.has j u (record { at = told.at; behind = told.behind; before = short; is = told.is }))
     at j u told (last here) = one.has j u (subst (λ (t : Target). IsEndOf t j u) (ap (target_at old) here ∙ sym same) told.is)
 
 -- All that is behind the end was added too.
-pub adds_all : (start : ℕ) (old new : List Target) (e : Entry) (place : ℕ) → end_of e ≤ place → AddsUpTo start old new e place → AddsAll start old new e
-adds_all start old new e place far adds = record {
+pub adds_all : (start : ℕ) (old new : List Target) (from to place : ℕ) → to ≤ place → AddsUpTo start old new from to place → AddsAll start old new from to
+adds_all start old new from to place far adds = record {
   keeps = adds.keeps;
   sound = adds.sound;
   kept = adds.kept;

@@ -1,5 +1,6 @@
 -- Definitions that the crate's own proofs use.
 pub mod Spans
 pub mod Steps
+pub mod Branches
 pub mod Shelves
 pub mod Tables

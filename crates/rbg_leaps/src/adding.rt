@@ -1,10 +1,8 @@
 //! Targets that are found and added in a list.
 ghost use Rattle.std.specs.Prelude.{◌≡◌, ℕ, ◌/◌, ◌<◌, ◌≤◌, length, IfSome, OnOk};
 ghost use Rattle.rbg_leaps.specs.Asked.{IsEndOf};
-ghost use Rattle.rbg_leaps.specs.Entries.{IsWithin};
 ghost use Rattle.rbg_leaps.specs.internal.Tables.{target_at, Keeps, AddsTarget, AddsAll};
 
-use crate::table::Entry;
 use crate::target::Target;
 use rbg_base::{Memory, Position, Vertex};
 
@@ -60,16 +58,20 @@ pub(crate) fn add(targets: &mut Vec<Target>, start: usize, target: Target) -> Re
     Ok(())
 }
 
-/// Adds all targets of an entry to those from a place on.
+/// Adds the targets between two places to those from a place on, which are all behind them.
 #[inline(always)]
-pub(crate) fn add_all(targets: &mut Vec<Target>, start: usize, entry: Entry) -> Result<(), Memory>
+pub(crate) fn add_all(
+    targets: &mut Vec<Target>,
+    start: usize,
+    from: usize,
+    to: usize,
+) -> Result<(), Memory>
     requires start { start ≤ length targets.old.items }
-    requires within { IsWithin start entry }
+    requires before { to ≤ start }
     ensures keeps { Keeps start targets.old.items targets.new.items }
-    ensures adds { OnOk result (AddsAll start targets.old.items targets.new.items entry) }
+    ensures adds { OnOk result (AddsAll start targets.old.items targets.new.items from to) }
 {
-    let first = entry.start as usize;
-    for index in first..first + entry.many as usize {
+    for index in from..to {
         let target = targets[index];
         add(targets, start, target)?;
     }

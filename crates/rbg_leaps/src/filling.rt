@@ -1,18 +1,20 @@
 //! A first pass over all nodes, each after those to which its shifts lead.
-ghost use Rattle.std.specs.Prelude.{◌≡◌, ◌≢◌, ℕ, ◌<◌, ◌≤◌, length, true, false, Contains, IfOk, OnOk, IfSome, IsTrue, slice_index_or};
+ghost use Rattle.std.specs.Prelude.{◌≡◌, ◌≢◌, ℕ, ◌<◌, ◌≤◌, length, true, false, Contains, Some, IfOk, OnOk, IfSome, IsTrue, slice_index_or};
 ghost use Rattle.rbg_rules.specs.Games.{IsGame};
 ghost use Rattle.rbg_leaps.specs.Entries.{IsWithin};
 ghost use Rattle.rbg_leaps.specs.Leaps.{IsShiftAt};
-ghost use Rattle.rbg_leaps.specs.internal.Shelves.{AreListsOf, list_at, may_end_at};
+ghost use Rattle.rbg_leaps.specs.internal.Shelves.{AreListsOf, branches_at, list_at, may_end_at};
+ghost use Rattle.rbg_leaps.specs.internal.Branches.{IsBranch};
 ghost use Rattle.rbg_leaps.specs.internal.Steps.{Comes, IsOnly};
 ghost use Rattle.rbg_leaps.specs.internal.Tables.{IsSoundEntry, IsRightSoFar, IsToldAt, FillsOne, FillsUpTo, FillsRightly, FillsDownTo, StepsBack, StepsForth, LeadsAway, LeadsBack, LeadsForth, LeadsOneWay, LeadsToMarked, IsMarked, AreClosedAt, AreFilled};
 
 use crate::adding::unit;
+use crate::branches::Branch;
 use crate::gathering::gather;
 use crate::ground::Ground;
 use crate::lists::Lists;
 use crate::table::{Entry, Table};
-use rbg_base::{Memory, Position, Vertex};
+use rbg_base::{Direction, Memory, Position, Vertex};
 use std::alloc::Global;
 
 /// Puts what one step leads to into the entry of a node and a vertex.
@@ -22,13 +24,13 @@ fn fill_one(
     lists: &Lists,
     ground: &Ground<'_>,
     node: usize,
-    list: &[Position],
+    list: &[Branch],
     may_end: bool,
     vertex: Vertex,
 ) -> Result<(), Memory>
     requires right { IsRightSoFar ground.now lists.now table.old }
     requires node { node < length lists.now.shelf.nodes.items }
-    requires list { list.now ≡ list_at lists.now.shelf node }
+    requires list { list.now ≡ branches_at lists.now node }
     requires may_end { may_end ≡ may_end_at lists.now.shelf node }
     requires vertex { vertex < length ground.now.board.first }
     ensures { OnOk result (FillsOne ground.now lists.now table.old table.new node vertex) }
@@ -48,29 +50,29 @@ fn entry_behind(
     ground: &Ground<'_>,
     node: usize,
     vertex: Vertex,
-    position: Position,
-    after: usize,
+    branch: &Branch,
+    direction: Direction,
     may_end: bool,
 ) -> Entry
     requires right { IsRightSoFar ground.now lists.now table.now }
-    requires after { after ≡ slice_index_or lists.now.afters.items position 0 }
+    requires branch { IsBranch ground.now.rules lists.now.afters.items branch.now.position branch.now }
+    requires direction { branch.now.direction ≡ Some direction }
     requires may_end { may_end ≡ may_end_at lists.now.shelf node }
     requires vertex { vertex < length ground.now.board.first }
-    requires listed { Contains (list_at lists.now.shelf node) position }
-    requires shift { IsShiftAt ground.now.rules position }
+    requires listed { Contains (list_at lists.now.shelf node) branch.now.position }
     ensures within { IsWithin (length table.now.targets.items) result }
     ensures sound { IsSoundEntry ground.now (list_at lists.now.shelf node) (may_end_at lists.now.shelf node) vertex table.now result }
-    ensures told { IsToldAt ground.now lists.now table.now result vertex position }
+    ensures told { IsToldAt ground.now lists.now table.now result vertex branch.now.position }
     ensures ends { IsTrue (may_end_at lists.now.shelf node) → IsTrue result.ends }
 {
-    let Some(to) = ground.to(vertex, position) else {
+    let Some(to) = ground.step(vertex, direction) else {
         return Entry {
             start: 0,
             many: 0,
             ends: may_end,
         };
     };
-    let behind = table.entry_there(after, to);
+    let behind = table.entry_there(branch.after, to);
     let ends = behind.ends || may_end;
     Entry {
         start: behind.start,
@@ -87,28 +89,33 @@ fn share_one(
     ground: &Ground<'_>,
     node: usize,
     vertex: Vertex,
-    position: Position,
-    after: usize,
+    branch: &Branch,
+    direction: Direction,
     may_end: bool,
 )
     requires right { IsRightSoFar ground.now lists.now table.old }
     requires node { node < length lists.now.shelf.nodes.items }
     requires vertex { vertex < length ground.now.board.first }
-    requires only { IsOnly (list_at lists.now.shelf node) position }
-    requires shift { IsShiftAt ground.now.rules position }
-    requires after { after ≡ slice_index_or lists.now.afters.items position 0 }
+    requires only { IsOnly (list_at lists.now.shelf node) branch.now.position }
+    requires branch { IsBranch ground.now.rules lists.now.afters.items branch.now.position branch.now }
+    requires direction { branch.now.direction ≡ Some direction }
     requires may_end { may_end ≡ may_end_at lists.now.shelf node }
     ensures { FillsOne ground.now lists.now table.old table.new node vertex }
 {
-    let entry = entry_behind(table, lists, ground, node, vertex, position, after, may_end);
+    let entry = entry_behind(
+        table, lists, ground, node, vertex, branch, direction, may_end,
+    );
     table.share(node, vertex, entry);
 }
 
-/// The position that a node's list has alone.
-fn only_of(lists: &Lists, node: usize) -> Option<Position>
-    ensures { IfSome result (IsOnly (list_at lists.now.shelf node)) }
+/// The branch that a node's list has alone.
+fn only_of(lists: &Lists, ground: &Ground<'_>, node: usize) -> Option<Branch>
+    requires lists { AreListsOf ground.now.rules lists.now }
+    requires node { node < length lists.now.shelf.nodes.items }
+    ensures only { IfSome result (λ b. IsOnly (list_at lists.now.shelf node) b.position) }
+    ensures branch { IfSome result (λ b. IsBranch ground.now.rules lists.now.afters.items b.position b) }
 {
-    let list = lists.shelf.list(node);
+    let list = lists.branches(node);
     if list.len() == 1 { Some(list[0]) } else { None }
 }
 
@@ -118,15 +125,16 @@ fn share_node(
     lists: &Lists,
     ground: &Ground<'_>,
     node: usize,
-    position: Position,
+    branch: &Branch,
+    direction: Direction,
 )
     requires right { IsRightSoFar ground.now lists.now table.old }
     requires node { node < length lists.now.shelf.nodes.items }
-    requires only { IsOnly (list_at lists.now.shelf node) position }
-    requires shift { IsShiftAt ground.now.rules position }
+    requires only { IsOnly (list_at lists.now.shelf node) branch.now.position }
+    requires branch { IsBranch ground.now.rules lists.now.afters.items branch.now.position branch.now }
+    requires direction { branch.now.direction ≡ Some direction }
     ensures { FillsUpTo ground.now lists.now table.old table.new node (length ground.now.board.first) }
 {
-    let after = lists.after(position);
     let may_end = lists.shelf.may_end(node);
     for vertex in 0..ground.vertices() {
         share_one(
@@ -135,8 +143,8 @@ fn share_node(
             ground,
             node,
             vertex as Vertex,
-            position,
-            after,
+            branch,
+            direction,
             may_end,
         );
     }
@@ -207,18 +215,10 @@ fn fill_forwards(
     requires node { node < length lists.now.shelf.nodes.items }
     ensures { OnOk result (FillsUpTo ground.now lists.now table.old table.new node (length ground.now.board.first)) }
 {
-    let list = lists.shelf.list(node);
+    let list = lists.branches(node);
     let may_end = lists.shelf.may_end(node);
     for vertex in 0..ground.vertices() {
-        fill_one(
-            table,
-            lists,
-            ground,
-            node,
-            list,
-            may_end,
-            vertex as Vertex,
-        )?;
+        fill_one(table, lists, ground, node, list, may_end, vertex as Vertex)?;
     }
     Ok(())
 }
@@ -235,7 +235,7 @@ fn fill_backwards(
     requires node { node < length lists.now.shelf.nodes.items }
     ensures { OnOk result (FillsDownTo ground.now lists.now table.old table.new node (length ground.now.board.first)) }
 {
-    let list = lists.shelf.list(node);
+    let list = lists.branches(node);
     let may_end = lists.shelf.may_end(node);
     let vertices = ground.vertices();
     for index in 0..vertices {
@@ -256,14 +256,13 @@ fn fill_once(
     requires node { node < length lists.now.shelf.nodes.items }
     ensures { OnOk result (FillsUpTo ground.now lists.now table.old table.new node (length ground.now.board.first)) }
 {
-    let Some(position) = only_of(lists, node) else {
+    let Some(branch) = only_of(lists, ground, node) else {
         return fill_forwards(table, lists, ground, node);
     };
-    if ground.is_shift(position) {
-        share_node(table, lists, ground, node, position);
-        return Ok(());
-    }
-    place_node(table, lists, ground, node, position)?;
+    let Some(direction) = branch.direction else {
+        return place_node(table, lists, ground, node, branch.position);
+    };
+    share_node(table, lists, ground, node, &branch, direction);
     Ok(())
 }
 

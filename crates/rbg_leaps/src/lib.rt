@@ -3,6 +3,7 @@
 
 mod adding;
 mod asking;
+mod branches;
 mod closing;
 mod entries;
 mod filling;

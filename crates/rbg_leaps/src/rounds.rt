@@ -13,12 +13,7 @@ use rbg_base::Memory;
 use std::alloc::{AllocError, Global};
 
 /// Fills the entries of a node where anything is missing in them. Returns whether anything was.
-fn mend(
-    table: &mut Table,
-    lists: &Lists,
-    ground: &Ground<'_>,
-    node: usize,
-) -> Result<bool, Memory>
+fn mend(table: &mut Table, lists: &Lists, ground: &Ground<'_>, node: usize) -> Result<bool, Memory>
     requires right { IsRightSoFar ground.now lists.now table.old }
     requires node { node < length lists.now.shelf.nodes.items }
     ensures fills { OnOk result (FillsRightly ground.now lists.now table.old table.new node) }
@@ -33,11 +28,7 @@ fn mend(
 }
 
 /// Mends the entries of all nodes, those that come late in the rules first. Returns whether anything was missing.
-fn round(
-    table: &mut Table,
-    lists: &Lists,
-    ground: &Ground<'_>,
-) -> Result<bool, Memory>
+fn round(table: &mut Table, lists: &Lists, ground: &Ground<'_>) -> Result<bool, Memory>
     requires right { IsRightSoFar ground.now lists.now table.old }
     ensures sound { OnOk result (IsSoundTable ground.now lists.now table.new) }
     ensures closed { IfOk result (λ missing. missing ≡ false → AreAllClosed ground.now lists.now table.new) }

@@ -104,14 +104,14 @@ impl Table {
         }
     }
 
-    /// The entry of a node and a vertex, which is there.
+    /// The entry of a node and a vertex, which is there. It is lent: a copy is one word, out of which each part would be cut.
     #[inline(always)]
-    pub(crate) fn entry_there(&self, node: usize, vertex: Vertex) -> Entry
+    pub(crate) fn entry_there(&self, node: usize, vertex: Vertex) -> &Entry
         requires { node * self.now.vertices + vertex < length self.now.entries.items }
-        ensures entry { result ≡ entry_at self.now node vertex }
-        ensures within { (size : ℕ) → All (IsWithin size) self.now.entries.items → IsWithin size result }
+        ensures entry { result.now ≡ entry_at self.now node vertex }
+        ensures within { (size : ℕ) → All (IsWithin size) self.now.entries.items → IsWithin size result.now }
     {
-        self.entries[node * self.vertices + vertex as usize]
+        &self.entries[node * self.vertices + vertex as usize]
     }
 
     /// Puts an entry of a node and a vertex in its place, with targets that are there.
@@ -164,14 +164,14 @@ impl Table {
         add(&mut self.targets, start, target)
     }
 
-    /// Adds all targets of an entry to those from a place on.
+    /// Adds the targets between two places to those from a place on.
     #[inline(always)]
-    pub(crate) fn add_all(&mut self, start: usize, entry: Entry) -> Result<(), Memory>
+    pub(crate) fn add_all(&mut self, start: usize, from: usize, to: usize) -> Result<(), Memory>
         requires start { start ≤ length self.old.targets.items }
-        requires within { IsWithin start entry }
+        requires before { to ≤ start }
         ensures grows { OnOk result (Grows start self.old self.new) }
-        ensures adds { OnOk result (AddsAll start self.old.targets.items self.new.targets.items entry) }
+        ensures adds { OnOk result (AddsAll start self.old.targets.items self.new.targets.items from to) }
     {
-        add_all(&mut self.targets, start, entry)
+        add_all(&mut self.targets, start, from, to)
     }
 }

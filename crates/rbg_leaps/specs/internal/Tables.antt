@@ -163,20 +163,20 @@ pub record AddsTarget (start : ℕ) (old new : List Target) (t : Target) : Type 
   pub kept : TellsStill start old new
   pub has : (j u : ℕ) → IsEndOf t j u → Tells new start (length new) j u
 
--- The targets of an entry, up to a place, were added to those from `start` on.
-pub record AddsUpTo (start : ℕ) (old new : List Target) (e : Entry) (place : ℕ) : Type 0 where
+-- The targets between two places were added to those from `start` on, up to a place.
+pub record AddsUpTo (start : ℕ) (old new : List Target) (from to place : ℕ) : Type 0 where
   pub keeps : Keeps start old new
   pub sound :
       (game : AbstractGame) (list : List ℕ) (may_end : Bool) (v : ℕ) →
       AreSoundBy game list may_end v old start (length old) →
-      AreSoundBy game list may_end v old e.start (end_of e) →
+      AreSoundBy game list may_end v old from to →
       AreSoundBy game list may_end v new start (length new)
   pub kept : TellsStill start old new
-  pub has : (j u : ℕ) → Tells old e.start place j u → Tells new start (length new) j u
+  pub has : (j u : ℕ) → Tells old from place j u → Tells new start (length new) j u
 
 -- All of them were added.
-abbrev pub AddsAll : (start : ℕ) → (old new : List Target) → Entry → Type 0
-AddsAll start old new e = AddsUpTo start old new e (end_of e)
+abbrev pub AddsAll : (start : ℕ) → (old new : List Target) → (from to : ℕ) → Type 0
+AddsAll start old new from to = AddsUpTo start old new from to to
 
 -- No shift of the node's list leads to the node again.
 abbrev pub LeadsAway : AbstractGame → Lists → (n : ℕ) → Type 0

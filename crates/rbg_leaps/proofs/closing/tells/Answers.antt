@@ -1,8 +1,7 @@
-use Rattle.std.proofs.Common.{◌≡◌, ◌<◌, ◌∙◌, ℕ, List, length, bit_or, sym, ap, subst, arith, rules}
-use Rattle.std.specs.Prelude.{IsTrue}
+use Rattle.std.proofs.Common.{◌≡◌, ◌<◌, ◌∙◌, ℕ, List, length, bit_or, sym, ap, arith, rules}
 use Rattle.rbg_leaps.specs.declared.target.Target.{Target}
 use Rattle.rbg_leaps.specs.internal.Tables.{no_target, target_at}
-use Rattle.rbg_leaps.proofs.Tabling.{any_default}
+use Rattle.rbg_leaps.proofs.Places.{any_default}
 use Rattle.rbg_leaps.proofs.Targets.{under_target}
 use Rattle.rbg_leaps.proofs.closing.tells.Goals as goal
 

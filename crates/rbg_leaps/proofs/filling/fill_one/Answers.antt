@@ -1,4 +1,4 @@
-use Rattle.std.proofs.Common.{◌≡◌, ◌∙◌, ℕ, length}
+use Rattle.std.proofs.Common.{◌≡◌, ◌∙◌, length}
 use Rattle.rbg_leaps.proofs.Fillings.{one_filled}
 use Rattle.rbg_leaps.proofs.filling.fill_one.Goals as goal
 

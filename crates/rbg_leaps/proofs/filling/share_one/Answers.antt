@@ -18,4 +18,4 @@ returns c =
     let entry = c.entry_behind-entry.result in
     let inside : c.args.vertex < old.vertices = subst (λ (n : ℕ). c.args.vertex < n) (sym sound.laid_out.vertices) c.requires.vertex in
     one_put c.args.ground.now c.args.lists.now old old c.share.new.self c.args.node c.args.vertex entry inside (grows_none (length old.targets.items) old) c.share.ensures sound c.entry_behind-entry.ensures.sound
-    (whole_of_one c.args.ground.now c.args.lists.now old c.args.node c.args.vertex c.args.position entry.start (end_of entry) entry.ends c.requires.only c.entry_behind-entry.ensures.ends c.entry_behind-entry.ensures.told)
+    (whole_of_one c.args.ground.now c.args.lists.now old c.args.node c.args.vertex c.args.branch.now.position entry.start (end_of entry) entry.ends c.requires.only c.entry_behind-entry.ensures.ends c.entry_behind-entry.ensures.told)
