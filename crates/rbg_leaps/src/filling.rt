@@ -1,12 +1,11 @@
 //! A first pass over all nodes, each after those to which its shifts lead.
 ghost use Rattle.std.specs.Prelude.{◌≡◌, ◌≢◌, ℕ, ◌<◌, ◌≤◌, length, true, false, Contains, Some, IfOk, OnOk, IfSome, IsTrue, slice_index_or};
-ghost use Rattle.rbg_rules.specs.Games.{IsGame};
 ghost use Rattle.rbg_leaps.specs.Entries.{IsWithin};
 ghost use Rattle.rbg_leaps.specs.Leaps.{IsShiftAt};
 ghost use Rattle.rbg_leaps.specs.internal.Shelves.{AreListsOf, branches_at, list_at, may_end_at};
 ghost use Rattle.rbg_leaps.specs.internal.Branches.{IsBranch};
 ghost use Rattle.rbg_leaps.specs.internal.Steps.{Comes, IsOnly};
-ghost use Rattle.rbg_leaps.specs.internal.Tables.{IsSoundEntry, IsRightSoFar, IsToldAt, FillsOne, FillsUpTo, FillsRightly, FillsDownTo, StepsBack, StepsForth, LeadsAway, LeadsBack, LeadsForth, LeadsOneWay, LeadsToMarked, IsMarked, AreClosedAt, AreFilled};
+ghost use Rattle.rbg_leaps.specs.internal.Tables.{IsSoundEntry, IsRightAt, IsRightSoFar, IsToldAt, FillsOne, FillsUpTo, FillsRightly, FillsDownTo, StepsBack, StepsForth, LeadsAway, LeadsBack, LeadsForth, LeadsOneWay, LeadsToMarked, IsMarked, AreClosedAt, AreFilled, AreFilledSoFar};
 
 use crate::adding::unit;
 use crate::branches::Branch;
@@ -28,8 +27,7 @@ fn fill_one(
     may_end: bool,
     vertex: Vertex,
 ) -> Result<(), Memory>
-    requires right { IsRightSoFar ground.now lists.now table.old }
-    requires node { node < length lists.now.shelf.nodes.items }
+    requires at { IsRightAt ground.now lists.now table.old node }
     requires list { list.now ≡ branches_at lists.now node }
     requires may_end { may_end ≡ may_end_at lists.now.shelf node }
     requires vertex { vertex < length ground.now.board.first }
@@ -93,8 +91,7 @@ fn share_one(
     direction: Direction,
     may_end: bool,
 )
-    requires right { IsRightSoFar ground.now lists.now table.old }
-    requires node { node < length lists.now.shelf.nodes.items }
+    requires at { IsRightAt ground.now lists.now table.old node }
     requires vertex { vertex < length ground.now.board.first }
     requires only { IsOnly (list_at lists.now.shelf node) branch.now.position }
     requires branch { IsBranch ground.now.rules lists.now.afters.items branch.now.position branch.now }
@@ -128,8 +125,7 @@ fn share_node(
     branch: &Branch,
     direction: Direction,
 )
-    requires right { IsRightSoFar ground.now lists.now table.old }
-    requires node { node < length lists.now.shelf.nodes.items }
+    requires at { IsRightAt ground.now lists.now table.old node }
     requires only { IsOnly (list_at lists.now.shelf node) branch.now.position }
     requires branch { IsBranch ground.now.rules lists.now.afters.items branch.now.position branch.now }
     requires direction { branch.now.direction ≡ Some direction }
@@ -161,8 +157,7 @@ fn place_one(
     position: Position,
     may_end: bool,
 ) -> Result<(), Memory>
-    requires right { IsRightSoFar ground.now lists.now table.old }
-    requires node { node < length lists.now.shelf.nodes.items }
+    requires at { IsRightAt ground.now lists.now table.old node }
     requires vertex { vertex < length ground.now.board.first }
     requires only { IsOnly (list_at lists.now.shelf node) position }
     requires plain { ¬ IsShiftAt ground.now.rules position }
@@ -183,8 +178,7 @@ fn place_node(
     node: usize,
     position: Position,
 ) -> Result<(), Memory>
-    requires right { IsRightSoFar ground.now lists.now table.old }
-    requires node { node < length lists.now.shelf.nodes.items }
+    requires at { IsRightAt ground.now lists.now table.old node }
     requires only { IsOnly (list_at lists.now.shelf node) position }
     requires plain { ¬ IsShiftAt ground.now.rules position }
     ensures { OnOk result (FillsUpTo ground.now lists.now table.old table.new node (length ground.now.board.first)) }
@@ -211,8 +205,7 @@ fn fill_forwards(
     ground: &Ground<'_>,
     node: usize,
 ) -> Result<(), Memory>
-    requires right { IsRightSoFar ground.now lists.now table.old }
-    requires node { node < length lists.now.shelf.nodes.items }
+    requires { IsRightAt ground.now lists.now table.old node }
     ensures { OnOk result (FillsUpTo ground.now lists.now table.old table.new node (length ground.now.board.first)) }
 {
     let list = lists.branches(node);
@@ -231,8 +224,7 @@ fn fill_backwards(
     ground: &Ground<'_>,
     node: usize,
 ) -> Result<(), Memory>
-    requires right { IsRightSoFar ground.now lists.now table.old }
-    requires node { node < length lists.now.shelf.nodes.items }
+    requires { IsRightAt ground.now lists.now table.old node }
     ensures { OnOk result (FillsDownTo ground.now lists.now table.old table.new node (length ground.now.board.first)) }
 {
     let list = lists.branches(node);
@@ -252,8 +244,7 @@ fn fill_once(
     ground: &Ground<'_>,
     node: usize,
 ) -> Result<(), Memory>
-    requires right { IsRightSoFar ground.now lists.now table.old }
-    requires node { node < length lists.now.shelf.nodes.items }
+    requires { IsRightAt ground.now lists.now table.old node }
     ensures { OnOk result (FillsUpTo ground.now lists.now table.old table.new node (length ground.now.board.first)) }
 {
     let Some(branch) = only_of(lists, ground, node) else {
@@ -335,8 +326,7 @@ pub(crate) fn fill_again(
     ground: &Ground<'_>,
     node: usize,
 ) -> Result<(), Memory>
-    requires right { IsRightSoFar ground.now lists.now table.old }
-    requires node { node < length lists.now.shelf.nodes.items }
+    requires { IsRightAt ground.now lists.now table.old node }
     ensures fills { OnOk result (FillsRightly ground.now lists.now table.old table.new node) }
     ensures closed { OnOk result (LeadsOneWay ground.now lists.now node → AreClosedAt ground.now lists.now table.new node) }
 {
@@ -360,8 +350,7 @@ pub(crate) fn is_marked(marks: &[bool], node: usize) -> bool
 
 /// Whether no shift of a node's list leads to the node again.
 fn leads_away(lists: &Lists, ground: &Ground<'_>, node: usize) -> bool
-    ensures away { IsTrue result → LeadsAway ground.now lists.now node }
-    ensures again { LeadsAway ground.now lists.now node → IsTrue result }
+    ensures { IsTrue result → LeadsAway ground.now lists.now node }
 {
     for listed in lists.shelf.list(node) {
         if ground.is_shift(*listed) && lists.after(*listed) == node {
@@ -397,8 +386,7 @@ fn fill_node(
     ground: &Ground<'_>,
     node: usize,
 ) -> Result<(), Memory>
-    requires right { IsRightSoFar ground.now lists.now table.old }
-    requires node { node < length lists.now.shelf.nodes.items }
+    requires { IsRightAt ground.now lists.now table.old node }
     ensures fills { OnOk result (FillsRightly ground.now lists.now table.old table.new node) }
     ensures closed { OnOk result (LeadsOneWay ground.now lists.now node → AreClosedAt ground.now lists.now table.new node) }
 {
@@ -418,9 +406,7 @@ fn fill_next(
     filled: &mut [bool],
     node: usize,
 ) -> Result<bool, Memory>
-    requires lawful { IsGame ground.now }
-    requires lists { AreListsOf ground.now.rules lists.now }
-    requires filled { AreFilled ground.now lists.now table.old filled.old }
+    requires so_far { AreFilledSoFar ground.now lists.now table.old filled.old }
     requires node { node < length lists.now.shelf.nodes.items }
     requires there { node < length filled.old }
     ensures size { length filled.new ≡ length filled.old }
@@ -441,9 +427,7 @@ fn fill_ready(
     ground: &Ground<'_>,
     filled: &mut [bool],
 ) -> Result<bool, Memory>
-    requires lawful { IsGame ground.now }
-    requires lists { AreListsOf ground.now.rules lists.now }
-    requires filled { AreFilled ground.now lists.now table.old filled.old }
+    requires so_far { AreFilledSoFar ground.now lists.now table.old filled.old }
     requires size { length filled.old ≡ length lists.now.shelf.nodes.items }
     ensures size { length filled.new ≡ length filled.old }
     ensures filled { OnOk result (AreFilled ground.now lists.now table.new filled.new) }

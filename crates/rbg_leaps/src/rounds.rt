@@ -2,7 +2,7 @@
 ghost use Rattle.std.specs.Prelude.{◌≡◌, ◌<◌, length, false, IfOk, OnOk, IsTrue};
 ghost use Rattle.rbg_rules.specs.Games.{IsGame};
 ghost use Rattle.rbg_leaps.specs.internal.Shelves.{AreListsOf};
-ghost use Rattle.rbg_leaps.specs.internal.Tables.{IsSoundTable, IsRightSoFar, StaysClosed, AreClosedAt, AreAllClosed, LeadsOneWay, IsFilled, FillsRightly, AreFilled};
+ghost use Rattle.rbg_leaps.specs.internal.Tables.{IsSoundTable, IsRightAt, IsRightSoFar, StaysClosed, AreClosedAt, AreAllClosed, LeadsOneWay, IsFilled, FillsRightly, AreFilled, AreFilledSoFar};
 
 use crate::closing::is_closed;
 use crate::filling::{fill_again, fill_in_order, is_marked, repeats};
@@ -14,8 +14,7 @@ use std::alloc::{AllocError, Global};
 
 /// Fills the entries of a node where anything is missing in them. Returns whether anything was.
 fn mend(table: &mut Table, lists: &Lists, ground: &Ground<'_>, node: usize) -> Result<bool, Memory>
-    requires right { IsRightSoFar ground.now lists.now table.old }
-    requires node { node < length lists.now.shelf.nodes.items }
+    requires { IsRightAt ground.now lists.now table.old node }
     ensures fills { OnOk result (FillsRightly ground.now lists.now table.old table.new node) }
     ensures closed { IfOk result (λ missing. missing ≡ false
         → StaysClosed ground.now lists.now table.old table.new node) }
@@ -51,9 +50,7 @@ fn mend_other(
     filled: &[bool],
     node: usize,
 ) -> Result<bool, Memory>
-    requires lawful { IsGame ground.now }
-    requires lists { AreListsOf ground.now.rules lists.now }
-    requires filled { AreFilled ground.now lists.now table.old filled.now }
+    requires so_far { AreFilledSoFar ground.now lists.now table.old filled.now }
     requires node { node < length lists.now.shelf.nodes.items }
     ensures { OnOk result (AreFilled ground.now lists.now table.new filled.now) }
 {
@@ -71,9 +68,7 @@ fn mend_others(
     ground: &Ground<'_>,
     filled: &[bool],
 ) -> Result<bool, Memory>
-    requires lawful { IsGame ground.now }
-    requires lists { AreListsOf ground.now.rules lists.now }
-    requires filled { AreFilled ground.now lists.now table.old filled.now }
+    requires { AreFilledSoFar ground.now lists.now table.old filled.now }
     ensures { OnOk result (AreFilled ground.now lists.now table.new filled.now) }
 {
     let nodes = lists.shelf.nodes.len();
@@ -92,9 +87,7 @@ fn mend_until_still(
     ground: &Ground<'_>,
     filled: &[bool],
 ) -> Result<(), Memory>
-    requires lawful { IsGame ground.now }
-    requires lists { AreListsOf ground.now.rules lists.now }
-    requires filled { AreFilled ground.now lists.now table.old filled.now }
+    requires { AreFilledSoFar ground.now lists.now table.old filled.now }
     ensures { OnOk result (AreFilled ground.now lists.now table.new filled.now) }
 {
     for _ in 0..u64::MAX {

@@ -79,6 +79,11 @@ IsRightSoFar game lists table = record {
   sound : IsSoundTable game lists table;
 }
 
+-- .. and this is one of the nodes.
+pub record IsRightAt (game : AbstractGame) (lists : Lists) (table : Table) (n : ℕ) : Type 0 where
+  pub right : IsRightSoFar game lists table
+  pub node : n < length lists.shelf.nodes.items
+
 -- What an entry tells, the targets between two places tell, and also whether a word may end.
 pub record IsUnder (table : Table) (one : Entry) (from to : ℕ) (may_end : Bool) : Type 0 where
   pub tells : (j u : ℕ) → TellsAt table one j u → Tells table.targets.items from to j u
@@ -256,6 +261,12 @@ pub record AreFilled (game : AbstractGame) (lists : Lists) (table : Table) (mark
   pub closed :
       (n v : ℕ) → IsMarked marks n → LeadsOneWay game lists n → v < length game.board.first →
       IsClosed game lists table n v
+
+-- .. in the table of a game, with the nodes of its rules.
+pub record AreFilledSoFar (game : AbstractGame) (lists : Lists) (table : Table) (marks : List Bool) : Type 0 where
+  pub lawful : IsGame game
+  pub nodes : AreListsOf game.rules lists
+  pub filled : AreFilled game lists table marks
 
 -- The entries of a node tell of what one step by position p leads to, at each vertex.
 abbrev pub IsToldEverywhere : AbstractGame → Lists → Table → (n p : ℕ) → Type 0

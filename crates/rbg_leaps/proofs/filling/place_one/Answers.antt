@@ -22,7 +22,7 @@ returns c =
     let unit = c.unit.ensures in
     let adds = c.in_ok-add.ensures.adds in
     one_filled game lists old middle c.put.new.self start c.args.node c.args.vertex c.args.may_end
-    at_end c.requires.vertex c.requires.right.sound c.in_ok-add.ensures.grows c.in_ok-put.ensures
+    at_end c.requires.vertex c.requires.at.right.sound c.in_ok-add.ensures.grows c.in_ok-put.ensures
     (adds.sound game list may_end c.args.vertex (sound_none (IsLeapBy game list may_end c.args.vertex) (row_words game) old.targets.items start (length old.targets.items) (omega (arith, at_end)))
     (unit_sound game list may_end c.args.vertex c.args.position c.unit.result c.requires.vertex (only_listed list c.args.position c.requires.only) c.requires.plain unit.has unit.position unit.vertex unit.column))
     (λ is. ends_here game list may_end c.args.vertex (subst IsTrue c.requires.may_end is))

@@ -6,14 +6,14 @@ use Rattle.rbg_leaps.proofs.filling.share_one.Goals as goal
 
 pub share-requires-clause-there : goal.share-requires-clause-there
 share-requires-clause-there c =
-    let laid_out = c.requires.right.sound.laid_out in
+    let laid_out = c.requires.at.right.sound.laid_out in
     let many : ℕ = c.args.table.now.vertices in
     let inside : c.args.vertex < many = subst (λ (n : ℕ). c.args.vertex < n) (sym laid_out.vertices) c.requires.vertex in
-    subst (λ (n : ℕ). c.args.node * many + c.args.vertex < n) (sym laid_out.size) (place_there (length c.args.lists.now.shelf.nodes.items) c.args.node many c.args.vertex c.requires.node inside)
+    subst (λ (n : ℕ). c.args.node * many + c.args.vertex < n) (sym laid_out.size) (place_there (length c.args.lists.now.shelf.nodes.items) c.args.node many c.args.vertex c.requires.at.node inside)
 
 pub returns : goal.returns
 returns c =
-    let sound = c.requires.right.sound in
+    let sound = c.requires.at.right.sound in
     let old = c.args.table.now in
     let entry = c.entry_behind-entry.result in
     let inside : c.args.vertex < old.vertices = subst (λ (n : ℕ). c.args.vertex < n) (sym sound.laid_out.vertices) c.requires.vertex in
