@@ -145,12 +145,11 @@ impl Table {
         if start > u32::MAX as usize || many > u16::MAX as usize {
             return Err(AllocError);
         }
-        let entry = Entry {
-            start: start as u32,
-            many: many as u16,
-            ends,
-        };
-        self.share(node, vertex, entry);
+        let place = node * self.vertices + vertex as usize;
+        let entry = &mut self.entries[place];
+        entry.start = start as u32;
+        entry.many = many as u16;
+        entry.ends = ends;
         Ok(())
     }
 
