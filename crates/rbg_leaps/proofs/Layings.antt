@@ -22,13 +22,11 @@ use Rattle.rbg_leaps.specs.Entries.{IsWithin}
 use Rattle.rbg_leaps.specs.Made.{no_entry, entry_in, entry_of, IsEntry, AreLeapsOf}
 use Rattle.rbg_leaps.specs.Origin.{start_of}
 use Rattle.rbg_leaps.specs.internal.Shelves.{IsNodeOf, AreListsOf, origin_node}
-use Rattle.rbg_leaps.specs.internal.Packing.{IsPacked}
-use Rattle.rbg_leaps.specs.internal.Tables.{entry_at, AreLaid, IsFilled}
-use Rattle.rbg_leaps.proofs.Packings.{packed_entry}
-use Rattle.rbg_leaps.proofs.RowLemmas.{same_item, LastPlace, before, last, last_place}
+use Rattle.rbg_leaps.specs.internal.Tables.{AreLaid, IsFilled}
+use Rattle.rbg_leaps.proofs.Places.{part_item, same_item, LastPlace, before, last, last_place}
 use Rattle.rbg_leaps.proofs.Shelving.{node_there}
 use Rattle.rbg_leaps.proofs.ShiftLemmas.{action_within}
-use Rattle.rbg_leaps.proofs.Tabling.{part_item, place_there, filled_entry}
+use Rattle.rbg_leaps.proofs.Tabling.{place_there, filled_entry}
 
 -- No node yet,
 pub laid_none : (vertices : ℕ) (all : List Entry) → AreLaid vertices all [] []
@@ -80,10 +78,9 @@ laid_more vertices all nodes entries n there are = record {
         ∙ part_item all first (first + vertices) v no_entry (omega (arith, small))
         ∙ ap (λ (m : ℕ). entry_in all vertices m v) (sym (get_or_push nodes n 0 i (sym e)))
 
--- The leaps of a game are those of a filled table, with words in place of rows, and with the entries after each position
--- side by side.
-pub are_leaps : (game : AbstractGame) → IsNumbered game.rules → (lists : Lists) → AreListsOf game.rules lists → (table : Table) → IsFilled game lists table → (leaps : Leaps) → leaps.vertices ≡ table.vertices → leaps.rules ≡ lists.rules → leaps.insides.items ≡ lists.insides.items → IsPacked table leaps.entries.items leaps.targets.items → AreLaid table.vertices leaps.entries.items lists.afters.items leaps.afters.items → AreLeapsOf game leaps
-are_leaps game numbered lists are table filled leaps vertices first insides packed laid = record {
+-- The leaps of a game are those of a filled table, with the entries after each position side by side.
+pub are_leaps : (game : AbstractGame) → IsNumbered game.rules → (lists : Lists) → AreListsOf game.rules lists → (table : Table) → IsFilled game lists table → (leaps : Leaps) → leaps.vertices ≡ table.vertices → leaps.rules ≡ lists.rules → leaps.insides.items ≡ lists.insides.items → leaps.entries.items ≡ table.entries.items → leaps.targets.items ≡ table.targets.items → AreLaid table.vertices leaps.entries.items lists.afters.items leaps.afters.items → AreLeapsOf game leaps
+are_leaps game numbered lists are table filled leaps vertices first insides are_entries are_targets laid = record {
   entries = λ origin v below start.
       subst (IsEntry game (start_of origin) v leaps.targets.items) (sym (same origin v below start))
       (of_node (start_of origin) (origin_node lists origin) v (node_there game numbered lists are origin start) below);
@@ -104,16 +101,13 @@ are_leaps game numbered lists are table filled leaps vertices first insides pack
     same (After p) v below (a, stands) =
         let small = (action_within game.rules numbered p a stands).1 in
         ap (λ (m : ℕ). entry_in leaps.afters.items m p v) vertices
-        ∙ laid.each p v (let size = are.afters_size in omega (arith, size, small)) (subst (λ (k : ℕ). v < k) (sym on_board) below)
+        ∙ laid.each p v (let size = are.nodes.afters_size in omega (arith, size, small)) (subst (λ (k : ℕ). v < k) (sym on_board) below)
 
     of_node : (f : Start) (n v : ℕ) → IsNodeOf game.rules lists.shelf f n → v < length game.board.first → IsEntry game f v leaps.targets.items (here n v)
     of_node f n v node below =
-        let place : n * table.vertices + v < length table.entries.items =
-        subst (λ (k : ℕ). n * table.vertices + v < k) (sym filled.sound.laid_out.size)
-        (place_there (length lists.shelf.nodes.items) n table.vertices v node.there (subst (λ (k : ℕ). v < k) (sym on_board) below)) in
-        packed_entry game f v table filled.sound.laid_out.columns leaps.targets.items packed.befores packed.are (entry_at table n v) (here n v)
-        (packed.each.each (n * table.vertices + v) place)
-        (filled_entry game numbered lists are table filled f n v node below)
+        subst (λ (ts : List Target). IsEntry game f v ts (here n v)) (sym are_targets)
+        (subst (λ (es : List Entry). IsEntry game f v table.targets.items (entry_in es table.vertices n v)) (sym are_entries)
+        (filled_entry game numbered lists are table filled f n v node below))
 
 -- The rows of entries of nodes that are there.
 row_there : (vertices : ℕ) (entries : List Entry) (nodes n : ℕ) → length entries ≡ nodes * vertices → n < nodes → n * vertices + vertices ≤ length entries
@@ -126,23 +120,25 @@ rows_there_by rules lists vertices entries size ns F each = λ i d below.
     let there = (each i below).there in
     subst (λ (n : ℕ). n * vertices + vertices ≤ length entries) (sym (same_item ns i d below)) (row_there vertices entries (length lists.shelf.nodes.items) (get_or ns i 0) size there)
 
--- Those of the nodes after each position, and of those at the beginning of the rules and of what is inside a position,
--- among packed entries.
-module _ (game : AbstractGame) (lists : Lists) (table : Table) (are : AreListsOf game.rules lists) (filled : IsFilled game lists table) (entries : List Entry) (targets : List Target) (packed : IsPacked table entries targets) where
+-- Those of the nodes after each position, and of those at the beginning of the rules and of what is inside a position.
+module _ (game : AbstractGame) (lists : Lists) (table : Table) (are : AreListsOf game.rules lists) (filled : IsFilled game lists table) where
+  abbrev entries : List Entry
+  entries = table.entries.items
+
   size : length entries ≡ length lists.shelf.nodes.items * table.vertices
-  size = packed.each.size ∙ filled.sound.laid_out.size
+  size = filled.sound.laid_out.size
 
-  pub after_rows : All (λ n. n * table.vertices + table.vertices ≤ length entries) lists.afters.items
+  pub after_rows : All (λ n. n * table.vertices + table.vertices ≤ length table.entries.items) lists.afters.items
   after_rows =
-      rows_there_by game.rules lists table.vertices entries size lists.afters.items after (λ p below. are.after_each p (let size = are.afters_size in omega (arith, size, below)))
+      rows_there_by game.rules lists table.vertices entries size lists.afters.items after (λ p below. are.nodes.after_each p (let size = are.nodes.afters_size in omega (arith, size, below)))
 
-  pub inside_rows : All (λ n. n * table.vertices ≤ length entries) lists.insides.items
+  pub inside_rows : All (λ n. n * table.vertices ≤ length table.entries.items) lists.insides.items
   inside_rows = λ i d below.
-      let rows = rows_there_by game.rules lists table.vertices entries size lists.insides.items (λ p. beginning (inside p)) (λ p small. are.inside_each p (let size = are.insides_size in omega (arith, size, small))) in
+      let rows = rows_there_by game.rules lists table.vertices entries size lists.insides.items (λ p. beginning (inside p)) (λ p small. are.nodes.inside_each p (let size = are.nodes.insides_size in omega (arith, size, small))) in
       let row = rows i d below in
       omega (arith, row)
 
-  pub first_row : lists.rules * table.vertices ≤ length entries
+  pub first_row : lists.rules * table.vertices ≤ length table.entries.items
   first_row =
-      let row = row_there table.vertices entries (length lists.shelf.nodes.items) lists.rules size are.begins.there in
+      let row = row_there table.vertices entries (length lists.shelf.nodes.items) lists.rules size are.nodes.begins.there in
       omega (arith, row)

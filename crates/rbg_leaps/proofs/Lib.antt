@@ -2,10 +2,10 @@
 pub mod Cases
 pub mod Fillings
 pub mod Layings
-pub mod Packings
-pub mod RowLemmas
+pub mod Places
 pub mod ShiftLemmas
 pub mod Sharing
 pub mod Shelving
 pub mod Steppings
 pub mod Tabling
+pub mod Targets

@@ -7,8 +7,9 @@ use Rattle.rbg_rules.specs.Words.{after}
 use Rattle.rbg_leaps.specs.declared.lists.Lists.{Lists}
 use Rattle.rbg_leaps.specs.declared.table.Entry.{Entry}
 use Rattle.rbg_leaps.specs.declared.table.Table.{Table}
+use Rattle.rbg_leaps.specs.Entries.{end_of}
 use Rattle.rbg_leaps.specs.Leaps.{IsShiftAt}
-use Rattle.rbg_leaps.specs.internal.Tables.{entry_at, IsSoundEntry, IsSoundTable, targets_of, IsUnder, IsToldAt}
+use Rattle.rbg_leaps.specs.internal.Tables.{entry_at, IsSoundEntry, IsSoundTable, IsUnder, IsToldAt}
 use Rattle.rbg_leaps.specs.internal.Shelves.{list_at, may_end_at, IsNodeOf, AreListsOf}
 use Rattle.rbg_leaps.specs.internal.Steps.{Comes}
 use Rattle.rbg_leaps.proofs.Fillings.{told_behind}
@@ -31,7 +32,7 @@ right_behind game numbered lists are table right p w k e is below behind at = re
     m = get_or lists.afters.items p 0
 
     node : IsNodeOf game.rules lists.shelf (after p) m
-    node = are.after_each p (shift_within game.rules numbered p is)
+    node = are.nodes.after_each p (shift_within game.rules numbered p is)
 
     on_board : w < table.vertices
     on_board = subst (λ (many : ℕ). w < many) (sym right.laid_out.vertices) below
@@ -42,7 +43,7 @@ right_behind game numbered lists are table right p w k e is below behind at = re
 -- .. and that entry is there.
 pub behind_there : (game : AbstractGame) → IsNumbered game.rules → (lists : Lists) → AreListsOf game.rules lists → (table : Table) → IsSoundTable game lists table → (p w k : ℕ) → IsShiftAt game.rules p → w < length game.board.first → k ≡ get_or lists.afters.items p 0 → k * table.vertices + w < length table.entries.items
 behind_there game numbered lists are table right p w k is below behind =
-    let node : IsNodeOf game.rules lists.shelf (after p) (get_or lists.afters.items p 0) = are.after_each p (shift_within game.rules numbered p is) in
+    let node : IsNodeOf game.rules lists.shelf (after p) (get_or lists.afters.items p 0) = are.nodes.after_each p (shift_within game.rules numbered p is) in
     let there : k < length lists.shelf.nodes.items = subst (λ (n : ℕ). n < length lists.shelf.nodes.items) (sym behind) node.there in
     let on_board : w < table.vertices = subst (λ (many : ℕ). w < many) (sym right.laid_out.vertices) below in
     subst (λ (n : ℕ). k * table.vertices + w < n) (sym right.laid_out.size) (place_there (length lists.shelf.nodes.items) k table.vertices w there on_board)
@@ -57,5 +58,5 @@ pub shared_told : (game : AbstractGame) (lists : Lists) (table : Table) → IsSo
 shared_told game lists table right v p to k e ends is only below behind at more =
     let on_board : to < table.vertices = subst (λ (many : ℕ). to < many) (sym right.laid_out.vertices) below in
     let same : e ≡ entry_at table (get_or lists.afters.items p 0) to = at ∙ ap (λ (i : ℕ). entry_at table i to) behind in
-    told_behind game lists table (targets_of table e) ends v p to is only on_board
-    (subst (λ (x : Entry). IsUnder table x (targets_of table e) ends) same (record { tells = λ j u told. told; ends = more }))
+    told_behind game lists table e.start (end_of e) ends v p to is only on_board
+    (subst (λ (x : Entry). IsUnder table x e.start (end_of e) ends) same (record { tells = λ j u told. told; ends = more }))

@@ -8,16 +8,18 @@ use Rattle.rbg_rules.specs.Laws.{IsStart}
 use Rattle.rbg_rules.specs.State.{AbstractGame}
 use Rattle.rbg_rules.specs.Words.{Start, beginning, after}
 use Rattle.rbg_auto.specs.declared.steps.Expr.TheVariants.{Rules, Inside}
+use Rattle.rbg_leaps.specs.declared.branches.Branch.{Branch}
 use Rattle.rbg_leaps.specs.declared.lists.Lists.{Lists}
 use Rattle.rbg_leaps.specs.declared.origin.Origin.{Origin}
 use Rattle.rbg_leaps.specs.declared.origin.Origin.TheVariants.{Begin, After}
 use Rattle.rbg_leaps.specs.declared.shelf.Node.{Node}
 use Rattle.rbg_leaps.specs.declared.shelf.Shelf.{Shelf}
 use Rattle.rbg_leaps.specs.Origin.{start_of}
+use Rattle.rbg_leaps.specs.internal.Branches.{no_branch, IsBranch, AreBranches}
 use Rattle.rbg_leaps.specs.internal.Spans.{IsNodeWithin, no_node}
-use Rattle.rbg_leaps.specs.internal.Shelves.{node_in, list_at, may_end_at, IsKept, ExtendsShelf, IsNodeOf, AreListsUpTo, origin_node, AreListsOf}
+use Rattle.rbg_leaps.specs.internal.Shelves.{node_in, list_at, may_end_at, IsKept, ExtendsShelf, IsNodeOf, AreListsUpTo, origin_node, AreListsOf, branches_at}
 use Rattle.rbg_leaps.specs.internal.Steps.{IsAnswerAt}
-use Rattle.rbg_leaps.proofs.RowLemmas.{extends_none, extends_more, part_extended, item_extended, longer, LastPlace, before, last, last_place}
+use Rattle.rbg_leaps.proofs.Places.{any_default, part_item, part_long, part_short, extends_none, extends_more, part_extended, item_extended, longer, LastPlace, before, last, last_place}
 use Rattle.rbg_leaps.proofs.ShiftLemmas.{action_within}
 
 pub shelf_same : (s : Shelf) → ExtendsShelf s s
@@ -101,6 +103,32 @@ level_within game numbered p x (inr h) = (action_within game.rules numbered p (n
 
 -- The node of an origin is that of the place where one stands.
 pub node_there : (game : AbstractGame) → IsNumbered game.rules → (lists : Lists) → AreListsOf game.rules lists → (origin : Origin) → IsStart game.rules (start_of origin) → IsNodeOf game.rules lists.shelf (start_of origin) (origin_node lists origin)
-node_there game numbered lists are (Begin Rules) start = are.begins
-node_there game numbered lists are (Begin (Inside p)) (x, level) = let small = level_within game numbered p x level in are.inside_each p (omega (arith, small))
-node_there game numbered lists are (After p) (a, stands) = let small = (action_within game.rules numbered p a stands).1 in are.after_each p (omega (arith, small))
+node_there game numbered lists are (Begin Rules) start = are.nodes.begins
+node_there game numbered lists are (Begin (Inside p)) (x, level) = let small = level_within game numbered p x level in are.nodes.inside_each p (omega (arith, small))
+node_there game numbered lists are (After p) (a, stands) = let small = (action_within game.rules numbered p a stands).1 in are.nodes.after_each p (omega (arith, small))
+
+-- The branch of a position in the list of a node.
+module _ (rules : Expression) (lists : Lists) (are : AreBranches rules lists.afters.items lists.shelf.positions.items lists.branches.items) (n k : ℕ) (there : n < length lists.shelf.nodes.items) (below : k < length (branches_at lists n)) where
+  node : IsNodeWithin (length lists.shelf.positions.items) (node_in lists.shelf n)
+  node = lists.shelf.within n no_node there
+
+  short : (node_in lists.shelf n).start + k < (node_in lists.shelf n).end
+  short = part_short lists.branches.items (node_in lists.shelf n).start (node_in lists.shelf n).end k (let size = are.size in let ends = node.ends in omega (arith, size, ends)) below
+
+  pub branch_listed : k < length (list_at lists.shelf n)
+  branch_listed = part_long lists.shelf.positions.items (node_in lists.shelf n).start (node_in lists.shelf n).end k node.ends short
+
+  pub branch_at : (d : Branch) → IsBranch rules lists.afters.items (get_or (list_at lists.shelf n) k 0) (get_or (branches_at lists n) k d)
+  branch_at d =
+      let i : ℕ = (node_in lists.shelf n).start + k in
+      let inside : i < length lists.shelf.positions.items = let ends = node.ends in let before_end = short in omega (arith, ends, before_end) in
+      subst (λ (p : ℕ). IsBranch rules lists.afters.items p (get_or (branches_at lists n) k d)) (sym (part_item lists.shelf.positions.items (node_in lists.shelf n).start (node_in lists.shelf n).end k 0 short))
+      (subst (IsBranch rules lists.afters.items (get_or lists.shelf.positions.items i 0)) (any_default lists.branches.items i no_branch d (let size = are.size in omega (arith, size, inside)) ∙ sym (part_item lists.branches.items (node_in lists.shelf n).start (node_in lists.shelf n).end k d short))
+      (are.each i inside))
+
+-- .. for each position there is one.
+pub branch_there : (rules : Expression) (lists : Lists) → AreBranches rules lists.afters.items lists.shelf.positions.items lists.branches.items → (n k : ℕ) → n < length lists.shelf.nodes.items → k < length (list_at lists.shelf n) → k < length (branches_at lists n)
+branch_there rules lists are n k there below =
+    let ends = (lists.shelf.within n no_node there).ends in
+    let size = are.size in
+    part_long lists.branches.items (node_in lists.shelf n).start (node_in lists.shelf n).end k (omega (arith, ends, size)) (part_short lists.shelf.positions.items (node_in lists.shelf n).start (node_in lists.shelf n).end k ends below)

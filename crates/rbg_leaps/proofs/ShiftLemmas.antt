@@ -1,6 +1,6 @@
 -- Which positions are shifts, and where one comes by them.
 use Rattle.std.proofs.Common.{◌≡◌, ℕ, ◌+◌, ◌<◌, ◌≤◌, List, [], ◌∷◌, ◌++◌, length, get_or, zero, suc, refl, sym, ap, ◌∙◌, subst, inl, inr, arith}
-use Rattle.std.specs.Prelude.{◌↔◌, Option, Some, None, IfSome, All, Contains, IsTrue, true, false}
+use Rattle.std.specs.Prelude.{◌↔◌, Option, Some, None, IfSome, IfNone, All, Contains, IsTrue, true, false}
 use Rattle.std.specs.List.{range_with_len}
 use Rattle.std.specs.Option.{is_some}
 use Rattle.std.proofs.lemmas.List.{get_or_push, get_or_append_left, length-append}
@@ -161,16 +161,16 @@ one_direction rules numbered last directions action direction are stands only ea
     all p d (here e) small h = new p e ∙ each d (shift_is rules numbered (last + 1) d (subst (λ (q : ℕ). HasAction rules q (shift d)) e h) action stands)
     all p d (behind far) small h = absurd (omega (arith, far, small))
 
--- Where one comes by a position that has a direction, or none.
-pub comes_by : (game : AbstractGame) → IsNumbered game.rules → (directions : List (Option ℕ)) → AreDirections game.rules directions → (v p d : ℕ) → get_or directions p None ≡ Some d → (to : Option ℕ) → to ≡ next game.board v d → (u : ℕ) → (to ≡ Some u) ↔ Comes game v p u
-comes_by game numbered directions are v p d is to leads u = (λ e. by_shift d (are.shifts p d is) (sym leads ∙ e), back u)
+-- Where one comes by a shift, and by a position that has no direction.
+pub comes_by : (game : AbstractGame) → IsNumbered game.rules → (v p d : ℕ) → HasAction game.rules p (shift d) → (to : Option ℕ) → to ≡ next game.board v d → (u : ℕ) → (to ≡ Some u) ↔ Comes game v p u
+comes_by game numbered v p d stands to leads u = (λ e. by_shift d stands (sym leads ∙ e), back u)
   where
     same : {e d : ℕ} → shift e ≡ shift d → e ≡ d
     same e = cc
 
     back : (w : ℕ) → Comes game v p w → to ≡ Some w
-    back w (by_shift e h step) = leads ∙ ap (next game.board v) (same (one_stands game.rules numbered p (shift d) (shift e) (are.shifts p d is) h)) ∙ step
-    back w (by_other plain) = absurd (plain (record { direction = d; stands = are.shifts p d is }))
+    back w (by_shift e h step) = leads ∙ ap (next game.board v) (same (one_stands game.rules numbered p (shift d) (shift e) stands h)) ∙ step
+    back w (by_other plain) = absurd (plain (record { direction = d; stands = stands }))
 
 pub plain_at : (rules : Expression) → (directions : List (Option ℕ)) → IsNumbered rules → AreDirections rules directions → (p : ℕ) → get_or directions p None ≡ None → ¬ IsShiftAt rules p
 plain_at rules directions numbered are p none is = no_some (sym none ∙ are.all p is.direction (action_within rules numbered p (shift is.direction) is.stands).1 is.stands)
@@ -195,3 +195,12 @@ shift_by rules numbered directions are p None is = (λ t. absurd (false_not_true
   where
     false_not_true : false ≡ true → ⊥
     false_not_true e = cc
+
+-- What stands at a position that has a direction, and that no shift stands at one without.
+pub some_stands : (rules : Expression) (directions : List (Option ℕ)) → AreDirections rules directions → (p : ℕ) (o : Option ℕ) → get_or directions p None ≡ o → IfSome o (λ d. HasAction rules p (shift d))
+some_stands rules directions are p (Some d) is = are.shifts p d is
+some_stands rules directions are p None is = record {}
+
+pub none_stands : (rules : Expression) → IsNumbered rules → (directions : List (Option ℕ)) → AreDirections rules directions → (p : ℕ) (o : Option ℕ) → get_or directions p None ≡ o → IfNone o (¬ IsShiftAt rules p)
+none_stands rules numbered directions are p (Some d) is = record {}
+none_stands rules numbered directions are p None is = plain_at rules directions numbered are p is

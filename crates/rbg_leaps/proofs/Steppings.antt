@@ -63,7 +63,7 @@ module _ (game : AbstractGame) (numbered : IsNumbered game.rules) (lists : Lists
   told f n v node below p follows = All-contains (IsToldAt game lists table (entry_at table n v) v) (list_at lists.shelf n) p (closed n v node.there below).told ((node.answer.follow.exact p).1 follows)
 
   next_node : (f : Start) (p : ℕ) → Follows game.rules f (p ∷ []) → IsNodeOf game.rules lists.shelf (after p) (get_or lists.afters.items p 0)
-  next_node f p follows = let small = follower_within game.rules numbered f p follows in are.after_each p (omega (arith, small))
+  next_node f p follows = let small = follower_within game.rules numbered f p follows in are.nodes.after_each p (omega (arith, small))
 
   pub all_told : (f : Start) (n v : ℕ) → IsNodeOf game.rules lists.shelf f n → v < length game.board.first → {u j : ℕ} (m : List ℕ) → Leads game v m u → Follows game.rules f (m ++ j ∷ []) → ¬ IsShiftAt game.rules j → TellsAt table (entry_at table n v) j u
   all_told f n v node below {j = j} [] stay follows plain = (told f n v node below j follows).plain plain

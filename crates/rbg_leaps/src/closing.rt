@@ -1,31 +1,24 @@
 //! Whether anything is missing in a table.
 ghost use Rattle.std.specs.Prelude.{◌≡◌, ℕ, ◌+◌, ◌<◌, ◌≤◌, length, true, IsTrue};
-ghost use Rattle.rbg_leaps.specs.Entries.{IsWithin};
-ghost use Rattle.rbg_leaps.specs.internal.Tables.{entry_at};
-ghost use Rattle.rbg_leaps.specs.internal.Rows.{has_bit, row_at};
-ghost use Rattle.rbg_leaps.specs.internal.Tables.{TellsAt, targets_of, IsUnder, IsToldAt, IsToldEverywhere, AreClosedAt, IsLaidOut};
+ghost use Rattle.rbg_leaps.specs.Asked.{IsEndOf};
+ghost use Rattle.rbg_leaps.specs.Entries.{end_of, IsWithin};
+ghost use Rattle.rbg_leaps.specs.internal.Tables.{entry_at, TellsAt, IsUnder, IsToldAt, IsToldEverywhere, AreClosedAt, IsLaidOut};
 
-use crate::gathering::index_of;
+use crate::adding::{find, unit};
 use crate::ground::Ground;
 use crate::lists::Lists;
-use crate::rows::is_under;
 use crate::table::{Entry, Table};
+use crate::target::Target;
 use rbg_base::{Position, Vertex};
 
-/// Whether an entry tells of all vertices of a row at a position.
-fn tells(table: &Table, entry: Entry, position: Position, row: usize) -> bool
-    requires within { IsWithin (length table.now.targets.items) entry }
-    requires row { row + table.now.columns ≤ length table.now.words.items }
-    ensures { IsTrue result → (u : ℕ)
-        → has_bit (row_at table.now.columns table.now.words.items row) u ≡ true
-        → TellsAt table.now entry position u }
+/// Whether an entry tells of all vertices of a target.
+fn tells(table: &Table, entry: Entry, target: Target) -> bool
+    requires { IsWithin (length table.now.targets.items) entry }
+    ensures { IsTrue result → (j u : ℕ) → IsEndOf target j u → TellsAt table.now entry j u }
 {
-    let targets = table.targets(entry);
-    match index_of(targets, position) {
-        Some(index) => {
-            let other = targets[index].row as usize;
-            other == row || is_under(&table.words, table.columns, row, other)
-        }
+    let start = entry.start as usize;
+    match find(&table.targets, start, start + entry.many as usize, target) {
+        Some(index) => table.targets[index].word | target.word == table.targets[index].word,
         None => false,
     }
 }
@@ -47,8 +40,9 @@ fn tells_targets(table: &Table, entry: Entry, other: Entry) -> bool
     if have_same_targets(entry, other) {
         return true;
     }
-    for target in table.targets(other) {
-        if !tells(table, entry, target.position, target.row as usize) {
+    let start = other.start as usize;
+    for index in start..start + other.many as usize {
+        if !tells(table, entry, table.targets[index]) {
             return false;
         }
     }
@@ -59,7 +53,7 @@ fn tells_targets(table: &Table, entry: Entry, other: Entry) -> bool
 fn tells_all(table: &Table, entry: Entry, other: Entry) -> bool
     requires within { IsWithin (length table.now.targets.items) entry }
     requires other { IsWithin (length table.now.targets.items) other }
-    ensures { IsTrue result → IsUnder table.now other (targets_of table.now entry) entry.ends }
+    ensures { IsTrue result → IsUnder table.now other entry.start (end_of entry) entry.ends }
 {
     if other.ends && !entry.ends {
         return false;
@@ -82,8 +76,7 @@ fn is_told(
     ensures { IsTrue result → IsToldAt ground.now lists.now table.now entry vertex position }
 {
     if !ground.is_shift(position) {
-        let row = vertex as usize * table.columns;
-        return tells(table, entry, position, row);
+        return tells(table, entry, unit(position, vertex));
     }
     match ground.to(vertex, position) {
         Some(to) => tells_all(table, entry, table.entry(lists.after(position), to)),

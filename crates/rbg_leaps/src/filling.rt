@@ -1,40 +1,41 @@
 //! A first pass over all nodes, each after those to which its shifts lead.
-ghost use Rattle.std.specs.Prelude.{◌≡◌, ◌≢◌, ℕ, ◌<◌, ◌≤◌, length, true, false, Contains, IfOk, OnOk, IfSome, IsTrue, slice_index_or};
-ghost use Rattle.rbg_rules.specs.Games.{IsGame};
+ghost use Rattle.std.specs.Prelude.{◌≡◌, ◌≢◌, ℕ, ◌<◌, ◌≤◌, length, true, false, Contains, Some, IfOk, OnOk, IfSome, IsTrue, slice_index_or};
 ghost use Rattle.rbg_leaps.specs.Entries.{IsWithin};
 ghost use Rattle.rbg_leaps.specs.Leaps.{IsShiftAt};
-ghost use Rattle.rbg_leaps.specs.internal.Shelves.{AreListsOf, list_at, may_end_at};
+ghost use Rattle.rbg_leaps.specs.internal.Shelves.{AreListsOf, branches_at, list_at, may_end_at};
+ghost use Rattle.rbg_leaps.specs.internal.Branches.{IsBranch};
 ghost use Rattle.rbg_leaps.specs.internal.Steps.{Comes, IsOnly};
-ghost use Rattle.rbg_leaps.specs.internal.Tables.{IsSoundEntry, IsRightSoFar, IsToldAt, FillsOne, FillsUpTo, FillsRightly, FillsDownTo, StepsBack, StepsForth, LeadsAway, LeadsBack, LeadsForth, LeadsOneWay, LeadsToMarked, IsMarked, AreClosedAt, AreFilled};
+ghost use Rattle.rbg_leaps.specs.internal.Tables.{IsSoundEntry, IsRightAt, IsRightSoFar, IsToldAt, FillsOne, FillsUpTo, FillsRightly, FillsDownTo, StepsBack, StepsForth, LeadsAway, LeadsBack, LeadsForth, LeadsOneWay, LeadsToMarked, IsMarked, AreClosedAt, AreFilled, AreFilledSoFar};
 
+use crate::adding::unit;
+use crate::branches::Branch;
 use crate::gathering::gather;
 use crate::ground::Ground;
 use crate::lists::Lists;
-use crate::table::{Entry, RowTarget, Table};
-use rbg_base::{Memory, Position, Vertex};
+use crate::table::{Entry, Table};
+use rbg_base::{Direction, Memory, Position, Vertex};
 use std::alloc::Global;
 
 /// Puts what one step leads to into the entry of a node and a vertex.
 #[inline(always)]
 fn fill_one(
     table: &mut Table,
-    parts: &mut Vec<RowTarget>,
     lists: &Lists,
     ground: &Ground<'_>,
     node: usize,
-    list: &[Position],
+    list: &[Branch],
     may_end: bool,
     vertex: Vertex,
 ) -> Result<(), Memory>
-    requires right { IsRightSoFar ground.now lists.now table.old }
-    requires node { node < length lists.now.shelf.nodes.items }
-    requires list { list.now ≡ list_at lists.now.shelf node }
+    requires at { IsRightAt ground.now lists.now table.old node }
+    requires list { list.now ≡ branches_at lists.now node }
     requires may_end { may_end ≡ may_end_at lists.now.shelf node }
     requires vertex { vertex < length ground.now.board.first }
     ensures { OnOk result (FillsOne ground.now lists.now table.old table.new node vertex) }
 {
-    let ends = gather(table, parts, lists, ground, node, list, may_end, vertex)?;
-    table.put(node, vertex, parts, ends)?;
+    let start = table.targets.len();
+    let ends = gather(table, start, lists, ground, node, list, may_end, vertex)?;
+    table.put(node, vertex, start, ends)?;
     Ok(())
 }
 
@@ -47,29 +48,29 @@ fn entry_behind(
     ground: &Ground<'_>,
     node: usize,
     vertex: Vertex,
-    position: Position,
-    after: usize,
+    branch: &Branch,
+    direction: Direction,
     may_end: bool,
 ) -> Entry
     requires right { IsRightSoFar ground.now lists.now table.now }
-    requires after { after ≡ slice_index_or lists.now.afters.items position 0 }
+    requires branch { IsBranch ground.now.rules lists.now.afters.items branch.now.position branch.now }
+    requires direction { branch.now.direction ≡ Some direction }
     requires may_end { may_end ≡ may_end_at lists.now.shelf node }
     requires vertex { vertex < length ground.now.board.first }
-    requires listed { Contains (list_at lists.now.shelf node) position }
-    requires shift { IsShiftAt ground.now.rules position }
+    requires listed { Contains (list_at lists.now.shelf node) branch.now.position }
     ensures within { IsWithin (length table.now.targets.items) result }
     ensures sound { IsSoundEntry ground.now (list_at lists.now.shelf node) (may_end_at lists.now.shelf node) vertex table.now result }
-    ensures told { IsToldAt ground.now lists.now table.now result vertex position }
+    ensures told { IsToldAt ground.now lists.now table.now result vertex branch.now.position }
     ensures ends { IsTrue (may_end_at lists.now.shelf node) → IsTrue result.ends }
 {
-    let Some(to) = ground.to(vertex, position) else {
+    let Some(to) = ground.step(vertex, direction) else {
         return Entry {
             start: 0,
             many: 0,
             ends: may_end,
         };
     };
-    let behind = table.entry_there(after, to);
+    let behind = table.entry_there(branch.after, to);
     let ends = behind.ends || may_end;
     Entry {
         start: behind.start,
@@ -86,28 +87,32 @@ fn share_one(
     ground: &Ground<'_>,
     node: usize,
     vertex: Vertex,
-    position: Position,
-    after: usize,
+    branch: &Branch,
+    direction: Direction,
     may_end: bool,
 )
-    requires right { IsRightSoFar ground.now lists.now table.old }
-    requires node { node < length lists.now.shelf.nodes.items }
+    requires at { IsRightAt ground.now lists.now table.old node }
     requires vertex { vertex < length ground.now.board.first }
-    requires only { IsOnly (list_at lists.now.shelf node) position }
-    requires shift { IsShiftAt ground.now.rules position }
-    requires after { after ≡ slice_index_or lists.now.afters.items position 0 }
+    requires only { IsOnly (list_at lists.now.shelf node) branch.now.position }
+    requires branch { IsBranch ground.now.rules lists.now.afters.items branch.now.position branch.now }
+    requires direction { branch.now.direction ≡ Some direction }
     requires may_end { may_end ≡ may_end_at lists.now.shelf node }
     ensures { FillsOne ground.now lists.now table.old table.new node vertex }
 {
-    let entry = entry_behind(table, lists, ground, node, vertex, position, after, may_end);
+    let entry = entry_behind(
+        table, lists, ground, node, vertex, branch, direction, may_end,
+    );
     table.share(node, vertex, entry);
 }
 
-/// The position that a node's list has alone.
-fn only_of(lists: &Lists, node: usize) -> Option<Position>
-    ensures { IfSome result (IsOnly (list_at lists.now.shelf node)) }
+/// The branch that a node's list has alone.
+fn only_of(lists: &Lists, ground: &Ground<'_>, node: usize) -> Option<Branch>
+    requires lists { AreListsOf ground.now.rules lists.now }
+    requires node { node < length lists.now.shelf.nodes.items }
+    ensures only { IfSome result (λ b. IsOnly (list_at lists.now.shelf node) b.position) }
+    ensures branch { IfSome result (λ b. IsBranch ground.now.rules lists.now.afters.items b.position b) }
 {
-    let list = lists.shelf.list(node);
+    let list = lists.branches(node);
     if list.len() == 1 { Some(list[0]) } else { None }
 }
 
@@ -117,15 +122,15 @@ fn share_node(
     lists: &Lists,
     ground: &Ground<'_>,
     node: usize,
-    position: Position,
+    branch: &Branch,
+    direction: Direction,
 )
-    requires right { IsRightSoFar ground.now lists.now table.old }
-    requires node { node < length lists.now.shelf.nodes.items }
-    requires only { IsOnly (list_at lists.now.shelf node) position }
-    requires shift { IsShiftAt ground.now.rules position }
+    requires at { IsRightAt ground.now lists.now table.old node }
+    requires only { IsOnly (list_at lists.now.shelf node) branch.now.position }
+    requires branch { IsBranch ground.now.rules lists.now.afters.items branch.now.position branch.now }
+    requires direction { branch.now.direction ≡ Some direction }
     ensures { FillsUpTo ground.now lists.now table.old table.new node (length ground.now.board.first) }
 {
-    let after = lists.after(position);
     let may_end = lists.shelf.may_end(node);
     for vertex in 0..ground.vertices() {
         share_one(
@@ -134,8 +139,8 @@ fn share_node(
             ground,
             node,
             vertex as Vertex,
-            position,
-            after,
+            branch,
+            direction,
             may_end,
         );
     }
@@ -152,17 +157,16 @@ fn place_one(
     position: Position,
     may_end: bool,
 ) -> Result<(), Memory>
-    requires right { IsRightSoFar ground.now lists.now table.old }
-    requires node { node < length lists.now.shelf.nodes.items }
+    requires at { IsRightAt ground.now lists.now table.old node }
     requires vertex { vertex < length ground.now.board.first }
     requires only { IsOnly (list_at lists.now.shelf node) position }
     requires plain { ¬ IsShiftAt ground.now.rules position }
     requires may_end { may_end ≡ may_end_at lists.now.shelf node }
     ensures { OnOk result (FillsOne ground.now lists.now table.old table.new node vertex) }
 {
-    let row = table.unit(vertex);
-    let target = RowTarget { position, row };
-    table.put(node, vertex, &[target], may_end)?;
+    let start = table.targets.len();
+    table.add(start, unit(position, vertex))?;
+    table.put(node, vertex, start, may_end)?;
     Ok(())
 }
 
@@ -174,8 +178,7 @@ fn place_node(
     node: usize,
     position: Position,
 ) -> Result<(), Memory>
-    requires right { IsRightSoFar ground.now lists.now table.old }
-    requires node { node < length lists.now.shelf.nodes.items }
+    requires at { IsRightAt ground.now lists.now table.old node }
     requires only { IsOnly (list_at lists.now.shelf node) position }
     requires plain { ¬ IsShiftAt ground.now.rules position }
     ensures { OnOk result (FillsUpTo ground.now lists.now table.old table.new node (length ground.now.board.first)) }
@@ -198,28 +201,17 @@ fn place_node(
 /// Fills the entries of a node forwards over the vertices.
 fn fill_forwards(
     table: &mut Table,
-    parts: &mut Vec<RowTarget>,
     lists: &Lists,
     ground: &Ground<'_>,
     node: usize,
 ) -> Result<(), Memory>
-    requires right { IsRightSoFar ground.now lists.now table.old }
-    requires node { node < length lists.now.shelf.nodes.items }
+    requires { IsRightAt ground.now lists.now table.old node }
     ensures { OnOk result (FillsUpTo ground.now lists.now table.old table.new node (length ground.now.board.first)) }
 {
-    let list = lists.shelf.list(node);
+    let list = lists.branches(node);
     let may_end = lists.shelf.may_end(node);
     for vertex in 0..ground.vertices() {
-        fill_one(
-            table,
-            parts,
-            lists,
-            ground,
-            node,
-            list,
-            may_end,
-            vertex as Vertex,
-        )?;
+        fill_one(table, lists, ground, node, list, may_end, vertex as Vertex)?;
     }
     Ok(())
 }
@@ -228,21 +220,19 @@ fn fill_forwards(
 /// its own alone.
 fn fill_backwards(
     table: &mut Table,
-    parts: &mut Vec<RowTarget>,
     lists: &Lists,
     ground: &Ground<'_>,
     node: usize,
 ) -> Result<(), Memory>
-    requires right { IsRightSoFar ground.now lists.now table.old }
-    requires node { node < length lists.now.shelf.nodes.items }
+    requires { IsRightAt ground.now lists.now table.old node }
     ensures { OnOk result (FillsDownTo ground.now lists.now table.old table.new node (length ground.now.board.first)) }
 {
-    let list = lists.shelf.list(node);
+    let list = lists.branches(node);
     let may_end = lists.shelf.may_end(node);
     let vertices = ground.vertices();
     for index in 0..vertices {
         let vertex = (vertices - 1 - index) as Vertex;
-        fill_one(table, parts, lists, ground, node, list, may_end, vertex)?;
+        fill_one(table, lists, ground, node, list, may_end, vertex)?;
     }
     Ok(())
 }
@@ -250,23 +240,20 @@ fn fill_backwards(
 /// Fills the entries of a node from which no shift leads to the node again.
 fn fill_once(
     table: &mut Table,
-    parts: &mut Vec<RowTarget>,
     lists: &Lists,
     ground: &Ground<'_>,
     node: usize,
 ) -> Result<(), Memory>
-    requires right { IsRightSoFar ground.now lists.now table.old }
-    requires node { node < length lists.now.shelf.nodes.items }
+    requires { IsRightAt ground.now lists.now table.old node }
     ensures { OnOk result (FillsUpTo ground.now lists.now table.old table.new node (length ground.now.board.first)) }
 {
-    let Some(position) = only_of(lists, node) else {
-        return fill_forwards(table, parts, lists, ground, node);
+    let Some(branch) = only_of(lists, ground, node) else {
+        return fill_forwards(table, lists, ground, node);
     };
-    if ground.is_shift(position) {
-        share_node(table, lists, ground, node, position);
-        return Ok(());
-    }
-    place_node(table, lists, ground, node, position)?;
+    let Some(direction) = branch.direction else {
+        return place_node(table, lists, ground, node, branch.position);
+    };
+    share_node(table, lists, ground, node, &branch, direction);
     Ok(())
 }
 
@@ -335,23 +322,21 @@ pub(crate) fn repeats(lists: &Lists, ground: &Ground<'_>, node: usize, later: bo
 /// backwards where they lead to later ones. Where they lead one way, nothing is missing then.
 pub(crate) fn fill_again(
     table: &mut Table,
-    parts: &mut Vec<RowTarget>,
     lists: &Lists,
     ground: &Ground<'_>,
     node: usize,
 ) -> Result<(), Memory>
-    requires right { IsRightSoFar ground.now lists.now table.old }
-    requires node { node < length lists.now.shelf.nodes.items }
+    requires { IsRightAt ground.now lists.now table.old node }
     ensures fills { OnOk result (FillsRightly ground.now lists.now table.old table.new node) }
     ensures closed { OnOk result (LeadsOneWay ground.now lists.now node → AreClosedAt ground.now lists.now table.new node) }
 {
     if !repeats(lists, ground, node, true) {
-        fill_forwards(table, parts, lists, ground, node)?;
+        fill_forwards(table, lists, ground, node)?;
         return Ok(());
     }
-    fill_backwards(table, parts, lists, ground, node)?;
+    fill_backwards(table, lists, ground, node)?;
     if repeats(lists, ground, node, false) {
-        fill_forwards(table, parts, lists, ground, node)?;
+        fill_forwards(table, lists, ground, node)?;
     }
     Ok(())
 }
@@ -365,8 +350,7 @@ pub(crate) fn is_marked(marks: &[bool], node: usize) -> bool
 
 /// Whether no shift of a node's list leads to the node again.
 fn leads_away(lists: &Lists, ground: &Ground<'_>, node: usize) -> bool
-    ensures away { IsTrue result → LeadsAway ground.now lists.now node }
-    ensures again { LeadsAway ground.now lists.now node → IsTrue result }
+    ensures { IsTrue result → LeadsAway ground.now lists.now node }
 {
     for listed in lists.shelf.list(node) {
         if ground.is_shift(*listed) && lists.after(*listed) == node {
@@ -398,36 +382,31 @@ fn is_ready(lists: &Lists, ground: &Ground<'_>, filled: &[bool], node: usize) ->
 /// Fills the entries of a node.
 fn fill_node(
     table: &mut Table,
-    parts: &mut Vec<RowTarget>,
     lists: &Lists,
     ground: &Ground<'_>,
     node: usize,
 ) -> Result<(), Memory>
-    requires right { IsRightSoFar ground.now lists.now table.old }
-    requires node { node < length lists.now.shelf.nodes.items }
+    requires { IsRightAt ground.now lists.now table.old node }
     ensures fills { OnOk result (FillsRightly ground.now lists.now table.old table.new node) }
     ensures closed { OnOk result (LeadsOneWay ground.now lists.now node → AreClosedAt ground.now lists.now table.new node) }
 {
     if leads_away(lists, ground, node) {
-        fill_once(table, parts, lists, ground, node)?;
+        fill_once(table, lists, ground, node)?;
         return Ok(());
     }
-    fill_again(table, parts, lists, ground, node)?;
+    fill_again(table, lists, ground, node)?;
     Ok(())
 }
 
 /// Fills a node that isn't filled, where it is ready. Returns whether it is filled then.
 fn fill_next(
     table: &mut Table,
-    parts: &mut Vec<RowTarget>,
     lists: &Lists,
     ground: &Ground<'_>,
     filled: &mut [bool],
     node: usize,
 ) -> Result<bool, Memory>
-    requires lawful { IsGame ground.now }
-    requires lists { AreListsOf ground.now.rules lists.now }
-    requires filled { AreFilled ground.now lists.now table.old filled.old }
+    requires so_far { AreFilledSoFar ground.now lists.now table.old filled.old }
     requires node { node < length lists.now.shelf.nodes.items }
     requires there { node < length filled.old }
     ensures size { length filled.new ≡ length filled.old }
@@ -436,7 +415,7 @@ fn fill_next(
     if is_marked(filled, node) || !is_ready(lists, ground, filled, node) {
         return Ok(false);
     }
-    fill_node(table, parts, lists, ground, node)?;
+    fill_node(table, lists, ground, node)?;
     filled[node] = true;
     Ok(true)
 }
@@ -444,14 +423,11 @@ fn fill_next(
 /// Fills the nodes that are ready. Returns whether there was one.
 fn fill_ready(
     table: &mut Table,
-    parts: &mut Vec<RowTarget>,
     lists: &Lists,
     ground: &Ground<'_>,
     filled: &mut [bool],
 ) -> Result<bool, Memory>
-    requires lawful { IsGame ground.now }
-    requires lists { AreListsOf ground.now.rules lists.now }
-    requires filled { AreFilled ground.now lists.now table.old filled.old }
+    requires so_far { AreFilledSoFar ground.now lists.now table.old filled.old }
     requires size { length filled.old ≡ length lists.now.shelf.nodes.items }
     ensures size { length filled.new ≡ length filled.old }
     ensures filled { OnOk result (AreFilled ground.now lists.now table.new filled.new) }
@@ -459,7 +435,7 @@ fn fill_ready(
     let nodes = lists.shelf.nodes.len();
     let mut some = false;
     for done in 0..nodes {
-        let more = fill_next(table, parts, lists, ground, filled, nodes - 1 - done)?;
+        let more = fill_next(table, lists, ground, filled, nodes - 1 - done)?;
         some = some || more;
     }
     Ok(some)
@@ -469,7 +445,6 @@ fn fill_ready(
 pub(crate) fn fill_in_order(
     alloc: Global,
     table: &mut Table,
-    parts: &mut Vec<RowTarget>,
     lists: &Lists,
     ground: &Ground<'_>,
 ) -> Result<Vec<bool>, Memory>
@@ -479,7 +454,7 @@ pub(crate) fn fill_in_order(
     let nodes = lists.shelf.nodes.len();
     let mut filled = vec![in alloc; false; nodes]?;
     for _ in 0..nodes {
-        if !fill_ready(table, parts, lists, ground, &mut filled)? {
+        if !fill_ready(table, lists, ground, &mut filled)? {
             return Ok(filled);
         }
     }

@@ -1,5 +1,7 @@
 //! A game, and what is looked up of it at each step of a shift.
-ghost use Rattle.std.specs.Prelude.{◌≡◌, ℕ, ◌<◌, ◌≤◌, ◌↔◌, length, Some, None, IfSome, IsTrue, slice_index_or};
+ghost use Rattle.std.specs.Prelude.{◌≡◌, ℕ, ◌<◌, ◌≤◌, ◌↔◌, length, Some, None, IfSome, IfNone, IsTrue, slice_index_or};
+ghost use Rattle.rbg_rules.specs.Expression.{shift};
+ghost use Rattle.rbg_rules.specs.Positions.{HasAction};
 ghost use Rattle.rbg_rules.specs.Games.{IsGame};
 ghost use Rattle.rbg_leaps.specs.Leaps.{IsShiftAt};
 ghost use Rattle.rbg_leaps.specs.internal.Steps.{AreDirections, Comes};
@@ -77,6 +79,25 @@ impl<'a> Ground<'a> {
         ensures { IsTrue result ↔ IsShiftAt self.now.rules position }
     {
         direction_at(self.directions, position).is_some()
+    }
+
+    /// The direction of the shift at a position, if one stands there.
+    #[inline(always)]
+    pub(crate) fn direction(&self, position: Position) -> Option<Direction>
+        ensures some { IfSome result (λ d. HasAction self.now.rules position (shift d)) }
+        ensures none { IfNone result (¬ IsShiftAt self.now.rules position) }
+    {
+        direction_at(self.directions, position)
+    }
+
+    /// Where a shift in a direction leads from a vertex, if it leads anywhere.
+    #[inline(always)]
+    pub(crate) fn step(&self, vertex: Vertex, direction: Direction) -> Option<Vertex>
+        requires { vertex < length self.now.board.first }
+        ensures comes { (p u : ℕ) → HasAction self.now.rules p (shift direction) → (result ≡ Some u) ↔ Comes self.now vertex p u }
+        ensures is_vertex { IfSome result (λ to. to < length self.now.board.first) }
+    {
+        self.board.step(vertex, direction)
     }
 
     /// Where one comes from a vertex by a position, if one does.

@@ -8,7 +8,6 @@ ghost use Rattle.rbg_leaps.specs.internal.Tables.{AreLaid, IsFilled};
 use crate::asking::Leaps;
 use crate::ground::Ground;
 use crate::lists::Lists;
-use crate::packing::{Packed, pack};
 use crate::table::{Entry, Table};
 use rbg_base::Memory;
 use std::alloc::{AllocError, Global};
@@ -42,8 +41,11 @@ pub(crate) fn laid_out(
     requires lawful { IsGame ground.now }
     ensures { IfOk result (AreLeapsOf ground.now) }
 {
-    let vertices = table.vertices;
-    let Packed { entries, targets } = pack(alloc, table)?;
+    let Table {
+        vertices,
+        entries,
+        targets,
+    } = table;
     let afters = lay(alloc, &entries, vertices, &lists.afters)?;
     Ok(Leaps {
         afters,

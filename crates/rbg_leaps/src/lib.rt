@@ -1,7 +1,9 @@
 //! Leaps: where shifts alone lead in a game, as a table that is made once.
 #![tactic(auto)]
 
+mod adding;
 mod asking;
+mod branches;
 mod closing;
 mod entries;
 mod filling;
@@ -11,9 +13,7 @@ mod laying;
 mod lists;
 mod making;
 mod origin;
-mod packing;
 mod rounds;
-mod rows;
 mod shelf;
 mod shifts;
 mod table;

@@ -1,8 +1,10 @@
 //! What comes next at each place in the rules, as nodes: places with one list have one node.
-ghost use Rattle.std.specs.Prelude.{◌≡◌, ◌+◌, IfOk, slice_index_or};
-ghost use Rattle.rbg_leaps.specs.internal.Shelves.{AreListsOf};
+ghost use Rattle.std.specs.Prelude.{◌≡◌, IfOk, length, slice_index_or};
+ghost use Rattle.rbg_leaps.specs.internal.Shelves.{AreListsOf, branches_at};
 
-use crate::shelf::Shelf;
+use crate::branches::{Branch, branches_of};
+use crate::ground::Ground;
+use crate::shelf::{Node, Shelf};
 use rbg_auto::{Expr, Steps};
 use rbg_base::{Memory, Position};
 use rbg_rules::Game;
@@ -18,6 +20,8 @@ pub(crate) struct Lists {
     pub(crate) afters: Vec<usize>,
     /// The node at the beginning of what is inside each position.
     pub(crate) insides: Vec<usize>,
+    /// The branches of all lists, one for each of the positions of the shelf.
+    pub(crate) branches: Vec<Branch>,
 }
 
 /// The node of a position, or the first one where there is none.
@@ -37,11 +41,26 @@ impl Lists {
     {
         node_at(&self.afters, position)
     }
+
+    /// The branches of a node.
+    pub(crate) fn branches(&self, node: usize) -> &[Branch]
+        requires { length self.now.branches.items ≡ length self.now.shelf.positions.items }
+        ensures { result.now ≡ branches_at self.now node }
+    {
+        let Node { start, end, .. } = self.shelf.node(node);
+        &self.branches[start..end]
+    }
 }
 
 /// The nodes of a game's rules.
-pub(crate) fn lists_of<S: Steps>(alloc: Global, game: &Game, steps: &S) -> Result<Lists, Memory>
-    requires { S.of_rules steps.now game.now.rules }
+pub(crate) fn lists_of<S: Steps>(
+    alloc: Global,
+    game: &Game,
+    steps: &S,
+    ground: &Ground<'_>,
+) -> Result<Lists, Memory>
+    requires ground { ground.now ≡ game.now }
+    requires steps { S.of_rules steps.now game.now.rules }
     ensures { IfOk result (AreListsOf game.now.rules) }
 {
     let positions = game.positions();
@@ -59,10 +78,12 @@ pub(crate) fn lists_of<S: Steps>(alloc: Global, game: &Game, steps: &S) -> Resul
         inside = shelf.keep_as(inside, steps.first(expr), steps.may_be_empty(expr))?;
         insides.push(inside)?;
     }
+    let branches = branches_of(alloc, ground, &shelf.positions, &afters)?;
     Ok(Lists {
         shelf,
         rules,
         afters,
         insides,
+        branches,
     })
 }

@@ -33,7 +33,7 @@ pub fn leaps<S: Steps>(alloc: Global, game: &Game, steps: &S) -> Result<Option<L
     }
     let directions = directions(alloc, game)?;
     let ground = Ground::new(game, &directions);
-    let lists = lists_of(alloc, game, steps)?;
+    let lists = lists_of(alloc, game, steps, &ground)?;
     let table = fill(alloc, &lists, &ground)?;
     let laid = laid_out(alloc, lists, table, &ground)?;
     Ok(Some(laid))

@@ -2,27 +2,19 @@
 ghost use Rattle.std.specs.Prelude.{◌≡◌, ◌<◌, length, false, IfOk, OnOk, IsTrue};
 ghost use Rattle.rbg_rules.specs.Games.{IsGame};
 ghost use Rattle.rbg_leaps.specs.internal.Shelves.{AreListsOf};
-ghost use Rattle.rbg_leaps.specs.internal.Tables.{IsSoundTable, IsRightSoFar, StaysClosed, AreClosedAt, AreAllClosed, LeadsOneWay, IsFilled, FillsRightly, AreFilled};
+ghost use Rattle.rbg_leaps.specs.internal.Tables.{IsSoundTable, IsRightAt, IsRightSoFar, StaysClosed, AreClosedAt, AreAllClosed, LeadsOneWay, IsFilled, FillsRightly, AreFilled, AreFilledSoFar};
 
 use crate::closing::is_closed;
 use crate::filling::{fill_again, fill_in_order, is_marked, repeats};
 use crate::ground::Ground;
 use crate::lists::Lists;
-use crate::rows::units;
-use crate::table::{RowTarget, Table};
+use crate::table::Table;
 use rbg_base::Memory;
 use std::alloc::{AllocError, Global};
 
 /// Fills the entries of a node where anything is missing in them. Returns whether anything was.
-fn mend(
-    table: &mut Table,
-    parts: &mut Vec<RowTarget>,
-    lists: &Lists,
-    ground: &Ground<'_>,
-    node: usize,
-) -> Result<bool, Memory>
-    requires right { IsRightSoFar ground.now lists.now table.old }
-    requires node { node < length lists.now.shelf.nodes.items }
+fn mend(table: &mut Table, lists: &Lists, ground: &Ground<'_>, node: usize) -> Result<bool, Memory>
+    requires { IsRightAt ground.now lists.now table.old node }
     ensures fills { OnOk result (FillsRightly ground.now lists.now table.old table.new node) }
     ensures closed { IfOk result (λ missing. missing ≡ false
         → StaysClosed ground.now lists.now table.old table.new node) }
@@ -30,17 +22,12 @@ fn mend(
     if is_closed(table, lists, ground, node) {
         return Ok(false);
     }
-    fill_again(table, parts, lists, ground, node)?;
+    fill_again(table, lists, ground, node)?;
     Ok(true)
 }
 
 /// Mends the entries of all nodes, those that come late in the rules first. Returns whether anything was missing.
-fn round(
-    table: &mut Table,
-    parts: &mut Vec<RowTarget>,
-    lists: &Lists,
-    ground: &Ground<'_>,
-) -> Result<bool, Memory>
+fn round(table: &mut Table, lists: &Lists, ground: &Ground<'_>) -> Result<bool, Memory>
     requires right { IsRightSoFar ground.now lists.now table.old }
     ensures sound { OnOk result (IsSoundTable ground.now lists.now table.new) }
     ensures closed { IfOk result (λ missing. missing ≡ false → AreAllClosed ground.now lists.now table.new) }
@@ -48,7 +35,7 @@ fn round(
     let nodes = lists.shelf.nodes.len();
     let mut missing = false;
     for done in 0..nodes {
-        if mend(table, parts, lists, ground, nodes - 1 - done)? {
+        if mend(table, lists, ground, nodes - 1 - done)? {
             missing = true;
         }
     }
@@ -58,42 +45,36 @@ fn round(
 /// Mends a node where it isn't filled. Returns whether anything was missing.
 fn mend_other(
     table: &mut Table,
-    parts: &mut Vec<RowTarget>,
     lists: &Lists,
     ground: &Ground<'_>,
     filled: &[bool],
     node: usize,
 ) -> Result<bool, Memory>
-    requires lawful { IsGame ground.now }
-    requires lists { AreListsOf ground.now.rules lists.now }
-    requires filled { AreFilled ground.now lists.now table.old filled.now }
+    requires so_far { AreFilledSoFar ground.now lists.now table.old filled.now }
     requires node { node < length lists.now.shelf.nodes.items }
     ensures { OnOk result (AreFilled ground.now lists.now table.new filled.now) }
 {
     if is_marked(filled, node) {
         return Ok(false);
     }
-    let missing = mend(table, parts, lists, ground, node)?;
+    let missing = mend(table, lists, ground, node)?;
     Ok(missing)
 }
 
 /// Mends the nodes that aren't filled. Returns whether anything was missing.
 fn mend_others(
     table: &mut Table,
-    parts: &mut Vec<RowTarget>,
     lists: &Lists,
     ground: &Ground<'_>,
     filled: &[bool],
 ) -> Result<bool, Memory>
-    requires lawful { IsGame ground.now }
-    requires lists { AreListsOf ground.now.rules lists.now }
-    requires filled { AreFilled ground.now lists.now table.old filled.now }
+    requires { AreFilledSoFar ground.now lists.now table.old filled.now }
     ensures { OnOk result (AreFilled ground.now lists.now table.new filled.now) }
 {
     let nodes = lists.shelf.nodes.len();
     let mut missing = false;
     for done in 0..nodes {
-        let more = mend_other(table, parts, lists, ground, filled, nodes - 1 - done)?;
+        let more = mend_other(table, lists, ground, filled, nodes - 1 - done)?;
         missing = missing || more;
     }
     Ok(missing)
@@ -102,18 +83,15 @@ fn mend_others(
 /// Mends the nodes that aren't filled, until nothing is missing in them.
 fn mend_until_still(
     table: &mut Table,
-    parts: &mut Vec<RowTarget>,
     lists: &Lists,
     ground: &Ground<'_>,
     filled: &[bool],
 ) -> Result<(), Memory>
-    requires lawful { IsGame ground.now }
-    requires lists { AreListsOf ground.now.rules lists.now }
-    requires filled { AreFilled ground.now lists.now table.old filled.now }
+    requires { AreFilledSoFar ground.now lists.now table.old filled.now }
     ensures { OnOk result (AreFilled ground.now lists.now table.new filled.now) }
 {
     for _ in 0..u64::MAX {
-        if !mend_others(table, parts, lists, ground, filled)? {
+        if !mend_others(table, lists, ground, filled)? {
             return Ok(());
         }
     }
@@ -155,13 +133,11 @@ fn blank(alloc: Global, lists: &Lists, ground: &Ground<'_>) -> Result<Table, Mem
     ensures { IfOk result (IsSoundTable ground.now lists.now) }
 {
     let vertices = ground.vertices();
-    let columns = (vertices + 63) / 64;
     let nodes = lists.shelf.nodes.len();
     let Some(places) = nodes.checked_mul(vertices) else {
         return Err(AllocError);
     };
-    let words = units(alloc, vertices, columns, places)?;
-    let table = Table::new(alloc, nodes, vertices, places, columns, words)?;
+    let table = Table::new(alloc, nodes, vertices, places)?;
     Ok(table)
 }
 
@@ -172,15 +148,14 @@ pub(crate) fn fill(alloc: Global, lists: &Lists, ground: &Ground<'_>) -> Result<
     ensures { IfOk result (IsFilled ground.now lists.now) }
 {
     let mut table = blank(alloc, lists, ground)?;
-    let mut parts = Vec::new(alloc);
-    let filled = fill_in_order(alloc, &mut table, &mut parts, lists, ground)?;
-    mend_until_still(&mut table, &mut parts, lists, ground, &filled)?;
+    let filled = fill_in_order(alloc, &mut table, lists, ground)?;
+    mend_until_still(&mut table, lists, ground, &filled)?;
     if are_done(&table, lists, ground, &filled) {
         return Ok(table);
     }
     // (each round but the last one adds to what is told, so there are few)
     for _ in 0..u64::MAX {
-        if !round(&mut table, &mut parts, lists, ground)? {
+        if !round(&mut table, lists, ground)? {
             return Ok(table);
         }
     }

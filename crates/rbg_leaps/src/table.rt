@@ -1,20 +1,12 @@
-//! The table of leaps: for each node and each vertex an entry, with its targets and their rows.
-ghost use Rattle.std.specs.Prelude.{◌≡◌, ◌+◌, ◌≤◌, ◌++◌, All, length, OnOk};
+//! The table of leaps: for each node and each vertex an entry, with its targets.
+ghost use Rattle.std.specs.Prelude.{All, length};
 ghost use Rattle.rbg_leaps.specs.Entries.{IsWithin};
-ghost use Rattle.rbg_leaps.specs.internal.Appending.{AppendsSome};
 
+use crate::adding::{add, add_all};
 use crate::entries::entry_in_place;
-use crate::gathering::add;
-use rbg_base::{Memory, Position, Vertex};
+use crate::target::Target;
+use rbg_base::{Memory, Vertex};
 use std::alloc::{AllocError, Global};
-
-/// A position to which a leap leads, and the row of its vertices.
-#[derive(Debug, Clone, Copy, Drop)]
-pub(crate) struct RowTarget {
-    pub(crate) position: Position,
-    /// Where its row begins among all words.
-    pub(crate) row: u32,
-}
 
 /// The leaps from one place and vertex: which of the targets they are, and whether a word may end on the way. There are
 /// many entries, so each is small.
@@ -27,30 +19,13 @@ pub(crate) struct Entry {
     pub(crate) ends: bool,
 }
 
-/// An entry for each node and each vertex, node by node, with targets and rows. The first rows are those of single
-/// vertices. Entries may share targets, and targets rows.
+/// An entry for each node and each vertex, node by node, with targets. Entries may share targets.
 #[derive(Debug, Drop)]
 pub(crate) struct Table {
     pub(crate) vertices: usize,
-    /// How many words a row has.
-    pub(crate) columns: usize,
     pub(crate) entries: Vec<Entry>,
-    pub(crate) targets: Vec<RowTarget>,
-    pub(crate) words: Vec<u64>,
+    pub(crate) targets: Vec<Target>,
     ghost within: { All (IsWithin (length targets.items)) entries.items },
-    ghost rows: { All (λ t. t.row + columns ≤ length words.items) targets.items },
-}
-
-/// Appends targets. They are few, so to push each takes fewer instructions than to copy all at once.
-#[inline(always)]
-fn append(all: &mut Vec<RowTarget>, targets: &[RowTarget]) -> Result<(), Memory>
-    ensures some { AppendsSome all.old.items all.new.items targets.now }
-    ensures all { OnOk result (all.new.items ≡ all.old.items ++ targets.now) }
-{
-    for target in targets {
-        all.push(*target)?;
-    }
-    Ok(())
 }
 
 impl Entry {
@@ -63,9 +38,9 @@ impl Entry {
 }
 
 impl Table {
-    ghost use Rattle.std.specs.Prelude.{◌≡◌, ◌*◌, ◌<◌, ◌^◌, replicate, IfOk, OnOk, IfSome, IfNone};
+    ghost use Rattle.std.specs.Prelude.{◌≡◌, ℕ, ◌+◌, ◌-◌, ◌*◌, ◌<◌, ◌≤◌, ◌^◌, replicate, IfOk, OnOk, IfSome, IfNone};
     ghost use Rattle.rbg_leaps.specs.Made.{no_entry};
-    ghost use Rattle.rbg_leaps.specs.internal.Tables.{entry_at, targets_of, Puts, Shares, Grows, AddsRow};
+    ghost use Rattle.rbg_leaps.specs.internal.Tables.{entry_at, Shares, Grows, AddsTarget, AddsAll};
 
     /// An empty entry for each node and each vertex, appended node by node: that takes fewer instructions than one large
     /// fill.
@@ -93,21 +68,15 @@ impl Table {
         nodes: usize,
         vertices: usize,
         places: usize,
-        columns: usize,
-        words: Vec<u64>,
     ) -> Result<Table, Memory>
         requires { places ≡ nodes * vertices }
         ensures vertices { IfOk result (λ t. t.vertices ≡ vertices) }
-        ensures columns { IfOk result (λ t. t.columns ≡ columns) }
         ensures entries { IfOk result (λ t. t.entries.items ≡ replicate places no_entry) }
-        ensures words { IfOk result (λ t. t.words.items ≡ words.items) }
     {
         Ok(Table {
             vertices,
-            columns,
             entries: Table::empty_entries(alloc, nodes, vertices, places)?,
             targets: Vec::with_capacity(alloc, places)?,
-            words,
         })
     }
 
@@ -135,43 +104,14 @@ impl Table {
         }
     }
 
-    /// The entry of a node and a vertex, which is there.
+    /// The entry of a node and a vertex, which is there. It is lent: a copy is one word, out of which each part would be cut.
     #[inline(always)]
-    pub(crate) fn entry_there(&self, node: usize, vertex: Vertex) -> Entry
+    pub(crate) fn entry_there(&self, node: usize, vertex: Vertex) -> &Entry
         requires { node * self.now.vertices + vertex < length self.now.entries.items }
-        ensures entry { result ≡ entry_at self.now node vertex }
-        ensures within { IsWithin (length self.now.targets.items) result }
+        ensures entry { result.now ≡ entry_at self.now node vertex }
+        ensures within { (size : ℕ) → All (IsWithin size) self.now.entries.items → IsWithin size result.now }
     {
-        self.entries[node * self.vertices + vertex as usize]
-    }
-
-    /// Puts the entry of a node and a vertex in its place, with targets of its own. Memory is said to be out where an entry
-    /// can't name them: behind 4,294,967,295 targets, which take 32 gigabytes, and where they are more than 65,535, while a
-    /// game has at most 20,000 positions.
-    #[inline(always)]
-    pub(crate) fn put(
-        &mut self,
-        node: usize,
-        vertex: Vertex,
-        targets: &[RowTarget],
-        ends: bool,
-    ) -> Result<(), Memory>
-        requires there { node * self.old.vertices + vertex < length self.old.entries.items }
-        requires rows { All (λ t. t.row + self.old.columns ≤ length self.old.words.items) targets.now }
-        ensures { OnOk result (Puts self.old self.new node vertex targets.now ends) }
-    {
-        let start = self.targets.len();
-        if start > u32::MAX as usize || targets.len() > u16::MAX as usize {
-            return Err(AllocError);
-        }
-        append(&mut self.targets, targets)?;
-        let place = node * self.vertices + vertex as usize;
-        self.entries[place] = Entry {
-            start: start as u32,
-            many: targets.len() as u16,
-            ends,
-        };
-        Ok(())
+        &self.entries[node * self.vertices + vertex as usize]
     }
 
     /// Puts an entry of a node and a vertex in its place, with targets that are there.
@@ -185,39 +125,52 @@ impl Table {
         self.entries[place] = entry;
     }
 
-    /// Adds a row to targets at a position.
+    /// Puts the entry of a node and a vertex in its place, with all targets from a place on. Memory is said to be out where
+    /// an entry can't name them: behind 4,294,967,295 targets, which take 64 gigabytes, and where they are more than 65,535,
+    /// which is never met: from 65 vertices on, the limit of words allows at most 4,194,304 / 65 for the positions and
+    /// columns of one entry.
     #[inline(always)]
-    pub(crate) fn add_row(
+    pub(crate) fn put(
         &mut self,
-        parts: &mut Vec<RowTarget>,
-        position: Position,
-        row: u32,
+        node: usize,
+        vertex: Vertex,
+        start: usize,
+        ends: bool,
     ) -> Result<(), Memory>
-        requires row { row + self.old.columns ≤ length self.old.words.items }
-        requires rows { All (λ t. t.row + self.old.columns ≤ length self.old.words.items) parts.old.items }
-        ensures grows { OnOk result (Grows self.old self.new) }
-        ensures adds { OnOk result (AddsRow self.old.columns self.old.words.items self.new.words.items parts.old.items parts.new.items position row) }
+        requires there { node * self.old.vertices + vertex < length self.old.entries.items }
+        requires start { start ≤ length self.old.targets.items }
+        ensures { OnOk result (Shares self.old self.new node vertex (record { start = start; many = length self.old.targets.items - start; ends = ends })) }
     {
-        let columns = self.columns;
-        add(parts, &mut self.words, columns, position, row)
+        let many = self.targets.len() - start;
+        if start > u32::MAX as usize || many > u16::MAX as usize {
+            return Err(AllocError);
+        }
+        let place = node * self.vertices + vertex as usize;
+        let entry = &mut self.entries[place];
+        entry.start = start as u32;
+        entry.many = many as u16;
+        entry.ends = ends;
+        Ok(())
     }
 
-    /// Where the row that has a vertex alone begins.
+    /// Adds a target to those from a place on.
     #[inline(always)]
-    pub(crate) fn unit(&self, vertex: Vertex) -> u32
-        requires { vertex * self.now.columns < 2 ^ 32 }
-        ensures { result ≡ vertex * self.now.columns }
+    pub(crate) fn add(&mut self, start: usize, target: Target) -> Result<(), Memory>
+        requires { start ≤ length self.old.targets.items }
+        ensures grows { OnOk result (Grows start self.old self.new) }
+        ensures adds { OnOk result (AddsTarget start self.old.targets.items self.new.targets.items target) }
     {
-        (vertex as usize * self.columns) as u32
+        add(&mut self.targets, start, target)
     }
 
-    /// The targets of an entry.
+    /// Adds the targets between two places to those from a place on.
     #[inline(always)]
-    pub(crate) fn targets(&self, entry: Entry) -> &[RowTarget]
-        requires { IsWithin (length self.now.targets.items) entry }
-        ensures { result.now ≡ targets_of self.now entry }
+    pub(crate) fn add_all(&mut self, start: usize, from: usize, to: usize) -> Result<(), Memory>
+        requires start { start ≤ length self.old.targets.items }
+        requires before { to ≤ start }
+        ensures grows { OnOk result (Grows start self.old self.new) }
+        ensures adds { OnOk result (AddsAll start self.old.targets.items self.new.targets.items from to) }
     {
-        let start = entry.start as usize;
-        &self.targets[start..start + entry.many as usize]
+        add_all(&mut self.targets, start, from, to)
     }
 }

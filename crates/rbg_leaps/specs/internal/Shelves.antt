@@ -4,11 +4,13 @@ use Rattle.rbg_rules.specs.Expression.{Expression}
 use Rattle.rbg_rules.specs.Positions.{positions_of, outermost, inside}
 use Rattle.rbg_rules.specs.Words.{Start, beginning, after}
 use Rattle.rbg_auto.specs.declared.steps.Expr.TheVariants.{Rules, Inside}
+use Rattle.rbg_leaps.specs.declared.branches.Branch.{Branch}
 use Rattle.rbg_leaps.specs.declared.lists.Lists.{Lists}
 use Rattle.rbg_leaps.specs.declared.origin.Origin.{Origin}
 use Rattle.rbg_leaps.specs.declared.origin.Origin.TheVariants.{Begin, After}
 use Rattle.rbg_leaps.specs.declared.shelf.Node.{Node}
 use Rattle.rbg_leaps.specs.declared.shelf.Shelf.{Shelf}
+use Rattle.rbg_leaps.specs.internal.Branches.{AreBranches}
 use Rattle.rbg_leaps.specs.internal.Spans.{no_node}
 use Rattle.rbg_leaps.specs.internal.Steps.{IsAnswerAt}
 
@@ -57,6 +59,12 @@ origin_node lists (Begin Rules) = lists.rules
 origin_node lists (Begin (Inside p)) = slice_index_or lists.insides.items p 0
 origin_node lists (After p) = slice_index_or lists.afters.items p 0
 
--- The nodes of all positions.
-abbrev pub AreListsOf : Expression → Lists → Type 0
-AreListsOf rules lists = AreListsUpTo rules (length (positions_of rules) + 1) lists.shelf lists.rules lists.afters.items lists.insides.items
+-- The nodes of all positions, and the branches of their lists.
+pub record AreListsOf (rules : Expression) (lists : Lists) : Type 0 where
+  pub nodes :
+      AreListsUpTo rules (length (positions_of rules) + 1) lists.shelf lists.rules lists.afters.items lists.insides.items
+  pub branches : AreBranches rules lists.afters.items lists.shelf.positions.items lists.branches.items
+
+-- The branches of a node.
+abbrev pub branches_at : Lists → ℕ → List Branch
+branches_at lists n = slice_range lists.branches.items (node_in lists.shelf n).start (node_in lists.shelf n).end

@@ -1,65 +1,68 @@
 -- What a table that is being made tells, whether it is right so far, and whether anything is missing.
-use Rattle.std.specs.Prelude.{◌≡◌, ◌≢◌, ℕ, ◌+◌, ◌*◌, ◌<◌, ◌≤◌, ◌↔◌, ◌⊎◌, List, ◌++◌, length, slice_range, slice_index_or, Bool, true, false, IsTrue, All, AllPairs, Contains}
+use Rattle.std.specs.Prelude.{◌≡◌, ◌≢◌, ℕ, ◌+◌, ◌*◌, ◌<◌, ◌≤◌, ◌⊎◌, List, length, slice_index_or, Bool, true, false, IsTrue, All, Contains}
 use Rattle.rbg_rules.specs.Games.{IsGame}
 use Rattle.rbg_rules.specs.State.{AbstractGame}
-use Rattle.rbg_rules.specs.Words.{Start}
 use Rattle.rbg_leaps.specs.declared.lists.Lists.{Lists}
 use Rattle.rbg_leaps.specs.declared.table.Entry.{Entry}
 use Rattle.rbg_leaps.specs.declared.table.Table.{Table}
-use Rattle.rbg_leaps.specs.declared.table.RowTarget.{RowTarget}
+use Rattle.rbg_leaps.specs.declared.target.Target.{Target}
+use Rattle.rbg_leaps.specs.Asked.{IsEndOf}
 use Rattle.rbg_leaps.specs.Entries.{end_of, IsWithin}
-use Rattle.rbg_leaps.specs.Leaps.{IsShiftAt, IsLeap, EndsAcross}
+use Rattle.rbg_leaps.specs.Leaps.{IsShiftAt}
 use Rattle.rbg_leaps.specs.Limits.{row_words}
 use Rattle.rbg_leaps.specs.Made.{entry_in, no_entry}
-use Rattle.rbg_leaps.specs.internal.Rows.{has_bit, row_at}
-use Rattle.rbg_leaps.specs.internal.Shelves.{Extends, list_at, may_end_at, AreListsOf}
+use Rattle.rbg_leaps.specs.internal.Shelves.{list_at, may_end_at, AreListsOf}
 use Rattle.rbg_leaps.specs.internal.Steps.{Comes, IsLeapBy, EndsBy}
-use Rattle.rbg_leaps.specs.internal.Words.{AreUnits}
 
-abbrev pub no_target : RowTarget
-no_target = record { position = 0; row = 0 }
+abbrev pub no_target : Target
+no_target = record { position = 0; column = 0; word = 0 }
 
--- The targets tell of position j at vertex u.
-pub record Tells (columns : ℕ) (words : List ℕ) (targets : List RowTarget) (j u : ℕ) : Type 0 where
+abbrev pub target_at : List Target → ℕ → Target
+target_at targets i = slice_index_or targets i no_target
+
+-- One of the targets between two places tells of position j at vertex u.
+pub record Tells (targets : List Target) (from to j u : ℕ) : Type 0 where
   pub at : ℕ
-  pub there : at < length targets
-  pub position : (slice_index_or targets at no_target).position ≡ j
-  pub bit : has_bit (row_at columns words (slice_index_or targets at no_target).row) u ≡ true
+  pub behind : from ≤ at
+  pub before : at < to
+  pub is : IsEndOf (target_at targets at) j u
 
--- The row has a vertex, and none that isn't one of these.
-pub record IsRowOf (Leap : ℕ → Type 0) (columns : ℕ) (words : List ℕ) (row : ℕ) : Type 0 where
-  pub within : row + columns ≤ length words
-  pub only : (u : ℕ) → has_bit (row_at columns words row) u ≡ true → Leap u
-  pub some : (u : ℕ) × (has_bit (row_at columns words row) u ≡ true)
+-- The target has a vertex, and none that isn't one of these. It is in a column of the board.
+pub record IsTargetOf (Leap : ℕ → ℕ → Type 0) (columns : ℕ) (t : Target) : Type 0 where
+  pub only : (p u : ℕ) → IsEndOf t p u → Leap p u
+  pub some : (u : ℕ) × IsEndOf t t.position u
+  pub column : t.column < columns
 
--- The targets are of different positions, and tell of nothing but these leaps.
-pub record AreSound (Leap : ℕ → ℕ → Type 0) (columns : ℕ) (words : List ℕ) (targets : List RowTarget) : Type 0 where
-  pub different : AllPairs (λ s t. s.position ≢ t.position) targets
-  pub rows : All (λ t. IsRowOf (Leap t.position) columns words t.row) targets
+-- Between two places the targets tell of nothing but these leaps.
+pub record AreSound (Leap : ℕ → ℕ → Type 0) (columns : ℕ) (targets : List Target) (from to : ℕ) : Type 0 where
+  pub each : (i : ℕ) → from ≤ i → i < to → IsTargetOf Leap columns (target_at targets i)
+
+-- The target tells of nothing but leaps from vertex v where the list comes next.
+abbrev pub IsTargetBy : AbstractGame → (list : List ℕ) → (may_end : Bool) → (v : ℕ) → Target → Type 0
+IsTargetBy game list may_end v = IsTargetOf (IsLeapBy game list may_end v) (row_words game)
+
+-- So do those between two places.
+abbrev pub AreSoundBy : AbstractGame → (list : List ℕ) → (may_end : Bool) → (v : ℕ) → List Target → (from to : ℕ) → Type 0
+AreSoundBy game list may_end v = AreSound (IsLeapBy game list may_end v) (row_words game)
 
 -- The entry of a node and a vertex.
 abbrev pub entry_at : Table → (node v : ℕ) → Entry
 entry_at table node v = entry_in table.entries.items table.vertices node v
 
--- The targets of an entry.
-abbrev pub targets_of : Table → Entry → List RowTarget
-targets_of table e = slice_range table.targets.items e.start (end_of e)
-
+-- The targets of an entry tell of position j at vertex u.
 abbrev pub TellsAt : Table → Entry → (j u : ℕ) → Type 0
-TellsAt table e = Tells table.columns table.words.items (targets_of table e)
+TellsAt table e = Tells table.targets.items e.start (end_of e)
 
 -- Nothing but leaps from vertex v are told where the list comes next.
 pub record IsSoundEntry (game : AbstractGame) (list : List ℕ) (may_end : Bool) (v : ℕ) (table : Table) (e : Entry) : Type 0 where
   pub within : IsWithin (length table.targets.items) e
-  pub targets : AreSound (IsLeapBy game list may_end v) table.columns table.words.items (targets_of table e)
+  pub targets : AreSoundBy game list may_end v table.targets.items e.start (end_of e)
   pub ends : IsTrue e.ends → EndsBy game list may_end v
 
--- The table is of the game's board and of the nodes, and has the rows of single vertices.
+-- The table is of the game's board and of the nodes.
 pub record IsLaidOut (game : AbstractGame) (lists : Lists) (table : Table) : Type 0 where
   pub vertices : table.vertices ≡ length game.board.first
-  pub columns : table.columns ≡ row_words game
   pub size : length table.entries.items ≡ length lists.shelf.nodes.items * table.vertices
-  pub units : AreUnits table.columns table.vertices table.words.items
 
 -- The table tells of nothing but leaps.
 pub record IsSoundTable (game : AbstractGame) (lists : Lists) (table : Table) : Type 0 where
@@ -76,71 +79,72 @@ IsRightSoFar game lists table = record {
   sound : IsSoundTable game lists table;
 }
 
--- What an entry tells, the targets tell, and also whether a word may end.
-pub record IsUnder (table : Table) (one : Entry) (targets : List RowTarget) (may_end : Bool) : Type 0 where
-  pub tells : (j u : ℕ) → TellsAt table one j u → Tells table.columns table.words.items targets j u
+-- .. and this is one of the nodes.
+pub record IsRightAt (game : AbstractGame) (lists : Lists) (table : Table) (n : ℕ) : Type 0 where
+  pub right : IsRightSoFar game lists table
+  pub node : n < length lists.shelf.nodes.items
+
+-- What an entry tells, the targets between two places tell, and also whether a word may end.
+pub record IsUnder (table : Table) (one : Entry) (from to : ℕ) (may_end : Bool) : Type 0 where
+  pub tells : (j u : ℕ) → TellsAt table one j u → Tells table.targets.items from to j u
   pub ends : IsTrue one.ends → IsTrue may_end
 
--- The targets tell of what one step by position p leads to from vertex v: of p itself where it is no shift, and of all
--- that is told where a shift leads.
+-- The targets between two places tell of what one step by position p leads to from vertex v: of p itself where it is no
+-- shift, and of all that is told where a shift leads.
 pub record IsToldBy
-    (game : AbstractGame) (lists : Lists) (table : Table) (targets : List RowTarget) (may_end : Bool) (v p : ℕ)
+    (game : AbstractGame) (lists : Lists) (table : Table) (from to : ℕ) (may_end : Bool) (v p : ℕ)
     : Type 0
   where
-    pub plain : ¬ IsShiftAt game.rules p → Tells table.columns table.words.items targets p v
+    pub plain : ¬ IsShiftAt game.rules p → Tells table.targets.items from to p v
     pub is_vertex : (w : ℕ) → IsShiftAt game.rules p → Comes game v p w → w < table.vertices
     pub shift :
         (w : ℕ) → IsShiftAt game.rules p → Comes game v p w →
-        IsUnder table (entry_at table (slice_index_or lists.afters.items p 0) w) targets may_end
+        IsUnder table (entry_at table (slice_index_or lists.afters.items p 0) w) from to may_end
 
 -- The entry tells of it.
 abbrev pub IsToldAt : AbstractGame → Lists → Table → Entry → (v p : ℕ) → Type 0
-IsToldAt game lists table e = IsToldBy game lists table (targets_of table e) e.ends
+IsToldAt game lists table e = IsToldBy game lists table e.start (end_of e) e.ends
 
--- Nothing is missing in the targets at a node and a vertex.
+-- All targets from a place on tell of it.
+abbrev pub IsToldFrom : AbstractGame → Lists → Table → (start : ℕ) → Bool → (v p : ℕ) → Type 0
+IsToldFrom game lists table start = IsToldBy game lists table start (length table.targets.items)
+
+-- Nothing is missing in the targets between two places, at a node and a vertex.
 pub record IsWhole
-    (game : AbstractGame) (lists : Lists) (table : Table) (n v : ℕ) (targets : List RowTarget) (may_end : Bool)
+    (game : AbstractGame) (lists : Lists) (table : Table) (n v from to : ℕ) (may_end : Bool)
     : Type 0
   where
     pub ends : IsTrue (may_end_at lists.shelf n) → IsTrue may_end
-    pub told : All (IsToldBy game lists table targets may_end v) (list_at lists.shelf n)
+    pub told : All (IsToldBy game lists table from to may_end v) (list_at lists.shelf n)
+
+-- .. in all targets from a place on.
+abbrev pub IsWholeFrom : AbstractGame → Lists → Table → (start n v : ℕ) → Bool → Type 0
+IsWholeFrom game lists table start n v = IsWhole game lists table n v start (length table.targets.items)
 
 -- Nothing is missing in the entry of a node and a vertex.
 abbrev pub IsClosed : AbstractGame → Lists → Table → (n v : ℕ) → Type 0
 IsClosed game lists table n v =
-    IsWhole game lists table n v (targets_of table (entry_at table n v)) (entry_at table n v).ends
+    IsWhole game lists table n v (entry_at table n v).start (end_of (entry_at table n v)) (entry_at table n v).ends
 
--- Words or targets were appended, and no more.
-pub record Grows (old new : Table) : Type 0 where
+-- The targets before a place stay as they are, and none is taken away.
+pub record Keeps (place : ℕ) (old new : List Target) : Type 0 where
+  pub size : length old ≤ length new
+  pub same : (i : ℕ) → i < place → target_at new i ≡ target_at old i
+
+-- Targets from a place on were added or changed, and no more.
+pub record Grows (place : ℕ) (old new : Table) : Type 0 where
   pub vertices : new.vertices ≡ old.vertices
-  pub columns : new.columns ≡ old.columns
   pub are_entries : new.entries.items ≡ old.entries.items
-  pub targets : Extends old.targets.items new.targets.items
-  pub words : Extends old.words.items new.words.items
+  pub targets : Keeps place old.targets.items new.targets.items
 
--- What is gathered at a node and a vertex: targets that tell of nothing but leaps.
-abbrev pub IsGathered : AbstractGame → Lists → Table → (n v : ℕ) → List RowTarget → Type 0
-IsGathered game lists table n v targets =
-    AreSound (IsLeapBy game (list_at lists.shelf n) (may_end_at lists.shelf n) v) table.columns table.words.items targets
-
--- An entry of a node and a vertex was put in its place, with targets of its own; the others stay.
-pub record Puts (old new : Table) (n v : ℕ) (targets : List RowTarget) (ends : Bool) : Type 0 where
-  pub vertices : new.vertices ≡ old.vertices
-  pub columns : new.columns ≡ old.columns
-  pub words : new.words.items ≡ old.words.items
-  pub are_targets : new.targets.items ≡ old.targets.items ++ targets
-  pub size : length new.entries.items ≡ length old.entries.items
-  pub here :
-      entry_at new n v ≡ (record { start = length old.targets.items; many = length targets; ends = ends })
-  pub others :
-      (i : ℕ) → i ≢ n * old.vertices + v →
-      slice_index_or new.entries.items i no_entry ≡ slice_index_or old.entries.items i no_entry
+-- What is gathered at a node and a vertex: targets from a place on that tell of nothing but leaps.
+abbrev pub IsGathered : AbstractGame → Lists → Table → (start n v : ℕ) → Type 0
+IsGathered game lists table start n v =
+    AreSoundBy game (list_at lists.shelf n) (may_end_at lists.shelf n) v table.targets.items start (length table.targets.items)
 
 -- An entry of a node and a vertex was put in its place, and nothing else changed.
 pub record Shares (old new : Table) (n v : ℕ) (e : Entry) : Type 0 where
   pub vertices : new.vertices ≡ old.vertices
-  pub columns : new.columns ≡ old.columns
-  pub words : new.words.items ≡ old.words.items
   pub are_targets : new.targets.items ≡ old.targets.items
   pub size : length new.entries.items ≡ length old.entries.items
   pub here : entry_at new n v ≡ e
@@ -148,41 +152,36 @@ pub record Shares (old new : Table) (n v : ℕ) (e : Entry) : Type 0 where
       (i : ℕ) → i ≢ n * old.vertices + v →
       slice_index_or new.entries.items i no_entry ≡ slice_index_or old.entries.items i no_entry
 
--- A row was added to the targets at a position.
-pub record AddsRow (columns : ℕ) (old new : List ℕ) (before behind : List RowTarget) (position row : ℕ) : Type 0 where
-  pub extends : Extends old new
-  pub rows : All (λ t. t.row + columns ≤ length new) behind
+-- What the targets from a place on told, they tell.
+pub record TellsStill (start : ℕ) (old new : List Target) : Type 0 where
+  pub tells : (j u : ℕ) → Tells old start (length old) j u → Tells new start (length new) j u
+
+abbrev pub KeepsTold : (start : ℕ) → Table → Table → Type 0
+KeepsTold start old new = TellsStill start old.targets.items new.targets.items
+
+-- A target was added to those from a place on.
+pub record AddsTarget (start : ℕ) (old new : List Target) (t : Target) : Type 0 where
   pub sound :
       (game : AbstractGame) (list : List ℕ) (may_end : Bool) (v : ℕ) →
-      AreSound (IsLeapBy game list may_end v) columns old before →
-      IsRowOf (IsLeapBy game list may_end v position) columns old row →
-      AreSound (IsLeapBy game list may_end v) columns new behind
-  pub keeps : (j u : ℕ) → Tells columns old before j u → Tells columns new behind j u
-  pub has : (u : ℕ) → has_bit (row_at columns old row) u ≡ true → Tells columns new behind position u
+      AreSoundBy game list may_end v old start (length old) → IsTargetBy game list may_end v t →
+      AreSoundBy game list may_end v new start (length new)
+  pub kept : TellsStill start old new
+  pub has : (j u : ℕ) → IsEndOf t j u → Tells new start (length new) j u
 
--- What the targets told, they tell.
-pub record Keeps (old new : Table) (before behind : List RowTarget) : Type 0 where
-  pub keeps :
-      (j u : ℕ) → Tells old.columns old.words.items before j u → Tells new.columns new.words.items behind j u
-
--- The targets of an entry were added, up to a place among all targets.
-pub record AddsUpTo (old new : Table) (before behind : List RowTarget) (e : Entry) (place : ℕ) : Type 0 where
-  pub grows : Grows old new
-  pub rows : All (λ t. t.row + new.columns ≤ length new.words.items) behind
+-- The targets between two places were added to those from `start` on, up to a place.
+pub record AddsUpTo (start : ℕ) (old new : List Target) (from to place : ℕ) : Type 0 where
+  pub keeps : Keeps start old new
   pub sound :
       (game : AbstractGame) (list : List ℕ) (may_end : Bool) (v : ℕ) →
-      AreSound (IsLeapBy game list may_end v) old.columns old.words.items before →
-      AreSound (IsLeapBy game list may_end v) old.columns old.words.items (targets_of old e) →
-      AreSound (IsLeapBy game list may_end v) new.columns new.words.items behind
-  pub kept : Keeps old new before behind
-  pub has :
-      (i u : ℕ) → e.start + i < place →
-      has_bit (row_at old.columns old.words.items (slice_index_or (targets_of old e) i no_target).row) u ≡ true →
-      Tells new.columns new.words.items behind (slice_index_or (targets_of old e) i no_target).position u
+      AreSoundBy game list may_end v old start (length old) →
+      AreSoundBy game list may_end v old from to →
+      AreSoundBy game list may_end v new start (length new)
+  pub kept : TellsStill start old new
+  pub has : (j u : ℕ) → Tells old from place j u → Tells new start (length new) j u
 
 -- All of them were added.
-abbrev pub AddsAll : Table → Table → List RowTarget → List RowTarget → Entry → Type 0
-AddsAll old new before behind e = AddsUpTo old new before behind e (end_of e)
+abbrev pub AddsAll : (start : ℕ) → (old new : List Target) → (from to : ℕ) → Type 0
+AddsAll start old new from to = AddsUpTo start old new from to to
 
 -- No shift of the node's list leads to the node again.
 abbrev pub LeadsAway : AbstractGame → Lists → (n : ℕ) → Type 0
@@ -216,9 +215,7 @@ LeadsOneWay game lists n = LeadsBack game lists n ⊎ LeadsForth game lists n
 -- Entries were filled; those of the other nodes stay.
 pub record Fills (old new : Table) (n : ℕ) : Type 0 where
   pub vertices : new.vertices ≡ old.vertices
-  pub columns : new.columns ≡ old.columns
-  pub targets : Extends old.targets.items new.targets.items
-  pub words : Extends old.words.items new.words.items
+  pub targets : Keeps (length old.targets.items) old.targets.items new.targets.items
   pub others : (m w : ℕ) → m ≢ n → w < old.vertices → entry_at new m w ≡ entry_at old m w
 
 -- The entry of a node and a vertex was filled; the others stay.
@@ -265,6 +262,12 @@ pub record AreFilled (game : AbstractGame) (lists : Lists) (table : Table) (mark
       (n v : ℕ) → IsMarked marks n → LeadsOneWay game lists n → v < length game.board.first →
       IsClosed game lists table n v
 
+-- .. in the table of a game, with the nodes of its rules.
+pub record AreFilledSoFar (game : AbstractGame) (lists : Lists) (table : Table) (marks : List Bool) : Type 0 where
+  pub lawful : IsGame game
+  pub nodes : AreListsOf game.rules lists
+  pub filled : AreFilled game lists table marks
+
 -- The entries of a node tell of what one step by position p leads to, at each vertex.
 abbrev pub IsToldEverywhere : AbstractGame → Lists → Table → (n p : ℕ) → Type 0
 IsToldEverywhere game lists table n p =
@@ -302,11 +305,3 @@ AreAllClosed game lists table =
 pub record IsFilled (game : AbstractGame) (lists : Lists) (table : Table) : Type 0 where
   pub sound : IsSoundTable game lists table
   pub closed : AreAllClosed game lists table
-
--- The entry is that of the leaps from f and vertex v: it tells of nothing but these, and of all of them, and whether a
--- word may end.
-pub record IsRowEntry (game : AbstractGame) (f : Start) (v : ℕ) (table : Table) (e : Entry) : Type 0 where
-  pub within : IsWithin (length table.targets.items) e
-  pub sound : AreSound (IsLeap game f v) table.columns table.words.items (targets_of table e)
-  pub all : (j u : ℕ) → IsLeap game f v j u → TellsAt table e j u
-  pub ends : IsTrue e.ends ↔ EndsAcross game f v

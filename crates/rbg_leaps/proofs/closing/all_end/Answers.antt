@@ -2,7 +2,7 @@ use Rattle.std.proofs.Common.{◌≡◌, ℕ, true, false, refl, sym, subst, ari
 use Rattle.std.specs.Prelude.{Bool, IsTrue, not}
 use Rattle.rbg_leaps.specs.declared.table.Entry.{Entry}
 use Rattle.rbg_leaps.specs.internal.Tables.{entry_at}
-use Rattle.rbg_leaps.proofs.RowLemmas.{before, last, last_place}
+use Rattle.rbg_leaps.proofs.Places.{before, last, last_place}
 use Rattle.rbg_leaps.proofs.closing.all_end.Goals as goal
 
 true_not_false : true ≡ false → ⊥

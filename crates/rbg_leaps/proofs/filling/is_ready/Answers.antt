@@ -4,7 +4,7 @@ use Rattle.rbg_leaps.specs.Leaps.{IsShiftAt}
 use Rattle.rbg_leaps.specs.internal.Tables.{IsMarked}
 use Rattle.rbg_leaps.proofs.Cases.{not_both}
 use Rattle.rbg_leaps.proofs.Fillings.{each_listed}
-use Rattle.rbg_leaps.proofs.RowLemmas.{before, last, last_place}
+use Rattle.rbg_leaps.proofs.Places.{before, last, last_place}
 use Rattle.rbg_leaps.proofs.filling.is_ready.Goals as goal
 use Rattle.rbg_leaps.proofs.filling.is_ready.Goals.{else-is_shift-via-then-is_shift+else-not-is_marked_or, else-is_shift-via-else-is_shift}
 

@@ -1,10 +1,30 @@
-use Rattle.std.proofs.Common.{◌<◌, ℕ, [], ◌∷◌, sym, subst}
-use Rattle.rbg_leaps.specs.internal.Tables.{Puts}
-use Rattle.rbg_leaps.proofs.Fillings.{one_placed}
+use Rattle.std.proofs.Common.{◌≡◌, ◌∙◌, ℕ, List, Bool, length, sym, subst, arith}
+use Rattle.std.specs.Prelude.{IsTrue}
+use Rattle.rbg_leaps.specs.Limits.{row_words}
+use Rattle.rbg_leaps.specs.internal.Shelves.{list_at, may_end_at}
+use Rattle.rbg_leaps.specs.internal.Steps.{IsLeapBy}
+use Rattle.rbg_leaps.proofs.Fillings.{one_filled, only_listed, told_plain, whole_of_one}
+use Rattle.rbg_leaps.proofs.Steppings.{ends_here}
+use Rattle.rbg_leaps.proofs.Tabling.{unit_sound}
+use Rattle.rbg_leaps.proofs.Targets.{sound_none}
 use Rattle.rbg_leaps.proofs.filling.place_one.Goals as goal
 
 pub returns : goal.returns
 returns c =
-    one_placed c.args.ground.now c.args.lists.now c.args.table.now c.put.new.self c.args.node c.args.vertex c.args.position c.args.may_end
-    (subst (λ (n : ℕ). c.args.vertex < n) (sym c.requires.right.sound.laid_out.vertices) c.requires.vertex) c.requires.right.sound c.requires.only c.requires.plain c.requires.may_end
-    (subst (λ (row : ℕ). Puts c.args.table.now c.put.new.self c.args.node c.args.vertex ((record { position = c.args.position; row = row }) ∷ []) c.args.may_end) c.unit-row.ensures c.in_ok-put.ensures)
+    let game = c.args.ground.now in
+    let lists = c.args.lists.now in
+    let old = c.args.table.now in
+    let middle = c.add.new.self in
+    let list : List ℕ = list_at lists.shelf c.args.node in
+    let may_end : Bool = may_end_at lists.shelf c.args.node in
+    let start : ℕ = c.len-start.result in
+    let at_end : start ≡ length old.targets.items = c.len-start.ensures ∙ old.targets.ok.0 in
+    let unit = c.unit.ensures in
+    let adds = c.in_ok-add.ensures.adds in
+    one_filled game lists old middle c.put.new.self start c.args.node c.args.vertex c.args.may_end
+    at_end c.requires.vertex c.requires.at.right.sound c.in_ok-add.ensures.grows c.in_ok-put.ensures
+    (adds.sound game list may_end c.args.vertex (sound_none (IsLeapBy game list may_end c.args.vertex) (row_words game) old.targets.items start (length old.targets.items) (omega (arith, at_end)))
+    (unit_sound game list may_end c.args.vertex c.args.position c.unit.result c.requires.vertex (only_listed list c.args.position c.requires.only) c.requires.plain unit.has unit.position unit.vertex unit.column))
+    (λ is. ends_here game list may_end c.args.vertex (subst IsTrue c.requires.may_end is))
+    (whole_of_one game lists middle c.args.node c.args.vertex c.args.position start (length middle.targets.items) c.args.may_end c.requires.only (λ is. subst IsTrue (sym c.requires.may_end) is)
+    (told_plain game lists middle start (length middle.targets.items) c.args.may_end c.args.vertex c.args.position c.requires.plain (adds.has c.args.position c.args.vertex unit.has)))

@@ -3,7 +3,7 @@ use Rattle.rbg_leaps.proofs.Fillings.{no_vertex, one_more_vertex}
 use Rattle.rbg_leaps.proofs.filling.share_node.Goals as goal
 
 pub loop-vertex-init : goal.loop-vertex-init
-loop-vertex-init c = no_vertex c.args.ground.now c.args.lists.now c.args.table.now c.args.node c.requires.right.sound
+loop-vertex-init c = no_vertex c.args.ground.now c.args.lists.now c.args.table.now c.args.node c.requires.at.right.sound
 
 pub loop-vertex-preserved : goal.loop-vertex-preserved
 loop-vertex-preserved c =

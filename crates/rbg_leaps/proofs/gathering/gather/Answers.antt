@@ -1,49 +1,68 @@
-use Rattle.std.proofs.Common.{ℕ, List, Bool, get_or, take, sym, subst, arith}
-use Rattle.std.specs.Prelude.{All, IsTrue}
-use Rattle.std.proofs.lemmas.List.{take_more, take_all}
-use Rattle.std.proofs.lemmas.List.Elements.{All-push}
-use Rattle.rbg_leaps.specs.internal.Shelves.{list_at, may_end_at}
+use Rattle.std.proofs.Common.{◌≡◌, ◌<◌, ◌∙◌, ℕ, List, length, get_or, sym, ap, subst, arith}
+use Rattle.std.specs.Prelude.{All, Contains, IsTrue}
+use Rattle.rbg_leaps.specs.declared.branches.Branch.{Branch}
+use Rattle.rbg_leaps.specs.Entries.{IsWithin}
+use Rattle.rbg_leaps.specs.Limits.{row_words}
+use Rattle.rbg_leaps.specs.internal.Branches.{no_branch}
+use Rattle.rbg_leaps.specs.internal.Shelves.{branches_at, list_at, may_end_at}
 use Rattle.rbg_leaps.specs.internal.Steps.{IsLeapBy}
-use Rattle.rbg_leaps.specs.internal.Tables.{IsToldBy}
+use Rattle.rbg_leaps.specs.internal.Tables.{IsToldFrom}
 use Rattle.rbg_leaps.proofs.Cases.{not_both}
+use Rattle.rbg_leaps.proofs.Fillings.{is_listed, told_grown, raise_end}
+use Rattle.rbg_leaps.proofs.Places.{same_item, before, last, last_place}
+use Rattle.rbg_leaps.proofs.Shelving.{branch_at, branch_listed, branch_there}
 use Rattle.rbg_leaps.proofs.Steppings.{ends_here}
-use Rattle.rbg_leaps.proofs.Tabling.{sound_none, grows_none, grows_more, table_grown}
-use Rattle.rbg_leaps.proofs.Fillings.{all_told_on, told_grown, raise_end}
+use Rattle.rbg_leaps.proofs.Tabling.{grows_none, grows_more, table_grown}
+use Rattle.rbg_leaps.proofs.Targets.{sound_none}
 use Rattle.rbg_leaps.proofs.gathering.gather.Goals as goal
 use Rattle.rbg_leaps.proofs.gathering.gather.Goals.{then-ends, else-ends}
 
-none_told : (P : ℕ → Type 0) (xs : List ℕ) → All P (take 0 xs)
-none_told P xs = λ k d below. absurd (omega (arith, below))
-
-pub loop-listed-init : goal.loop-listed-init
-loop-listed-init c =
+pub loop-branch-init : goal.loop-branch-init
+loop-branch-init c =
     let shelf = c.args.lists.now.shelf in
     let game = c.args.ground.now in
-    rw c.clear.ensures.items (record {
+    let start = c.requires.start in
+    record {
       sound = c.requires.right.sound;
-      grows = grows_none c.args.table.now;
-      gathered = sound_none (IsLeapBy game (list_at shelf c.args.node) (may_end_at shelf c.args.node) c.args.vertex) c.args.table.now.columns c.args.table.now.words.items;
+      grows = grows_none c.args.start c.args.table.now;
+      gathered = sound_none (IsLeapBy game (list_at shelf c.args.node) (may_end_at shelf c.args.node) c.args.vertex) (row_words game) c.args.table.now.targets.items c.args.start (length c.args.table.now.targets.items) (omega (arith, start));
       ends_told = λ is. subst IsTrue (sym c.requires.may_end) is;
-      told = none_told _ c.args.list.now;
+      told = λ i below. absurd (omega (arith, below));
       ends = λ is. ends_here game (list_at shelf c.args.node) (may_end_at shelf c.args.node) c.args.vertex (subst IsTrue c.requires.may_end is);
-    })
+    }
 
-pub loop-listed-preserved : goal.loop-listed-preserved
-loop-listed-preserved c =
-    let inv = c.loop-listed.invariant in
+pub gather_one-requires-clause-listed : goal.gather_one-requires-clause-listed
+gather_one-requires-clause-listed c =
+    let lists = c.args.lists.now in
+    let n : ℕ = c.args.node in
+    let k : ℕ = c.loop-branch.branch-index in
+    let nodes = c.requires.right.nodes.branches in
+    let there : k < length (branches_at lists n) = subst (λ (bs : List Branch). k < length bs) c.requires.list c.loop-branch-test.true in
+    let xs : List ℕ = list_at lists.shelf n in
+    subst (Contains xs)
+    (sym (branch_at c.args.ground.now.rules lists nodes n k c.requires.node there no_branch).position ∙ ap (λ (bs : List Branch). (get_or bs k no_branch).position) (sym c.requires.list))
+    (is_listed xs k (branch_listed c.args.ground.now.rules lists nodes n k c.requires.node there))
+
+pub loop-branch-preserved : goal.loop-branch-preserved
+loop-branch-preserved c =
+    let inv = c.loop-branch.invariant in
     let more = c.in_ok-then.ensures.grows in
     let game = c.args.ground.now in
     let lists = c.args.lists.now in
+    let old = c.loop-branch.table in
     let new = c.gather_one.new.table in
-    let xs : List ℕ = c.args.list.now in
-    let k : ℕ = c.loop-listed.listed-index in
+    let start : ℕ = c.args.start in
+    let shelf = lists.shelf in
+    let k : ℕ = c.loop-branch.branch-index in
     let v : ℕ = c.args.vertex in
-    let kept : (one two : Bool) → (IsTrue one → IsTrue two) → All (IsToldBy game lists c.loop-listed.table c.loop-listed.parts.items one v) (take k xs) → All (IsToldBy game lists new c.gather_one.new.parts.items two v) (take k xs) =
-    λ one two up. all_told_on game lists c.loop-listed.table new c.loop-listed.parts.items c.gather_one.new.parts.items one two v (take k xs)
-    (λ p there. told_grown game lists c.loop-listed.table new c.loop-listed.parts.items c.gather_one.new.parts.items one two v p more c.in_ok-then.ensures.keeps up) in
-    let raised : (two : Bool) → (IsTrue c.in_ok-then.then → IsTrue two) → IsToldBy game lists new c.gather_one.new.parts.items two v (get_or xs k 0) =
-    λ two up. raise_end game lists new c.gather_one.new.parts.items c.in_ok-then.then two v (get_or xs k 0) up c.in_ok-then.ensures.told in
-    let up : IsTrue c.loop-listed.ends → IsTrue c.if-ends.ends = elim c.if-ends.branch [
+    let inside : All (IsWithin start) old.entries.items =
+    subst (All (IsWithin start)) (sym inv.grows.are_entries)
+    (subst (λ (size : ℕ). All (IsWithin size) c.args.table.now.entries.items) (sym c.requires.start) c.args.table.now.within) in
+    let n : ℕ = c.args.node in
+    let there : k < length (branches_at lists n) = subst (λ (bs : List Branch). k < length bs) c.requires.list c.loop-branch-test.true in
+    let position : (get_or c.args.list.now k no_branch).position ≡ get_or (list_at shelf n) k 0 =
+    ap (λ (bs : List Branch). (get_or bs k no_branch).position) c.requires.list ∙ (branch_at game.rules lists c.requires.right.nodes.branches n k c.requires.node there no_branch).position in
+    let up : IsTrue c.loop-branch.ends → IsTrue c.if-ends.ends = elim c.if-ends.branch [
       | then-ends w ↦ λ is. let first = w.ends-is in let second = w.if-ends.true in cc
       | else-ends w ↦ λ is. absurd (not_both is w.if-ends.false)
     ] in
@@ -52,12 +71,16 @@ loop-listed-preserved c =
       | else-ends w ↦ λ is. subst IsTrue (sym w.ends-is) is
     ] in
     record {
-      sound = table_grown game lists c.loop-listed.table new more inv.sound;
-      grows = grows_more c.args.table.now c.loop-listed.table new inv.grows more;
+      sound = table_grown game lists start old new inside more inv.sound;
+      grows = grows_more start c.args.table.now old new inv.grows more;
       gathered = c.in_ok-then.ensures.gathered;
       ends_told = λ is. up (inv.ends_told is);
-      told = rw (take_more xs k 0 c.loop-listed-test.true)
-          (All-push (IsToldBy game lists new c.gather_one.new.parts.items c.if-ends.ends v) (take k xs) (get_or xs k 0) (kept c.loop-listed.ends c.if-ends.ends up inv.told) (raised c.if-ends.ends over));
+      told = λ i below. elim (last_place k i below) [
+        | before e ↦ told_grown game lists start old new c.loop-branch.ends c.if-ends.ends v (get_or (list_at shelf n) i 0) inside more c.in_ok-then.ensures.keeps up (inv.told i e)
+        | last e ↦
+            raise_end game lists new start (length new.targets.items) c.in_ok-then.then c.if-ends.ends v (get_or (list_at shelf n) i 0) over
+            (subst (IsToldFrom game lists new start c.in_ok-then.then v) (position ∙ ap (λ (m : ℕ). get_or (list_at shelf n) m 0) (sym e)) c.in_ok-then.ensures.told)
+      ];
       ends = elim c.if-ends.branch [
         | then-ends w ↦ λ is. inv.ends w.if-ends.true
         | else-ends w ↦ λ is. c.in_ok-then.ensures.ends (subst IsTrue w.ends-is is)
@@ -66,12 +89,13 @@ loop-listed-preserved c =
 
 pub returns-clause-whole : goal.returns-clause-whole
 returns-clause-whole c =
-    let game = c.args.ground.now in
     let lists = c.args.lists.now in
-    let xs : List ℕ = c.args.list.now in
     record {
-      ends = c.loop-listed.invariant.ends_told;
-      told =
-          subst (λ (ys : List ℕ). All (IsToldBy game lists c.loop-listed.table c.loop-listed.parts.items c.loop-listed.ends c.args.vertex) ys) c.requires.list
-          (subst (λ (ys : List ℕ). All (IsToldBy game lists c.loop-listed.table c.loop-listed.parts.items c.loop-listed.ends c.args.vertex) ys) (take_all c.loop-listed.listed-index xs c.loop-listed-test.false) c.loop-listed.invariant.told);
+      ends = c.loop-branch.invariant.ends_told;
+      told = λ k d there.
+          subst (IsToldFrom c.args.ground.now lists c.loop-branch.table c.args.start c.loop-branch.ends c.args.vertex) (sym (same_item (list_at lists.shelf c.args.node) k d there))
+          (c.loop-branch.invariant.told k
+          (let below = branch_there c.args.ground.now.rules lists c.requires.right.nodes.branches c.args.node k c.requires.node there in
+          let all = ap length c.requires.list in
+          omega (arith, below, all, c.loop-branch-test.false)));
     }

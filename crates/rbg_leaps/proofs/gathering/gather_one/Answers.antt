@@ -1,80 +1,73 @@
-use Rattle.std.proofs.Common.{◌≡◌, ◌<◌, ◌∙◌, ℕ, List, get_or, false, sym, ap, subst}
+use Rattle.std.proofs.Common.{◌≡◌, ◌<◌, ◌∙◌, ℕ, List, length, get_or, false, sym, ap, subst}
 use Rattle.std.specs.Prelude.{Bool}
 use Rattle.rbg_leaps.specs.declared.table.Entry.{Entry}
-use Rattle.rbg_leaps.specs.internal.Tables.{entry_at, AreSound, IsUnder, Tells}
+use Rattle.rbg_leaps.specs.Leaps.{IsShiftAt}
+use Rattle.rbg_leaps.specs.internal.Tables.{entry_at, IsUnder}
 use Rattle.rbg_leaps.specs.internal.Shelves.{list_at, may_end_at}
-use Rattle.rbg_leaps.specs.internal.Steps.{IsLeapBy}
-use Rattle.rbg_leaps.specs.internal.Words.{IsUnit}
-use Rattle.rbg_leaps.proofs.Cases.{not_both, no_some, some_same}
-use Rattle.rbg_leaps.proofs.Fillings.{entry_grown_same, told_plain, told_nowhere, told_behind, added_under}
+use Rattle.rbg_leaps.specs.internal.Steps.{Comes}
+use Rattle.rbg_leaps.proofs.Cases.{some_same}
+use Rattle.rbg_leaps.proofs.Fillings.{told_plain, told_behind, added_under}
 use Rattle.rbg_leaps.proofs.Sharing.{IsRightBehind, right_behind, behind_there}
-use Rattle.rbg_leaps.proofs.Tabling.{unit_row, sound_on, sound_ends_on}
+use Rattle.rbg_leaps.proofs.Tabling.{entry_same, unit_sound, sound_on, sound_ends_on}
 use Rattle.rbg_leaps.proofs.gathering.gather_one.Goals as goal
 
-pub returns-then-not-is_shift-clause-gathered : goal.returns-then-not-is_shift-clause-gathered
-returns-then-not-is_shift-clause-gathered c =
+pub returns-in_default-clause-gathered : goal.returns-in_default-clause-gathered
+returns-in_default-clause-gathered c =
     let list : List ℕ = list_at c.args.lists.now.shelf c.args.node in
     let may_end : Bool = may_end_at c.args.lists.now.shelf c.args.node in
-    let on_board : c.args.vertex < c.args.table.now.vertices = subst (λ (n : ℕ). c.args.vertex < n) (sym c.requires.right.sound.laid_out.vertices) c.requires.vertex in
-    subst (λ (k : ℕ). AreSound (IsLeapBy c.args.ground.now list may_end c.args.vertex) k c.add_row.new.self.words.items c.add_row.new.parts.items) (sym c.in_ok-add_row.ensures.grows.columns)
-    (c.in_ok-add_row.ensures.adds.sound c.args.ground.now list may_end c.args.vertex c.requires.gathered
-    (unit_row c.args.ground.now list may_end c.args.table.now.columns c.args.table.now.words.items c.args.vertex c.args.position c.unit-row.result
-    (subst (IsUnit c.args.table.now.columns c.args.table.now.words.items c.args.vertex) (sym c.unit-row.ensures) (c.requires.right.sound.laid_out.units c.args.vertex on_board)) c.requires.listed (λ is. not_both (c.is_shift.ensures.1 is) c.if-not-is_shift.true)))
+    let unit = c.unit.ensures in
+    c.in_ok-add.ensures.adds.sound c.args.ground.now list may_end c.args.vertex c.requires.gathered
+    (unit_sound c.args.ground.now list may_end c.args.vertex c.args.branch.now.position c.unit.result c.requires.vertex c.requires.listed (c.requires.branch.plain c.in_default.is) unit.has unit.position unit.vertex unit.column)
+
+pub returns-in_default-clause-told : goal.returns-in_default-clause-told
+returns-in_default-clause-told c =
+    told_plain c.args.ground.now c.args.lists.now c.add.new.self c.args.start (length c.add.new.self.targets.items) false c.args.vertex c.args.branch.now.position (c.requires.branch.plain c.in_default.is)
+    (c.in_ok-add.ensures.adds.has c.args.branch.now.position c.args.vertex c.unit.ensures.has)
 
 pub entry_there-entry-requires : goal.entry_there-entry-requires
 entry_there-entry-requires c =
-    behind_there c.args.ground.now c.requires.right.lawful.numbered c.args.lists.now c.requires.right.nodes c.args.table.now c.requires.right.sound c.args.position c.in-Some.to c.after.result
-    (c.is_shift.ensures.0 c.if-not-is_shift.false) c.in-Some.ensures.is_vertex c.after.ensures
+    behind_there c.args.ground.now c.requires.right.lawful.numbered c.args.lists.now c.requires.right.nodes c.args.table.now c.requires.right.sound c.args.branch.now.position c.in-Some-step.to c.args.branch.now.after
+    (record { direction = c.in-Some.direction; stands = c.requires.branch.stands c.in-Some.direction c.in-Some.is }) c.in-Some-step.ensures.is_vertex c.requires.branch.after
 
--- What is told behind the shift.
-behind : (c : goal.In_ok-add_all) → IsRightBehind c.args.ground.now c.args.lists.now c.args.table.now c.args.position c.in-Some.to c.entry_there-entry.result
+pub add_all-requires-clause-before : goal.add_all-requires-clause-before
+add_all-requires-clause-before c = (c.entry_there-entry.ensures.within c.args.start c.requires.within).ends
+
+-- The branch is a shift that leads to one vertex, with what is told behind it.
+is_shift : (c : goal.In_ok-add_all) → IsShiftAt c.args.ground.now.rules c.args.branch.now.position
+is_shift c = record { direction = c.in-Some.direction; stands = c.requires.branch.stands c.in-Some.direction c.in-Some.is }
+
+comes : (c : goal.In_ok-add_all) → Comes c.args.ground.now c.args.vertex c.args.branch.now.position c.in-Some-step.to
+comes c = (c.step.ensures.comes c.args.branch.now.position c.in-Some-step.to (c.requires.branch.stands c.in-Some.direction c.in-Some.is)).0 c.in-Some-step.is
+
+behind : (c : goal.In_ok-add_all) → IsRightBehind c.args.ground.now c.args.lists.now c.args.table.now c.args.branch.now.position c.in-Some-step.to c.entry_there-entry.result.now
 behind c =
-    right_behind c.args.ground.now c.requires.right.lawful.numbered c.args.lists.now c.requires.right.nodes c.args.table.now c.requires.right.sound c.args.position c.in-Some.to c.after.result c.entry_there-entry.result
-    (c.is_shift.ensures.0 c.if-not-is_shift.false) c.in-Some.ensures.is_vertex c.after.ensures c.entry_there-entry.ensures.entry
+    right_behind c.args.ground.now c.requires.right.lawful.numbered c.args.lists.now c.requires.right.nodes c.args.table.now c.requires.right.sound c.args.branch.now.position c.in-Some-step.to c.args.branch.now.after c.entry_there-entry.result.now
+    (is_shift c) c.in-Some-step.ensures.is_vertex c.requires.branch.after c.entry_there-entry.ensures.entry
 
 pub returns-clause-gathered : goal.returns-clause-gathered
 returns-clause-gathered c =
     let shelf = c.args.lists.now.shelf in
-    c.in_ok-add_all.ensures.sound c.args.ground.now (list_at shelf c.args.node) (may_end_at shelf c.args.node) c.args.vertex c.requires.gathered
-    (sound_on c.args.ground.now c.requires.right.lawful.numbered c.args.lists.now c.args.table.now c.args.node c.args.vertex c.args.position c.in-Some.to (get_or c.args.lists.now.afters.items c.args.position 0) c.entry_there-entry.result
-    c.requires.listed (c.is_shift.ensures.0 c.if-not-is_shift.false) ((c.to.ensures.comes c.in-Some.to).0 c.in-Some.is) (behind c).node (behind c).sound)
+    c.in_ok-add_all.ensures.adds.sound c.args.ground.now (list_at shelf c.args.node) (may_end_at shelf c.args.node) c.args.vertex c.requires.gathered
+    (sound_on c.args.ground.now c.requires.right.lawful.numbered c.args.lists.now c.args.table.now c.args.node c.args.vertex c.args.branch.now.position c.in-Some-step.to (get_or c.args.lists.now.afters.items c.args.branch.now.position 0) c.entry_there-entry.result.now
+    c.requires.listed (is_shift c) (comes c) (behind c).node (behind c).sound)
 
 pub returns-clause-ends : goal.returns-clause-ends
 returns-clause-ends c =
-    sound_ends_on c.args.ground.now c.requires.right.lawful.numbered c.args.lists.now c.args.table.now c.args.node c.args.vertex c.args.position c.in-Some.to (get_or c.args.lists.now.afters.items c.args.position 0) c.entry_there-entry.result
-    c.requires.listed (c.is_shift.ensures.0 c.if-not-is_shift.false) ((c.to.ensures.comes c.in-Some.to).0 c.in-Some.is) (behind c).node (behind c).sound
-
-pub returns-then-not-is_shift-clause-keeps : goal.returns-then-not-is_shift-clause-keeps
-returns-then-not-is_shift-clause-keeps c = record {
-  keeps = λ j u told. subst (λ (k : ℕ). Tells k c.add_row.new.self.words.items c.add_row.new.parts.items j u) (sym c.in_ok-add_row.ensures.grows.columns) (c.in_ok-add_row.ensures.adds.keeps j u told);
-}
-
-pub returns-then-not-is_shift-clause-told : goal.returns-then-not-is_shift-clause-told
-returns-then-not-is_shift-clause-told c =
-    let on_board : c.args.vertex < c.args.table.now.vertices = subst (λ (n : ℕ). c.args.vertex < n) (sym c.requires.right.sound.laid_out.vertices) c.requires.vertex in
-    told_plain c.args.ground.now c.args.lists.now c.add_row.new.self c.add_row.new.parts.items false c.args.vertex c.args.position (λ is. not_both (c.is_shift.ensures.1 is) c.if-not-is_shift.true)
-    (subst (λ (k : ℕ). Tells k c.add_row.new.self.words.items c.add_row.new.parts.items c.args.position c.args.vertex) (sym c.in_ok-add_row.ensures.grows.columns)
-    (c.in_ok-add_row.ensures.adds.has c.args.vertex (subst (IsUnit c.args.table.now.columns c.args.table.now.words.items c.args.vertex) (sym c.unit-row.ensures) (c.requires.right.sound.laid_out.units c.args.vertex on_board)).has))
-
-pub returns-in_default-clause-keeps : goal.returns-in_default-clause-keeps
-returns-in_default-clause-keeps c = record { keeps = λ j u told. told }
-
-pub returns-in_default-clause-told : goal.returns-in_default-clause-told
-returns-in_default-clause-told c =
-    told_nowhere c.args.ground.now c.args.lists.now c.args.table.now c.args.parts.now.items false c.args.vertex c.args.position (c.is_shift.ensures.0 c.if-not-is_shift.false)
-    (λ w comes. no_some (sym c.in_default.is ∙ (c.to.ensures.comes w).1 comes))
-
-pub returns-clause-keeps : goal.returns-clause-keeps
-returns-clause-keeps c = c.in_ok-add_all.ensures.kept
+    sound_ends_on c.args.ground.now c.requires.right.lawful.numbered c.args.lists.now c.args.table.now c.args.node c.args.vertex c.args.branch.now.position c.in-Some-step.to (get_or c.args.lists.now.afters.items c.args.branch.now.position 0) c.entry_there-entry.result.now
+    c.requires.listed (is_shift c) (comes c) (behind c).node (behind c).sound
 
 pub returns-clause-told : goal.returns-clause-told
 returns-clause-told c =
-    let m : ℕ = get_or c.args.lists.now.afters.items c.args.position 0 in
+    let p : ℕ = c.args.branch.now.position in
+    let m : ℕ = get_or c.args.lists.now.afters.items p 0 in
+    let new = c.add_all.new.self in
+    let entry : Entry = c.entry_there-entry.result.now in
+    let to : ℕ = c.in-Some-step.to in
     let grows = c.in_ok-add_all.ensures.grows in
-    let on_board : c.in-Some.to < c.add_all.new.table.vertices = subst (λ (n : ℕ). c.in-Some.to < n) (sym (grows.vertices ∙ c.requires.right.sound.laid_out.vertices)) c.in-Some.ensures.is_vertex in
-    let same : c.entry_there-entry.result ≡ entry_at c.add_all.new.table m c.in-Some.to =
-    c.entry_there-entry.ensures.entry ∙ ap (λ (k : ℕ). entry_at c.args.table.now k c.in-Some.to) c.after.ensures ∙ sym (entry_grown_same c.args.table.now c.add_all.new.table grows m c.in-Some.to) in
-    told_behind c.args.ground.now c.args.lists.now c.add_all.new.table c.add_all.new.parts.items c.entry_there-entry.result.ends c.args.vertex c.args.position c.in-Some.to (c.is_shift.ensures.0 c.if-not-is_shift.false)
-    (λ w comes. some_same (sym c.in-Some.is ∙ (c.to.ensures.comes w).1 comes)) on_board
-    (subst (λ (e : Entry). IsUnder c.add_all.new.table e c.add_all.new.parts.items c.entry_there-entry.result.ends) same
-    (added_under c.args.table.now c.add_all.new.table c.args.parts.now.items c.add_all.new.parts.items c.entry_there-entry.result c.entry_there-entry.ensures.within c.in_ok-add_all.ensures))
+    let on_board : to < new.vertices = subst (λ (n : ℕ). to < n) (sym (grows.vertices ∙ c.requires.right.sound.laid_out.vertices)) c.in-Some-step.ensures.is_vertex in
+    let same : entry ≡ entry_at new m to =
+    c.entry_there-entry.ensures.entry ∙ ap (λ (k : ℕ). entry_at c.args.table.now k to) c.requires.branch.after ∙ sym (entry_same c.args.start c.args.table.now new grows m to) in
+    told_behind c.args.ground.now c.args.lists.now new c.args.start (length new.targets.items) entry.ends c.args.vertex p to (is_shift c)
+    (λ w at. some_same (sym c.in-Some-step.is ∙ (c.step.ensures.comes p w (c.requires.branch.stands c.in-Some.direction c.in-Some.is)).1 at)) on_board
+    (subst (λ (e : Entry). IsUnder new e c.args.start (length new.targets.items) entry.ends) same
+    (added_under c.args.start c.args.table.now new entry (c.entry_there-entry.ensures.within c.args.start c.requires.within) c.in_ok-add_all.ensures.adds))

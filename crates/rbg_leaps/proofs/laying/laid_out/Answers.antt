@@ -2,33 +2,22 @@ use Rattle.std.proofs.Common.{ℕ, List, refl, subst, arith}
 use Rattle.rbg_leaps.specs.declared.table.Entry.{Entry}
 use Rattle.rbg_leaps.specs.internal.Tables.{AreLaid}
 use Rattle.rbg_leaps.proofs.Layings.{after_rows, inside_rows, first_row, are_leaps}
-use Rattle.rbg_leaps.proofs.Packings.{all_within}
 use Rattle.rbg_leaps.proofs.laying.laid_out.Goals as goal
 
-pub pack-requires : goal.pack-requires
-pack-requires c =
-    let columns = c.requires.filled.sound.laid_out.columns in
-    let limit = c.requires.lawful.limits.vertices in
-    omega (arith, columns, limit)
-
 pub lay-requires : goal.lay-requires
-lay-requires c =
-    rw (c.deref.ensures.value, c.deref-2.ensures.value)
-    (after_rows c.args.ground.now c.args.lists c.args.table c.requires.lists c.requires.filled c.in_ok-entries.field-0.entries.items c.in_ok-entries.field-0.targets.items c.in_ok-entries.ensures)
+lay-requires c = rw (c.deref.ensures.value, c.deref-2.ensures.value) (after_rows c.args.ground.now c.args.lists c.args.table c.requires.lists c.requires.filled)
 
 pub invariant_of-result : goal.invariant_of-result
-invariant_of-result c =
-    let within = all_within c.args.table c.in_ok-entries.field-0.entries.items c.in_ok-entries.field-0.targets.items c.in_ok-entries.ensures in
-    record {
-      few = let size = c.requires.filled.sound.laid_out.vertices in let limit = c.requires.lawful.limits.vertices in omega (arith, size, limit);
-      within = c.in_ok-afters.ensures.within _ (rw c.deref.ensures.value within);
-      begins = within;
-      first = first_row c.args.ground.now c.args.lists c.args.table c.requires.lists c.requires.filled c.in_ok-entries.field-0.entries.items c.in_ok-entries.field-0.targets.items c.in_ok-entries.ensures;
-      nodes = inside_rows c.args.ground.now c.args.lists c.args.table c.requires.lists c.requires.filled c.in_ok-entries.field-0.entries.items c.in_ok-entries.field-0.targets.items c.in_ok-entries.ensures;
-    }
+invariant_of-result c = record {
+  few = let size = c.requires.filled.sound.laid_out.vertices in let limit = c.requires.lawful.limits.vertices in omega (arith, size, limit);
+  within = c.in_ok-afters.ensures.within _ (rw c.deref.ensures.value c.args.table.within);
+  begins = c.args.table.within;
+  first = first_row c.args.ground.now c.args.lists c.args.table c.requires.lists c.requires.filled;
+  nodes = inside_rows c.args.ground.now c.args.lists c.args.table c.requires.lists c.requires.filled;
+}
 
 pub returns : goal.returns
 returns c =
-    are_leaps c.args.ground.now c.requires.lawful.numbered c.args.lists c.requires.lists c.args.table c.requires.filled _ refl refl refl c.in_ok-entries.ensures
+    are_leaps c.args.ground.now c.requires.lawful.numbered c.args.lists c.requires.lists c.args.table c.requires.filled _ refl refl refl refl refl
     (subst (λ (es : List Entry). AreLaid c.args.table.vertices es c.args.lists.afters.items c.in_ok-afters.afters.items) c.deref.ensures.value
     (subst (λ (ns : List ℕ). AreLaid c.args.table.vertices c.deref.result.now ns c.in_ok-afters.afters.items) c.deref-2.ensures.value c.in_ok-afters.ensures))

@@ -12,7 +12,7 @@ loop-index-preserved g c =
     c.loop-index.afters.items c.loop-index.insides.items c.in_ok-after.after c.in_ok-inside.inside
     c.loop-index.shelf.within c.keep-in-loop-index.new.self.within c.loop-index.invariant c.in_ok-after.ensures.extends
     (node_of_kept rules c.keep-in-loop-index.new.self (after k) c.next.result.now c.may_end.result c.in_ok-after.after c.in_ok-after.ensures.kept
-    (record { follow = c.next.ensures rules c.requires; ends = c.may_end.ensures rules c.requires }))
+    (record { follow = c.next.ensures rules c.requires.steps; ends = c.may_end.ensures rules c.requires.steps }))
     c.in_ok-inside.ensures.extends
     (node_of_kept rules c.keep_as.new.self (beginning (inside k)) c.first-in-loop-index.result.now c.may_be_empty-in-loop-index.result c.in_ok-inside.inside c.in_ok-inside.ensures.kept
-    (record { follow = c.first-in-loop-index.ensures rules c.requires; ends = c.may_be_empty-in-loop-index.ensures rules c.requires })))
+    (record { follow = c.first-in-loop-index.ensures rules c.requires.steps; ends = c.may_be_empty-in-loop-index.ensures rules c.requires.steps })))

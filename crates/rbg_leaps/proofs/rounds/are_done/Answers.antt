@@ -1,6 +1,6 @@
 use Rattle.std.proofs.Common.{ℕ, sym, subst}
 use Rattle.rbg_leaps.specs.internal.Tables.{AreClosedAt}
-use Rattle.rbg_leaps.proofs.RowLemmas.{before, last, last_place}
+use Rattle.rbg_leaps.proofs.Places.{before, last, last_place}
 use Rattle.rbg_leaps.proofs.rounds.are_done.Goals as goal
 
 pub loop-node-preserved : goal.loop-node-preserved

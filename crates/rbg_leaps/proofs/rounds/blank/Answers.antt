@@ -1,5 +1,4 @@
-use Rattle.std.proofs.Common.{◌≡◌, ◌+◌, ◌*◌, ◌/◌, ◌∙◌, ℕ, List, length, sym, ap, subst, rules}
-use Rattle.rbg_leaps.specs.internal.Words.{AreUnits}
+use Rattle.std.proofs.Common.{◌≡◌, ◌*◌, ◌∙◌, ℕ, length, sym, ap, rules}
 use Rattle.rbg_leaps.proofs.Tabling.{blank_table}
 use Rattle.rbg_leaps.proofs.rounds.blank.Goals as goal
 
@@ -11,9 +10,5 @@ returns c =
     let many : c.in-Some.places ≡ c.len-nodes.result * n = search rules in
     blank_table c.args.ground.now c.args.lists.now t c.in-Some.places
     (c.in_ok-table.ensures.vertices ∙ c.vertices-vertices.ensures.count)
-    (c.in_ok-table.ensures.columns ∙ ap (λ (k : ℕ). (k + 63) / 64) c.vertices-vertices.ensures.count)
     (many ∙ ap (λ (k : ℕ). k * n) nodes ∙ ap (λ (k : ℕ). length c.args.lists.now.shelf.nodes.items * k) (sym c.in_ok-table.ensures.vertices))
     c.in_ok-table.ensures.entries
-    (subst (λ (k : ℕ). AreUnits k t.vertices t.words.items) (sym c.in_ok-table.ensures.columns)
-    (subst (λ (k : ℕ). AreUnits ((n + 63) / 64) k t.words.items) (sym c.in_ok-table.ensures.vertices)
-    (subst (λ (ws : List ℕ). AreUnits ((n + 63) / 64) n ws) (sym c.in_ok-table.ensures.words) c.in_ok-words.ensures)))
