@@ -28,7 +28,9 @@ pub(crate) enum Kind {
     OnEither(Piece, Piece),
     /// An on of whichever pieces: the game is asked for them. The facts say so of an on of none, or of more than two.
     OnAny,
-    /// A comparison or a shift, or no action: it is looked at everywhere.
+    /// A comparison: it is looked at everywhere, or nowhere where it doesn't hold.
+    Comparison,
+    /// A shift, or no action: nothing of this kind is met.
     Plain,
 }
 
@@ -188,7 +190,8 @@ fn kind_of(action: &Action) -> Kind
         Action::Off { .. } | Action::Assign { .. } | Action::Switch { .. } => Kind::Modifier,
         Action::Positive | Action::Negative => Kind::Pattern,
         Action::On { pieces } => on_kind(pieces),
-        Action::Shift { .. } | Action::Compare { .. } => Kind::Plain,
+        Action::Compare { .. } => Kind::Comparison,
+        Action::Shift { .. } => Kind::Plain,
     }
 }
 
