@@ -9,9 +9,9 @@ ghost use Rattle.rbg_flat.specs.Paths.{AreFacts, ArePathsOf, IsKind, IsStill};
 ghost use Rattle.rbg_flat.specs.internal.Leading.{IsPositionIn};
 ghost use Rattle.rbg_flat.specs.internal.Shown.{ShowsKind, IsOnKind, shows_shift};
 
-use rbg_auto::Steps;
-use rbg_base::{Memory, Piece, Position};
-use rbg_leaps::{Leaps, leaps};
+use rbg_auto::{Expr, Steps};
+use rbg_base::{Memory, Piece, Position, Vertex};
+use rbg_leaps::{Leaps, Origin, Target, leaps};
 use rbg_rules::{Action, Game};
 use std::alloc::Global;
 
@@ -39,6 +39,9 @@ pub(crate) enum Kind {
 pub(crate) struct Facts {
     /// Whether no shift comes next behind it.
     pub(crate) still: bool,
+    /// Whether a pattern stands there whose inside begins with leaps to several positions, to one vertex at each, as far as
+    /// was looked. It only tells where to look for the end of a pattern, so nothing rests on it.
+    pub(crate) branches: bool,
     pub(crate) kind: Kind,
 }
 
@@ -66,7 +69,7 @@ impl Paths {
         let Some(leaps) = leaps(alloc, game, steps)? else {
             return Ok(None);
         };
-        let facts = all_facts(alloc, game, steps)?;
+        let facts = all_facts(alloc, game, steps, &leaps)?;
         Ok(Some(Paths { leaps, facts }))
     }
 
@@ -89,6 +92,15 @@ impl Paths {
         self.facts(position).still
     }
 
+    /// Whether it is worth looking whether nothing goes on in the pattern at a position.
+    #[inline(always)]
+    pub(crate) fn branches(&self, position: Position) -> bool {
+        match self.facts.get(position as usize) {
+            Some(facts) => facts.branches,
+            None => false,
+        }
+    }
+
     /// The kind of the action at a position.
     #[inline(always)]
     pub(crate) fn kind(&self, game: &Game, position: Position) -> Kind
@@ -101,7 +113,12 @@ impl Paths {
 }
 
 /// The facts of each position, from 0 on.
-fn all_facts<S: Steps>(alloc: Global, game: &Game, steps: &S) -> Result<Vec<Facts>, Memory>
+fn all_facts<S: Steps>(
+    alloc: Global,
+    game: &Game,
+    steps: &S,
+    leaps: &Leaps,
+) -> Result<Vec<Facts>, Memory>
     requires { S.of_rules steps.now game.now.rules }
     ensures all { IfOk result (λ facts.
         length facts.items ≡ length (positions_of game.now.rules) + 1) }
@@ -112,23 +129,48 @@ fn all_facts<S: Steps>(alloc: Global, game: &Game, steps: &S) -> Result<Vec<Fact
     let mut facts = Vec::with_capacity(alloc, count)?;
     for index in 0..count {
         let position = index as Position;
-        facts.push(facts_at(game, position, steps.next(position)))?;
+        facts.push(facts_at(game, leaps, position, steps.next(position)))?;
     }
     Ok(facts)
 }
 
 /// The facts of a position, behind which these come next.
-fn facts_at(game: &Game, position: Position, next: &[Position]) -> Facts
+fn facts_at(game: &Game, leaps: &Leaps, position: Position, next: &[Position]) -> Facts
     requires lawful { IsGame game.now }
     requires there { position ≤ length (positions_of game.now.rules) }
     requires within { All (IsPositionIn game.now) next.now }
     ensures still { IsTrue result.still → All (λ q. ¬ IsShiftAt game.now.rules q) next.now }
     ensures kind { IsKind game.now.rules position result.kind }
 {
+    let kind = kind_at(game, position);
     Facts {
         still: no_shift(game, next),
-        kind: kind_at(game, position),
+        branches: matches!(kind, Kind::Pattern) && branches_inside(game, leaps, position),
+        kind,
     }
+}
+
+/// Whether the inside of a pattern begins with leaps to several positions, to one vertex at each. The first vertex is
+/// looked at from which there are several.
+fn branches_inside(game: &Game, leaps: &Leaps, pattern: Position) -> bool {
+    let origin = Origin::Begin(Expr::Inside(pattern));
+    for vertex in 0..game.board().len() {
+        let (targets, _) = leaps.leads(origin, vertex as Vertex);
+        if targets.len() > 1 {
+            return are_single(targets);
+        }
+    }
+    false
+}
+
+/// Whether each target has one vertex.
+fn are_single(targets: &[Target]) -> bool {
+    for target in targets {
+        if target.word.count_ones() > 1 {
+            return false;
+        }
+    }
+    true
 }
 
 /// Whether no shift stands at these positions.
