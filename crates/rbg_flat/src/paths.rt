@@ -39,9 +39,6 @@ pub(crate) enum Kind {
 pub(crate) struct Facts {
     /// Whether no shift comes next behind it.
     pub(crate) still: bool,
-    /// Whether a pattern stands there whose inside begins with leaps to several positions, to one vertex at each, as far as
-    /// was looked. It only tells where to look for the end of a pattern, so nothing rests on it.
-    pub(crate) branches: bool,
     pub(crate) kind: Kind,
 }
 
@@ -50,12 +47,20 @@ pub(crate) struct Facts {
 pub struct Paths {
     pub(crate) leaps: Leaps,
     pub(crate) facts: Vec<Facts>,
+    /// Whether a pattern stands at each position, from 0 on, whose inside begins with leaps to several positions, to one
+    /// vertex at each, as far as was looked. It only tells where to look for the end of a pattern: nothing rests on it.
+    /// With a byte more the facts of a position would be read as one word, and cut.
+    branches: Vec<bool>,
 }
 
 /// Written out, so that letting them go is one call in the proofs of those who hold them, not a step for each part.
 impl Drop for Paths {
     fn drop(self) {
-        let Paths { leaps: _, facts: _ } = self;
+        let Paths {
+            leaps: _,
+            facts: _,
+            branches: _,
+        } = self;
     }
 }
 
@@ -69,8 +74,13 @@ impl Paths {
         let Some(leaps) = leaps(alloc, game, steps)? else {
             return Ok(None);
         };
-        let facts = all_facts(alloc, game, steps, &leaps)?;
-        Ok(Some(Paths { leaps, facts }))
+        let facts = all_facts(alloc, game, steps)?;
+        let branches = all_branches(alloc, game, &leaps)?;
+        Ok(Some(Paths {
+            leaps,
+            facts,
+            branches,
+        }))
     }
 
     /// The facts of a position.
@@ -95,8 +105,8 @@ impl Paths {
     /// Whether it is worth looking whether nothing goes on in the pattern at a position.
     #[inline(always)]
     pub(crate) fn branches(&self, position: Position) -> bool {
-        match self.facts.get(position as usize) {
-            Some(facts) => facts.branches,
+        match self.branches.get(position as usize) {
+            Some(branches) => *branches,
             None => false,
         }
     }
@@ -113,12 +123,7 @@ impl Paths {
 }
 
 /// The facts of each position, from 0 on.
-fn all_facts<S: Steps>(
-    alloc: Global,
-    game: &Game,
-    steps: &S,
-    leaps: &Leaps,
-) -> Result<Vec<Facts>, Memory>
+fn all_facts<S: Steps>(alloc: Global, game: &Game, steps: &S) -> Result<Vec<Facts>, Memory>
     requires { S.of_rules steps.now game.now.rules }
     ensures all { IfOk result (λ facts.
         length facts.items ≡ length (positions_of game.now.rules) + 1) }
@@ -129,25 +134,20 @@ fn all_facts<S: Steps>(
     let mut facts = Vec::with_capacity(alloc, count)?;
     for index in 0..count {
         let position = index as Position;
-        facts.push(facts_at(game, leaps, position, steps.next(position)))?;
+        facts.push(facts_at(game, position, steps.next(position)))?;
     }
     Ok(facts)
 }
 
-/// The facts of a position, behind which these come next.
-fn facts_at(game: &Game, leaps: &Leaps, position: Position, next: &[Position]) -> Facts
-    requires lawful { IsGame game.now }
-    requires there { position ≤ length (positions_of game.now.rules) }
-    requires within { All (IsPositionIn game.now) next.now }
-    ensures still { IsTrue result.still → All (λ q. ¬ IsShiftAt game.now.rules q) next.now }
-    ensures kind { IsKind game.now.rules position result.kind }
-{
-    let kind = kind_at(game, position);
-    Facts {
-        still: no_shift(game, next),
-        branches: matches!(kind, Kind::Pattern) && branches_inside(game, leaps, position),
-        kind,
+/// Whether the inside of a pattern branches at its beginning, for each position, from 0 on.
+fn all_branches(alloc: Global, game: &Game, leaps: &Leaps) -> Result<Vec<bool>, Memory> {
+    let count = game.positions() + 1;
+    let mut branches = vec![in alloc; false; count]?;
+    for index in 1..count {
+        let position = index as Position;
+        branches[index] = game.is_pattern(position) && branches_inside(game, leaps, position);
     }
+    Ok(branches)
 }
 
 /// Whether the inside of a pattern begins with leaps to several positions, to one vertex at each. The first vertex is
@@ -171,6 +171,20 @@ fn are_single(targets: &[Target]) -> bool {
         }
     }
     true
+}
+
+/// The facts of a position, behind which these come next.
+fn facts_at(game: &Game, position: Position, next: &[Position]) -> Facts
+    requires lawful { IsGame game.now }
+    requires there { position ≤ length (positions_of game.now.rules) }
+    requires within { All (IsPositionIn game.now) next.now }
+    ensures still { IsTrue result.still → All (λ q. ¬ IsShiftAt game.now.rules q) next.now }
+    ensures kind { IsKind game.now.rules position result.kind }
+{
+    Facts {
+        still: no_shift(game, next),
+        kind: kind_at(game, position),
+    }
 }
 
 /// Whether no shift stands at these positions.
