@@ -19,24 +19,24 @@ module _ (targets : List Target) (i : ℕ) (d : Target) (below : i < length targ
   abbrev t : Target
   t = get_or targets i d
 
-  one_more : take (i + 1) targets ≡ take i targets ++ t ∷ []
+  pub one_more : take (i + 1) targets ≡ take i targets ++ t ∷ []
   one_more = take_more targets i d below
 
-  among_apart : (v p : ℕ) → IsAmong (take (i + 1) targets) v p → IsAmong (take i targets) v p ⊎ IsInWord t.position t.column t.word v p
+  pub among_apart : (v p : ℕ) → IsAmong (take (i + 1) targets) v p → IsAmong (take i targets) v p ⊎ IsInWord t.position t.column t.word v p
   among_apart v p among = by_case (Contains-push_cases (take i targets) t among.target (subst (λ (ts : List Target). Contains ts among.target) one_more among.listed))
     where
       by_case : Contains (take i targets) among.target ⊎ (t ≡ among.target) → IsAmong (take i targets) v p ⊎ IsInWord t.position t.column t.word v p
       by_case (inl there) = inl (record { target = among.target; listed = there; there = among.there })
       by_case (inr same) = inr (subst (λ (x : Target). IsInWord x.position x.column x.word v p) (sym same) among.there)
 
-  among_first : (v p : ℕ) → IsAmong (take i targets) v p → IsAmong (take (i + 1) targets) v p
+  pub among_first : (v p : ℕ) → IsAmong (take i targets) v p → IsAmong (take (i + 1) targets) v p
   among_first v p among = record {
     target = among.target;
     listed = subst (λ (ts : List Target). Contains ts among.target) (sym one_more) (Contains-append_left (take i targets) (t ∷ []) among.target among.listed);
     there = among.there;
   }
 
-  among_second : (v p : ℕ) → IsInWord t.position t.column t.word v p → IsAmong (take (i + 1) targets) v p
+  pub among_second : (v p : ℕ) → IsInWord t.position t.column t.word v p → IsAmong (take (i + 1) targets) v p
   among_second v p row = record { target = t; listed = subst (λ (ts : List Target). Contains ts t) (sym one_more) (Contains-push (take i targets) t); there = row }
 
   pub meets_target_more : (old middle new : SetsOfVertices) (Opens : (v p : ℕ) → Type 0) → Meets old middle (IsAmong (take i targets)) Opens → Meets middle new (IsInWord t.position t.column t.word) Opens → Meets old new (IsAmong (take (i + 1) targets)) Opens

@@ -24,3 +24,4 @@ pub mod Having
 pub mod Gatherings
 pub mod Finishings
 pub mod Stills
+mod Endings

@@ -1,6 +1,6 @@
 -- Of which kind the actions of the program are.
 use Rattle.std.proofs.Common.{◌≡◌, ◌<◌, ℕ, List, [], ◌∷◌, Bool, true, false, inl, inr, refl, sym, ap, subst, ◌∙◌, arith}
-use Rattle.rbg_rules.specs.Expression.{AbstractAction, shift, on, off, switch, positive, negative, Expression}
+use Rattle.rbg_rules.specs.Expression.{AbstractAction, shift, on, off, comparison, switch, positive, negative, Expression}
 use Rattle.rbg_rules.specs.Positions.{HasAction, IsNumbered, IsModifierAt, IsPatternAt, is_modifier, is_pattern}
 use Rattle.rbg_rules.specs.Table.{Stands}
 use Rattle.rbg_rules.specs.declared.rule.Action.{Action}
@@ -8,8 +8,8 @@ use Rattle.rbg_rules.specs.declared.rule.Action.TheVariants.{Shift, On, Off, Ass
 use Rattle.rbg_rules.proofs.PositionLemmas.{one_stands}
 use Rattle.rbg_leaps.proofs.ShiftLemmas.{action_within}
 use Rattle.rbg_flat.specs.declared.paths.Kind.{Kind}
-use Rattle.rbg_flat.specs.declared.paths.Kind.TheVariants.{Modifier, Pattern, On as OnOne, OnEither, OnAny, Plain}
-use Rattle.rbg_flat.specs.Paths.{IsKind}
+use Rattle.rbg_flat.specs.declared.paths.Kind.TheVariants.{Modifier, Pattern, On as OnOne, OnEither, OnAny, Comparison, Plain}
+use Rattle.rbg_flat.specs.Paths.{IsKind, IsComparisonAt}
 use Rattle.rbg_flat.specs.internal.Shown.{ShowsKind, IsOnKind}
 
 true_not_false : true ≡ false → ⊥
@@ -33,8 +33,32 @@ is_on _ = false
 no_on_of : (rules : Expression) → IsNumbered rules → (p : ℕ) (a : AbstractAction) → HasAction rules p a → is_on a ≡ false → (wanted : List ℕ) → ¬ HasAction rules p (on wanted)
 no_on_of rules numbered p a stands other wanted there = true_not_false (ap is_on (one_stands rules numbered p (on wanted) a there stands) ∙ other)
 
-plain_kind : (rules : Expression) → IsNumbered rules → (p : ℕ) (a : AbstractAction) → HasAction rules p a → is_modifier a ≡ false → is_pattern a ≡ false → is_on a ≡ false → IsKind rules p Plain
-plain_kind rules numbered p a stands quiet plain other = (no_modifier rules numbered p a stands quiet, no_pattern rules numbered p a stands plain, no_on_of rules numbered p a stands other)
+-- Nor does a comparison.
+abbrev is_comparison : AbstractAction → Bool
+is_comparison (comparison e r f) = true
+is_comparison _ = false
+
+pub no_comparison_of : (rules : Expression) → IsNumbered rules → (p : ℕ) (a : AbstractAction) → HasAction rules p a → is_comparison a ≡ false → ¬ IsComparisonAt rules p
+no_comparison_of rules numbered p a stands other is = true_not_false (ap is_comparison (one_stands rules numbered p (comparison is.left is.relation is.right) a is.stands stands) ∙ other)
+
+pub no_comparison_on : (rules : Expression) → IsNumbered rules → (p : ℕ) (wanted : List ℕ) → HasAction rules p (on wanted) → ¬ IsComparisonAt rules p
+no_comparison_on rules numbered p wanted stands = no_comparison_of rules numbered p (on wanted) stands refl
+
+pub no_comparison_pattern : (rules : Expression) → IsNumbered rules → (p : ℕ) → IsPatternAt rules p → ¬ IsComparisonAt rules p
+no_comparison_pattern rules numbered p pattern = elim pattern.stands [
+  | inl stands ↦ no_comparison_of rules numbered p (positive pattern.inside_it) stands refl
+  | inr stands ↦ no_comparison_of rules numbered p (negative pattern.inside_it) stands refl
+]
+
+-- Where a comparison stands, no modifier, no pattern and no on does.
+pub comparison_quiet : (rules : Expression) → IsNumbered rules → (p : ℕ) → IsComparisonAt rules p → ¬ IsModifierAt rules p
+comparison_quiet rules numbered p is = no_modifier rules numbered p (comparison is.left is.relation is.right) is.stands refl
+
+pub comparison_plain : (rules : Expression) → IsNumbered rules → (p : ℕ) → IsComparisonAt rules p → ¬ IsPatternAt rules p
+comparison_plain rules numbered p is = no_pattern rules numbered p (comparison is.left is.relation is.right) is.stands refl
+
+plain_kind : (rules : Expression) → IsNumbered rules → (p : ℕ) (a : AbstractAction) → HasAction rules p a → is_modifier a ≡ false → is_pattern a ≡ false → is_on a ≡ false → is_comparison a ≡ false → IsKind rules p Plain
+plain_kind rules numbered p a stands quiet plain other more = (no_modifier rules numbered p a stands quiet, no_pattern rules numbered p a stands plain, no_on_of rules numbered p a stands other, no_comparison_of rules numbered p a stands more)
 
 on_kind : (rules : Expression) → IsNumbered rules → (p : ℕ) (pieces : List ℕ) → HasAction rules p (on pieces) → (kind : Kind) → IsOnKind pieces kind → IsKind rules p kind
 on_kind rules numbered p pieces stands Modifier is = absurd is
@@ -42,15 +66,16 @@ on_kind rules numbered p pieces stands Pattern is = absurd is
 on_kind rules numbered p pieces stands (OnOne x) is = subst (λ (xs : List ℕ). HasAction rules p (on xs)) is stands
 on_kind rules numbered p pieces stands (OnEither x y) is = subst (λ (xs : List ℕ). HasAction rules p (on xs)) is stands
 on_kind rules numbered p pieces stands OnAny is = (pieces, stands)
+on_kind rules numbered p pieces stands Comparison is = absurd is
 on_kind rules numbered p pieces stands Plain is = absurd is
 
 -- The kind that an action shows is that of its position.
 pub kind_stands : (rules : Expression) → IsNumbered rules → (p : ℕ) (i : Action) → Stands rules p i → (kind : Kind) → ShowsKind i kind → IsKind rules p kind
-kind_stands rules numbered p (Shift d) stands kind is = subst (λ (k : Kind). IsKind rules p k) (sym is) (plain_kind rules numbered p (shift d) stands refl refl refl)
+kind_stands rules numbered p (Shift d) stands kind is = subst (λ (k : Kind). IsKind rules p k) (sym is) (plain_kind rules numbered p (shift d) stands refl refl refl refl)
 kind_stands rules numbered p (On pieces) stands kind is = on_kind rules numbered p pieces.items stands kind is
 kind_stands rules numbered p (Off x) stands kind is = subst (λ (k : Kind). IsKind rules p k) (sym is) (record { action = off x; stands = stands; modifies = refl })
 kind_stands rules numbered p (Assign v e) stands kind is = subst (λ (k : Kind). IsKind rules p k) (sym is) (record { action = _; stands = stands; modifies = refl })
-kind_stands rules numbered p (Compare e r f) stands kind is = subst (λ (k : Kind). IsKind rules p k) (sym is) (plain_kind rules numbered p _ stands refl refl refl)
+kind_stands rules numbered p (Compare e r f) stands kind is = subst (λ (k : Kind). IsKind rules p k) (sym is) (record { left = _; relation = r; right = _; stands = stands })
 kind_stands rules numbered p (Switch n) stands kind is = subst (λ (k : Kind). IsKind rules p k) (sym is) (record { action = switch n; stands = stands; modifies = refl })
 kind_stands rules numbered p Positive (x, stands) kind is = subst (λ (k : Kind). IsKind rules p k) (sym is) (record { inside_it = x; stands = inl stands })
 kind_stands rules numbered p Negative (x, stands) kind is = subst (λ (k : Kind). IsKind rules p k) (sym is) (record { inside_it = x; stands = inr stands })
@@ -69,6 +94,7 @@ pattern_kind rules numbered p Pattern is pattern = refl
 pattern_kind rules numbered p (OnOne x) is pattern = absurd (no_pattern rules numbered p (on (x ∷ [])) is refl pattern)
 pattern_kind rules numbered p (OnEither x y) is pattern = absurd (no_pattern rules numbered p (on (x ∷ y ∷ [])) is refl pattern)
 pattern_kind rules numbered p OnAny is pattern = absurd (no_pattern rules numbered p (on is.0) is.1 refl pattern)
+pattern_kind rules numbered p Comparison is pattern = absurd (comparison_plain rules numbered p is pattern)
 pattern_kind rules numbered p Plain is pattern = absurd (is.1 pattern)
 
 pub modifier_kind : (rules : Expression) → IsNumbered rules → (p : ℕ) (kind : Kind) → IsKind rules p kind → IsModifierAt rules p → kind ≡ Modifier
@@ -77,6 +103,7 @@ modifier_kind rules numbered p Pattern is modifier = absurd (pattern_opens rules
 modifier_kind rules numbered p (OnOne x) is modifier = absurd (no_modifier rules numbered p (on (x ∷ [])) is refl modifier)
 modifier_kind rules numbered p (OnEither x y) is modifier = absurd (no_modifier rules numbered p (on (x ∷ y ∷ [])) is refl modifier)
 modifier_kind rules numbered p OnAny is modifier = absurd (no_modifier rules numbered p (on is.0) is.1 refl modifier)
+modifier_kind rules numbered p Comparison is modifier = absurd (comparison_quiet rules numbered p is modifier)
 modifier_kind rules numbered p Plain is modifier = absurd (is.0 modifier)
 
 -- No action stands at position 0.
@@ -85,6 +112,7 @@ zero_kind rules numbered = (
   λ modifier. not_zero (action_within rules numbered 0 modifier.action modifier.stands).0,
   λ pattern. by_pattern pattern,
   λ wanted stands. not_zero (action_within rules numbered 0 (on wanted) stands).0,
+  λ is. not_zero (action_within rules numbered 0 (comparison is.left is.relation is.right) is.stands).0,
 )
   where
     not_zero : 0 < 0 → ⊥

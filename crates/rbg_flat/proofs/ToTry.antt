@@ -2,16 +2,18 @@
 use Rattle.std.proofs.Common.{◌≡◌, ℕ, ◌<◌, inl, inr, List, true, false, length, sym, ap, subst, ◌∙◌}
 use Rattle.std.specs.Prelude.{◌↔◌}
 use Rattle.rbg_board.specs.Graph.{IsClosed}
-use Rattle.rbg_rules.specs.Expression.{on, positive, negative, Expression}
+use Rattle.rbg_base.specs.declared.relation.Relation.{Relation}
+use Rattle.rbg_rules.specs.Expression.{on, comparison, positive, negative, Expression, AbstractArithmetic}
 use Rattle.rbg_rules.specs.Games.{IsGame}
 use Rattle.rbg_rules.specs.Positions.{HasAction, IsModifierAt, IsNumbered, IsPatternAt, is_modifier, is_pattern}
 use Rattle.rbg_rules.specs.State.{AbstractGame, AbstractState, IsStateOf}
 use Rattle.rbg_rules.specs.Words.{Start}
 use Rattle.rbg_rules.proofs.PositionLemmas.{one_stands}
 use Rattle.rbg_flat.specs.Chains.{Holds, IsMet, first, then}
+use Rattle.rbg_flat.specs.Paths.{IsComparisonAt}
 use Rattle.rbg_flat.specs.internal.Passing.{Passes, IsOneOf, IsToTry}
 use Rattle.rbg_flat.proofs.Leaping.{leads_on_board}
-use Rattle.rbg_flat.proofs.ModifierLemmas.{pattern_opens}
+use Rattle.rbg_flat.proofs.ModifierLemmas.{pattern_opens, comparison_quiet, no_comparison_on, no_comparison_pattern}
 use Rattle.rbg_flat.proofs.Passings.{on_passes, passes_on}
 
 true_not_false : true ≡ false → ⊥
@@ -25,16 +27,32 @@ no_on rules numbered p pattern wanted stands = elim pattern.stands [
 ]
 
 module _ (game : AbstractGame) (numbered : IsNumbered game.rules) (s : AbstractState) (p : ℕ) where
+  -- Where no comparison stands, none has to hold.
+  none_holds : (¬ IsComparisonAt game.rules p) → (v : ℕ) (e : AbstractArithmetic) (r : Relation) (f : AbstractArithmetic) → HasAction game.rules p (comparison e r f) → Passes game s v p
+  none_holds none v e r f stands = absurd (none (record { left = e; relation = r; right = f; stands = stands }))
+
   -- A pattern is to be looked at everywhere.
   pub pattern_to_try : IsPatternAt game.rules p → (v : ℕ) → IsToTry game s v p
   pattern_to_try pattern v = record {
     quiet = pattern_opens game.rules numbered p pattern;
     stands = λ wanted stands. absurd (no_on game.rules numbered p pattern wanted stands);
+    holds = none_holds (no_comparison_pattern game.rules numbered p pattern) v;
   }
 
-  -- So is all that is no modifier and no on.
-  pub other_to_try : (¬ IsModifierAt game.rules p) → ((wanted : List ℕ) → ¬ HasAction game.rules p (on wanted)) → (v : ℕ) → IsToTry game s v p
-  other_to_try quiet none v = record { quiet = quiet; stands = λ wanted stands. absurd (none wanted stands) }
+  -- So is all that is no modifier, no on and no comparison.
+  pub other_to_try : (¬ IsModifierAt game.rules p) → ((wanted : List ℕ) → ¬ HasAction game.rules p (on wanted)) → (¬ IsComparisonAt game.rules p) → (v : ℕ) → IsToTry game s v p
+  other_to_try quiet none no_comparison v = record { quiet = quiet; stands = λ wanted stands. absurd (none wanted stands); holds = none_holds no_comparison v }
+
+  -- A comparison is to be looked at where it passes.
+  pub comparison_to_try : IsComparisonAt game.rules p → (v : ℕ) → Passes game s v p ↔ IsToTry game s v p
+  comparison_to_try is v = (
+    λ passes. record {
+      quiet = comparison_quiet game.rules numbered p is;
+      stands = λ wanted stands. absurd (no_comparison_on game.rules numbered p wanted stands is);
+      holds = λ e r f stands. passes;
+    },
+    λ try. try.holds is.left is.relation is.right is.stands,
+  )
 
   -- An on is to be looked at where one of its pieces stands, and it passes there.
   pub on_to_try : (wanted : List ℕ) → HasAction game.rules p (on wanted) → (v : ℕ) → IsOneOf wanted s.pieces v ↔ IsToTry game s v p
@@ -42,6 +60,7 @@ module _ (game : AbstractGame) (numbered : IsNumbered game.rules) (s : AbstractS
     λ one. record {
       quiet = λ m. true_not_false (sym m.modifies ∙ ap is_modifier (one_stands game.rules numbered p m.action (on wanted) m.stands stands));
       stands = λ others there. by_same others (one_stands game.rules numbered p (on wanted) (on others) stands there) one;
+      holds = none_holds (no_comparison_on game.rules numbered p wanted stands) v;
     },
     λ is. is.stands wanted stands,
   )
@@ -64,5 +83,9 @@ holds_to_try game lawful s fits f v p met holds = record {
   stands = λ wanted stands.
       let here : s.vertex < length game.board.first = subst (λ (k : ℕ). s.vertex < k) fits.vertices fits.vertex in
       let below : v < length s.pieces = subst (λ (k : ℕ). v < k) (sym fits.vertices) (met_on_board game lawful.board s f here v p met) in
-      passes_on game lawful.numbered s p wanted stands v below (record { to = v; quiet = holds.quiet; applies = holds.applies });
+      passes_on game lawful.numbered s p wanted stands v below passes;
+  holds = λ e r g stands. passes;
 }
+  where
+    passes : Passes game s v p
+    passes = record { to = v; quiet = holds.quiet; applies = holds.applies }

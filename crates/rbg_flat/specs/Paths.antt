@@ -1,6 +1,7 @@
 -- The leaps of a game, and what flat parts need to know of its positions.
 use Rattle.std.specs.Prelude.{◌≡◌, ◌+◌, ℕ, List, [], ◌∷◌, length, slice_get, Some, IsTrue}
-use Rattle.rbg_rules.specs.Expression.{Expression, on}
+use Rattle.rbg_base.specs.declared.relation.Relation.{Relation}
+use Rattle.rbg_rules.specs.Expression.{Expression, AbstractArithmetic, on, comparison}
 use Rattle.rbg_rules.specs.Positions.{HasAction, IsModifierAt, IsPatternAt, positions_of}
 use Rattle.rbg_rules.specs.State.{AbstractGame}
 use Rattle.rbg_rules.specs.Words.{after, Follows}
@@ -8,12 +9,19 @@ use Rattle.rbg_leaps.specs.Leaps.{IsShiftAt}
 use Rattle.rbg_leaps.specs.Made.{AreLeapsOf}
 use Rattle.rbg_flat.specs.declared.paths.Facts.{Facts}
 use Rattle.rbg_flat.specs.declared.paths.Kind.{Kind}
-use Rattle.rbg_flat.specs.declared.paths.Kind.TheVariants.{Modifier, Pattern, On, OnEither, OnAny, Plain}
+use Rattle.rbg_flat.specs.declared.paths.Kind.TheVariants.{Modifier, Pattern, On, OnEither, OnAny, Comparison, Plain}
 use Rattle.rbg_flat.specs.declared.paths.Paths.{Paths}
 
 -- No shift comes next behind the position.
 pub record IsStill (rules : Expression) (p : ℕ) : Type 0 where
   pub no_shift : (q : ℕ) → Follows rules (after p) (q ∷ []) → ¬ IsShiftAt rules q
+
+-- A comparison stands at the position.
+pub record IsComparisonAt (rules : Expression) (p : ℕ) : Type 0 where
+  pub left : AbstractArithmetic
+  pub relation : Relation
+  pub right : AbstractArithmetic
+  pub stands : HasAction rules p (comparison left relation right)
 
 -- The kind of the action at the position.
 abbrev pub IsKind : Expression → ℕ → Kind → Type 0
@@ -22,7 +30,9 @@ IsKind rules p Pattern = IsPatternAt rules p
 IsKind rules p (On x) = HasAction rules p (on (x ∷ []))
 IsKind rules p (OnEither x y) = HasAction rules p (on (x ∷ y ∷ []))
 IsKind rules p OnAny = (wanted : List ℕ) × HasAction rules p (on wanted)
-IsKind rules p Plain = (¬ IsModifierAt rules p) × (¬ IsPatternAt rules p) × ((wanted : List ℕ) → ¬ HasAction rules p (on wanted))
+IsKind rules p Comparison = IsComparisonAt rules p
+IsKind rules p Plain =
+    (¬ IsModifierAt rules p) × (¬ IsPatternAt rules p) × ((wanted : List ℕ) → ¬ HasAction rules p (on wanted)) × (¬ IsComparisonAt rules p)
 
 -- What is told of the position is so.
 pub record AreFacts (game : AbstractGame) (p : ℕ) (told : Facts) : Type 0 where

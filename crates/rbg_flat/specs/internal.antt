@@ -8,3 +8,4 @@ pub mod Leading
 pub mod Passing
 pub mod Gathering
 pub mod Bits
+pub mod Ending

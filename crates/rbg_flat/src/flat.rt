@@ -206,7 +206,8 @@ impl Flat {
         Ok(many)
     }
 
-    /// Leads on from a place in the rules and a vertex: meets where leaps lead from there.
+    /// Leads on from a place in the rules and a vertex: meets where leaps lead from there. What is learned of the end is
+    /// written down first, so that no register holds it while targets are met.
     #[inline(always)]
     fn lead(
         &mut self,
@@ -230,8 +231,8 @@ impl Flat {
         ensures on { AreOn game.now self.old.sets → AreOn game.now self.new.sets }
     {
         let (targets, ends) = paths.leaps.leads(origin, vertex);
-        meet_targets(&mut self.sets, game, paths, state, targets);
         self.ends |= ends;
+        meet_targets(&mut self.sets, game, paths, state, targets);
     }
 
     /// Tries a position at all vertices that are open at the latest waiting place, of which one is given, and leads on
@@ -395,8 +396,8 @@ impl Flat {
         let _action = game.action(position);
         let origin = Origin::After(position);
         let (targets, may_end) = paths.leaps.leads(origin, vertex);
-        meet_bits(&mut self.sets, game, paths, state, targets, column, word);
         self.ends |= may_end;
+        meet_bits(&mut self.sets, game, paths, state, targets, column, word);
     }
 
     /// Leads on from a position at each vertex of a word, one after another.
@@ -430,8 +431,8 @@ impl Flat {
         while rest != 0 {
             let bit = lowest(rest);
             let vertex = column as Vertex * 64 + bit;
-            self.lead(game, paths, state, Origin::After(position), vertex);
             rest = without(rest, bit);
+            self.lead(game, paths, state, Origin::After(position), vertex);
         }
     }
 }

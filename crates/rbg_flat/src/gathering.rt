@@ -28,7 +28,7 @@ pub(crate) fn keeps(game: &Game, paths: &Paths, state: &SemiState, position: Pos
 
 /// Whether a modifier stands at a position.
 #[inline(always)]
-fn is_modifier(game: &Game, paths: &Paths, position: Position) -> bool
+pub(crate) fn is_modifier(game: &Game, paths: &Paths, position: Position) -> bool
     requires lawful { IsGame game.now }
     requires paths { ArePathsOf game.now paths.now }
     requires there { position ≤ length (positions_of game.now.rules) }

@@ -1,6 +1,7 @@
 //! What is found from one place in the rules and one semi-state with no modifier before it, by sets of vertices.
 #![tactic(auto)]
 
+mod ending;
 mod flat;
 mod found;
 mod gathering;
@@ -12,6 +13,7 @@ mod sets;
 mod table;
 mod words;
 
+pub use ending::DeadEnd;
 pub use flat::Flat;
 pub use found::Modifiers;
 pub use paths::{Paths, is_shift};

@@ -6,7 +6,7 @@ ghost use Rattle.rbg_rules.specs.Positions.{IsModifierAt, IsPatternAt, positions
 ghost use Rattle.rbg_rules.specs.State.{IsStateOf};
 ghost use Rattle.rbg_leaps.specs.Limits.{row_words};
 ghost use Rattle.rbg_flat.specs.Paths.{ArePathsOf, IsKind};
-ghost use Rattle.rbg_flat.specs.declared.paths.Kind.TheVariants.{OnAny};
+ghost use Rattle.rbg_flat.specs.declared.paths.Kind.TheVariants.{OnAny, Comparison};
 ghost use Rattle.rbg_flat.specs.internal.Passing.{Passes, IsOneOf, IsToTry};
 ghost use Rattle.rbg_flat.specs.internal.Leading.{IsOnBoard, IsPositionIn};
 
@@ -16,8 +16,8 @@ use rbg_base::{Piece, Position, Vertex};
 use rbg_rules::{Action, Game};
 use rbg_state::{SemiState, Trial};
 
-/// The bits of a column at whose vertices what is met at a position is to be looked at: all for a pattern or a comparison,
-/// none for a modifier, and for an on those on which one of its pieces stands.
+/// The bits of a column at whose vertices what is met at a position is to be looked at: all for a pattern, none for a
+/// modifier, for an on those on which one of its pieces stands, and for a comparison all or none, as it holds.
 #[inline(always)]
 pub(crate) fn to_try(
     game: &Game,
@@ -68,9 +68,26 @@ fn any_to_try(
     match paths.kind(game, position) {
         Kind::Modifier => 0,
         Kind::Pattern | Kind::Plain => full_word(),
+        Kind::Comparison => comparison_to_try(game, state, position),
         Kind::On(piece) => standing(state, piece, column),
         Kind::OnEither(piece, other) => either_standing(state, piece, other, column),
         Kind::OnAny => on_to_try(game, state, position, column),
+    }
+}
+
+/// All bits where the comparison at a position holds, else none. Where it holds at one vertex, it holds at each.
+fn comparison_to_try(game: &Game, state: &SemiState, position: Position) -> u64
+    requires lawful { IsGame game.now }
+    requires fits { IsStateOf game.now state.now.state }
+    requires position { IsPositionIn game.now position }
+    requires stands { IsKind game.now.rules position Comparison }
+    ensures { (v b : ℕ) → b < 64 → (bit_at result b ≡ 1)
+        ↔ IsToTry game.now state.now.state v position }
+{
+    if passes_at(game, state, state.vertex(), position) {
+        full_word()
+    } else {
+        0
     }
 }
 
@@ -173,31 +190,11 @@ pub(crate) fn held(
         ↔ Passes game.now state.now.state (column * 64 + b) position }
 {
     match paths.kind(game, position) {
-        // its pieces stand on all vertices that are to be looked at
-        Kind::On(_) | Kind::OnEither(_, _) | Kind::OnAny => word,
+        // what is to be looked at passes
+        Kind::On(_) | Kind::OnEither(_, _) | Kind::OnAny | Kind::Comparison => word,
         Kind::Modifier | Kind::Pattern | Kind::Plain => {
-            other_held(game, state, position, column, word)
+            passing(game, state, position, column, word)
         }
-    }
-}
-
-/// The same where no on stands. Where a comparison holds at one vertex, it holds at each.
-#[inline(never)]
-fn other_held(game: &Game, state: &SemiState, position: Position, column: usize, word: u64) -> u64
-    requires lawful { IsGame game.now }
-    requires fits { IsStateOf game.now state.now.state }
-    requires position { IsPositionIn game.now position }
-    requires plain { ¬ IsPatternAt game.now.rules position }
-    requires board { IsOnBoard game.now column word }
-    ensures within { (b : ℕ) → bit_at result b ≡ 1 → bit_at word b ≡ 1 }
-    ensures told { (b : ℕ) → b < 64 → bit_at word b ≡ 1
-        → IsToTry game.now state.now.state (column * 64 + b) position → (bit_at result b ≡ 1)
-        ↔ Passes game.now state.now.state (column * 64 + b) position }
-{
-    match game.action(position) {
-        Action::Compare { .. } if !passes_at(game, state, state.vertex(), position) => 0,
-        Action::Compare { .. } => word,
-        _ => passing(game, state, position, column, word),
     }
 }
 

@@ -9,9 +9,9 @@ ghost use Rattle.rbg_flat.specs.Paths.{AreFacts, ArePathsOf, IsKind, IsStill};
 ghost use Rattle.rbg_flat.specs.internal.Leading.{IsPositionIn};
 ghost use Rattle.rbg_flat.specs.internal.Shown.{ShowsKind, IsOnKind, shows_shift};
 
-use rbg_auto::Steps;
-use rbg_base::{Memory, Piece, Position};
-use rbg_leaps::{Leaps, leaps};
+use rbg_auto::{Expr, Steps};
+use rbg_base::{Memory, Piece, Position, Vertex};
+use rbg_leaps::{Leaps, Origin, Target, leaps};
 use rbg_rules::{Action, Game};
 use std::alloc::Global;
 
@@ -28,7 +28,9 @@ pub(crate) enum Kind {
     OnEither(Piece, Piece),
     /// An on of whichever pieces: the game is asked for them. The facts say so of an on of none, or of more than two.
     OnAny,
-    /// A comparison or a shift, or no action: it is looked at everywhere.
+    /// A comparison: it is looked at everywhere, or nowhere where it doesn't hold.
+    Comparison,
+    /// A shift, or no action: nothing of this kind is met.
     Plain,
 }
 
@@ -45,12 +47,20 @@ pub(crate) struct Facts {
 pub struct Paths {
     pub(crate) leaps: Leaps,
     pub(crate) facts: Vec<Facts>,
+    /// Whether a pattern stands at each position, from 0 on, whose inside begins with leaps to several positions, to one
+    /// vertex at each, as far as was looked. It only tells where to look for the end of a pattern: nothing rests on it.
+    /// With a byte more the facts of a position would be read as one word, and cut.
+    branches: Vec<bool>,
 }
 
 /// Written out, so that letting them go is one call in the proofs of those who hold them, not a step for each part.
 impl Drop for Paths {
     fn drop(self) {
-        let Paths { leaps: _, facts: _ } = self;
+        let Paths {
+            leaps: _,
+            facts: _,
+            branches: _,
+        } = self;
     }
 }
 
@@ -65,7 +75,12 @@ impl Paths {
             return Ok(None);
         };
         let facts = all_facts(alloc, game, steps)?;
-        Ok(Some(Paths { leaps, facts }))
+        let branches = all_branches(alloc, game, &leaps)?;
+        Ok(Some(Paths {
+            leaps,
+            facts,
+            branches,
+        }))
     }
 
     /// The facts of a position.
@@ -85,6 +100,15 @@ impl Paths {
         ensures { IsTrue result → IsStill game.now.rules position }
     {
         self.facts(position).still
+    }
+
+    /// Whether it is worth looking whether nothing goes on in the pattern at a position.
+    #[inline(always)]
+    pub(crate) fn branches(&self, position: Position) -> bool {
+        match self.branches.get(position as usize) {
+            Some(branches) => *branches,
+            None => false,
+        }
     }
 
     /// The kind of the action at a position.
@@ -113,6 +137,40 @@ fn all_facts<S: Steps>(alloc: Global, game: &Game, steps: &S) -> Result<Vec<Fact
         facts.push(facts_at(game, position, steps.next(position)))?;
     }
     Ok(facts)
+}
+
+/// Whether the inside of a pattern branches at its beginning, for each position, from 0 on.
+fn all_branches(alloc: Global, game: &Game, leaps: &Leaps) -> Result<Vec<bool>, Memory> {
+    let count = game.positions() + 1;
+    let mut branches = vec![in alloc; false; count]?;
+    for index in 1..count {
+        let position = index as Position;
+        branches[index] = game.is_pattern(position) && branches_inside(game, leaps, position);
+    }
+    Ok(branches)
+}
+
+/// Whether the inside of a pattern begins with leaps to several positions, to one vertex at each. The first vertex is
+/// looked at from which there are several.
+fn branches_inside(game: &Game, leaps: &Leaps, pattern: Position) -> bool {
+    let origin = Origin::Begin(Expr::Inside(pattern));
+    for vertex in 0..game.board().len() {
+        let (targets, _) = leaps.leads(origin, vertex as Vertex);
+        if targets.len() > 1 {
+            return are_single(targets);
+        }
+    }
+    false
+}
+
+/// Whether each target has one vertex.
+fn are_single(targets: &[Target]) -> bool {
+    for target in targets {
+        if target.word.count_ones() > 1 {
+            return false;
+        }
+    }
+    true
 }
 
 /// The facts of a position, behind which these come next.
@@ -188,7 +246,8 @@ fn kind_of(action: &Action) -> Kind
         Action::Off { .. } | Action::Assign { .. } | Action::Switch { .. } => Kind::Modifier,
         Action::Positive | Action::Negative => Kind::Pattern,
         Action::On { pieces } => on_kind(pieces),
-        Action::Shift { .. } | Action::Compare { .. } => Kind::Plain,
+        Action::Compare { .. } => Kind::Comparison,
+        Action::Shift { .. } => Kind::Plain,
     }
 }
 

@@ -21,7 +21,7 @@ use Rattle.rbg_search.proofs.Asking.{no_modifier}
 use Rattle.rbg_pairs.proofs.Closures.{found_next, next_found}
 use Rattle.rbg_search.proofs.Takings.{is_candidate, is_reached, no_shift, no_modifier_shift}
 
-nothing_in : (x : ℕ × ℕ) → ¬ Contains [] x
+pub nothing_in : (x : ℕ × ℕ) → ¬ Contains [] x
 nothing_in x (k, under, there) = absurd (omega (arith, under))
 
 module _ (game : AbstractGame) (numbered : IsNumbered game.rules) (s : AbstractState) (f : Start) where

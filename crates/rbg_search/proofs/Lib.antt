@@ -22,6 +22,7 @@ pub mod BySets
 pub mod Asks
 pub mod Finding
 pub mod FindingBySets
+mod DeadEnds
 pub mod TakingSteps
 pub mod Turns
 pub mod Trying

@@ -33,7 +33,7 @@ use crate::fitting::{fitting_sets, flats_for, keep_flats};
 use crate::only::only_modifier;
 use crate::order::sort;
 use crate::over::Over;
-use crate::walk::{Walk, walk_inside};
+use crate::walk::{Walk, dead_end, walk_inside};
 use crate::workspace::Workspace;
 use rbg_auto::{Expr, Steps};
 use rbg_base::{Memory, Position, Vertex};
@@ -432,10 +432,12 @@ impl<'a, S: Steps> Search<'a, S> {
         is_valid(self.rules.game(), position, runs)
     }
 
-    /// Walks along the inside of a pattern at a vertex, where that is a straight line.
+    /// Walks along the inside of a pattern at a vertex, where that is a straight line, or where nothing goes on from its
+    /// beginning.
     fn walk(&self, state: &SemiState, vertex: Vertex, position: Position) -> Option<Walk>
         requires fits { IsStateOf self.now.game state.now.state }
         requires vertex { vertex < length state.now.state.pieces }
+        requires there { IsPatternAt self.now.game.rules position }
         ensures walked { IfSome result (λ walk.
             IsWalked self.now.game (at_vertex state.now.state vertex)
             (beginning (inside position)) walk.ends) }
@@ -444,7 +446,10 @@ impl<'a, S: Steps> Search<'a, S> {
             HasCandidates self.now.game (at_vertex state.now.state vertex)
             (beginning (inside position)) walk.pairs) }
     {
-        walk_inside(&self.rules, state, vertex, position)
+        match walk_inside(&self.rules, state, vertex, position) {
+            Some(walk) => Some(walk),
+            None => dead_end(&self.rules, state, vertex, position),
+        }
     }
 
     /// What is reached, in a list that is lent, and whether a word may end with no modifier more. Patterns nest at most

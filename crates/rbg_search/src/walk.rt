@@ -1,7 +1,8 @@
-//! A pattern whose inside is a straight line of actions: a walk along it, with no queue.
+//! Patterns that need no flat part: those whose inside is a straight line of actions, and those in which nothing goes on
+//! from the beginning.
 ghost use Rattle.std.specs.Prelude.{◌≡◌, ◌<◌, ◌≤◌, [], ◌∷◌, length, IfSome, IsTrue, ◌↔◌};
 ghost use Rattle.rbg_rules.specs.State.{IsStateOf};
-ghost use Rattle.rbg_rules.specs.Positions.{inside};
+ghost use Rattle.rbg_rules.specs.Positions.{IsPatternAt, inside};
 ghost use Rattle.rbg_rules.specs.Words.{beginning};
 ghost use Rattle.rbg_flat.specs.Found.{HasCandidates};
 ghost use Rattle.rbg_search.specs.Taken.{most_pairs_of};
@@ -65,6 +66,32 @@ pub(crate) fn walk_inside<S: Steps>(
             }
         }
     }
+}
+
+/// Where nothing goes on from the beginning of the inside of a pattern, as its leaps tell: what a walk would find. None
+/// elsewhere, and in a game without leaps.
+#[inline(always)]
+pub(crate) fn dead_end<S: Steps>(
+    rules: &GameSteps<'_, S>,
+    state: &SemiState,
+    vertex: Vertex,
+    pattern: Position,
+) -> Option<Walk>
+    requires fits { IsStateOf rules.now state.now.state }
+    requires vertex { vertex < length rules.now.board.first }
+    requires there { IsPatternAt rules.now.rules pattern }
+    ensures walked { IfSome result (λ walk. IsWalked rules.now (at_vertex state.now.state vertex)
+        (beginning (inside pattern)) walk.ends) }
+    ensures few { IfSome result (λ walk. walk.pairs ≤ most_pairs_of rules.now) }
+    ensures taken { IfSome result (λ walk. HasCandidates rules.now (at_vertex state.now.state vertex)
+        (beginning (inside pattern)) walk.pairs) }
+{
+    let paths = rules.paths()?;
+    let dead = paths.dead_end(rules.game(), state, pattern, vertex)?;
+    Some(Walk {
+        ends: dead.ends,
+        pairs: dead.many,
+    })
 }
 
 /// The one position of a list that has one.

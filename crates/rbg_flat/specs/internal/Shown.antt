@@ -3,7 +3,7 @@ use Rattle.std.specs.Prelude.{◌≡◌, ℕ, List, [], ◌∷◌, Bool, true, f
 use Rattle.rbg_rules.specs.declared.rule.Action.{Action}
 use Rattle.rbg_rules.specs.declared.rule.Action.TheVariants.{Shift, On, Off, Assign, Compare, Switch, Positive, Negative}
 use Rattle.rbg_flat.specs.declared.paths.Kind.{Kind}
-use Rattle.rbg_flat.specs.declared.paths.Kind.TheVariants.{Modifier, Pattern, On as OnOne, OnEither, OnAny, Plain}
+use Rattle.rbg_flat.specs.declared.paths.Kind.TheVariants.{Modifier, Pattern, On as OnOne, OnEither, OnAny, Comparison, Plain}
 
 -- The kind of an on of these pieces.
 abbrev pub IsOnKind : List ℕ → Kind → Type 0
@@ -12,6 +12,7 @@ IsOnKind pieces Pattern = ⊥
 IsOnKind pieces (OnOne x) = pieces ≡ x ∷ []
 IsOnKind pieces (OnEither x y) = pieces ≡ x ∷ y ∷ []
 IsOnKind pieces OnAny = Unit {0}
+IsOnKind pieces Comparison = ⊥
 IsOnKind pieces Plain = ⊥
 
 abbrev pub ShowsKind : Action → Kind → Type 0
@@ -20,7 +21,7 @@ ShowsKind (Assign v e) kind = kind ≡ Modifier
 ShowsKind (Switch n) kind = kind ≡ Modifier
 ShowsKind (Shift d) kind = kind ≡ Plain
 ShowsKind (On pieces) kind = IsOnKind pieces.items kind
-ShowsKind (Compare e r f) kind = kind ≡ Plain
+ShowsKind (Compare e r f) kind = kind ≡ Comparison
 ShowsKind Positive kind = kind ≡ Pattern
 ShowsKind Negative kind = kind ≡ Pattern
 

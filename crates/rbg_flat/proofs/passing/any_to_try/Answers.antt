@@ -15,7 +15,7 @@ everywhere : (game : AbstractGame) → IsNumbered game.rules → (s : AbstractSt
 everywhere game numbered s p kind (inl is) told = pattern_to_try game numbered s p (subst (λ (k : Kind). IsKind game.rules p k) is told)
 everywhere game numbered s p kind (inr is) told =
     let plain = subst (λ (k : Kind). IsKind game.rules p k) is told in
-    other_to_try game numbered s p plain.0 plain.2
+    other_to_try game numbered s p plain.0 plain.2 plain.3
 
 pub returns-in-Pattern : goal.returns-in-Pattern
 returns-in-Pattern c = λ b small.
@@ -41,3 +41,6 @@ returns-in-OnEither c = λ b small.
     let told = c.either_standing.ensures b small in
     let try = on_to_try c.args.game.now c.requires.lawful.numbered s c.args.position (x ∷ y ∷ []) stands here in
     (λ set. try.0 (told.0 set), λ is. told.1 (try.1 is))
+
+pub returns-in-Comparison : goal.returns-in-Comparison
+returns-in-Comparison c = λ b small. c.comparison_to_try.ensures (c.args.column * 64 + b) b small

@@ -1,0 +1,13 @@
+use Rattle.std.proofs.Common.{◌≡◌, ◌<◌, List, get_or, subst, arith}
+use Rattle.std.proofs.lemmas.List.{take_all}
+use Rattle.rbg_leaps.specs.declared.target.Target.{Target}
+use Rattle.rbg_flat.specs.internal.Ending.{AreDead}
+use Rattle.rbg_flat.proofs.Endings.{one_more_dead}
+use Rattle.rbg_flat.proofs.ending.are_dead.Goals as goal
+
+pub loop-target-preserved : goal.loop-target-preserved
+loop-target-preserved c =
+    let none : Target = record { position = 0; column = 0; word = 0 } in
+    let greater : c.loop-target.before < (get_or c.args.targets.now c.loop-target.target-index none).position = omega (arith, c.if-target-before.false) in
+    one_more_dead c.args.game.now c.args.state.now.state c.args.targets.now c.loop-target.target-index c.loop-target.before none c.loop-target-test.true c.loop-target.invariant
+    (c.requires.targets c.loop-target.target-index none c.loop-target-test.true) greater (c.is_dead.ensures c.if-not-is_dead.false)

@@ -1,0 +1,100 @@
+//! Patterns in which nothing goes on, as is seen at once.
+ghost use Rattle.std.specs.Prelude.{ℕ, ◌<◌, length, All, IfSome, IsTrue};
+ghost use Rattle.rbg_rules.specs.Games.{IsGame};
+ghost use Rattle.rbg_rules.specs.Laws.{IsStart};
+ghost use Rattle.rbg_rules.specs.Positions.{inside};
+ghost use Rattle.rbg_rules.specs.State.{IsStateOf};
+ghost use Rattle.rbg_rules.specs.Words.{beginning};
+ghost use Rattle.rbg_flat.specs.Chains.{at_vertex};
+ghost use Rattle.rbg_flat.specs.Ending.{IsDeadEnd};
+ghost use Rattle.rbg_flat.specs.Paths.{ArePathsOf};
+ghost use Rattle.rbg_flat.specs.internal.Ending.{AreDead, IsDeadTarget, IsFilledTarget};
+
+use crate::gathering::is_modifier;
+use crate::passing::to_try;
+use crate::paths::Paths;
+use crate::words::{lowest, shared, without};
+use rbg_auto::Expr;
+use rbg_base::{Position, Vertex};
+use rbg_leaps::{Origin, Target};
+use rbg_rules::Game;
+use rbg_state::SemiState;
+
+/// What is told of the inside of a pattern at a vertex from which nothing goes on.
+#[derive(Clone, Copy, Debug, Drop)]
+pub struct DeadEnd {
+    /// How many candidates there are.
+    pub many: usize,
+    /// Whether a word may end.
+    pub ends: bool,
+}
+
+impl Paths {
+    /// What is told of the inside of a pattern at a vertex from where leaps lead to no modifier, to no pattern and to nothing
+    /// that holds: there are no further candidates. It needs no sets. None elsewhere, and where it isn't looked for: it
+    /// is where leaps lead to several positions, and to one vertex at each.
+    #[inline(always)]
+    pub fn dead_end(
+        &self,
+        game: &Game,
+        state: &SemiState,
+        pattern: Position,
+        vertex: Vertex,
+    ) -> Option<DeadEnd>
+        requires lawful { IsGame game.now }
+        requires paths { ArePathsOf game.now self.now }
+        requires fits { IsStateOf game.now state.now.state }
+        requires vertex { vertex < length game.now.board.first }
+        requires stands { IsStart game.now.rules (beginning (inside pattern)) }
+        ensures { IfSome result (λ dead. IsDeadEnd game.now (at_vertex state.now.state vertex)
+            (beginning (inside pattern)) dead.many dead.ends) }
+    {
+        if !self.branches(pattern) {
+            return None;
+        }
+        let origin = Origin::Begin(Expr::Inside(pattern));
+        let (targets, ends) = self.leaps.leads(origin, vertex);
+        if are_dead(game, self, state, targets) {
+            let many = targets.len();
+            Some(DeadEnd { many, ends })
+        } else {
+            None
+        }
+    }
+}
+
+/// Whether nothing goes on from the targets, each of which has one vertex and a greater position than the one before it.
+#[inline(always)]
+fn are_dead(game: &Game, paths: &Paths, state: &SemiState, targets: &[Target]) -> bool
+    requires lawful { IsGame game.now }
+    requires paths { ArePathsOf game.now paths.now }
+    requires fits { IsStateOf game.now state.now.state }
+    requires targets { All (IsFilledTarget game.now) targets.now }
+    ensures { IsTrue result → (last : ℕ) × AreDead game.now state.now.state targets.now last }
+{
+    let mut before = 0;
+    for target in targets {
+        if target.position <= before || !is_dead(game, paths, state, target) {
+            return false;
+        }
+        before = target.position;
+    }
+    true
+}
+
+/// Whether a target has one vertex, and nothing goes on there.
+#[inline(always)]
+fn is_dead(game: &Game, paths: &Paths, state: &SemiState, target: &Target) -> bool
+    requires lawful { IsGame game.now }
+    requires paths { ArePathsOf game.now paths.now }
+    requires fits { IsStateOf game.now state.now.state }
+    requires target { IsFilledTarget game.now target.now }
+    ensures { IsTrue result → IsDeadTarget game.now state.now.state target.now }
+{
+    let rest = without(target.word, lowest(target.word));
+    if rest != 0 || is_modifier(game, paths, target.position) {
+        return false;
+    }
+    let opens = to_try(game, paths, state, target.position, target.column as usize);
+    shared(target.word, opens) == 0
+}

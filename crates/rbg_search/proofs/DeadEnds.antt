@@ -1,0 +1,23 @@
+-- A pattern in which nothing goes on from its beginning.
+use Rattle.std.proofs.Common.{ℕ, [], Bool, arith}
+use Rattle.rbg_rules.specs.Positions.{IsNumbered}
+use Rattle.rbg_rules.specs.Words.{Start}
+use Rattle.rbg_rules.specs.State.{AbstractGame, AbstractState}
+use Rattle.rbg_flat.specs.Ending.{IsDeadEnd}
+use Rattle.rbg_flat.specs.Found.{AreFound}
+use Rattle.rbg_search.specs.internal.Straight.{IsWalked}
+use Rattle.rbg_search.proofs.BySets.{found_part, nothing_in}
+use Rattle.rbg_search.proofs.Takings.{is_candidate, no_shift}
+
+-- Its flat part is whole: it has no modifier and no pattern.
+pub dead_walked : (game : AbstractGame) → IsNumbered game.rules → (s : AbstractState) (f : Start) (many : ℕ) (ends : Bool) → IsDeadEnd game s f many ends → IsWalked game s f ends
+dead_walked game numbered s f many ends dead = record {
+  part = found_part game numbered s f [] ends none dead.may_end;
+  quiet = λ v p reached pattern. dead.no_pattern v p (is_candidate game numbered s f v p reached (no_shift game.rules numbered p pattern)) pattern;
+}
+  where
+    none : AreFound game s f []
+    none = record {
+      next = λ v p. (λ there. absurd (nothing_in (v, p) there), λ is. absurd (dead.no_modifier v p is.candidate is.modifies));
+      different = λ i j d less within. absurd (omega (arith, less, within));
+    }
