@@ -9,7 +9,6 @@ use crate::refusal::Refusal;
 use crate::tally::{Ending, Played, Tally, count_in};
 use rand_core::{Rng, SeedableRng};
 use rand_pcg::Pcg32;
-use rbg_base::Memory;
 use rbg_moves::{Place, PlayedGame, Workspace};
 use std::alloc::Global;
 
@@ -53,7 +52,7 @@ fn play_match(
         IsPlayedTo game.now from.now (scores_of played.ending) played.moves) }
     ensures unplayed { IfErr result (IsUnplayed game.now from.now) }
 {
-    let mut place = copy_of(from)?;
+    let mut place = workspace.copy_of(from)?;
     for moves in 0..MAX_PLAYED {
         if !move_on(game, &mut place, chance, workspace)? {
             let scores = game.scores(&place);
@@ -90,7 +89,7 @@ fn move_on(
         return Ok(false);
     }
     let index = choose(count, chance);
-    game.make_move_on(place, moves.get(index))?;
+    game.make_move(place, moves.get(index))?;
     game.settle(place, workspace)?;
     workspace.keep_moves(moves);
     Ok(true)
@@ -102,13 +101,4 @@ fn choose(count: usize, chance: &mut Pcg32) -> usize
     ensures { result < count }
 {
     (chance.next_u64() % count as u64) as usize
-}
-
-fn copy_of(place: &Place) -> Result<Place, Memory>
-    ensures { IfOk result (λ copy. copy ≡ place.now) }
-{
-    Ok(Place {
-        state: place.state.try_clone()?,
-        after: place.after,
-    })
 }

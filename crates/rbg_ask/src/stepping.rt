@@ -24,7 +24,7 @@ pub(crate) fn lead(
     ensures in_game { IfOk result (IsPlaceOf game.now) }
     ensures unmade { IfErr result (IsUnmade game.now place.now pairs.now) }
 {
-    let Some(mut to) = game.try_move_with(place, pairs, workspace)? else {
+    let Some(mut to) = game.try_move(place, pairs, workspace)? else {
         return Err(Refusal::Illegal);
     };
     game.settle(&mut to, workspace)?;
@@ -42,7 +42,10 @@ pub(crate) fn standing_at(
         StandsAt game.now place.now (standing_answer standing)) }
     ensures untold { IfErr result (IsUntold game.now place.now) }
 {
-    match game.find_pairs(place, workspace)? {
+    let mut lent = workspace.copy_of(place)?;
+    let found = game.find_move(&mut lent, workspace)?;
+    workspace.keep(lent);
+    match found {
         Some(pairs) => {
             workspace.keep_pairs(pairs);
             Ok(Standing::ToMove {

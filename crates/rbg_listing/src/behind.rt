@@ -78,21 +78,12 @@ fn place_after(to: &Reached, before: Place) -> Result<Place, Memory>
     ensures { IfOk result (λ place. place ≡ place_in (reached_of to.now) before) }
 {
     match to {
-        Reached::Entry(standing) => copy_of(&standing.place),
+        Reached::Entry(standing) => standing.place.try_clone(),
         Reached::Version => Ok(before),
         Reached::Players => Ok(before),
         Reached::Start => Ok(before),
         Reached::Nothing => Ok(before),
     }
-}
-
-fn copy_of(place: &Place) -> Result<Place, Memory>
-    ensures { IfOk result (λ copy. copy ≡ place.now) }
-{
-    Ok(Place {
-        state: place.state.try_clone()?,
-        after: place.after,
-    })
 }
 
 /// Whether the end was read.

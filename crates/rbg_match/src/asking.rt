@@ -27,7 +27,10 @@ pub(crate) fn find_pairs(
         → IsHeavyToFind game.now place.now) }
 {
     let _game = game.as_game();
-    game.find_pairs(place, workspace)
+    let mut lent = workspace.copy_of(place)?;
+    let found = game.find_move(&mut lent, workspace);
+    workspace.keep(lent);
+    found
 }
 
 /// The place after the move of these pairs, or None if the move is not legal.
@@ -45,5 +48,5 @@ pub(crate) fn try_move(
     ensures heavy { IfErr result (λ over. (over ≡ Over.Deep) ⊎ (over ≡ Over.Wide)
         → IsHeavyToTry game.now place.now pairs.now) }
 {
-    game.try_move_with(place, pairs, workspace)
+    game.try_move(place, pairs, workspace)
 }

@@ -89,12 +89,10 @@ impl Match {
     };
     ghost use Rattle.rbg_match.specs.Config.{IsWithinLimits};
     ghost use Rattle.rbg_match.specs.Inputs.{IsTickAlone, counted, moment_of};
-    ghost use Rattle.rbg_moves.specs.Limits.{FitsLimits, IsDeepAt, IsWideAt};
+    ghost use Rattle.rbg_moves.specs.Answers.{ListsMoves};
     ghost use Rattle.rbg_moves.specs.Listing.{IsListed};
     ghost use Rattle.rbg_rules.specs.Games.{IsGame};
-    ghost use Rattle.rbg_rules.specs.Heavy.{IsTooHard};
     ghost use Rattle.rbg_rules.specs.Places.{IsPlaceOf};
-    ghost use Rattle.rbg_rules.specs.Questions.{list_moves as listing_moves};
     ghost use Rattle.rbg_match.specs.Play.{due_of, refusals_of};
     ghost use Rattle.rbg_match.specs.Matches.{HasHistory, Opens, Steps};
     ghost use Rattle.rbg_wire.specs.declared.outcome.Outcome.{Outcome};
@@ -172,16 +170,9 @@ impl Match {
     /// how the question is above the limits. An answer comes only where the forced openings are within them.
     pub fn list_moves(&self, max: usize) -> Result<Listed, Over>
         requires { 0 < max }
-        ensures listed { IfOk result (λ listed.
-            IsListed self.now.game self.now.play.place max listed.moves.items listed.cut) }
-        ensures heavy { (result ≡ Err Over.Deep) ⊎ (result ≡ Err Over.Wide)
-            → IsTooHard self.now.game listing_moves self.now.play.place }
-        ensures deep { result ≡ Err Over.Deep
-            → IsDeepAt self.now.game listing_moves self.now.play.place }
-        ensures wide { result ≡ Err Over.Wide
-            → IsWideAt self.now.game listing_moves self.now.play.place }
-        ensures fits { IfOk result (λ listed.
-            FitsLimits self.now.game listed.cut listing_moves self.now.play.place) }
+        ensures { ListsMoves self.now.game self.now.play.place result
+            (λ listed. IsListed self.now.game self.now.play.place max listed.moves.items listed.cut)
+            (λ listed. listed.cut) }
     {
         self.referee.game.list_moves(&self.referee.play.place, max)
     }

@@ -94,9 +94,8 @@ impl Referee {
         requires length { IsMoveLength (length pairs.items) }
         ensures { Replies self.old self.new result (λ referee _. Makes referee pairs.items) }
     {
-        let to = self
-            .game
-            .make_move_with(&self.play.place, &pairs, &mut self.play.workspace)?;
+        let mut to = self.play.workspace.copy_of(&self.play.place)?;
+        self.game.make_move(&mut to, &pairs)?;
         self.make(move_of(&pairs), to)?;
         self.play.workspace.keep_pairs(pairs);
         Ok(())

@@ -11,4 +11,5 @@ pub mod Forcing
 pub mod Copies
 pub mod Scoring
 pub mod Tallies
+pub mod Asked
 pub mod Results

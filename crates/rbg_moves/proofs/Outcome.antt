@@ -51,10 +51,8 @@ listed game place max moves sorted cut all moved order = record {
     size : length sorted ≡ length moves
     size = length_permutation moves sorted moved
 
--- What was gathered where the program began.
-pub gathered_at : (game game' : AbstractGame) (place here : AbstractPlace) (front : List (ℕ × ℕ)) (max : ℕ) (old new : List (List (ℕ × ℕ))) (cut : Bool) → game' ≡ game → here ≡ place → front ≡ [] → old ≡ [] → Gathers (IsLegal game' here) front max old new cut → Gathers (IsLegal game place) [] max [] new cut
-gathered_at game game' place here front max old new cut same same_place no_front none all =
+-- What was gathered where there was nothing before.
+pub gathered_at : (game : AbstractGame) (place : AbstractPlace) (front : List (ℕ × ℕ)) (max : ℕ) (old new : List (List (ℕ × ℕ))) (cut : Bool) → front ≡ [] → old ≡ [] → Gathers (IsLegal game place) front max old new cut → Gathers (IsLegal game place) [] max [] new cut
+gathered_at game place front max old new cut no_front none all =
     subst (λ (xs : List (List (ℕ × ℕ))). Gathers (IsLegal game place) [] max xs new cut) none
-    (subst (λ (ps : List (ℕ × ℕ)). Gathers (IsLegal game place) ps max old new cut) no_front
-    (subst (λ (p : AbstractPlace). Gathers (IsLegal game p) front max old new cut) same_place
-    (subst (λ (g : AbstractGame). Gathers (IsLegal g here) front max old new cut) same all)))
+    (subst (λ (ps : List (ℕ × ℕ)). Gathers (IsLegal game place) ps max old new cut) no_front all)

@@ -1,4 +1,5 @@
 -- Places of play, and the moves that lead from one to the next.
+pub mod Answers
 pub mod Equality
 pub mod Listing
 pub mod Limits

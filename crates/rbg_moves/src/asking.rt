@@ -2,11 +2,11 @@
 ghost use Rattle.std.specs.Prelude.{◌≡◌, ◌<◌, ◌≤◌, ◌↔◌, [], ◌∷◌, ◌++◌, length, IfSome, OnOk, IsTrue};
 ghost use Rattle.rbg_base.specs.Move.{IsMoveLength};
 ghost use Rattle.rbg_rules.specs.Games.{IsGame};
-ghost use Rattle.rbg_rules.specs.Limits.{most_openings, most_modifiers};
 ghost use Rattle.rbg_rules.specs.Positions.{IsSwitchAt};
 ghost use Rattle.rbg_rules.specs.Moves.{stand_of};
 ghost use Rattle.rbg_flat.specs.Paths.{ArePathsOf};
 ghost use Rattle.rbg_pairs.specs.Start.{start_of, IsPositionOf};
+ghost use Rattle.rbg_moves.specs.internal.Asking.{begun_in};
 ghost use Rattle.rbg_moves.specs.internal.Shown.{shows_switch};
 
 use rbg_auto::{Expr, Steps};
@@ -28,11 +28,7 @@ pub(crate) fn search_in<'a, S: Steps>(
 ) -> Search<'a, S>
     requires steps { S.of_rules steps.now game.now.rules }
     requires paths { IfSome paths (λ told. ArePathsOf game.now told.now) }
-    ensures game { result.game ≡ game.now }
-    ensures openings { result.openings ≡ most_openings }
-    ensures modifiers { result.modifiers ≡ most_modifiers }
-    ensures opened { result.opened ≡ 0 }
-    ensures taken { result.taken ≡ 0 }
+    ensures begun { result ≡ begun_in game.now }
     ensures tally { workspace.new ≡ workspace.old }
 {
     let budget = Budget {

@@ -4,16 +4,15 @@ ghost use Rattle.rbg_base.specs.Move.{most_pairs, IsMoveLength};
 ghost use Rattle.rbg_rules.specs.State.{IsStateOf};
 ghost use Rattle.rbg_rules.specs.Positions.{IsSwitchAt};
 ghost use Rattle.rbg_rules.specs.Words.{after};
-ghost use Rattle.rbg_rules.specs.Moves.{stand_of, IsLegal, Finished};
+ghost use Rattle.rbg_rules.specs.Moves.{stand_of, Finished};
 ghost use Rattle.rbg_rules.specs.Questions.{find_move};
 ghost use Rattle.rbg_rules.specs.Games.{IsGame};
 ghost use Rattle.rbg_rules.specs.Places.{IsPlaceOf};
-ghost use Rattle.rbg_rules.specs.Heavy.{IsHeavyToFind};
 ghost use Rattle.rbg_flat.specs.Paths.{ArePathsOf};
 ghost use Rattle.rbg_pairs.specs.Start.{IsPositionOf};
 ghost use Rattle.rbg_state.specs.History.{IsAfter};
-ghost use Rattle.rbg_moves.specs.Limits.{IsDeepAt, IsWideAt, FitsLimits};
-ghost use Rattle.rbg_moves.specs.Tallying.{IsTallied};
+ghost use Rattle.rbg_moves.specs.Answers.{FindsMove};
+ghost use Rattle.rbg_moves.specs.Tallying.{Tallies};
 ghost use Rattle.rbg_moves.specs.internal.Asking.{CountsAnswer, IsGivenUp};
 ghost use Rattle.rbg_moves.specs.internal.Stepping.{place_behind, Behind, IsValidAt, GoesOnByMove, GoesOnBehind};
 
@@ -26,7 +25,7 @@ use rbg_auto::Steps;
 use rbg_base::{MAX_PAIRS, Move, Pair, Position};
 use rbg_flat::Paths;
 use rbg_rules::Game;
-use rbg_search::{Over, Search, Workspace as SearchWorkspace};
+use rbg_search::{Over, Search};
 use rbg_state::SemiState;
 use std::alloc::Global;
 use std::mem::replace;
@@ -43,120 +42,20 @@ pub fn find_move<S: Steps>(
 ) -> Result<Option<Move>, Over>
     requires steps { S.of_rules steps.now game.now.rules }
     requires place { IsPlaceOf game.now place.now }
-    ensures found { IfOk result (λ found. IfSome found (IsLegal game.now place.now)) }
-    ensures length { IfOk result (λ found. IfSome found (λ pairs. IsMoveLength (length pairs))) }
-    ensures finished { IfOk result (λ found. IfNone found (Finished game.now place.now)) }
-    ensures heavy { (result ≡ Err Over.Deep) ⊎ (result ≡ Err Over.Wide)
-        → IsHeavyToFind game.now place.now }
-    ensures deep { result ≡ Err Over.Deep → IsDeepAt game.now find_move place.now }
-    ensures wide { result ≡ Err Over.Wide → IsWideAt game.now find_move place.now }
-    ensures fits { OnOk result ((cut : Bool) → FitsLimits game.now cut find_move place.now) }
+    ensures { FindsMove game.now place.now result (λ pairs. pairs) }
 {
     let mut workspace = Workspace::new(alloc);
-    find_move_with(alloc, game, steps, place, &mut workspace)
-}
-
-/// As `find_move`, with the buffers of a workspace, which also counts what is taken up. Where there is no answer, its
-/// buffers are lost.
-pub fn find_move_with<S: Steps>(
-    alloc: Global,
-    game: &Game,
-    steps: &S,
-    place: &Place,
-    workspace: &mut Workspace,
-) -> Result<Option<Move>, Over>
-    requires steps { S.of_rules steps.now game.now.rules }
-    requires place { IsPlaceOf game.now place.now }
-    ensures found { IfOk result (λ found. IfSome found (IsLegal game.now place.now)) }
-    ensures length { IfOk result (λ found. IfSome found (λ pairs. IsMoveLength (length pairs))) }
-    ensures finished { IfOk result (λ found. IfNone found (Finished game.now place.now)) }
-    ensures heavy { (result ≡ Err Over.Deep) ⊎ (result ≡ Err Over.Wide)
-        → IsHeavyToFind game.now place.now }
-    ensures deep { result ≡ Err Over.Deep → IsDeepAt game.now find_move place.now }
-    ensures wide { result ≡ Err Over.Wide → IsWideAt game.now find_move place.now }
-    ensures fits { OnOk result ((cut : Bool) → FitsLimits game.now cut find_move place.now) }
-    ensures tally { OnOk result (IsTallied game.now find_move place.now
-        workspace.old.searches workspace.new.searches) }
-    ensures untallied { OnErr result (workspace.new.searches ≡ workspace.old.searches) }
-{
-    find_move_by(alloc, game, steps, None, place, workspace)
-}
-
-/// As `find_move_with`, with the paths of the game where it has some.
-pub(crate) fn find_move_by<S: Steps>(
-    alloc: Global,
-    game: &Game,
-    steps: &S,
-    paths: Option<&Paths>,
-    place: &Place,
-    workspace: &mut Workspace,
-) -> Result<Option<Move>, Over>
-    requires steps { S.of_rules steps.now game.now.rules }
-    requires paths { IfSome paths (λ told. ArePathsOf game.now told.now) }
-    requires place { IsPlaceOf game.now place.now }
-    ensures found { IfOk result (λ found. IfSome found (IsLegal game.now place.now)) }
-    ensures length { IfOk result (λ found. IfSome found (λ pairs. IsMoveLength (length pairs))) }
-    ensures finished { IfOk result (λ found. IfNone found (Finished game.now place.now)) }
-    ensures heavy { (result ≡ Err Over.Deep) ⊎ (result ≡ Err Over.Wide)
-        → IsHeavyToFind game.now place.now }
-    ensures deep { result ≡ Err Over.Deep → IsDeepAt game.now find_move place.now }
-    ensures wide { result ≡ Err Over.Wide → IsWideAt game.now find_move place.now }
-    ensures fits { OnOk result ((cut : Bool) → FitsLimits game.now cut find_move place.now) }
-    ensures tally { OnOk result (IsTallied game.now find_move place.now
-        workspace.old.searches workspace.new.searches) }
-    ensures untallied { OnErr result (workspace.new.searches ≡ workspace.old.searches) }
-{
-    let Some(pairs) = find_pairs_with(alloc, game, steps, paths, place, workspace)? else {
+    let mut lent = place.try_clone()?;
+    let Some(pairs) = find_pairs(alloc, game, steps, None, &mut lent, &mut workspace)? else {
         return Ok(None);
     };
-    let found = move_of(pairs.as_slice());
-    workspace.keep_pairs(pairs);
-    Ok(Some(found))
+    Ok(Some(move_of(pairs.as_slice())))
 }
 
-/// As `find_move_by`, with the pairs of the move in a list, which `Workspace::keep_pairs` takes back.
-pub(crate) fn find_pairs_with<S: Steps>(
-    alloc: Global,
-    game: &Game,
-    steps: &S,
-    paths: Option<&Paths>,
-    place: &Place,
-    workspace: &mut Workspace,
-) -> Result<Option<Vec<Pair>>, Over>
-    requires steps { S.of_rules steps.now game.now.rules }
-    requires paths { IfSome paths (λ told. ArePathsOf game.now told.now) }
-    requires place { IsPlaceOf game.now place.now }
-    ensures found { IfOk result (λ found.
-        IfSome found (λ pairs. IsLegal game.now place.now pairs.items)) }
-    ensures length { IfOk result (λ found.
-        IfSome found (λ pairs. IsMoveLength (length pairs.items))) }
-    ensures finished { IfOk result (λ found. IfNone found (Finished game.now place.now)) }
-    ensures heavy { (result ≡ Err Over.Deep) ⊎ (result ≡ Err Over.Wide)
-        → IsHeavyToFind game.now place.now }
-    ensures deep { result ≡ Err Over.Deep → IsDeepAt game.now find_move place.now }
-    ensures wide { result ≡ Err Over.Wide → IsWideAt game.now find_move place.now }
-    ensures fits { OnOk result ((cut : Bool) → FitsLimits game.now cut find_move place.now) }
-    ensures tally { OnOk result (IsTallied game.now find_move place.now
-        workspace.old.searches workspace.new.searches) }
-    ensures untallied { OnErr result (workspace.new.searches ≡ workspace.old.searches) }
-{
-    workspace.asked.copy_from(&place.state)?;
-    let found = find_from(
-        alloc,
-        game,
-        steps,
-        paths,
-        &mut workspace.asked,
-        place.after,
-        &mut workspace.searches,
-        &mut workspace.front,
-        &mut workspace.buffer,
-    )?;
-    Ok(found)
-}
-
-/// As `find_pairs_with`, but asked on the place's own semi-state, which is given back, also where there is no answer.
-pub(crate) fn find_pairs_on<S: Steps>(
+/// The pairs of some legal move, in a list that `Workspace::keep_pairs` takes back; none where play is finished. The
+/// question is asked on the place's own semi-state, which is given back, also where there is no answer. Where there is
+/// none, buffers of the workspace are lost.
+pub(crate) fn find_pairs<S: Steps>(
     alloc: Global,
     game: &Game,
     steps: &S,
@@ -167,81 +66,30 @@ pub(crate) fn find_pairs_on<S: Steps>(
     requires steps { S.of_rules steps.now game.now.rules }
     requires paths { IfSome paths (λ told. ArePathsOf game.now told.now) }
     requires place { IsPlaceOf game.now place.old }
-    ensures found { IfOk result (λ found.
-        IfSome found (λ pairs. IsLegal game.now place.old pairs.items)) }
-    ensures length { IfOk result (λ found.
-        IfSome found (λ pairs. IsMoveLength (length pairs.items))) }
-    ensures finished { IfOk result (λ found. IfNone found (Finished game.now place.old)) }
+    ensures finds { FindsMove game.now place.old result (λ pairs. pairs.items) }
     ensures kept { place.new ≡ place.old }
-    ensures heavy { (result ≡ Err Over.Deep) ⊎ (result ≡ Err Over.Wide)
-        → IsHeavyToFind game.now place.old }
-    ensures deep { result ≡ Err Over.Deep → IsDeepAt game.now find_move place.old }
-    ensures wide { result ≡ Err Over.Wide → IsWideAt game.now find_move place.old }
-    ensures fits { OnOk result ((cut : Bool) → FitsLimits game.now cut find_move place.old) }
-    ensures tally { OnOk result (IsTallied game.now find_move place.old
-        workspace.old.searches workspace.new.searches) }
-    ensures untallied { OnErr result (workspace.new.searches ≡ workspace.old.searches) }
-{
-    let after = place.after;
-    let found = find_from(
-        alloc,
-        game,
-        steps,
-        paths,
-        &mut place.state,
-        after,
-        &mut workspace.searches,
-        &mut workspace.front,
-        &mut workspace.buffer,
-    )?;
-    Ok(found)
-}
-
-/// Some move at this semi-state after this position, with the buffers of a workspace.
-fn find_from<S: Steps>(
-    alloc: Global,
-    game: &Game,
-    steps: &S,
-    paths: Option<&Paths>,
-    state: &mut SemiState,
-    after: Option<Position>,
-    searches: &mut SearchWorkspace,
-    front: &mut Vec<Pair>,
-    whole: &mut Vec<Pair>,
-) -> Result<Option<Vec<Pair>>, Over>
-    requires steps { S.of_rules steps.now game.now.rules }
-    requires paths { IfSome paths (λ told. ArePathsOf game.now told.now) }
-    requires place { IsPlaceOf game.now (record { state = state.old.state; last = after }) }
-    ensures found { IfOk result (λ found. IfSome found (λ pairs.
-        IsLegal game.now (record { state = state.old.state; last = after }) pairs.items)) }
-    ensures length { IfOk result (λ found.
-        IfSome found (λ pairs. IsMoveLength (length pairs.items))) }
-    ensures finished { IfOk result (λ found. IfNone found
-        (Finished game.now (record { state = state.old.state; last = after }))) }
-    ensures kept { state.new.state ≡ state.old.state }
-    ensures deep { result ≡ Err Over.Deep
-        → IsDeepAt game.now find_move (record { state = state.old.state; last = after }) }
-    ensures wide { result ≡ Err Over.Wide
-        → IsWideAt game.now find_move (record { state = state.old.state; last = after }) }
-    ensures fits { OnOk result ((cut : Bool)
-        → FitsLimits game.now cut find_move (record { state = state.old.state; last = after })) }
-    ensures tally { OnOk result (IsTallied game.now find_move
-        (record { state = state.old.state; last = after }) searches.old searches.new) }
-    ensures untallied { OnErr result (searches.new ≡ searches.old) }
+    ensures tallies { Tallies game.now find_move place.old workspace.old.searches
+        workspace.new.searches result }
 {
     game_is_accepted(game);
-    front.clear();
-    let mark = state.mark();
-    let mut search = search_in(alloc, game, steps, paths, searches);
-    let found = find(&mut search, state, front, whole, after);
-    state.undo_to(mark);
+    workspace.front.clear();
+    let mark = place.state.mark();
+    let mut search = search_in(alloc, game, steps, paths, &mut workspace.searches);
+    let found = find(
+        &mut search,
+        &mut place.state,
+        &mut workspace.front,
+        &mut workspace.buffer,
+        place.after,
+    );
+    place.state.undo_to(mark);
     let found = found?;
     budget_is_kept(&search);
-    search.leave(searches);
+    search.leave(&mut workspace.searches);
     if !found {
         return Ok(None);
     }
-    let pairs = replace(whole, Vec::new(alloc));
+    let pairs = replace(&mut workspace.buffer, Vec::new(alloc));
     Ok(Some(pairs))
 }
 

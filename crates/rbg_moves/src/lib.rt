@@ -15,7 +15,7 @@ mod trying;
 mod unsettled;
 mod workspace;
 
-pub use finding::{find_move, find_move_with};
+pub use finding::find_move;
 pub use list::{Gathered, Listed, list_moves};
 pub use making::make_move;
 pub use place::Place;

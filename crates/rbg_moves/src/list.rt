@@ -8,12 +8,11 @@ ghost use Rattle.rbg_rules.specs.Moves.{stand_of, IsLegal};
 ghost use Rattle.rbg_rules.specs.Questions.{list_moves as listing_moves};
 ghost use Rattle.rbg_rules.specs.Games.{IsGame};
 ghost use Rattle.rbg_rules.specs.Places.{IsPlaceOf};
-ghost use Rattle.rbg_rules.specs.Heavy.{IsTooHard};
 ghost use Rattle.rbg_flat.specs.Paths.{ArePathsOf};
 ghost use Rattle.rbg_pairs.specs.Start.{IsPositionOf};
-ghost use Rattle.rbg_moves.specs.Limits.{IsDeepAt, IsWideAt, FitsLimits};
+ghost use Rattle.rbg_moves.specs.Answers.{ListsMoves};
 ghost use Rattle.rbg_moves.specs.Listing.{IsGathered, IsListed, IsMoveBefore};
-ghost use Rattle.rbg_moves.specs.Tallying.{IsTallied};
+ghost use Rattle.rbg_moves.specs.Tallying.{Tallies};
 ghost use Rattle.rbg_moves.specs.internal.Asking.{CountsAnswer, IsGivenUp};
 ghost use Rattle.rbg_moves.specs.internal.Gathering.{Gathers, GathersBehind, ListsSwitches, LeavesOthers};
 ghost use Rattle.rbg_moves.specs.internal.Stepping.{Behind, IsValidAt};
@@ -60,53 +59,42 @@ pub fn list_moves<S: Steps>(
     requires steps { S.of_rules steps.now game.now.rules }
     requires place { IsPlaceOf game.now place.now }
     requires some { 0 < max }
-    ensures listed { IfOk result (λ listed.
-        IsListed game.now place.now max listed.moves.items listed.cut) }
-    ensures heavy { (result ≡ Err Over.Deep) ⊎ (result ≡ Err Over.Wide)
-        → IsTooHard game.now listing_moves place.now }
-    ensures deep { result ≡ Err Over.Deep → IsDeepAt game.now listing_moves place.now }
-    ensures wide { result ≡ Err Over.Wide → IsWideAt game.now listing_moves place.now }
-    ensures fits { IfOk result (λ listed. FitsLimits game.now listed.cut listing_moves place.now) }
+    ensures { ListsMoves game.now place.now result
+        (λ listed. IsListed game.now place.now max listed.moves.items listed.cut)
+        (λ listed. listed.cut) }
 {
-    let mut workspace = Workspace::new(alloc);
-    list_moves_with(alloc, game, steps, None, place, max, &mut workspace)
+    list_sorted(alloc, game, steps, None, place, max)
 }
 
-/// As `list_moves`, with the paths of the game where it has some, and with the buffers of a workspace, which also counts
-/// what is taken up. Where there is no answer, its buffers are lost.
-pub(crate) fn list_moves_with<S: Steps>(
+/// As `list_moves`, by the paths of the game where it has some.
+pub(crate) fn list_sorted<S: Steps>(
     alloc: Global,
     game: &Game,
     steps: &S,
     paths: Option<&Paths>,
     place: &Place,
     max: usize,
-    workspace: &mut Workspace,
 ) -> Result<Listed, Over>
     requires steps { S.of_rules steps.now game.now.rules }
     requires paths { IfSome paths (λ told. ArePathsOf game.now told.now) }
     requires place { IsPlaceOf game.now place.now }
     requires some { 0 < max }
-    ensures listed { IfOk result (λ listed.
-        IsListed game.now place.now max listed.moves.items listed.cut) }
-    ensures heavy { (result ≡ Err Over.Deep) ⊎ (result ≡ Err Over.Wide)
-        → IsTooHard game.now listing_moves place.now }
-    ensures deep { result ≡ Err Over.Deep → IsDeepAt game.now listing_moves place.now }
-    ensures wide { result ≡ Err Over.Wide → IsWideAt game.now listing_moves place.now }
-    ensures fits { IfOk result (λ listed. FitsLimits game.now listed.cut listing_moves place.now) }
+    ensures { ListsMoves game.now place.now result
+        (λ listed. IsListed game.now place.now max listed.moves.items listed.cut)
+        (λ listed. listed.cut) }
 {
-    let gathered = gather_moves_with(alloc, game, steps, paths, place, max, workspace)?;
+    let mut workspace = Workspace::new(alloc);
+    let gathered = gather_moves(alloc, game, steps, paths, place, max, &mut workspace)?;
     let mut moves = moves_of(alloc, &gathered.moves)?;
-    let cut = gathered.cut;
-    workspace.keep_moves(gathered.moves);
     sort(&mut moves);
+    let cut = gathered.cut;
     Ok(Listed { moves, cut })
 }
 
-/// As `list_moves_with`, but the moves stand in the order in which they were found, in a list that
-/// `Workspace::keep_moves` takes back: first those of one switch, then those behind each other modifier, both by vertex
-/// and then by position.
-pub(crate) fn gather_moves_with<S: Steps>(
+/// The legal moves, at most `max` of them, in the order in which they are found: first those of one switch, then those
+/// behind each other modifier, both by vertex and then by position. They stand in a list that `Workspace::keep_moves`
+/// takes back. Where there is no answer, buffers of the workspace are lost.
+pub(crate) fn gather_moves<S: Steps>(
     alloc: Global,
     game: &Game,
     steps: &S,
@@ -119,17 +107,11 @@ pub(crate) fn gather_moves_with<S: Steps>(
     requires paths { IfSome paths (λ told. ArePathsOf game.now told.now) }
     requires place { IsPlaceOf game.now place.now }
     requires some { 0 < max }
-    ensures gathered { IfOk result (λ gathered.
-        IsGathered game.now place.now max gathered.moves gathered.cut) }
-    ensures heavy { (result ≡ Err Over.Deep) ⊎ (result ≡ Err Over.Wide)
-        → IsTooHard game.now listing_moves place.now }
-    ensures deep { result ≡ Err Over.Deep → IsDeepAt game.now listing_moves place.now }
-    ensures wide { result ≡ Err Over.Wide → IsWideAt game.now listing_moves place.now }
-    ensures fits { IfOk result (λ gathered.
-        FitsLimits game.now gathered.cut listing_moves place.now) }
-    ensures tally { OnOk result (IsTallied game.now listing_moves place.now
-        workspace.old.searches workspace.new.searches) }
-    ensures untallied { OnErr result (workspace.new.searches ≡ workspace.old.searches) }
+    ensures lists { ListsMoves game.now place.now result
+        (λ gathered. IsGathered game.now place.now max gathered.moves gathered.cut)
+        (λ gathered. gathered.cut) }
+    ensures tallies { Tallies game.now listing_moves place.now workspace.old.searches
+        workspace.new.searches result }
 {
     let moves = workspace.take_moves();
     let mut found = Found { moves, max };

@@ -1,5 +1,5 @@
 //! Where play stands in a game.
-ghost use Rattle.std.specs.Prelude.{◌≡◌, IfOk, None};
+ghost use Rattle.std.specs.Prelude.{◌≡◌, IfOk, OnOk, None};
 ghost use Rattle.rbg_rules.specs.State.{start_of, IsStateOf};
 
 use rbg_base::{Memory, Position};
@@ -34,6 +34,25 @@ impl Place {
             state: SemiState::start(alloc, game)?,
             after: None,
         })
+    }
+
+    /// A copy of the place, with no change to take back.
+    pub fn try_clone(&self) -> Result<Place, Memory>
+        ensures { IfOk result (λ copy. copy ≡ self.now) }
+    {
+        Ok(Place {
+            state: self.state.try_clone()?,
+            after: self.after,
+        })
+    }
+
+    /// Becomes a copy of another place, in its own buffers. Where memory is refused, what is left of it is of no use.
+    pub fn copy_from(&mut self, other: &Place) -> Result<(), Memory>
+        ensures { OnOk result (self.new ≡ other.now) }
+    {
+        self.state.copy_from(&other.state)?;
+        self.after = other.after;
+        Ok(())
     }
 }
 

@@ -34,7 +34,7 @@ impl PlayedGame {
             if place.state.player() != 0 {
                 return Ok(());
             }
-            match self.find_pairs_on(place, workspace)? {
+            match self.find_move(place, workspace)? {
                 Some(pairs) => self.make_found(place, pairs, workspace)?,
                 None => return Ok(()),
             }
@@ -55,7 +55,7 @@ impl PlayedGame {
         ensures in_game { IfOk result (λ _. IsPlaceOf self.now place.new) }
         ensures refused { OnErr result (place.new ≡ place.old) }
     {
-        self.make_move_on(place, pairs.as_slice())?;
+        self.make_move(place, pairs.as_slice())?;
         workspace.keep_pairs(pairs);
         Ok(())
     }

@@ -2,14 +2,13 @@
 ghost use Rattle.std.specs.Prelude.{◌≡◌, ◌⊎◌, length, IfOk, IfSome, IfNone, OnOk, OnErr, Err, Bool, false};
 ghost use Rattle.rbg_rules.specs.Moves.{AbstractPlace, stand_of, Legal};
 ghost use Rattle.rbg_rules.specs.Places.{IsPlaceOf};
-ghost use Rattle.rbg_rules.specs.Heavy.{IsHeavyToTry};
 ghost use Rattle.rbg_rules.specs.Questions.{try_move, IsDeep};
 ghost use Rattle.rbg_flat.specs.Paths.{ArePathsOf};
 ghost use Rattle.rbg_search.specs.Counting.{CountsOpenings, IsOverBudget};
 ghost use Rattle.rbg_search.specs.Forced.{CountsForced};
 ghost use Rattle.rbg_search.specs.Taken.{CountsPairs};
-ghost use Rattle.rbg_moves.specs.Limits.{IsDeepAt, IsWideAt, FitsLimits};
-ghost use Rattle.rbg_moves.specs.Tallying.{IsTallied};
+ghost use Rattle.rbg_moves.specs.Answers.{TriesMove};
+ghost use Rattle.rbg_moves.specs.Tallying.{Tallies};
 ghost use Rattle.rbg_moves.specs.internal.Stepping.{place_behind, IsTried};
 
 use crate::asking::{budget_is_kept, game_is_accepted, is_switch, search_in};
@@ -37,26 +36,15 @@ pub fn try_move<S: Steps>(
 ) -> Result<Option<Place>, Over>
     requires steps { S.of_rules steps.now game.now.rules }
     requires place { IsPlaceOf game.now place.now }
-    ensures legal { IfOk result (λ after. IfSome after (Legal game.now place.now pairs.now)) }
-    ensures only { IfOk result (λ after. IfSome after (λ to.
-        (other : AbstractPlace) → Legal game.now place.now pairs.now other → other ≡ to)) }
-    ensures in_game { IfOk result (λ after. IfSome after (IsPlaceOf game.now)) }
-    ensures illegal { IfOk result (λ after. IfNone after (
-        (to : AbstractPlace) → ¬ Legal game.now place.now pairs.now to)) }
-    ensures heavy { (result ≡ Err Over.Deep) ⊎ (result ≡ Err Over.Wide)
-        → IsHeavyToTry game.now place.now pairs.now }
-    ensures deep { result ≡ Err Over.Deep → IsDeepAt game.now (try_move pairs.now) place.now }
-    ensures wide { result ≡ Err Over.Wide → IsWideAt game.now (try_move pairs.now) place.now }
-    ensures fits { OnOk result ((cut : Bool)
-        → FitsLimits game.now cut (try_move pairs.now) place.now) }
+    ensures { TriesMove game.now place.now pairs.now result }
 {
     let mut workspace = Workspace::new(alloc);
-    try_move_with(alloc, game, steps, None, place, pairs, &mut workspace)
+    try_pairs(alloc, game, steps, None, place, pairs, &mut workspace)
 }
 
 /// As `try_move`, with the paths of the game where it has some, and with the buffers of a workspace, which also counts
 /// what is taken up. Where there is no answer, its buffers are lost.
-pub(crate) fn try_move_with<S: Steps>(
+pub(crate) fn try_pairs<S: Steps>(
     alloc: Global,
     game: &Game,
     steps: &S,
@@ -68,33 +56,21 @@ pub(crate) fn try_move_with<S: Steps>(
     requires steps { S.of_rules steps.now game.now.rules }
     requires paths { IfSome paths (λ told. ArePathsOf game.now told.now) }
     requires place { IsPlaceOf game.now place.now }
-    ensures legal { IfOk result (λ after. IfSome after (Legal game.now place.now pairs.now)) }
-    ensures only { IfOk result (λ after. IfSome after (λ to.
-        (other : AbstractPlace) → Legal game.now place.now pairs.now other → other ≡ to)) }
-    ensures in_game { IfOk result (λ after. IfSome after (IsPlaceOf game.now)) }
-    ensures illegal { IfOk result (λ after. IfNone after (
-        (to : AbstractPlace) → ¬ Legal game.now place.now pairs.now to)) }
-    ensures heavy { (result ≡ Err Over.Deep) ⊎ (result ≡ Err Over.Wide)
-        → IsHeavyToTry game.now place.now pairs.now }
-    ensures deep { result ≡ Err Over.Deep → IsDeepAt game.now (try_move pairs.now) place.now }
-    ensures wide { result ≡ Err Over.Wide → IsWideAt game.now (try_move pairs.now) place.now }
-    ensures fits { OnOk result ((cut : Bool)
-        → FitsLimits game.now cut (try_move pairs.now) place.now) }
-    ensures tally { OnOk result (IsTallied game.now (try_move pairs.now) place.now
-        workspace.old.searches workspace.new.searches) }
-    ensures untallied { OnErr result (workspace.new.searches ≡ workspace.old.searches) }
+    ensures tries { TriesMove game.now place.now pairs.now result }
+    ensures tallies { Tallies game.now (try_move pairs.now) place.now workspace.old.searches
+        workspace.new.searches result }
 {
     game_is_accepted(game);
     let mut search = search_in(alloc, game, steps, paths, &mut workspace.searches);
-    let mut state = workspace.copy_of(&place.state)?;
-    let end = follow(&mut search, &mut state, place.after, pairs.as_slice())?;
+    let mut to = workspace.copy_of(place)?;
+    let end = follow(&mut search, &mut to.state, to.after, pairs.as_slice())?;
     budget_is_kept(&search);
     search.leave(&mut workspace.searches);
     match end {
-        Some(last) => Ok(Some(Place {
-            state,
-            after: Some(last),
-        })),
+        Some(last) => {
+            to.after = Some(last);
+            Ok(Some(to))
+        }
         None => Ok(None),
     }
 }

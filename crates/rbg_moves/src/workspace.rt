@@ -86,6 +86,19 @@ impl Workspace {
         Place { state, after: None }
     }
 
+    /// A copy of a place, with no change to take back, in the buffers of one that was kept, where there is one.
+    pub fn copy_of(&mut self, place: &Place) -> Result<Place, Memory>
+        ensures copy { IfOk result (λ copy. copy ≡ place.now) }
+        ensures tally { self.new.searches ≡ self.old.searches }
+    {
+        let Some(state) = self.states.pop() else {
+            return place.try_clone();
+        };
+        let mut copy = Place { state, after: None };
+        copy.copy_from(place)?;
+        Ok(copy)
+    }
+
     /// Keeps a list of pairs that is no longer needed.
     pub fn keep_pairs(&mut self, pairs: Vec<Pair>)
         ensures tally { self.new.searches ≡ self.old.searches }
@@ -99,19 +112,6 @@ impl Workspace {
     {
         // where there is no memory, it is let go
         let _kept = self.lists.push(moves);
-    }
-
-    /// A copy of a semi-state, with no change to take back.
-    pub(crate) fn copy_of(&mut self, state: &SemiState) -> Result<SemiState, Memory>
-        ensures state { IfOk result (λ copy. copy.state ≡ state.now.state) }
-        ensures past { IfOk result (λ copy. copy.past ≡ []) }
-        ensures tally { self.new.searches ≡ self.old.searches }
-    {
-        let Some(mut copy) = self.states.pop() else {
-            return state.try_clone();
-        };
-        copy.copy_from(state)?;
-        Ok(copy)
     }
 
     /// A list of no moves.

@@ -136,7 +136,7 @@ fn place_after(to: &Reached, before: Place) -> Result<Place, Memory>
     ensures { IfOk result (λ place. place ≡ place_in (reached_of to.now) before) }
 {
     match to {
-        Reached::Entry(standing) => copy_of(&standing.place),
+        Reached::Entry(standing) => standing.place.try_clone(),
         Reached::Version => Ok(before),
         Reached::Players => Ok(before),
         Reached::Start => Ok(before),
@@ -152,15 +152,6 @@ fn later_of(moved: Option<Move>, before: Option<Move>) -> Option<Move>
         Some(pairs) => Some(pairs),
         None => before,
     }
-}
-
-fn copy_of(place: &Place) -> Result<Place, Memory>
-    ensures { IfOk result (λ copy. copy ≡ place.now) }
-{
-    Ok(Place {
-        state: place.state.try_clone()?,
-        after: place.after,
-    })
 }
 
 /// Reads a record, of either version, and tells its lines. A record that isn't right is refused.

@@ -1,6 +1,6 @@
 //! Sequences of moves, counted.
-ghost use Rattle.std.specs.Prelude.{◌≡◌, ◌≢◌, ℕ, ◌+◌, ◌<◌, ◌^◌, ◌⊎◌, length, suc, All, AllPairs, IfErr, IfNone, IfOk, IfSome};
-ghost use Rattle.rbg_rules.specs.Moves.{IsLegal};
+ghost use Rattle.std.specs.Prelude.{◌≡◌, ◌≢◌, ℕ, ◌+◌, ◌<◌, ◌^◌, ◌⊎◌, length, suc, All, AllPairs, IfErr, IfNone, IfOk, IfSome, OnOk};
+ghost use Rattle.rbg_rules.specs.Moves.{IsLegal, Legal};
 ghost use Rattle.rbg_rules.specs.Places.{IsPlaceOf};
 ghost use Rattle.rbg_perft.specs.Counting.{AreCounted, AreCountedBehind, AreLegalMoves, Sums, TellsFinished};
 ghost use Rattle.rbg_perft.specs.Refusals.{IsNotCounted, IsNotCountedFrom, most_counted};
@@ -9,6 +9,7 @@ ghost use Rattle.rbg_perft.specs.declared.extent.Extent.TheVariants.{Ends};
 
 use crate::error::CountError;
 use crate::extent::Extent;
+use rbg_base::{Memory, Pair};
 use rbg_moves::{MoveList, Place, PlayedGame, Workspace};
 
 /// How many sequences of moves there are.
@@ -124,12 +125,25 @@ fn count_behind(
     let mut to = workspace.spare();
     for index in 0..firsts.len() {
         let pairs = firsts.get(index);
-        game.make_move_to(place, pairs, &mut to)?;
+        lead(game, place, pairs, &mut to)?;
         let behind = count_from(game, &mut to, further, extent, workspace)?;
         counts = counts.join(behind).ok_or(CountError::TooMany)?;
     }
     workspace.keep(to);
     Ok(counts)
+}
+
+/// Makes a legal move from a place, in the buffers of another one, which is then the place to which it leads.
+#[inline(always)]
+fn lead(game: &PlayedGame, place: &Place, pairs: &[Pair], to: &mut Place) -> Result<(), Memory>
+    requires place { IsPlaceOf game.now place.now }
+    requires legal { IsLegal game.now place.now pairs.now }
+    ensures to { OnOk result (Legal game.now place.now pairs.now to.new) }
+    ensures in_game { OnOk result (IsPlaceOf game.now to.new) }
+{
+    to.copy_from(place)?;
+    game.make_move(to, pairs)?;
+    Ok(())
 }
 
 /// One sequence for each of these moves, after which nothing is asked.
@@ -176,7 +190,7 @@ fn count_here(
     ensures ended { IfOk result (λ counts. TellsFinished game.now place.old counts.ended) }
     ensures refused { IfErr result (IsNotCountedFrom game.now 0 Ends place.old) }
 {
-    match game.find_pairs_on(place, workspace)? {
+    match game.find_move(place, workspace)? {
         Some(pairs) => {
             workspace.keep_pairs(pairs);
             Ok(GOING)

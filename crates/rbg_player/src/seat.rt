@@ -76,7 +76,9 @@ impl Seat {
         ensures ok { OnOk result (Follows self.old pairs.now self.new) }
         ensures fault { IfErr result (HasFault (playing self.old) (move_message pairs.now)) }
     {
-        let to = self.game.try_move(&self.place, pairs)?;
+        let to = self
+            .game
+            .try_move(&self.place, pairs, &mut self.game.workspace())?;
         match to {
             Some(place) => {
                 self.place = place;

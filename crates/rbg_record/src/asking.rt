@@ -58,7 +58,9 @@ pub(crate) fn is_finished(game: &PlayedGame, place: &Place) -> Result<bool, Faul
     ensures heavy { result ≡ Err Fault.Over → IsHeavyToFind game.now place.now }
     ensures other { IfErr result IsOverOrMemory }
 {
-    let found = game.find_move(place)?;
+    let mut workspace = game.workspace();
+    let mut lent = place.try_clone()?;
+    let found = game.find_move(&mut lent, &mut workspace)?;
     Ok(found.is_none())
 }
 
@@ -76,7 +78,8 @@ pub(crate) fn try_move(
     ensures heavy { result ≡ Err Fault.Over → IsHeavyToTry game.now place.now pairs.now }
     ensures other { IfErr result IsOverOrMemory }
 {
-    Ok(game.try_move(place, pairs)?)
+    let mut workspace = game.workspace();
+    Ok(game.try_move(place, pairs, &mut workspace)?)
 }
 
 fn are_same(one: &[u64], other: &[u64]) -> bool

@@ -74,9 +74,9 @@ fn tell_over<W: Write>(over: Over, output: &mut W) -> io::Result<()> {
 }
 
 /// The pairs of a move, in a line.
-fn tell_move<W: Write>(pairs: &Move, output: &mut W) -> io::Result<()> {
+fn tell_pairs<W: Write>(pairs: &[Pair], output: &mut W) -> io::Result<()> {
     output.write_all(b"move")?;
-    for pair in pairs.as_slice() {
+    for pair in pairs {
         write!(output, " {} {}", pair.vertex, pair.position)?;
     }
     output.write_all(b"\n")
@@ -91,7 +91,8 @@ fn white_to_move(game: &PlayedGame) -> Result<Place, Stop>
         vertex: 0,
         position: 1,
     });
-    let to = game.try_move(&start, &switch)?;
+    let mut workspace = game.workspace();
+    let to = game.try_move(&start, &switch, &mut workspace)?;
     let place = to.ok_or(Stop::Wrong)?;
     Ok(place)
 }
@@ -103,15 +104,16 @@ fn find<W: Write>(alloc: Global, text: &[u8], output: &mut W) -> Result<(), Stop
 }
 
 fn find_in<W: Write>(game: &PlayedGame, output: &mut W) -> Result<(), Stop> {
-    let place = white_to_move(game)?;
-    Ok(tell_found(game, &place, output)?)
+    let mut place = white_to_move(game)?;
+    Ok(tell_found(game, &mut place, output)?)
 }
 
-fn tell_found<W: Write>(game: &PlayedGame, place: &Place, output: &mut W) -> io::Result<()>
-    requires { IsPlaceOf game.now place.now }
+fn tell_found<W: Write>(game: &PlayedGame, place: &mut Place, output: &mut W) -> io::Result<()>
+    requires { IsPlaceOf game.now place.old }
 {
-    match game.find_move(place) {
-        Ok(Some(pairs)) => tell_move(&pairs, output),
+    let mut workspace = game.workspace();
+    match game.find_move(place, &mut workspace) {
+        Ok(Some(pairs)) => tell_pairs(&pairs, output),
         Ok(None) => output.write_all(b"no move\n"),
         Err(over) => tell_over(over, output),
     }
@@ -142,7 +144,8 @@ fn tell_tried<W: Write>(
 ) -> io::Result<()>
     requires { IsPlaceOf game.now place.now }
 {
-    match game.try_move(place, pairs) {
+    let mut workspace = game.workspace();
+    match game.try_move(place, pairs, &mut workspace) {
         Ok(Some(to)) => tell_place(&to, output),
         Ok(None) => output.write_all(b"not legal\n"),
         Err(over) => tell_over(over, output),
@@ -207,7 +210,7 @@ fn tell_list<W: Write>(game: &PlayedGame, place: &Place, output: &mut W) -> io::
 
 fn tell_listed<W: Write>(listed: &Listed, output: &mut W) -> io::Result<()> {
     for pairs in &listed.moves {
-        tell_move(pairs, output)?;
+        tell_pairs(pairs.as_slice(), output)?;
     }
     writeln!(output, "cut {}", listed.cut)
 }

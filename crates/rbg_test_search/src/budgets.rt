@@ -5,7 +5,7 @@ ghost use Rattle.rbg_rules.specs.Positions.{IsPatternAt};
 
 use rbg_auto::{Steps, compact};
 use rbg_game::load;
-use rbg_moves::{Move, Over, Pair, Place, Workspace, find_move_with, try_move};
+use rbg_moves::{Move, Over, Pair, Place, PlayedGame, try_move};
 use rbg_rules::Game;
 use rbg_search::{Budget, Search};
 use std::alloc::{AllocError, Global};
@@ -172,9 +172,10 @@ fn openings_of_none(alloc: Global, rules: &str) -> Result<Option<u64>, Fail> {
     let text = text_of(alloc, "[e]", rules)?;
     let game = load(alloc, text.as_bytes())?;
     let steps = compact(alloc, &game)?;
-    let place = white_to_move(alloc, &game, &steps)?;
-    let mut workspace = Workspace::new(alloc);
-    let found = find_move_with(alloc, &game, &steps, &place, &mut workspace)?;
+    let mut place = white_to_move(alloc, &game, &steps)?;
+    let played = PlayedGame::new(alloc, game)?;
+    let mut workspace = played.workspace();
+    let found = played.find_move(&mut place, &mut workspace)?;
     Ok(match found {
         Some(_) => None,
         None => Some(workspace.openings()),

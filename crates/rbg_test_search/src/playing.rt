@@ -10,7 +10,7 @@ use crate::words::Word;
 use crate::world::World;
 use rbg_auto::Steps;
 use rbg_base::{Position, Variable, Vertex};
-use rbg_moves::{Listed, Move, Over, Pair, Place, find_move, list_moves, try_move};
+use rbg_moves::{Listed, Move, Over, Pair, Place, PlayedGame, find_move, list_moves, try_move};
 use rbg_rules::Game;
 use rbg_state::SemiState;
 
@@ -33,6 +33,15 @@ fn is_same(game: &Game, state: &SemiState, world: &World) -> bool
     same
 }
 
+/// What trying a move by sets answers.
+fn try_played(played: &PlayedGame, place: &Place, pairs: &Move) -> Result<Option<Place>, Over>
+    requires { IsPlaceOf played.now place.now }
+    ensures { IfOk result (λ after. IfSome after (IsPlaceOf played.now)) }
+{
+    let mut workspace = played.workspace();
+    played.try_move(place, pairs, &mut workspace)
+}
+
 /// What trying pairs answers: none where they are no move, or where the search gives up.
 fn try_pairs<S: Steps>(
     asked: &Asked<'_, S>,
@@ -48,7 +57,7 @@ fn try_pairs<S: Steps>(
         return Ok(None);
     };
     match asked.paths {
-        Some(_) => asked.played.try_move(place, &pairs),
+        Some(_) => try_played(asked.played, place, &pairs),
         None => try_move(asked.alloc, asked.game, asked.steps, place, &pairs),
     }
 }
@@ -199,6 +208,18 @@ fn list<S: Steps>(asked: &Asked<'_, S>, place: &Place, max: usize) -> Result<Lis
     }
 }
 
+/// A move that is found by sets.
+fn find_played(played: &PlayedGame, place: &Place) -> Result<Option<Move>, Over>
+    requires { IsPlaceOf played.now place.now }
+{
+    let mut lent = place.try_clone()?;
+    let found = played.find_move(&mut lent, &mut played.workspace())?;
+    Ok(match found {
+        Some(pairs) => Move::try_from(pairs.as_slice()).ok(),
+        None => None,
+    })
+}
+
 /// A move that is found.
 fn find<S: Steps>(asked: &Asked<'_, S>, place: &Place) -> Result<Option<Move>, Over>
     requires steps { S.of_rules asked.now.steps.now asked.now.game.now.rules }
@@ -206,7 +227,7 @@ fn find<S: Steps>(asked: &Asked<'_, S>, place: &Place) -> Result<Option<Move>, O
     requires place { IsPlaceOf asked.now.game.now place.now }
 {
     match asked.paths {
-        Some(_) => asked.played.find_move(place),
+        Some(_) => find_played(asked.played, place),
         None => find_move(asked.alloc, asked.game, asked.steps, place),
     }
 }

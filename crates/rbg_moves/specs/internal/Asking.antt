@@ -1,6 +1,7 @@
 -- What a search takes up for a question about moves.
 use Rattle.std.specs.Prelude.{ℕ, Bool}
-use Rattle.rbg_rules.specs.State.{AbstractState}
+use Rattle.rbg_rules.specs.Limits.{most_openings, most_modifiers}
+use Rattle.rbg_rules.specs.State.{AbstractGame, AbstractState}
 use Rattle.rbg_rules.specs.Words.{Start}
 use Rattle.rbg_rules.specs.Questions.{Question}
 use Rattle.rbg_search.specs.Counting.{CountsOpenings, IsOverBudget}
@@ -8,6 +9,11 @@ use Rattle.rbg_search.specs.Forced.{CountsForced}
 use Rattle.rbg_search.specs.Passing.{IsTooDeep}
 use Rattle.rbg_search.specs.Searching.{Searching}
 use Rattle.rbg_search.specs.Taken.{CountsPairs}
+
+-- A search in the game that was begun for one question at a place: it may take up what a question may, and has taken up
+-- nothing.
+abbrev pub begun_in : AbstractGame → Searching
+begun_in game = record { game = game; openings = most_openings; modifiers = most_modifiers; opened = 0; taken = 0 }
 
 -- The question was answered: the openings and pairs that were counted meanwhile are its own, and all openings that are
 -- forced were taken up. Each of these has few modifiers in a row, fewer than `left` at its beginning.

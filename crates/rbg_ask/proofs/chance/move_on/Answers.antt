@@ -10,24 +10,24 @@ use Rattle.rbg_ask.proofs.chance.move_on.Goals as goal
 
 pub returns-in_err-gathered-clause-unmoved : goal.returns-in_err-gathered-clause-unmoved
 returns-in_err-gathered-clause-unmoved c =
-    passed_on c.from_residual.result (refusal_of_over c.in_err-gathered.field-0.0) _ c.from_residual.ensures.1 (list_unmoved _ _ _ c.in_err-gathered.field-0.0 c.in_err-gathered.ensures.heavy)
+    passed_on c.from_residual.result (refusal_of_over c.in_err-gathered.field-0.0) _ c.from_residual.ensures.1 (list_unmoved _ _ _ c.in_err-gathered.field-0.0 c.in_err-gathered.ensures.lists.given_up.heavy)
 
 pub returns-then-count-eq0-clause-moves : goal.returns-then-count-eq0-clause-moves
 returns-then-count-eq0-clause-moves c =
-    rests (nothing_listed _ _ _ _ _ (omega arith) c.in_ok-gathered.ensures.gathered (sym c.len-count.ensures.count ∙ c.if-count-eq0.true))
+    rests (nothing_listed _ _ _ _ _ (omega arith) c.in_ok-gathered.ensures.lists.lists (sym c.len-count.ensures.count ∙ c.if-count-eq0.true))
 
-pub make_move_on-requires-clause-legal : goal.make_move_on-requires-clause-legal
-make_move_on-requires-clause-legal c =
-    legal_at _ _ _ c.choose-index.result _ c.in_ok-gathered.ensures.gathered.legal c.get.ensures.pairs
+pub make_move-requires-clause-legal : goal.make_move-requires-clause-legal
+make_move-requires-clause-legal c =
+    legal_at _ _ _ c.choose-index.result _ c.in_ok-gathered.ensures.lists.lists.legal c.get.ensures.pairs
 
-pub returns-in_err-make_move_on-clause-unmoved : goal.returns-in_err-make_move_on-clause-unmoved
-returns-in_err-make_move_on-clause-unmoved c =
-    passed_on c.from_residual-in_err-make_move_on.result Memory _ c.from_residual-in_err-make_move_on.ensures.1 no_memory
+pub returns-in_err-make_move-clause-unmoved : goal.returns-in_err-make_move-clause-unmoved
+returns-in_err-make_move-clause-unmoved c =
+    passed_on c.from_residual-in_err-make_move.result Memory _ c.from_residual-in_err-make_move.ensures.1 no_memory
 
 pub returns-in_err-settle-clause-unmoved : goal.returns-in_err-settle-clause-unmoved
 returns-in_err-settle-clause-unmoved c =
     passed_on c.from_residual-in_err-settle.result (refusal_of_unsettled c.in_err-settle.field-0.0) _ c.from_residual-in_err-settle.ensures.1
-    (settle_unmoved _ _ _ _ _ c.in_err-settle.field-0.0 c.in_ok-make_move_on.ensures.to c.in_err-settle.ensures.heavy c.in_err-settle.ensures.endless)
+    (settle_unmoved _ _ _ _ _ c.in_err-settle.field-0.0 c.in_ok-make_move.ensures.to c.in_err-settle.ensures.heavy c.in_err-settle.ensures.endless)
 
 pub returns-clause-moves : goal.returns-clause-moves
-returns-clause-moves c = moves_on _ _ _ _ _ c.in_ok-make_move_on.ensures.to c.in_ok-settle.ensures.settles
+returns-clause-moves c = moves_on _ _ _ _ _ c.in_ok-make_move.ensures.to c.in_ok-settle.ensures.settles

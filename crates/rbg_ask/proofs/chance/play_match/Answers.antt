@@ -10,7 +10,7 @@ use Rattle.rbg_ask.proofs.chance.play_match.Goals as goal
 
 pub loop-moves-init : goal.loop-moves-init
 loop-moves-init c =
-    (subst (λ (p : AbstractPlace). IsPlaceOf c.args.game.now p) (sym c.in_ok-place.ensures) c.requires, played_none _ _ _ c.in_ok-place.ensures)
+    (subst (λ (p : AbstractPlace). IsPlaceOf c.args.game.now p) (sym c.in_ok-place.ensures.copy) c.requires, played_none _ _ _ c.in_ok-place.ensures.copy)
 
 pub loop-moves-preserved : goal.loop-moves-preserved
 loop-moves-preserved c = (

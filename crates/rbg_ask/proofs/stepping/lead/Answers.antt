@@ -6,12 +6,12 @@ use Rattle.rbg_ask.proofs.stepping.lead.Goals as goal
 
 pub returns-in_err-to-clause-unmade : goal.returns-in_err-to-clause-unmade
 returns-in_err-to-clause-unmade c =
-    passed_on c.from_residual.result (refusal_of_over c.in_err-to.field-0.0) _ c.from_residual.ensures.1 (try_unmade _ _ _ _ c.in_err-to.field-0.0 c.in_err-to.ensures.heavy)
+    passed_on c.from_residual.result (refusal_of_over c.in_err-to.field-0.0) _ c.from_residual.ensures.1 (try_unmade _ _ _ _ c.in_err-to.field-0.0 c.in_err-to.ensures.tries.given_up.heavy)
 
 pub returns-in_default-clause-unmade : goal.returns-in_default-clause-unmade
-returns-in_default-clause-unmade c = illegal (rw c.in_default.is at c.in_ok-to.ensures.illegal)
+returns-in_default-clause-unmade c = illegal (rw c.in_default.is at c.in_ok-to.ensures.tries.illegal)
 
 pub returns-in_err-settle-clause-unmade : goal.returns-in_err-settle-clause-unmade
 returns-in_err-settle-clause-unmade c =
     passed_on c.from_residual-in_err-settle.result (refusal_of_unsettled c.in_err-settle.field-0.0) _ c.from_residual-in_err-settle.ensures.1
-    (settle_unmade _ _ _ _ _ c.in_err-settle.field-0.0 (rw c.in-Some.is at c.in_ok-to.ensures.legal) c.in_err-settle.ensures.heavy c.in_err-settle.ensures.endless)
+    (settle_unmade _ _ _ _ _ c.in_err-settle.field-0.0 (rw c.in-Some.is at c.in_ok-to.ensures.tries.legal) c.in_err-settle.ensures.heavy c.in_err-settle.ensures.endless)

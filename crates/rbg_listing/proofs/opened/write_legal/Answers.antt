@@ -14,12 +14,12 @@ returns-in-Ok c =
     on_ok_weaker c.write_listed.result
     (λ is. λ none. (
       _,
-      listed moves cut none c.in-Ok.ensures.listed,
+      listed moves cut none c.in-Ok.ensures.lists,
       subst (λ player. c.write_listed.new.out.items ≡ c.args.out.now.items ++ (flat_map (move_line player) moves ++ cut_text cut)) c.mover.ensures is,
     ))
     c.write_listed.ensures
 
 pub returns-in-Err : goal.returns-in-Err
 returns-in-Err c =
-    both_hold c.write_limit.result _ _ _ (λ is limit. λ none. (codes "over\n", too_hard none (c.in-Err.ensures.heavy (over_error c.in-Err.over limit)), is))
+    both_hold c.write_limit.result _ _ _ (λ is limit. λ none. (codes "over\n", too_hard none (c.in-Err.ensures.given_up.heavy (over_error c.in-Err.over limit)), is))
     c.write_limit.ensures.written c.write_limit.ensures.limit

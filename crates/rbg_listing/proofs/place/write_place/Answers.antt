@@ -6,9 +6,9 @@ use Rattle.rbg_listing.proofs.ListingLemmas.{both_hold, over_error}
 use Rattle.rbg_listing.proofs.place.write_place.Goals as goal
 
 pub returns-in-Ok : goal.returns-in-Ok
-returns-in-Ok c = on_ok_weaker c.write_found.result (λ give. give c.in-Ok.ensures.listed) c.write_found.ensures
+returns-in-Ok c = on_ok_weaker c.write_found.result (λ give. give c.in-Ok.ensures.lists) c.write_found.ensures
 
 pub returns-in-Err : goal.returns-in-Err
 returns-in-Err c =
-    both_hold c.write_limit.result _ _ _ (λ is limit. (codes "over\n", too_hard (c.in-Err.ensures.heavy (over_error c.in-Err.over limit)), is))
+    both_hold c.write_limit.result _ _ _ (λ is limit. (codes "over\n", too_hard (c.in-Err.ensures.given_up.heavy (over_error c.in-Err.over limit)), is))
     c.write_limit.ensures.written c.write_limit.ensures.limit

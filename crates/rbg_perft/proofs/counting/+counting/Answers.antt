@@ -20,14 +20,14 @@ use Rattle.rbg_perft.proofs.counting.+counting.Goals as goal
 pub count_behind-loop-index-init : goal.count_behind-loop-index-init
 count_behind-loop-index-init t c = none
 
-pub count_behind-make_move_to-requires-clause-legal :
-    goal.count_behind-make_move_to-requires-clause-legal
-count_behind-make_move_to-requires-clause-legal t c =
+pub count_behind-lead-requires-clause-legal :
+    goal.count_behind-lead-requires-clause-legal
+count_behind-lead-requires-clause-legal t c =
     all_at (IsLegal c.args.game.now c.args.place.now) c.args.firsts.now c.loop-index.index c.get-pairs.result.now c.requires.legal c.get-pairs.ensures.pairs
 
 pub count_behind-count_from-requires : goal.count_behind-count_from-requires
 count_behind-count_from-requires t c =
-    (search rules, c.in_ok-make_move_to.ensures.in_game)
+    (search rules, c.in_ok-lead.ensures.in_game)
 
 pub count_behind-loop-index-preserved : goal.count_behind-loop-index-preserved
 count_behind-loop-index-preserved t c =
@@ -39,7 +39,7 @@ count_behind-loop-index-preserved t c =
     let ended : c.in_ok-counts.counts.ended ≡ c.loop-index.counts.ended + c.in_ok-behind.behind.ended = subst (λ o. IfSome o (λ s. s.ended ≡ c.loop-index.counts.ended + c.in_ok-behind.behind.ended)) sum c.join.ensures.ended in
     sums_more (AreCountedBehind c.args.game.now c.args.further c.args.extent c.args.place.now) firsts k pairs c.loop-index.counts.sequences c.loop-index.counts.ended c.in_ok-behind.behind.sequences c.in_ok-behind.behind.ended c.in_ok-counts.counts.sequences c.in_ok-counts.counts.ended
     (slice_get_within firsts k pairs c.get-pairs.ensures.pairs) (sym (get_or_from_slice_get firsts k pairs pairs c.get-pairs.ensures.pairs)) c.loop-index.invariant
-    (c.make_move_to.new.to, c.in_ok-make_move_to.ensures.to, c.in_ok-behind.ensures.counted)
+    (c.lead.new.to, c.in_ok-lead.ensures.to, c.in_ok-behind.ensures.counted)
     sequences ended
 
 pub count_behind-returns-clause-counted : goal.count_behind-returns-clause-counted
@@ -50,7 +50,7 @@ count_behind-returns-clause-counted t c =
 pub count_behind-returns-in_err-behind-clause-refused : goal.count_behind-returns-in_err-behind-clause-refused
 count_behind-returns-in_err-behind-clause-refused t c =
     passed_on c.from_residual-in_err-behind.result c.in_err-behind.field-0.0 _ c.from_residual-in_err-behind.ensures.1
-    (λ place settles. behind_first _ _ _ _ _ _ _ c.in_err-behind.field-0.0 settles c.in_ok-make_move_to.ensures.to c.in_err-behind.ensures.refused)
+    (λ place settles. behind_first _ _ _ _ _ _ _ c.in_err-behind.field-0.0 settles c.in_ok-lead.ensures.to c.in_err-behind.ensures.refused)
 
 pub count_behind-returns-in_err-counts-clause-refused : goal.count_behind-returns-in_err-counts-clause-refused
 count_behind-returns-in_err-counts-clause-refused t c =
@@ -65,7 +65,7 @@ count_behind-returns-in_err-counts-clause-refused t c =
     let sums : Sums Has (take (k + 1) firsts) sequences ended =
     sums_more Has firsts k pairs c.loop-index.counts.sequences c.loop-index.counts.ended c.in_ok-behind.behind.sequences c.in_ok-behind.behind.ended sequences ended
     (slice_get_within firsts k pairs c.get-pairs.ensures.pairs) (sym (get_or_from_slice_get firsts k pairs pairs c.get-pairs.ensures.pairs)) c.loop-index.invariant
-    (c.make_move_to.new.to, c.in_ok-make_move_to.ensures.to, c.in_ok-behind.ensures.counted) refl refl in
+    (c.lead.new.to, c.in_ok-lead.ensures.to, c.in_ok-behind.ensures.counted) refl refl in
     passed_on c.from_residual-in_err-counts.result c.in_err-counts.field-0.0 _ c.from_residual-in_err-counts.ensures.1
     (λ place settles. subst (λ e. IsNotCounted c.args.game.now (suc c.args.further) c.args.extent place e) (sym told.0)
     (here tt (sum settles (All-take (IsLegal c.args.game.now c.args.place.now) (k + 1) firsts c.requires.legal) (different_take (λ (a b : List (ℕ × ℕ)). a ≢ b) (k + 1) firsts c.requires.different) sums above)))

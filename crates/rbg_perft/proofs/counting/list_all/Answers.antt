@@ -6,4 +6,4 @@ use Rattle.rbg_perft.proofs.counting.list_all.Goals as goal
 pub returns-in_err-gathered-clause-refused : goal.returns-in_err-gathered-clause-refused
 returns-in_err-gathered-clause-refused c =
     passed_on c.from_residual.result (error_of_over c.in_err-gathered.field-0.0) _ c.from_residual.ensures.1
-    (over_to_list _ _ _ c.in_err-gathered.field-0.0 c.in_err-gathered.ensures.heavy)
+    (over_to_list _ _ _ c.in_err-gathered.field-0.0 c.in_err-gathered.ensures.lists.given_up.heavy)

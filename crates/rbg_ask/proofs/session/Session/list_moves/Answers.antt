@@ -8,7 +8,7 @@ use Rattle.rbg_ask.proofs.session.Session.list_moves.Goals as goal
 
 pub returns-in_err-listed-clause-refused : goal.returns-in_err-listed-clause-refused
 returns-in_err-listed-clause-refused c =
-    rw (← c.self.view_is) (passed_on c.from_residual.result (refusal_of_over c.in_err-listed.field-0.0) _ c.from_residual.ensures.1 (list_refused _ _ _ c.in_err-listed.field-0.0 c.in_err-listed.ensures.heavy))
+    rw (← c.self.view_is) (passed_on c.from_residual.result (refusal_of_over c.in_err-listed.field-0.0) _ c.from_residual.ensures.1 (list_refused _ _ _ c.in_err-listed.field-0.0 c.in_err-listed.ensures.given_up.heavy))
 
 pub returns-in_err-write_moves-clause-refused : goal.returns-in_err-write_moves-clause-refused
 returns-in_err-write_moves-clause-refused c =
@@ -17,4 +17,4 @@ returns-in_err-write_moves-clause-refused c =
 pub returns-clause-answers : goal.returns-clause-answers
 returns-clause-answers c =
     rw (← c.self.view_is)
-    (lists_legal _ _ _ _ _ _ _ c.limit_of.ensures.asked c.limit_of.ensures.all c.is_in_memory.ensures c.in_ok-listed.ensures.listed (rw c.as_slice.ensures.value at c.in_ok-write_moves.ensures.ok))
+    (lists_legal _ _ _ _ _ _ _ c.limit_of.ensures.asked c.limit_of.ensures.all c.is_in_memory.ensures c.in_ok-listed.ensures.lists (rw c.as_slice.ensures.value at c.in_ok-write_moves.ensures.ok))

@@ -1,4 +1,7 @@
 use Rattle.rbg_moves.proofs.played.PlayedGame.gather_moves.Goals as goal
 
-pub returns-clause-tally : goal.returns-clause-tally
-returns-clause-tally c = rw (← c.self.view_is) c.gather_moves_with.ensures.tally
+pub returns-clause-lists : goal.returns-clause-lists
+returns-clause-lists c = rw (← c.self.view_is) c.gather_moves.ensures.lists
+
+pub returns-clause-tallies : goal.returns-clause-tallies
+returns-clause-tallies c = rw (← c.self.view_is) c.gather_moves.ensures.tallies

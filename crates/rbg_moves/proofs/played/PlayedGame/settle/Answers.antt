@@ -17,11 +17,11 @@ loop-init c = (c.requires.place, none)
 pub loop-preserved : goal.loop-preserved
 loop-preserved c =
     let found : Legal c.args.self.now c.loop.place c.in-Some.pairs.items c.make_found.new.place =
-    subst (λ (p : AbstractPlace). Legal c.args.self.now p c.in-Some.pairs.items c.make_found.new.place) c.find_pairs_on.ensures.kept c.in_ok-make_found-in-Some.ensures.to in
+    subst (λ (p : AbstractPlace). Legal c.args.self.now p c.in-Some.pairs.items c.make_found.new.place) c.find_move.ensures.kept c.in_ok-make_found-in-Some.ensures.to in
     let keeper : c.loop.place.state.player ≡ 0 =
     sym (ap (λ p. p.state.player) c.place.view_is) ∙ sym c.player.ensures ∙ c.if-player-ne0.false in
     let long : IsMoveLength (length c.in-Some.pairs.items) =
-    subst (λ f. IfSome f (λ pairs. IsMoveLength (length pairs.items))) c.in-Some.is c.in_ok-pairs.ensures.length in
+    subst (λ f. IfSome f (λ pairs. IsMoveLength (length pairs.items))) c.in-Some.is c.in_ok-pairs.ensures.finds.sized in
     (c.in_ok-make_found-in-Some.ensures.in_game, rw add-one (more c.loop.invariant.1 keeper found long))
 
 pub returns-clause-settles : goal.returns-clause-settles
@@ -36,17 +36,17 @@ led : (game : AbstractGame) (from here to : AbstractPlace) (many : ℕ) → many
 led game from here to many few moves same = record { many = many; few = few; moves = subst (λ (p : AbstractPlace). KeeperMoves game from many p) (sym same) moves }
 
 pub returns-in_err-pairs-clause-place : goal.returns-in_err-pairs-clause-place
-returns-in_err-pairs-clause-place c = subst (IsPlaceOf c.args.self.now) (sym c.find_pairs_on.ensures.kept) c.loop.invariant.0
+returns-in_err-pairs-clause-place c = subst (IsPlaceOf c.args.self.now) (sym c.find_move.ensures.kept) c.loop.invariant.0
 
 pub returns-in_err-pairs-clause-led : goal.returns-in_err-pairs-clause-led
-returns-in_err-pairs-clause-led c = led c.args.self.now c.args.place.now c.loop.place c.find_pairs_on.new.place c.loop.counter (omega arith) c.loop.invariant.1 c.find_pairs_on.ensures.kept
+returns-in_err-pairs-clause-led c = led c.args.self.now c.args.place.now c.loop.place c.find_move.new.place c.loop.counter (omega arith) c.loop.invariant.1 c.find_move.ensures.kept
 
 pub returns-in_err-make_found-in-Some-clause-place : goal.returns-in_err-make_found-in-Some-clause-place
 returns-in_err-make_found-in-Some-clause-place c =
     let same = err_of c.make_found.result c.in_err-make_found-in-Some.field-0.0 _ c.in_err-make_found-in-Some.was c.make_found.ensures.refused in
-    subst (IsPlaceOf c.args.self.now) (sym (same ∙ c.find_pairs_on.ensures.kept)) c.loop.invariant.0
+    subst (IsPlaceOf c.args.self.now) (sym (same ∙ c.find_move.ensures.kept)) c.loop.invariant.0
 
 pub returns-in_err-make_found-in-Some-clause-led : goal.returns-in_err-make_found-in-Some-clause-led
 returns-in_err-make_found-in-Some-clause-led c =
     let same = err_of c.make_found.result c.in_err-make_found-in-Some.field-0.0 _ c.in_err-make_found-in-Some.was c.make_found.ensures.refused in
-    led c.args.self.now c.args.place.now c.loop.place _ c.loop.counter (omega arith) c.loop.invariant.1 (same ∙ c.find_pairs_on.ensures.kept)
+    led c.args.self.now c.args.place.now c.loop.place _ c.loop.counter (omega arith) c.loop.invariant.1 (same ∙ c.find_move.ensures.kept)
