@@ -15,14 +15,14 @@ pub enum CasesError {
 }
 
 /// Bytes with a name.
-#[derive(Debug, Drop)]
+#[derive(Drop)]
 pub struct Text<'a> {
     pub name: &'a [u8],
     pub bytes: Vec<u8>,
 }
 
 /// What comes from the other end of a connection.
-#[derive(Debug, Drop)]
+#[derive(Drop)]
 pub struct Stream {
     pub bytes: Vec<u8>,
     /// Whether the stream ends behind its bytes. Else nothing more comes.
@@ -30,7 +30,7 @@ pub struct Stream {
 }
 
 /// What standard input gives behind its bytes.
-#[derive(Clone, Copy, Debug, PartialEq, Eq)]
+#[derive(Clone, Copy)]
 pub enum Behind {
     End,
     /// Zero bytes without end.
@@ -40,14 +40,14 @@ pub enum Behind {
 }
 
 /// A program that a case runs.
-#[derive(Clone, Copy, Debug, PartialEq, Eq)]
+#[derive(Clone, Copy)]
 pub enum Program {
     Rbg,
     RbgAuthor,
 }
 
 /// One run of a program: its words, its files, its connections and its standard input.
-#[derive(Debug, Drop)]
+#[derive(Drop)]
 pub struct Case<'a> {
     pub name: &'a [u8],
     pub program: Program,
@@ -75,7 +75,7 @@ pub struct Case<'a> {
 }
 
 /// What the bytes are of that lines add.
-#[derive(Clone, Copy, Debug)]
+#[derive(Clone, Copy)]
 enum Target<'a> {
     Nothing,
     Text { name: &'a [u8] },
@@ -85,7 +85,7 @@ enum Target<'a> {
 }
 
 /// What was read so far: texts and cases, and the bytes of the part that is being read.
-#[derive(Debug, Drop)]
+#[derive(Drop)]
 struct Reader<'a> {
     texts: Vec<Text<'a>>,
     cases: Vec<Case<'a>>,

@@ -273,7 +273,7 @@ impl Log for MemoryLog {
 }
 
 /// A clock that tells the moments of a case, and then the last of them again and again, or 0 if there is none.
-#[derive(Clone, Copy, Debug)]
+#[derive(Clone, Copy)]
 pub struct CaseClock<'a> {
     /// What it has not told yet.
     moments: &'a [u64],

@@ -7,7 +7,7 @@ use Rattle.rbg_match.specs.Deliveries.{bytes_for}
 use Rattle.rbg_match.specs.Matches.{MatchState}
 use Rattle.rbg_wire.specs.Streams.{incomplete, cut}
 use Rattle.rbg_match.specs.Limits.{message_limit}
-use Rattle.rbg_hall.specs.Laws.{HoldsTranscript}
+use Rattle.rbg_hall.specs.Laws.{Beginning, HoldsTranscript}
 use Rattle.rbg_hall.specs.Limits.{lines_in_all}
 use Rattle.rbg_hall.specs.Tables.{TableState, OwnEvent, joins}
 use Rattle.rbg_hall.specs.Tellings.{Telling, bytes_to}
@@ -38,15 +38,15 @@ unasked_lacks tables table line events unasked =
     (ap (λ sent. is_for table (first_request tables (cut message_limit (incomplete []) sent).items)) (dropped_sent tables table line events unasked events) ∙ nothing_asked tables table))
 
 -- a line on a seat was told this before the match began
-pub early_so : {start : AbstractTable} {heard : List OwnEvent} {seats : List (Option ℕ)} {playing : MatchState} {told : List Telling} (holds : HoldsTranscript start.game start.text start.config heard seats playing told) (index line : ℕ) → JoinsFirst line heard → slice_get seats index ≡ Some (Some line) → bytes_to line holds.early ≡ flat_map (early_refusal line) holds.before
-early_so {heard = heard} holds index line first there =
-    let begins : JoinsFirst line (holds.before ++ joins holds.line holds.at ∷ []) =
-    joins_before line (holds.before ++ joins holds.line holds.at ∷ []) holds.after
-    (subst (JoinsFirst line) (holds.whole ∙ sym (append_assoc holds.before (joins holds.line holds.at ∷ []) holds.after)) first) in
-    elim (set_cases holds.gathering.seats holds.takes.index index (Some holds.line) (Some line) (ap (λ all. slice_get all index) (sym holds.takes.taken) ∙ there)) [
-      | inl here ↦ (let lacks = nothing_before line holds.line holds.at holds.before (one (sym here.1)) begins in
-          (all_unmoved line holds.gathers lacks).1 ∙ sym (lacks_early line holds.before lacks))
-      | inr away ↦ early_told line holds.gathers holds.waits (joins_before line holds.before (joins holds.line holds.at ∷ []) begins) index away.1
+pub early_so : {start : AbstractTable} {heard : List OwnEvent} {seats : List (Option ℕ)} (beginning : Beginning start.game start.text start.config heard seats) (index line : ℕ) → JoinsFirst line heard → slice_get seats index ≡ Some (Some line) → bytes_to line beginning.early ≡ flat_map (early_refusal line) beginning.before
+early_so {heard = heard} beginning index line first there =
+    let begins : JoinsFirst line (beginning.before ++ joins beginning.line beginning.at ∷ []) =
+    joins_before line (beginning.before ++ joins beginning.line beginning.at ∷ []) beginning.after
+    (subst (JoinsFirst line) (beginning.whole ∙ sym (append_assoc beginning.before (joins beginning.line beginning.at ∷ []) beginning.after)) first) in
+    elim (set_cases beginning.gathering.seats beginning.takes.index index (Some beginning.line) (Some line) (ap (λ all. slice_get all index) (sym beginning.takes.taken) ∙ there)) [
+      | inl here ↦ (let lacks = nothing_before line beginning.line beginning.at beginning.before (one (sym here.1)) begins in
+          (all_unmoved line beginning.gathers lacks).1 ∙ sym (lacks_early line beginning.before lacks))
+      | inr away ↦ early_told line beginning.gathers beginning.waits (joins_before line beginning.before (joins beginning.line beginning.at ∷ []) begins) index away.1
     ]
   where
     one : {a b : ℕ} → Some a ≡ Some b → a ≡ b
@@ -85,6 +85,6 @@ begun_matches_hold_transcripts starts events state told run index start table pl
       holds = holds;
       on_seats = λ place line sits. by_test (asks_for (length starts) (1 + index) line events)
           (λ asked. told_there stands index line asked ∙ holds.on_seats place line sits
-          ∙ ap (λ early. early ++ bytes_for (place + 1) holds.said) (early_so holds place line (own_joins (length starts) (1 + index) line events) sits))
+          ∙ ap (λ early. early ++ bytes_for (place + 1) holds.said) (early_so holds.beginning place line (own_joins (length starts) (1 + index) line events) sits))
           (λ unasked. absurd ((all_unmoved line found.2 (unasked_lacks (length starts) (1 + index) line events unasked)).0 place sits));
     }))

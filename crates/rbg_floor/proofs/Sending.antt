@@ -178,7 +178,7 @@ logs_send_what_is_told {W} told starts events state all queues run index start t
           ap (λ (all : List (List ℕ)). get_or all line []) hall.queued
           ∙ seat_queued hall.stands index (run_of told start.game start.text start.config loads found.run) place line sits
           ∙ sends.on_seats place line sits
-          ∙ ap (λ early. early ++ get_or sends.sent place []) (early_so sends.holds place line (own_joins (length starts) (1 + index) line events) sits);
+          ∙ ap (λ early. early ++ get_or sends.sent place []) (early_so sends.holds.beginning place line (own_joins (length starts) (1 + index) line events) sits);
     }))
   where
     number : 1 + index ≡ index + 1

@@ -97,7 +97,7 @@ pub record HoldsMatch (start : AbstractTable) (heard : List OwnEvent) (seats : L
   pub holds : HoldsTranscript start.game start.text start.config heard seats playing by_table
   pub on_seats : (index line : ℕ) →
       slice_get seats index ≡ Some (Some line) →
-      bytes_to line told ≡ flat_map (early_refusal line) holds.before ++ deliveries.bytes_for (index + 1) holds.said
+      bytes_to line told ≡ flat_map (early_refusal line) holds.beginning.before ++ deliveries.bytes_for (index + 1) holds.said
 
 -- Whatever a hall hears, a match that has begun at a table holds a transcript of what the table heard, and the lines on
 -- its seats are told accordingly.
@@ -141,7 +141,7 @@ pub record LogSends {W : Type 0} (told : W → List ℕ → Type 0) (log : W) (s
   pub is : IsLog start.text held playing sent
   pub on_seats : (index line : ℕ) →
       slice_get seats index ≡ Some (Some line) →
-      slice_index_or queues line [] ≡ flat_map (early_refusal line) holds.before ++ slice_index_or sent index []
+      slice_index_or queues line [] ≡ flat_map (early_refusal line) holds.beginning.before ++ slice_index_or sent index []
 
 -- Whatever a hall hears, a log that is told of a match that has begun is a script, whose match sends what is queued for the
 -- lines on the seats.

@@ -1,6 +1,7 @@
 //! How the tables of a hall hear a line and the clock.
 ghost use Rattle.std.specs.Prelude.{◌≡◌, ◌+◌, ◌<◌, ◌∷◌, [], length, map, IfOk, OnErr, OnOk};
-ghost use Rattle.rbg_hall.specs.Tables.{arrives, clock, joins, says};
+ghost use Rattle.rbg_hall.specs.Hearing.{input_of};
+ghost use Rattle.rbg_hall.specs.Tables.{clock, says};
 ghost use Rattle.rbg_hall.specs.Undoing.{undone};
 ghost use Rattle.rbg_floor.specs.Ledgers.{Becomes};
 ghost use Rattle.rbg_floor.specs.Lines.{asks, silent};
@@ -62,41 +63,24 @@ fn say_each<W: Log>(
     Ok(())
 }
 
-/// A line joins a table, which hears the items behind the first one.
-fn join<W: Log>(
+/// A table hears that a line joins it, or that a piece of a line that asked for it has come, and then the items that are
+/// complete.
+fn hear_from<W: Log>(
     table: &mut KeptTable<W>,
+    first: TableInput<'_>,
     inbox: &mut Inbox,
     line: u64,
     at: u64,
     out: &mut HallOut,
     marks: &mut Vec<Mark>,
 ) -> Result<(), Memory>
-    ensures hears { OnOk result (HearsEachFor W.told table.old (joins line at ∷ map (says line at) inbox.old.items) table.new
-        out.old out.new) }
+    ensures hears { OnOk result (HearsEachFor W.told table.old (input_of first.entry ∷ map (says line at) inbox.old.items)
+        table.new out.old out.new) }
     ensures stops { OnErr result (Becomes W.told table.old table.new) }
     ensures inbox { OnOk result (inbox.new ≡ record inbox.old { items = [] }) }
     ensures undone { undone out.new marks.new.items ≡ undone out.old marks.old.items }
 {
-    table.hear(TableInput::Joins { line, at }, out, marks)?;
-    say_each(table, inbox, line, at, out, marks)
-}
-
-/// A table hears a piece of a line that asked for it.
-fn arrive<W: Log>(
-    table: &mut KeptTable<W>,
-    inbox: &mut Inbox,
-    line: u64,
-    at: u64,
-    out: &mut HallOut,
-    marks: &mut Vec<Mark>,
-) -> Result<(), Memory>
-    ensures hears { OnOk result (HearsEachFor W.told table.old (arrives line at ∷ map (says line at) inbox.old.items) table.new
-        out.old out.new) }
-    ensures stops { OnErr result (Becomes W.told table.old table.new) }
-    ensures inbox { OnOk result (inbox.new ≡ record inbox.old { items = [] }) }
-    ensures undone { undone out.new marks.new.items ≡ undone out.old marks.old.items }
-{
-    table.hear(TableInput::Arrives { line, at }, out, marks)?;
+    table.hear(first, out, marks)?;
     say_each(table, inbox, line, at, out, marks)
 }
 
@@ -126,7 +110,8 @@ fn hear_first<W: Log>(
             Ok(Line::Over)
         }
         First::Table(index) => {
-            join(&mut tables[index], &mut inbox, line, at, out, marks)?;
+            let joins = TableInput::Joins { line, at };
+            hear_from(&mut tables[index], joins, &mut inbox, line, at, out, marks)?;
             Ok(Line::Asks { index, inbox })
         }
     }
@@ -153,7 +138,16 @@ fn hear_next<W: Log>(
     ensures undone { undone out.new marks.new.items ≡ undone out.old marks.old.items }
 {
     inbox.feed(bytes)?;
-    arrive(&mut tables[index], &mut inbox, line, at, out, marks)?;
+    let arrives = TableInput::Arrives { line, at };
+    hear_from(
+        &mut tables[index],
+        arrives,
+        &mut inbox,
+        line,
+        at,
+        out,
+        marks,
+    )?;
     Ok(Line::Asks { index, inbox })
 }
 

@@ -17,7 +17,7 @@ use Rattle.rbg_match.specs.Matches.{MatchState}
 use Rattle.rbg_match.specs.PlayingOn.{seats_of}
 use Rattle.rbg_match.specs.Transcript.{Transcript}
 use Rattle.rbg_match.proofs.OneTranscriptLemmas.{one_transcript}
-use Rattle.rbg_hall.specs.Laws.{ChooseAlike, Hands, HandsEach, HoldsTranscript, OneTable, TakesLast, late_refusal, ticks, stirs, plays, goes, late, stirs_not, says_not, goes_not}
+use Rattle.rbg_hall.specs.Laws.{Beginning, ChooseAlike, Hands, HandsEach, HoldsTranscript, OneTable, TakesLast, late_refusal, ticks, stirs, plays, goes, late, stirs_not, says_not, goes_not}
 use Rattle.rbg_hall.specs.Laws as laws
 use Rattle.rbg_hall.specs.Tables.{TableState, TableRun, OwnEvent, clock, joins, arrives, says, leaves, Plays, Hears, SitsAt, HasSeat, HasNoSeat, IsFirstFree, AreTaken, HallOf, new_table}
 use Rattle.rbg_hall.specs.Tables as tables
@@ -242,29 +242,29 @@ module _ {game : AbstractGame} {text : List ℕ} {config : Config} {events : Lis
   first_differ : SeatsDiffer (new_table game text config).seats
   first_differ = no_seats (seats_of game)
 
-  module _ (same_before : one.before ≡ other.before) (same_join : joins one.line one.at ≡ joins other.line other.at) (same_after : one.after ≡ other.after) where
-    same_line : one.line ≡ other.line
+  module _ (same_before : one.beginning.before ≡ other.beginning.before) (same_join : joins one.beginning.line one.beginning.at ≡ joins other.beginning.line other.beginning.at) (same_after : one.beginning.after ≡ other.beginning.after) where
+    same_line : one.beginning.line ≡ other.beginning.line
     same_line = cc
 
-    same_at : one.at ≡ other.at
+    same_at : one.beginning.at ≡ other.beginning.at
     same_at = cc
 
-    gathered : (one.gathering ≡ other.gathering) × (one.early ≡ other.early)
-    gathered = one_gathering first_differ (runs_on one.gathers) (subst (λ all. RunsOn (new_table game text config) all other.gathering other.early) (sym same_before) (runs_on other.gathers)) one.waits other.waits
+    gathered : (one.beginning.gathering ≡ other.beginning.gathering) × (one.beginning.early ≡ other.beginning.early)
+    gathered = one_gathering first_differ (runs_on one.beginning.gathers) (subst (λ all. RunsOn (new_table game text config) all other.beginning.gathering other.beginning.early) (sym same_before) (runs_on other.beginning.gathers)) one.beginning.waits other.beginning.waits
 
-    same_index : one.takes.index ≡ other.takes.index
-    same_index = one_free one.gathering.seats one.takes.index other.takes.index one.takes.free (subst (λ (table : TableState). IsFirstFree table.seats other.takes.index) (sym gathered.0) other.takes.free)
+    same_index : one.beginning.takes.index ≡ other.beginning.takes.index
+    same_index = one_free one.beginning.gathering.seats one.beginning.takes.index other.beginning.takes.index one.beginning.takes.free (subst (λ (table : TableState). IsFirstFree table.seats other.beginning.takes.index) (sym gathered.0) other.beginning.takes.free)
 
     same_seats : seats ≡ seats'
-    same_seats = one.takes.taken ∙ (λ i. slice_set (gathered.0 i).seats (same_index i) (Some (same_line i))) ∙ sym other.takes.taken
+    same_seats = one.beginning.takes.taken ∙ (λ i. slice_set (gathered.0 i).seats (same_index i) (Some (same_line i))) ∙ sym other.beginning.takes.taken
 
     same_handed : one.handed ≡ other.handed
-    same_handed = all_handed differ (hands_on one.hands) (hands_on (subst (λ all. HandsEach all one.after other.handed) (sym same_seats) (subst (λ all. HandsEach seats' all other.handed) (sym same_after) other.hands)))
+    same_handed = all_handed differ (hands_on one.hands) (hands_on (subst (λ all. HandsEach all one.beginning.after other.handed) (sym same_seats) (subst (λ all. HandsEach seats' all other.handed) (sym same_after) other.hands)))
 
     same_said : one.said ≡ other.said
-    same_said = (one_transcript game text config one.at one.handed playing.play playing'.play one.said other.said numbered one.transcript
+    same_said = (one_transcript game text config one.beginning.at one.handed playing.play playing'.play one.said other.said numbered one.transcript
         (subst (λ moment. Transcript game text config moment one.handed playing'.play other.said) (sym same_at)
-        (subst (λ handed. Transcript game text config other.at handed playing'.play other.said) (sym same_handed) other.transcript))
+        (subst (λ handed. Transcript game text config other.beginning.at handed playing'.play other.said) (sym same_handed) other.transcript))
         alike.light alike.other_light alike.keeper).1
 
     same_bytes : (line : ℕ) → bytes_to line told ≡ bytes_to line told'
@@ -278,31 +278,31 @@ module _ {game : AbstractGame} {text : List ℕ} {config : Config} {events : Lis
     ]
 
   pub alike_told : (line : ℕ) → bytes_to line told ≡ bytes_to line told'
-  alike_told = by_cut (cut_twice one.before (joins one.line one.at) one.after other.before (joins other.line other.at) other.after (sym one.whole ∙ other.whole))
+  alike_told = by_cut (cut_twice one.beginning.before (joins one.beginning.line one.beginning.at) one.beginning.after other.beginning.before (joins other.beginning.line other.beginning.at) other.beginning.after (sym one.beginning.whole ∙ other.beginning.whole))
     where
-      by_cut : IsCutTwice one.before (joins one.line one.at) one.after other.before (joins other.line other.at) other.after → (line : ℕ) → bytes_to line told ≡ bytes_to line told'
+      by_cut : IsCutTwice one.beginning.before (joins one.beginning.line one.beginning.at) one.beginning.after other.beginning.before (joins other.beginning.line other.beginning.at) other.beginning.after → (line : ℕ) → bytes_to line told ≡ bytes_to line told'
       by_cut (here before join after) line = same_bytes before join after line
-      by_cut (later rest is) line = absurd (no_more_waiting one.at one.before rest first_differ (runs_on one.gathers) one.waits one.takes (subst (λ all. RunsOn (new_table game text config) all other.gathering other.early) is (runs_on other.gathers)) other.waits)
-      by_cut (earlier rest is) line = absurd (no_more_waiting other.at other.before rest first_differ (runs_on other.gathers) other.waits other.takes (subst (λ all. RunsOn (new_table game text config) all one.gathering one.early) is (runs_on one.gathers)) one.waits)
+      by_cut (later rest is) line = absurd (no_more_waiting one.beginning.at one.beginning.before rest first_differ (runs_on one.beginning.gathers) one.beginning.waits one.beginning.takes (subst (λ all. RunsOn (new_table game text config) all other.beginning.gathering other.beginning.early) is (runs_on other.beginning.gathers)) other.beginning.waits)
+      by_cut (earlier rest is) line = absurd (no_more_waiting other.beginning.at other.beginning.before rest first_differ (runs_on other.beginning.gathers) other.beginning.waits other.beginning.takes (subst (λ all. RunsOn (new_table game text config) all one.beginning.gathering one.beginning.early) is (runs_on one.beginning.gathers)) one.beginning.waits)
 
--- what a table told before its match began, where all that it heard is cut in this way too
-pub same_early : {game : AbstractGame} {text : List ℕ} {config : Config} {events : List OwnEvent} {seats taken : List (Option ℕ)} {playing : MatchState} {told early : List Telling} {gathering : TableState} (one : HoldsTranscript game text config events seats playing told) (before : List OwnEvent) (line at : ℕ) (after : List OwnEvent) → events ≡ before ++ joins line at ∷ after → TableRun game text config before gathering early → gathering.begun ≡ None → TakesLast gathering line taken → early ≡ one.early
-same_early {game} {text} {config} {early = early} {gathering = gathering} one before line at after whole gathers waits takes =
-    by_cut (cut_twice one.before (joins one.line one.at) one.after before (joins line at) after (sym one.whole ∙ whole))
+-- Two cuts of what a table heard are where its match began: it told the same before.
+pub same_early : {game : AbstractGame} {text : List ℕ} {config : Config} {events : List OwnEvent} {seats taken : List (Option ℕ)} (one : Beginning game text config events seats) (other : Beginning game text config events taken) → other.early ≡ one.early
+same_early {game} {text} {config} one other =
+    by_cut (cut_twice one.before (joins one.line one.at) one.after other.before (joins other.line other.at) other.after (sym one.whole ∙ other.whole))
   where
     nobody : SeatsDiffer (new_table game text config).seats
     nobody = no_seats (seats_of game)
 
-    by_cut : IsCutTwice one.before (joins one.line one.at) one.after before (joins line at) after → early ≡ one.early
-    by_cut (here same join rest) = (one_gathering nobody (runs_on gathers) (subst (λ all. RunsOn (new_table game text config) all one.gathering one.early) same (runs_on one.gathers)) waits one.waits).1
-    by_cut (later rest is) = absurd (no_more_waiting one.at one.before rest nobody (runs_on one.gathers) one.waits one.takes (subst (λ all. RunsOn (new_table game text config) all gathering early) is (runs_on gathers)) waits)
-    by_cut (earlier rest is) = absurd (no_more_waiting at before rest nobody (runs_on gathers) waits takes (subst (λ all. RunsOn (new_table game text config) all one.gathering one.early) is (runs_on one.gathers)) one.waits)
+    by_cut : IsCutTwice one.before (joins one.line one.at) one.after other.before (joins other.line other.at) other.after → other.early ≡ one.early
+    by_cut (here same join rest) = (one_gathering nobody (runs_on other.gathers) (subst (λ all. RunsOn (new_table game text config) all one.gathering one.early) same (runs_on one.gathers)) other.waits one.waits).1
+    by_cut (later rest is) = absurd (no_more_waiting one.at one.before rest nobody (runs_on one.gathers) one.waits one.takes (subst (λ all. RunsOn (new_table game text config) all other.gathering other.early) is (runs_on other.gathers)) other.waits)
+    by_cut (earlier rest is) = absurd (no_more_waiting other.at other.before rest nobody (runs_on other.gathers) other.waits other.takes (subst (λ all. RunsOn (new_table game text config) all one.gathering one.early) is (runs_on one.gathers)) one.waits)
 
 -- where one table waits, the other does
 both_wait : {game : AbstractGame} {text : List ℕ} {config : Config} {events : List OwnEvent} {seats : List (Option ℕ)} {playing : MatchState} {told told' : List Telling} {state : TableState} → HoldsTranscript game text config events seats playing told → TableRun game text config events state told' → state.begun ≡ None → ⊥
 both_wait {game} {text} {config} {told' = told'} {state} one run waits =
-    no_more_waiting one.at one.before one.after (no_seats (seats_of game)) (runs_on one.gathers) one.waits one.takes
-    (subst (λ all. RunsOn (new_table game text config) all state told') one.whole (runs_on run)) waits
+    no_more_waiting one.beginning.at one.beginning.before one.beginning.after (no_seats (seats_of game)) (runs_on one.beginning.gathers) one.beginning.waits one.beginning.takes
+    (subst (λ all. RunsOn (new_table game text config) all state told') one.beginning.whole (runs_on run)) waits
 
 pub one_table : OneTable
 one_table game text config events told others numbered one other alike = by_begun one.state.begun other.state.begun refl refl

@@ -19,7 +19,7 @@ use Rattle.rbg_match.proofs.AllEvents.{all_handled}
 use Rattle.rbg_match.proofs.Delivering.{delivered-none, delivered-queued, length-delivered}
 use Rattle.rbg_match.proofs.EndedLemmas.{ended_play_stays}
 use Rattle.rbg_match.proofs.WholeMatch.{seats_of_opened, stepped_is_transcript}
-use Rattle.rbg_hall.specs.Laws.{Hands, HandsEach, HoldsTranscript, RunHoldsTranscript, TakesLast, late_refusal, late, stirs_not, says_not, goes_not}
+use Rattle.rbg_hall.specs.Laws.{Beginning, Hands, HandsEach, HoldsTranscript, RunHoldsTranscript, TakesLast, late_refusal, late, stirs_not, says_not, goes_not}
 use Rattle.rbg_hall.specs.Laws as laws
 use Rattle.rbg_hall.specs.Tables.{TableState, TableRun, OwnEvent, joins, Plays, Hears, waits, ticks, sits, begins, is_full, comes_late, stays, waits_too, stirs, is_early, plays, frees, goes, is_moment_for_none, is_unheard, goes_unheard, new_table, SitsAt, HasNoSeat}
 use Rattle.rbg_hall.specs.Tables as tables
@@ -31,26 +31,17 @@ use Rattle.rbg_hall.proofs.Telling.{bytes_to-append, bytes_to-other}
 -- The match of a table that has begun: when it began, what it was handed and stepped through since, and what the lines
 -- were told.
 pub record Began (game : AbstractGame) (text : List ℕ) (config : Config) (events : List OwnEvent) (seats : List (Option ℕ)) (playing : MatchState) (told : List Telling) : Type 0 where
-  pub before : List OwnEvent
-  pub line : ℕ
-  pub at : ℕ
-  pub after : List OwnEvent
-  pub whole : events ≡ before ++ joins line at ∷ after
-  pub gathering : TableState
-  pub early : List Telling
-  pub gathers : TableRun game text config before gathering early
-  pub waits : gathering.begun ≡ None
-  pub takes : TakesLast gathering line seats
+  pub beginning : Beginning game text config events seats
   pub handed : List AbstractEvent
-  pub hands : HandsEach seats after handed
+  pub hands : HandsEach seats beginning.after handed
   pub opened : MatchState
   pub first : List (List ℕ)
   pub last : List (List ℕ)
-  pub opens : Opens game text config at opened first
+  pub opens : Opens game text config beginning.at opened first
   pub steps : StepsAll opened first handed playing last
   pub count : length last ≡ seats_of game
-  pub on_seats : (index one : ℕ) → slice_get seats index ≡ Some (Some one) → bytes_to one told ≡ bytes_to one early ++ get_or last index []
-  pub elsewhere : (one : ℕ) → SitsNowhere one seats → bytes_to one told ≡ bytes_to one early ++ flat_map (late_refusal one) after
+  pub on_seats : (index one : ℕ) → slice_get seats index ≡ Some (Some one) → bytes_to one told ≡ bytes_to one beginning.early ++ get_or last index []
+  pub elsewhere : (one : ℕ) → SitsNowhere one seats → bytes_to one told ≡ bytes_to one beginning.early ++ flat_map (late_refusal one) beginning.after
 
 -- A table keeps its game, its text and its config, and its match, if it has begun, is such a one.
 pub record Kept (game : AbstractGame) (text : List ℕ) (config : Config) (events : List OwnEvent) (state : TableState) (told : List Telling) : Type 0 where
@@ -109,10 +100,22 @@ behind one told next before more had has = bytes_to-append one told next ∙ (λ
 told_one : (one line : ℕ) (bytes : List ℕ) → bytes_to one (telling line bytes) ≡ (if line == one then bytes else [])
 told_one one line bytes = append-nil (if line == one then bytes else [])
 
-module _ (game : AbstractGame) (text : List ℕ) (config : Config) (events : List OwnEvent) (event : OwnEvent) where
-  longer : (before : List OwnEvent) (line at : ℕ) (after : List OwnEvent) → events ≡ before ++ joins line at ∷ after → events ++ event ∷ [] ≡ before ++ joins line at ∷ (after ++ event ∷ [])
-  longer before line at after whole = ap (λ one. one ++ event ∷ []) whole ∙ append_assoc before (joins line at ∷ after) (event ∷ [])
+-- the same beginning, seen one event later
+abbrev pub seen_later : {game : AbstractGame} {text : List ℕ} {config : Config} {events : List OwnEvent} {seats : List (Option ℕ)} (event : OwnEvent) → Beginning game text config events seats → Beginning game text config (events ++ event ∷ []) seats
+seen_later event beginning = record {
+  before = beginning.before;
+  line = beginning.line;
+  at = beginning.at;
+  after = beginning.after ++ event ∷ [];
+  whole = ap (λ all. all ++ event ∷ []) beginning.whole ∙ append_assoc beginning.before (joins beginning.line beginning.at ∷ beginning.after) (event ∷ []);
+  gathering = beginning.gathering;
+  early = beginning.early;
+  gathers = beginning.gathers;
+  waits = beginning.waits;
+  takes = beginning.takes;
+}
 
+module _ (game : AbstractGame) (text : List ℕ) (config : Config) (events : List OwnEvent) (event : OwnEvent) where
   -- a line without a seat, behind one more event
   further : (one : ℕ) (early told next : List Telling) (after : List OwnEvent) → bytes_to one told ≡ bytes_to one early ++ flat_map (late_refusal one) after → bytes_to one next ≡ late_refusal one event → bytes_to one (told ++ next) ≡ bytes_to one early ++ flat_map (late_refusal one) (after ++ event ∷ [])
   further one early told next after had has =
@@ -124,18 +127,9 @@ module _ (game : AbstractGame) (text : List ℕ) (config : Config) (events : Lis
   -- an event of which the match is handed nothing
   passed : (seats : List (Option ℕ)) (playing : MatchState) (told next : List Telling) → Hands seats event [] → ((index one : ℕ) → slice_get seats index ≡ Some (Some one) → bytes_to one next ≡ []) → ((one : ℕ) → SitsNowhere one seats → bytes_to one next ≡ late_refusal one event) → Began game text config events seats playing told → Began game text config (events ++ event ∷ []) seats playing (told ++ next)
   passed seats playing told next hands seated others began = record {
-    before = began.before;
-    line = began.line;
-    at = began.at;
-    after = began.after ++ event ∷ [];
-    whole = longer began.before began.line began.at began.after began.whole;
-    gathering = began.gathering;
-    early = began.early;
-    gathers = began.gathers;
-    waits = began.waits;
-    takes = began.takes;
+    beginning = seen_later event began.beginning;
     handed = began.handed;
-    hands = subst (λ one. HandsEach seats (began.after ++ event ∷ []) one) (append-nil began.handed) (laws.more began.hands hands);
+    hands = subst (λ one. HandsEach seats (began.beginning.after ++ event ∷ []) one) (append-nil began.handed) (laws.more began.hands hands);
     opened = began.opened;
     first = began.first;
     last = began.last;
@@ -143,24 +137,15 @@ module _ (game : AbstractGame) (text : List ℕ) (config : Config) (events : Lis
     steps = began.steps;
     count = began.count;
     on_seats = λ index one there.
-        behind one told next (bytes_to one began.early ++ get_or began.last index []) [] (began.on_seats index one there) (seated index one there)
-        ∙ append-nil (bytes_to one began.early ++ get_or began.last index []);
-    elsewhere = λ one nowhere. further one began.early told next began.after (began.elsewhere one nowhere) (others one nowhere);
+        behind one told next (bytes_to one began.beginning.early ++ get_or began.last index []) [] (began.on_seats index one there) (seated index one there)
+        ∙ append-nil (bytes_to one began.beginning.early ++ get_or began.last index []);
+    elsewhere = λ one nowhere. further one began.beginning.early told next began.beginning.after (began.elsewhere one nowhere) (others one nowhere);
   }
 
   -- an event that the match handles
   stepped : (seats : List (Option ℕ)) (playing after : MatchState) (told : List Telling) (handed : AbstractEvent) (queues : List (List ℕ)) → length seats ≡ seats_of game → SeatsDiffer seats → ((one : ℕ) → late_refusal one event ≡ []) → Hands seats event (handed ∷ []) → Steps playing handed after (replicate (seats_of game) []) queues → Began game text config events seats playing told → Began game text config (events ++ event ∷ []) seats after (told ++ to_lines seats queues)
   stepped seats playing next told handed queues seated differ quiet hands step began = record {
-    before = began.before;
-    line = began.line;
-    at = began.at;
-    after = began.after ++ event ∷ [];
-    whole = longer began.before began.line began.at began.after began.whole;
-    gathering = began.gathering;
-    early = began.early;
-    gathers = began.gathers;
-    waits = began.waits;
-    takes = began.takes;
+    beginning = seen_later event began.beginning;
     handed = began.handed ++ handed ∷ [];
     hands = laws.more began.hands hands;
     opened = began.opened;
@@ -170,18 +155,18 @@ module _ (game : AbstractGame) (text : List ℕ) (config : Config) (events : Lis
     steps = matches.more began.steps (step_on began.last step);
     count = length-delivered began.last step.said ∙ began.count;
     on_seats = λ index one there. on_seat index one there;
-    elsewhere = λ one nowhere. further one began.early told (to_lines seats queues) began.after (began.elsewhere one nowhere) (none_on one seats queues nowhere ∙ sym (quiet one));
+    elsewhere = λ one nowhere. further one began.beginning.early told (to_lines seats queues) began.beginning.after (began.elsewhere one nowhere) (none_on one seats queues nowhere ∙ sym (quiet one));
   }
     where
-      on_seat : (index one : ℕ) → slice_get seats index ≡ Some (Some one) → bytes_to one (told ++ to_lines seats queues) ≡ bytes_to one began.early ++ get_or (delivered began.last step.said) index []
+      on_seat : (index one : ℕ) → slice_get seats index ≡ Some (Some one) → bytes_to one (told ++ to_lines seats queues) ≡ bytes_to one began.beginning.early ++ get_or (delivered began.last step.said) index []
       on_seat index one there =
           let there_is : index < seats_of game = subst (λ n. index < n) seated (there_within seats index (Some one) there) in
           let there_was : index < length began.last = subst (λ n. index < n) (sym began.count) there_is in
           let own : bytes_to one (to_lines seats queues) ≡ bytes_for (1 + index) step.said =
           own_on one seats queues index differ there ∙ ap (λ all. get_or all index []) step.told ∙ from_nothing (seats_of game) index step.said there_is in
-          behind one told (to_lines seats queues) (bytes_to one began.early ++ get_or began.last index []) (bytes_for (1 + index) step.said) (began.on_seats index one there) own
-          ∙ append_assoc (bytes_to one began.early) (get_or began.last index []) (bytes_for (1 + index) step.said)
-          ∙ ap (λ all. bytes_to one began.early ++ all) (sym (delivered_at 1 began.last step.said index there_was))
+          behind one told (to_lines seats queues) (bytes_to one began.beginning.early ++ get_or began.last index []) (bytes_for (1 + index) step.said) (began.on_seats index one there) own
+          ∙ append_assoc (bytes_to one began.beginning.early) (get_or began.last index []) (bytes_for (1 + index) step.said)
+          ∙ ap (λ all. bytes_to one began.beginning.early ++ all) (sym (delivered_at 1 began.last step.said index there_was))
 
   -- the table stays as it is
   unheard : (old : TableState) (told next : List Telling) → Hands old.seats event [] → ((index one : ℕ) → slice_get old.seats index ≡ Some (Some one) → bytes_to one next ≡ []) → ((one : ℕ) → SitsNowhere one old.seats → bytes_to one next ≡ late_refusal one event) → Kept game text config events old told → Kept game text config (events ++ event ∷ []) old (told ++ next)
@@ -241,16 +226,7 @@ opened_here game text config events line at old told seats opened queues run non
   began = λ playing is.
       subst (λ (one : MatchState). Began game text config (events ++ joins line at ∷ []) seats one (told ++ to_lines seats queues)) (same_match opened playing is)
       (record {
-        before = events;
-        line = line;
-        at = at;
-        after = [];
-        whole = refl;
-        gathering = old;
-        early = told;
-        gathers = run;
-        waits = none;
-        takes = takes;
+        beginning = record { before = events; line = line; at = at; after = []; whole = refl; gathering = old; early = told; gathers = run; waits = none; takes = takes };
         handed = [];
         hands = laws.none;
         opened = opened;
@@ -318,19 +294,10 @@ pub run_holds_transcript : RunHoldsTranscript
 run_holds_transcript game text config events told hall playing is =
     let kept = all_kept hall.runs in
     let began = kept.began playing is in
-    let stepped = stepped_is_transcript game text config began.at began.handed began.opened playing began.first began.last began.opens began.steps in
+    let stepped = stepped_is_transcript game text config began.beginning.at began.handed began.opened playing began.first began.last began.opens began.steps in
     let handled = all_handled began.steps in
     record {
-      before = began.before;
-      line = began.line;
-      at = began.at;
-      after = began.after;
-      whole = began.whole;
-      gathering = began.gathering;
-      early = began.early;
-      gathers = began.gathers;
-      waits = began.waits;
-      takes = began.takes;
+      beginning = began.beginning;
       handed = began.handed;
       hands = began.hands;
       said = stepped.0;
@@ -341,7 +308,7 @@ run_holds_transcript game text config events told hall playing is =
       works = still_works began.opens.works began.steps;
       on_seats = λ index one there.
           began.on_seats index one there
-          ∙ ap (λ own. bytes_to one began.early ++ own)
+          ∙ ap (λ own. bytes_to one began.beginning.early ++ own)
           (ap (λ all. get_or all index []) (stepped.2 ∙ sym (delivered-queued (seats_of game) stepped.0))
           ∙ from_nothing (seats_of game) index stepped.0 (subst (λ n. index < n) kept.count (there_within hall.state.seats index (Some one) there))
           ∙ ap (λ seat. bytes_for seat stepped.0) (next_seat index));

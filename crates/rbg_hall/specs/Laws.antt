@@ -75,15 +75,11 @@ late_refusal line (arrives other at) = []
 late_refusal line (says other at item) = []
 late_refusal line (leaves other at) = []
 
--- The match that has begun, and what these lines were told.
+-- Where the match of a table began: what the table heard before, and after.
 --   gathers: from a table where nobody sits these events led to one that waits for its last line.
 --   takes: a line takes the last seat. The match begins at the moment of this event.
---   hands, transcript: of what the table hears from then on the match is handed this. Where play stands, and what is
---   said, is a transcript of it.
---   on_seats: a line on a seat is told what the table told it before, and then what the transcript says to its seat.
---   elsewhere: a line that has no seat is told that there is none, each time it asks for one.
-pub record HoldsTranscript (game : AbstractGame) (text : List ℕ) (config : Config) (events : List OwnEvent)
-    (seats : List (Option ℕ)) (playing : MatchState) (told : List Telling) : Type 0 where
+pub record Beginning (game : AbstractGame) (text : List ℕ) (config : Config) (events : List OwnEvent)
+    (seats : List (Option ℕ)) : Type 0 where
   pub before : List OwnEvent
   pub line : ℕ
   pub at : ℕ
@@ -94,20 +90,29 @@ pub record HoldsTranscript (game : AbstractGame) (text : List ℕ) (config : Con
   pub gathers : TableRun game text config before gathering early
   pub waits : gathering.begun ≡ None
   pub takes : TakesLast gathering line seats
+
+-- The match that has begun, and what these lines were told.
+--   hands, transcript: of what the table hears from then on the match is handed this. Where play stands, and what is
+--   said, is a transcript of it.
+--   on_seats: a line on a seat is told what the table told it before, and then what the transcript says to its seat.
+--   elsewhere: a line that has no seat is told that there is none, each time it asks for one.
+pub record HoldsTranscript (game : AbstractGame) (text : List ℕ) (config : Config) (events : List OwnEvent)
+    (seats : List (Option ℕ)) (playing : MatchState) (told : List Telling) : Type 0 where
+  pub beginning : Beginning game text config events seats
   pub handed : List AbstractEvent
-  pub hands : HandsEach seats after handed
+  pub hands : HandsEach seats beginning.after handed
   pub said : List Delivery
-  pub transcript : Transcript game text config at handed playing.play said
+  pub transcript : Transcript game text config beginning.at handed playing.play said
   pub of_game : playing.game ≡ game
   pub of_config : playing.config ≡ config
-  pub begins : playing.began ≡ counted_first at
+  pub begins : playing.began ≡ counted_first beginning.at
   pub works : playing.failed ≡ false
   pub on_seats : (index one : ℕ) →
       slice_get seats index ≡ Some (Some one) →
-      bytes_to one told ≡ bytes_to one early ++ bytes_for (index + 1) said
+      bytes_to one told ≡ bytes_to one beginning.early ++ bytes_for (index + 1) said
   pub elsewhere : (one : ℕ) →
       ((index : ℕ) → ¬ (slice_get seats index ≡ Some (Some one))) →
-      bytes_to one told ≡ bytes_to one early ++ flat_map (late_refusal one) after
+      bytes_to one told ≡ bytes_to one beginning.early ++ flat_map (late_refusal one) beginning.after
 
 -- Whatever a table hears, it holds a transcript of its match once that has begun, and each line is told accordingly.
 abbrev pub RunHoldsTranscript : Type 0

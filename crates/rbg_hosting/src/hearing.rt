@@ -7,11 +7,12 @@ ghost use Rattle.rbg_script.specs.Scripts.{IsReason, SpellsScript, script_of as 
 
 use crate::HostingError;
 use crate::printed::hall_lines;
-use crate::script_events::{config_of, events_of};
+use crate::script_events::events_of;
 use crate::tables::tables_of;
 use rbg_floor::{TABLES, whole_hall};
 use rbg_hall::HallOut;
 use rbg_match::Config;
+use rbg_refereeing::config_of;
 use rbg_script::{Script, ScriptError, read_script};
 use std::alloc::Global;
 

@@ -1,24 +1,12 @@
-//! The config and the events of a script, as a hall is given them.
+//! The events of a script, as a hall is given them.
 ghost use Rattle.std.specs.Prelude.{◌≡◌, map, IfOk};
 ghost use Rattle.rbg_floor.specs.Events.{event_of as hall_event};
 ghost use Rattle.rbg_hosting.specs.Scripts.{event_for};
-ghost use Rattle.rbg_refereeing.specs.Scripts.{config_for};
 ghost use Rattle.rbg_script.specs.Events.{event_of as scripted_event};
 
 use rbg_floor::HallEvent;
-use rbg_match::Config;
-use rbg_script::{ScriptConfig, ScriptEvent};
+use rbg_script::ScriptEvent;
 use std::alloc::{AllocError, Global};
-
-/// The config of each match.
-pub(crate) fn config_of(config: ScriptConfig) -> Config
-    ensures { result ≡ config_for config }
-{
-    Config {
-        turn_ms: config.turn_ms,
-        refusals: config.refusals,
-    }
-}
 
 /// The events, in order. They borrow the pieces' bytes.
 pub(crate) fn events_of(

@@ -1,7 +1,7 @@
 //! Why a match isn't played to its end.
 
 use rbg_game::LoadError;
-use rbg_log::{OpenError, ResumeError, Stop};
+use rbg_log::{LogFailure, OpenError, Stop};
 use rbg_network::GatherError;
 use rbg_refereeing::RefereeingError;
 use rbg_script::ScriptError;
@@ -69,12 +69,9 @@ impl From<RefereeingError> for KeepingFault {
     }
 }
 
-impl From<ResumeError> for KeepingFault {
-    fn from(error: ResumeError) -> KeepingFault {
-        match error {
-            ResumeError::Refereeing(error) => KeepingFault::from(error),
-            ResumeError::Log => KeepingFault::Device,
-        }
+impl From<LogFailure> for KeepingFault {
+    fn from(_failure: LogFailure) -> KeepingFault {
+        KeepingFault::Device
     }
 }
 

@@ -2,6 +2,7 @@
 //! off, and the script of a record.
 #![tactic(auto)]
 
+mod again;
 mod beginning;
 mod bounded;
 mod cut;
@@ -12,6 +13,7 @@ mod script;
 mod serving;
 mod task;
 
+pub use again::resume_match;
 pub use cut::run_cut;
 pub use fault::KeepingFault;
 pub use script::run_script;

@@ -3,14 +3,16 @@ ghost use Rattle.std.specs.Prelude.{◌≡◌, ℕ, List, length, IfOk};
 ghost use Rattle.rbg_match.specs.PlayingOn.{seats_of};
 ghost use Rattle.rbg_keeping.specs.Played.{IsPlayedMatch};
 
+use crate::again::resume_match;
 use crate::bounded::play_on;
 use crate::joining::{accept_players, tell_names};
 use crate::{KeepingFault, Serving};
 use rbg_console::{Files, Input, MAX_INPUT};
 use rbg_game::load;
-use rbg_log::{LaterClock, Log, LoggedMatch, cut_stumps, play_script, whole_lines};
+use rbg_log::{LaterClock, Log, LoggedMatch, cut_stumps, whole_lines};
 use rbg_match::{Match, Outbox};
 use rbg_network::{Network, News};
+use rbg_refereeing::play_script;
 use rbg_script::{Script, read_script};
 use std::alloc::Global;
 
@@ -90,22 +92,8 @@ fn begin_again<N: Network>(
     ensures seats { IfOk result (λ made. length made.1 ≡ seats_of made.0.played.game) }
 {
     let log = network.rewrite_log(name, serving.keeping.sync)?;
-    let made = resume(alloc, text, script, log)?;
+    let made = resume_match(alloc, text, script, log)?;
     network.replace_log(name)?;
-    Ok(made)
-}
-
-/// The match of a script, which is written to a new log.
-fn resume<W: Log>(
-    alloc: Global,
-    text: &[u8],
-    script: &Script,
-    log: W,
-) -> Result<(LoggedMatch<W>, Outbox), KeepingFault>
-    ensures played { IfOk result (λ made. IsPlayedMatch text.now made.0.played) }
-    ensures seats { IfOk result (λ made. length made.1 ≡ seats_of made.0.played.game) }
-{
-    let made = LoggedMatch::resume(alloc, text, script, log)?;
     Ok(made)
 }
 

@@ -22,26 +22,12 @@ pub fn serve_match<F: Files, N: Network>(
 ) -> Result<Match, KeepingFault>
     ensures { IfOk result (λ played. IsPlayedMatch text.now played) }
 {
-    let played = play_match(alloc, text, files, network, port, serving);
-    tell_end(network, serving, &played);
-    played
-}
-
-/// Referees the match, or goes on with it.
-fn play_match<F: Files, N: Network>(
-    alloc: Global,
-    text: &[u8],
-    files: &mut F,
-    network: &mut N,
-    port: u16,
-    serving: &Serving<'_>,
-) -> Result<Match, KeepingFault>
-    ensures { IfOk result (λ played. IsPlayedMatch text.now played) }
-{
-    match serving.keeping.resume {
+    let played = match serving.keeping.resume {
         Some(log) => resume_text(alloc, text, files, log, network, port, serving),
         None => serve_text(alloc, text, network, port, serving),
-    }
+    };
+    tell_end(network, serving, &played);
+    played
 }
 
 /// Tells how a match ended, or that it didn't.

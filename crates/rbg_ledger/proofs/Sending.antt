@@ -1,6 +1,6 @@
 -- What the match of a log's script sends is what the lines on the seats are told.
 use Rattle.std.proofs.Common.{◌≡◌, ℕ, ◌+◌, ◌<◌, ◌^◌, List, [], ◌∷◌, ◌++◌, All, length, map, get_or, replicate, Option, Some, None, is_none, refl, sym, ap, ◌∙◌, subst, append-nil, append_assoc}
-use Rattle.std.specs.Prelude.{slice_get, slice_set}
+use Rattle.std.specs.Prelude.{slice_get}
 use Rattle.std.proofs.lemmas.List.{length-replicate, length-set}
 use Rattle.std.proofs.lemmas.Option.{none-some}
 use Rattle.rbg_game.specs.Loading.{Loads}
@@ -15,13 +15,13 @@ use Rattle.rbg_match.specs.PlayingOn.{seats_of}
 use Rattle.rbg_match.proofs.Delivering.{length-delivered}
 use Rattle.rbg_match.proofs.WholeMatch.{seats_of_opened}
 use Rattle.rbg_script.specs.Events.{EventHasSpelling}
-use Rattle.rbg_hall.specs.Laws.{Hands, HoldsTranscript, TakesLast}
+use Rattle.rbg_hall.specs.Laws.{Beginning, Hands, HoldsTranscript, TakesLast}
 use Rattle.rbg_hall.specs.Laws as laws
-use Rattle.rbg_hall.specs.Tables.{TableState, TableRun, OwnEvent, joins, Plays, Hears, SitsAt, HasNoSeat, IsFirstFree, AreTaken}
+use Rattle.rbg_hall.specs.Tables.{TableState, TableRun, OwnEvent, joins, Plays, Hears, SitsAt, HasNoSeat}
 use Rattle.rbg_hall.specs.Tables as tables
 use Rattle.rbg_hall.specs.Tellings.{Telling, bytes_to, telling, to_lines}
 use Rattle.rbg_hall.proofs.Alike.{same_early}
-use Rattle.rbg_hall.proofs.Holding.{delivered_at, from_nothing, run_holds_transcript, step_on}
+use Rattle.rbg_hall.proofs.Holding.{delivered_at, from_nothing, run_holds_transcript, seen_later, step_on}
 use Rattle.rbg_hall.proofs.Places.{there_within}
 use Rattle.rbg_hall.proofs.Seats.{SeatsDiffer, all_differ, differ_taken, own_on}
 use Rattle.rbg_hall.proofs.Telling.{bytes_to-append, bytes_to-other}
@@ -50,16 +50,11 @@ data Turns (old : TableState) : OwnEvent → (new : TableState) → (said : List
       old.begun ≡ None →
       length seats ≡ length old.seats →
       Turns old event (record old { seats = seats }) said
-  starts : {line at : ℕ} {opened : MatchState} {queues : List (List ℕ)} →
-      (index : ℕ) →
+  starts : {line at : ℕ} {seats : List (Option ℕ)} {opened : MatchState} {queues : List (List ℕ)} →
       old.begun ≡ None →
-      HasNoSeat old line →
-      IsFirstFree old.seats index →
-      AreTaken (slice_set old.seats index (Some line)) →
+      TakesLast old line seats →
       Opens old.game old.text old.config at opened queues →
-      Turns old (joins line at)
-      (record old { seats = slice_set old.seats index (Some line); begun = Some opened })
-      (to_lines (slice_set old.seats index (Some line)) queues)
+      Turns old (joins line at) (record old { seats = seats; begun = Some opened }) (to_lines seats queues)
   passes : {event : OwnEvent} {said : List Telling} →
       Hands old.seats event [] →
       ((index line : ℕ) → SitsAt old line index → bytes_to line said ≡ []) →
@@ -78,7 +73,7 @@ turns : {old new : TableState} {event : OwnEvent} {said : List Telling} → Hear
 turns (tables.waits none) = idles none
 turns (tables.ticks play) = plays _ laws.ticks play
 turns {old} (tables.sits {line} index other none nowhere free left) = moves _ none (length-set old.seats index (Some line))
-turns (tables.begins index none nowhere free taken opens) = starts index none nowhere free taken opens
+turns (tables.begins index none nowhere free taken opens) = starts none (record { index = index; has_none = nowhere; free = free; taken = refl; full = taken }) opens
 turns {old} (tables.is_full {line} nowhere taken) = passes laws.late (away old line (spelling (refusal_message NoSeat)) nowhere)
 turns {old} (tables.comes_late {line} nowhere begun) = passes laws.late (away old line (spelling (refusal_message NoSeat)) nowhere)
 turns (tables.stays seat) = passes laws.late (λ index line there. refl)
@@ -96,52 +91,24 @@ turns (tables.goes_unheard nowhere) = passes (laws.goes_not nowhere) (λ index l
 turned : {old new : TableState} {event : OwnEvent} {said : List Telling} → Turns old event new said → (new.game ≡ old.game) × (new.text ≡ old.text) × (new.config ≡ old.config) × (length new.seats ≡ length old.seats)
 turned (idles none) = (refl, refl, refl, refl)
 turned (moves seats none count) = (refl, refl, refl, count)
-turned {old} (starts {line} index none nowhere free taken opens) = (refl, refl, refl, length-set old.seats index (Some line))
+turned {old} (starts {line} none takes opens) = (refl, refl, refl, ap length takes.taken ∙ length-set old.seats takes.index (Some line))
 turned (passes hands quiet) = (refl, refl, refl, refl)
 turned {old} (plays one hands play) = subst (λ (table : TableState). (table.game ≡ old.game) × (table.text ≡ old.text) × (table.config ≡ old.config) × (length table.seats ≡ length old.seats)) (sym play.is) (refl, refl, refl, refl)
 
--- Where the match of a table began: what the table heard before, and after.
-record Cut (game : AbstractGame) (text : List ℕ) (config : Config) (events : List OwnEvent) (seats : List (Option ℕ)) : Type 0 where
-  before : List OwnEvent
-  line : ℕ
-  at : ℕ
-  after : List OwnEvent
-  whole : events ≡ before ++ joins line at ∷ after
-  gathering : TableState
-  early : List Telling
-  gathers : TableRun game text config before gathering early
-  waits : gathering.begun ≡ None
-  takes : TakesLast gathering line seats
-
 -- What the match of a log's script has sent since then is what the lines on the seats were told.
 record Since {W : Type 0} (told : W → List ℕ → Type 0) (log : W) (game : AbstractGame) (text : List ℕ) (config : Config) (events : List OwnEvent) (seats : List (Option ℕ)) (playing : MatchState) (said : List Telling) : Type 0 where
-  cut : Cut game text config events seats
+  beginning : Beginning game text config events seats
   held : List ℕ
   sent : List (List ℕ)
   tells : told log held
   is : IsLog text held playing sent
   count : length sent ≡ length seats
-  on_seats : (index one : ℕ) → slice_get seats index ≡ Some (Some one) → bytes_to one said ≡ bytes_to one cut.early ++ get_or sent index []
+  on_seats : (index one : ℕ) → slice_get seats index ≡ Some (Some one) → bytes_to one said ≡ bytes_to one beginning.early ++ get_or sent index []
 
 -- The log is such a one once the match has begun, and empty before.
 abbrev Logged : {W : Type 0} → (told : W → List ℕ → Type 0) → (log : W) → AbstractGame → (text : List ℕ) → Config → List OwnEvent → (seats : List (Option ℕ)) → Option MatchState → (said : List Telling) → Type 0
 Logged told log game text config events seats None said = told log []
 Logged told log game text config events seats (Some playing) said = Since told log game text config events seats playing said
-
--- the same cut, of one event more
-abbrev cut_on : {game : AbstractGame} {text : List ℕ} {config : Config} {events : List OwnEvent} {seats : List (Option ℕ)} (event : OwnEvent) → Cut game text config events seats → Cut game text config (events ++ event ∷ []) seats
-cut_on event cut = record {
-  before = cut.before;
-  line = cut.line;
-  at = cut.at;
-  after = cut.after ++ event ∷ [];
-  whole = ap (λ all. all ++ event ∷ []) cut.whole ∙ append_assoc cut.before (joins cut.line cut.at ∷ cut.after) (event ∷ []);
-  gathering = cut.gathering;
-  early = cut.early;
-  gathers = cut.gathers;
-  waits = cut.waits;
-  takes = cut.takes;
-}
 
 module _ {W : Type 0} (told : W → List ℕ → Type 0) (first last : W) (game : AbstractGame) (text : List ℕ) (config : Config) (events : List OwnEvent) (said : List Telling) (lines : List AbstractEvent) (its : Config) (moment : ℕ) where
   -- nothing is written
@@ -156,7 +123,7 @@ module _ {W : Type 0} (told : W → List ℕ → Type 0) (first last : W) (game 
 
   starts_on : (was : Option MatchState) (old : TableState) (seats : List (Option ℕ)) (opened : MatchState) (queues : List (List ℕ)) (line : ℕ) → was ≡ None → lines ≡ [] → moment < 2 ^ 64 → Loads text game → TableRun game text config events old said → old.begun ≡ None → TakesLast old line seats → SeatsDiffer seats → length seats ≡ seats_of game → its ≡ config → Opens game text config moment opened queues → Appends told first last (event_lines lines ++ first_for (is_none was) (Some opened) its moment) → Logged told first game text config events old.seats was said → Since told last game text config (events ++ joins line moment ∷ []) seats opened (said ++ to_lines seats queues)
   starts_on None old seats opened queues line none unwritten small loads run waits takes differ seated same opens appends logged = record {
-    cut = record { before = events; line = line; at = moment; after = []; whole = refl; gathering = old; early = said; gathers = run; waits = waits; takes = takes };
+    beginning = record { before = events; line = line; at = moment; after = []; whole = refl; gathering = old; early = said; gathers = run; waits = waits; takes = takes };
     held = first_line config moment;
     sent = queues;
     tells = subst (λ (one : Config). told last (first_line one moment)) same
@@ -170,7 +137,7 @@ module _ {W : Type 0} (told : W → List ℕ → Type 0) (first last : W) (game 
   passes_on : (event : OwnEvent) (next : List Telling) (was : Option MatchState) (seats : List (Option ℕ)) → lines ≡ [] → ((index one : ℕ) → slice_get seats index ≡ Some (Some one) → bytes_to one next ≡ []) → Appends told first last (event_lines lines ++ first_for (is_none was) was its moment) → Logged told first game text config events seats was said → Logged told last game text config (events ++ event ∷ []) seats was (said ++ next)
   passes_on event next None seats unwritten quiet appends logged = written_still [] unwritten appends logged
   passes_on event next (Some playing) seats unwritten quiet appends logged = record {
-    cut = cut_on event logged.cut;
+    beginning = seen_later event logged.beginning;
     held = logged.held;
     sent = logged.sent;
     tells = written_still logged.held unwritten appends logged.tells;
@@ -179,7 +146,7 @@ module _ {W : Type 0} (told : W → List ℕ → Type 0) (first last : W) (game 
     on_seats = λ index one there.
         bytes_to-append one said next
         ∙ (λ i. logged.on_seats index one there i ++ quiet index one there i)
-        ∙ append-nil (bytes_to one logged.cut.early ++ get_or logged.sent index []);
+        ∙ append-nil (bytes_to one logged.beginning.early ++ get_or logged.sent index []);
   }
 
   plays_on : (event : OwnEvent) (next : List Telling) (was : Option MatchState) (seats : List (Option ℕ)) (before after : MatchState) (one : AbstractEvent) (queues : List (List ℕ)) (count : ℕ) → was ≡ Some before → lines ≡ written_for was one → All EventHasSpelling (map scripted lines) → SeatsDiffer seats → length seats ≡ count → Steps before one after (replicate count []) queues → next ≡ to_lines seats queues → Appends told first last (event_lines lines ++ first_for (is_none was) (Some after) its moment) → Logged told first game text config events seats was said → Since told last game text config (events ++ event ∷ []) seats after (said ++ next)
@@ -187,7 +154,7 @@ module _ {W : Type 0} (told : W → List ℕ → Type 0) (first last : W) (game 
   plays_on event next (Some playing) seats before after one queues count is noted spelled differ seated step to appends logged =
       let step' : Steps playing one after (replicate count []) queues = subst (λ (state : MatchState). Steps state one after (replicate count []) queues) (sym (same playing before is)) step in
       record {
-        cut = cut_on event logged.cut;
+        beginning = seen_later event logged.beginning;
         held = logged.held ++ event_lines (written playing one);
         sent = delivered logged.sent step'.said;
         tells = subst (λ (bytes : List ℕ). told last (logged.held ++ bytes)) (append-nil (event_lines (written playing one)))
@@ -201,8 +168,8 @@ module _ {W : Type 0} (told : W → List ℕ → Type 0) (first last : W) (game 
             ap (bytes_to line) to ∙ own_on line seats queues index differ there ∙ ap (λ all. get_or all index []) step'.told ∙ from_nothing count index step'.said (subst (λ (n : ℕ). index < n) seated within) in
             bytes_to-append line said next
             ∙ (λ i. logged.on_seats index line there i ++ own i)
-            ∙ append_assoc (bytes_to line logged.cut.early) (get_or logged.sent index []) (bytes_for (1 + index) step'.said)
-            ∙ ap (λ all. bytes_to line logged.cut.early ++ all) (sym (delivered_at 1 logged.sent step'.said index (subst (λ (n : ℕ). index < n) (sym logged.count) within))));
+            ∙ append_assoc (bytes_to line logged.beginning.early) (get_or logged.sent index []) (bytes_for (1 + index) step'.said)
+            ∙ ap (λ all. bytes_to line logged.beginning.early ++ all) (sym (delivered_at 1 logged.sent step'.said index (subst (λ (n : ℕ). index < n) (sym logged.count) within))));
       }
     where
       same : (a b : MatchState) → Some a ≡ Some b → a ≡ b
@@ -223,16 +190,14 @@ module _ {W : Type 0} (told : W → List ℕ → Type 0) (game : AbstractGame) (
       waits_on told first last game text config events said writes.lines old.config (heard_at event) event next old.begun old.seats old.seats none (noted_waiting none writes.noted) writes.appends logged
   logged_on {events} {event} {old} {said = said} {next} first last run stands writes (moves seats none count) logged =
       waits_on told first last game text config events said writes.lines old.config (heard_at event) event next old.begun old.seats seats none (noted_waiting none writes.noted) writes.appends logged
-  logged_on {events} {old = old} {said = said} first last run stands writes (starts {line} {at} {opened} {queues} index none nowhere free taken opens) logged =
-      let seats = slice_set old.seats index (Some line) in
+  logged_on {events} {old = old} {said = said} first last run stands writes (starts {line} {at} {seats} {opened} {queues} none takes opens) logged =
       let own_opens : Opens game text config at opened queues =
       subst (λ (one : AbstractGame). Opens one text config at opened queues) stands.same_game
       (subst (λ (one : List ℕ). Opens old.game one config at opened queues) stands.same_text
       (subst (λ (one : Config). Opens old.game old.text one at opened queues) stands.same_config opens)) in
-      starts_on told first last game text config events said writes.lines old.config at old.begun old seats opened queues line none (noted_waiting none writes.noted) writes.moment loads run none
-      (record { index = index; has_none = nowhere; free = free; taken = refl; full = taken })
-      (differ_taken old.seats index line (all_differ run) nowhere)
-      (length-set old.seats index (Some line) ∙ stands.count ∙ ap seats_of stands.same_game)
+      starts_on told first last game text config events said writes.lines old.config at old.begun old seats opened queues line none (noted_waiting none writes.noted) writes.moment loads run none takes
+      (subst SeatsDiffer (sym takes.taken) (differ_taken old.seats takes.index line (all_differ run) takes.has_none))
+      (ap length takes.taken ∙ length-set old.seats takes.index (Some line) ∙ stands.count ∙ ap seats_of stands.same_game)
       stands.same_config own_opens writes.appends logged
   logged_on {events} {event} {old} {said = said} {next} first last run stands writes (passes hands quiet) logged =
       passes_on told first last game text config events said writes.lines old.config (heard_at event) event next old.begun old.seats (noted_none (all_differ run) hands writes.noted) quiet writes.appends logged
@@ -304,7 +269,6 @@ log_sends_what_is_told {W} told game text config events state said playing log l
     let there : state.ledger.log ≡ Some log = told_there state.ledger.standing state.ledger.log log is in
     let since : Since told log game text config events state.table.seats playing said =
     subst (λ (one : Option MatchState). Logged told log game text config events state.table.seats one said) begun ((stands_of told game text config loads run).logged log there) in
-    let cut = since.cut in
     record {
       holds = holds;
       held = since.held;
@@ -312,5 +276,5 @@ log_sends_what_is_told {W} told game text config events state said playing log l
       tells = since.tells;
       is = since.is;
       on_seats = λ index line sits. since.on_seats index line sits
-          ∙ ap (λ (early : List Telling). bytes_to line early ++ get_or since.sent index []) (same_early holds cut.before cut.line cut.at cut.after cut.whole cut.gathers cut.waits cut.takes);
+          ∙ ap (λ (early : List Telling). bytes_to line early ++ get_or since.sent index []) (same_early holds.beginning since.beginning);
     }

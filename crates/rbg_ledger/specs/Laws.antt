@@ -38,7 +38,7 @@ pub record SendsWhatIsTold {W : Type 0} (told : W → List ℕ → Type 0) (log 
   pub is : IsLog text held playing sent
   pub on_seats : (index line : ℕ) →
       slice_get seats index ≡ Some (Some line) →
-      bytes_to line said ≡ bytes_to line holds.early ++ slice_index_or sent index []
+      bytes_to line said ≡ bytes_to line holds.beginning.early ++ slice_index_or sent index []
 
 -- Whatever a table hears, the match of its log's script sends what the lines on its seats are told since its match began.
 abbrev pub LogSendsWhatIsTold : {W : Type 0} → (told : W → List ℕ → Type 0) → Type 0

@@ -8,8 +8,7 @@ use Rattle.rbg_referee.specs.Refereed.{OpensText}
 use Rattle.rbg_refereeing.specs.Matches.{IsScriptRefereed}
 use Rattle.rbg_refereeing.specs.Scripts.{config_for, event_for}
 use Rattle.rbg_script.specs.Config.{config_text}
-use Rattle.rbg_script.specs.declared.event.ScriptEvent.{ScriptEvent}
-use Rattle.rbg_script.specs.Events.{AbstractEvent as ScriptedEvent, event_of, piece_event, end_event, tick_event, EventHasSpelling, event_text}
+use Rattle.rbg_script.specs.Events.{AbstractEvent as ScriptedEvent, piece_event, end_event, tick_event, EventHasSpelling, event_text}
 use Rattle.rbg_script.specs.Scripts.{AbstractScript, ScriptHasSpelling, SpellsScript, script_text}
 use Rattle.rbg_wire.specs.Lines.{line_of, lines_of}
 use Rattle.rbg_log.specs.Written.{Replays}
@@ -27,10 +26,6 @@ event_line event = line_of (event_text (scripted event))
 -- the lines of these events
 abbrev pub event_lines : List AbstractEvent → List ℕ
 event_lines events = lines_of (map (λ event. event_text (scripted event)) events)
-
--- the lines of the events of a script
-abbrev pub texts_of : List ScriptEvent → List ℕ
-texts_of events = lines_of (map event_text (map event_of events))
 
 -- the first line: how the match begins
 abbrev pub first_line : Config → (now : ℕ) → List ℕ

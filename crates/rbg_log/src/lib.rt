@@ -1,5 +1,5 @@
 //! The log of a match: each event is written before the match handles it, so that what the log holds is a script of the
-//! match. From such a script a match goes on.
+//! match.
 #![tactic(auto)]
 
 mod cutting;
@@ -10,7 +10,6 @@ pub mod laws;
 mod logged;
 mod memory_log;
 mod opening;
-mod resuming;
 mod serving;
 mod stumps;
 mod writing;
@@ -21,7 +20,5 @@ pub use later_clock::LaterClock;
 pub use logged::{LoggedMatch, Stop};
 pub use memory_log::MemoryLog;
 pub use opening::{OpenError, write_first};
-pub use rbg_refereeing::play_script;
-pub use resuming::ResumeError;
 pub use stumps::cut_stumps;
 pub use writing::write_event;

@@ -1,5 +1,5 @@
 //! A match with a log.
-ghost use Rattle.std.specs.Prelude.{◌≡◌, ◌↔◌, Some, IsTrue};
+ghost use Rattle.std.specs.Prelude.{◌≡◌, ◌↔◌, Some, None, IsTrue};
 ghost use Rattle.rbg_log.specs.Serving.{IsOverAt};
 
 use crate::Log;
@@ -27,6 +27,22 @@ pub struct LoggedMatch<W: Log> {
 }
 
 impl<W: Log> LoggedMatch<W> {
+    /// A match with its log, whose time has no end. The line is a buffer.
+    pub fn with_log(played: Match, log: W, line: Vec<u8>) -> LoggedMatch<W>
+        ensures played { result.played ≡ played }
+        ensures log { result.log ≡ log }
+        ensures until { result.until ≡ None }
+        ensures stopped { result.stopped ≡ None }
+    {
+        LoggedMatch {
+            played,
+            log,
+            line,
+            until: None,
+            stopped: None,
+        }
+    }
+
     /// The match.
     pub fn played(&self) -> &Match
         ensures { result.now ≡ self.now.played }

@@ -97,13 +97,6 @@ impl<W: Log> LoggedMatch<W> {
         let mut log = log;
         let mut line = Vec::new(alloc);
         write_first(config, now, &mut log, &mut line)?;
-        let logged = LoggedMatch {
-            played,
-            log,
-            line,
-            until: None,
-            stopped: None,
-        };
-        Ok((logged, outbox))
+        Ok((LoggedMatch::with_log(played, log, line), outbox))
     }
 }

@@ -1,17 +1,15 @@
 -- The lines of the events of an entry.
-use Rattle.std.proofs.Common.{◌≡◌, ◌≢◌, ℕ, zero, suc, ◌<◌, ◌^◌, List, [], ◌∷◌, ◌++◌, length, All, Bool, true, false, codes, decimal, refl, sym, ap, ◌∙◌, subst, arith, append-nil, append_assoc, Result, Ok, Err}
-use Rattle.std.specs.Prelude.{OnOk, ◌==◌}
-use Rattle.std.specs.List.{flat_map, AllZip}
+use Rattle.std.proofs.Common.{◌≡◌, ◌≢◌, ℕ, zero, suc, List, [], ◌∷◌, ◌++◌, codes, refl, sym, ap, ◌∙◌, subst, arith, append-nil, append_assoc, Result, Ok, Err}
+use Rattle.std.specs.Prelude.{OnOk}
 use Rattle.std.proofs.lemmas.Grind.{flat_map-append}
 use Rattle.std.proofs.lemmas.List.Elements.{All-nil, All-cons, All-append}
 use Rattle.rbg_base.proofs.CallerLemmas.{AllZip-append}
 use Rattle.rbg_wire.specs.Bytes.{LacksByte}
 use Rattle.rbg_wire.specs.Lines.{line_feed, line_of, lines_of}
-use Rattle.rbg_wire.specs.Messages.{ArePairs, message_text, move_message, pairs_text, spelling}
+use Rattle.rbg_wire.specs.Messages.{ArePairs, message_text, pairs_text, spelling}
 use Rattle.rbg_wire.specs.Writing.{AppendsAll}
-use Rattle.rbg_wire.proofs.NumberLemmas.{lacks_byte-decimal}
 use Rattle.rbg_lines.proofs.Lacking.{pairs_feedless}
-use Rattle.rbg_script.specs.Events.{AbstractEvent, piece_event, end_event, tick_event, EventHasSpelling, HasFields, SpellsEvent, by_message, event_text, fields_text}
+use Rattle.rbg_script.specs.Events.{AbstractEvent, piece_event, EventHasSpelling, HasFields, SpellsEvent, by_message, event_text, fields_text}
 use Rattle.rbg_script.proofs.Lacking.{written_read, message_lacks}
 use Rattle.rbg_scripting.specs.Scripting.{move_events}
 use Rattle.rbg_scripting.specs.internal.Telling.{TellsEvents}

@@ -1,7 +1,7 @@
 -- A record is told line by line.
-use Rattle.std.proofs.Common.{◌≡◌, ℕ, ◌+◌, ◌≤◌, ◌<◌, ◌^◌, List, [], ◌∷◌, ◌++◌, length, All, Option, Some, None, Result, Err, refl, sym, ap, ◌∙◌, subst, arith, append-nil, append_assoc}
+use Rattle.std.proofs.Common.{◌≡◌, ℕ, ◌+◌, List, [], ◌∷◌, ◌++◌, length, Option, Some, None, Result, Err, refl, sym, ap, ◌∙◌, subst, arith, append-nil, append_assoc}
 use Rattle.std.specs.Prelude.{IfSome}
-use Rattle.std.specs.List.{flat_map, AllZip}
+use Rattle.std.specs.List.{flat_map}
 use Rattle.std.proofs.lemmas.Grind.{flat_map-append}
 use Rattle.std.proofs.lemmas.List.{length-append}
 use Rattle.std.proofs.lemmas.List.Elements.{All-nil, All-cons, All-push}
@@ -35,7 +35,7 @@ use Rattle.rbg_scripting.specs.declared.part.Part.{Part}
 use Rattle.rbg_scripting.specs.declared.part.Part.TheVariants as parts
 use Rattle.rbg_scripting.specs.Scripting.{HasForm, IsHead, head_1, head_2, IsMove, IsNoRecord, IsScriptOfRecord, LeadsOn, LeadThere, config_at, events_in, turns_of}
 use Rattle.rbg_scripting.specs.Scripting as scripting
-use Rattle.rbg_scripting.specs.internal.Telling.{IsTold, IsToldSoFar, TellsEntries, TellsEvents, TellsMoves, TellsNext, TellsPlayers, TellsWhole, part_behind}
+use Rattle.rbg_scripting.specs.internal.Telling.{IsTold, IsToldSoFar, TellsEntries, TellsEvents, TellsNext, TellsWhole, part_behind}
 use Rattle.rbg_scripting.proofs.EventLines.{tells_nothing, tells_both}
 
 -- the first lines of a record of version 1

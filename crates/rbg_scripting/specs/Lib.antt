@@ -1,3 +1,4 @@
 -- Scripts of records.
 pub mod Scripting
 pub mod internal
+pub mod Writing

@@ -18,7 +18,7 @@ use Rattle.rbg_record.specs.Judged.{BeginsWith, GoesOn}
 use Rattle.rbg_record.specs.Lines.{SpellsIn}
 use Rattle.rbg_script.specs.declared.config.ScriptConfig.{ScriptConfig}
 use Rattle.rbg_script.specs.Events.{AbstractEvent, piece_event, end_event, tick_event}
-use Rattle.rbg_script.specs.Scripts.{AbstractScript, SpellsScript}
+use Rattle.rbg_script.specs.Scripts.{SpellsScript}
 use Rattle.rbg_scripting.specs.declared.part.Part.{Part}
 use Rattle.rbg_scripting.specs.declared.part.Part.TheVariants as parts
 

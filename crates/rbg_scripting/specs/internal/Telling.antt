@@ -8,7 +8,7 @@ use Rattle.rbg_lines.specs.declared.entry.Entry.{Entry}
 use Rattle.rbg_lines.specs.declared.entry.Entry.TheVariants.{Move, End}
 use Rattle.rbg_lines.specs.declared.entry.Timed.{Timed}
 use Rattle.rbg_lines.specs.declared.heading.Version.{Version}
-use Rattle.rbg_lines.specs.declared.heading.Version.TheVariants.{One, Two}
+use Rattle.rbg_lines.specs.declared.heading.Version.TheVariants.{Two}
 use Rattle.rbg_lines.specs.Heading.{version_text, SpellsPlayers}
 use Rattle.rbg_record.specs.Judged.{BeginsWith}
 use Rattle.rbg_record.specs.Lines.{SpellsIn}

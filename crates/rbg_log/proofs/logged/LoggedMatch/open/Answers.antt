@@ -10,4 +10,4 @@ new-requires g c = no_zero_in c.args.text.now c.args.game c.requires
 pub returns-clause-begins : goal.returns-clause-begins
 returns-clause-begins g c =
     let fits : c.args.now < 2 ^ 64 = search rules in
-    opened_so g.W.Log.told c.args.game c.args.text.now c.args.config c.args.now c.in_ok-played.played c.in_ok-played.outbox c.args.log c.write_first.new.log c.requires fits c.in_ok-played.ensures.opens c.in_ok-write_first.ensures.ok
+    rw (c.with_log.ensures.log, c.with_log.ensures.played) (opened_so g.W.Log.told c.args.game c.args.text.now c.args.config c.args.now c.in_ok-played.played c.in_ok-played.outbox c.args.log c.write_first.new.log c.requires fits c.in_ok-played.ensures.opens c.in_ok-write_first.ensures.ok)

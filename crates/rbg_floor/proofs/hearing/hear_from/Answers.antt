@@ -1,6 +1,6 @@
 use Rattle.std.proofs.lemmas.Result.{on_err_weaker, on_ok_weaker}
 use Rattle.rbg_floor.proofs.Taking.{heard_first, on_error, stops_after, stops_at}
-use Rattle.rbg_floor.proofs.hearing.join.Goals as goal
+use Rattle.rbg_floor.proofs.hearing.hear_from.Goals as goal
 
 pub returns-clause-hears : goal.returns-clause-hears
 returns-clause-hears g c = on_ok_weaker c.say_each.result (heard_first c.in_ok-hear.ensures.hears) c.say_each.ensures.hears

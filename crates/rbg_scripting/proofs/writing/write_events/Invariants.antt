@@ -1,8 +1,8 @@
 -- The lines so far are those of the events so far, which have spellings.
 use Rattle.std.proofs.Common.{◌≡◌, ◌++◌, take, map, All}
 use Rattle.rbg_script.specs.Events.{EventHasSpelling, event_of}
-use Rattle.rbg_log.specs.Logs.{texts_of}
-use Rattle.rbg_log.proofs.resuming.write_events.Given as goal
+use Rattle.rbg_scripting.specs.Writing.{texts_of}
+use Rattle.rbg_scripting.proofs.writing.write_events.Given as goal
 
 abbrev pub invariant-loop-event : goal.invariant-loop-event
 invariant-loop-event l =

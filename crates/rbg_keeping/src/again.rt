@@ -1,0 +1,39 @@
+//! A match goes on from the script of its log.
+ghost use Rattle.std.specs.Prelude.{◌≡◌, [], ℕ, List, length, IfOk, None};
+ghost use Rattle.rbg_game.specs.Loading.{Loads};
+ghost use Rattle.rbg_log.specs.Logs.{IsLog};
+ghost use Rattle.rbg_match.specs.Matches.{HasHistory};
+ghost use Rattle.rbg_match.specs.PlayingOn.{seats_of};
+ghost use Rattle.rbg_script.specs.Config.{ConfigHasSpelling};
+
+use crate::KeepingFault;
+use rbg_log::{Log, LoggedMatch};
+use rbg_match::Outbox;
+use rbg_refereeing::play_script;
+use rbg_script::Script;
+use rbg_scripting::write_script;
+use std::alloc::Global;
+
+/// A match that goes on where a script leaves it. The script is written to a new log first.
+pub fn resume_match<W: Log>(
+    alloc: Global,
+    description: &[u8],
+    script: &Script,
+    log: W,
+) -> Result<(LoggedMatch<W>, Outbox), KeepingFault>
+    ensures resumes { IfOk result (λ made. ConfigHasSpelling script.now.config → W.told log [] →
+        (held : List ℕ) × W.told made.0.log held
+        × IsLog description.now held made.0.played made.1) }
+    ensures seats { IfOk result (λ made. length made.1 ≡ seats_of made.0.played.game) }
+    ensures loads { IfOk result (λ made. Loads description.now made.0.played.game) }
+    ensures until { IfOk result (λ made. made.0.until ≡ None) }
+    ensures stopped { IfOk result (λ made. made.0.stopped ≡ None) }
+    ensures history { IfOk result (λ made. HasHistory made.0.played) }
+{
+    let (played, outbox) = play_script(alloc, description, script)?;
+    let mut line = Vec::new(alloc);
+    write_script(script, &mut line)?;
+    let mut log = log;
+    log.append(line.as_slice())?;
+    Ok((LoggedMatch::with_log(played, log, line), outbox))
+}
