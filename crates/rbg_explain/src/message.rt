@@ -169,11 +169,11 @@ fn write_head<W: fmt::Write>(
     if spot.starts_definition() {
         return f.write_str("expected a whole head of a definition, found the end of the text");
     }
-    write_instead(f, head_words(spot.definition()), found, "")
+    write_mismatch(f, head_words(spot.definition()), found, "")
 }
 
 /// What was expected, and what was found in its place.
-fn write_instead<W: fmt::Write>(
+fn write_mismatch<W: fmt::Write>(
     f: &mut Formatter<W>,
     expected: &str,
     found: &Found<'_>,
@@ -226,7 +226,7 @@ fn write_expected<W: fmt::Write>(
         Some(token) if token.is(Symbol::Hash) => {
             write!(f, "expected {expected}, found the end of the section")
         }
-        _ => write_instead(f, expected, found, comma),
+        _ => write_mismatch(f, expected, found, comma),
     }
 }
 
@@ -254,8 +254,8 @@ fn write_game<W: fmt::Write>(
     found: &Found<'_>,
 ) -> fmt::Result {
     match error {
-        GameError::UnknownName { .. } => write_instead(f, needed_words(spot), found, ""),
-        GameError::SameName { .. } => write_instead(f, "a new name", found, " again"),
+        GameError::UnknownName { .. } => write_mismatch(f, needed_words(spot), found, ""),
+        GameError::SameName { .. } => write_mismatch(f, "a new name", found, " again"),
         GameError::Bound { .. } => write!(
             f,
             "expected a bound of at most {MAX_BOUND}, or in arithmetic a number of at most {}, found {found}",
@@ -330,5 +330,5 @@ fn write_board<W: fmt::Write>(
         }
         BoardError::Memory => return f.write_str("out of memory"),
     };
-    write_instead(f, expected, found, again)
+    write_mismatch(f, expected, found, again)
 }

@@ -49,7 +49,7 @@ pub enum Thing {
 }
 
 impl Thing {
-    /// The name that it prints.
+    /// Its name in a refusal, as `pieces`.
     #[tactic(auto, unfolding(crate::specs::Names::thing_name))]
     pub fn name(self) -> &'static str
         ensures { result.now ≡ thing_name self }

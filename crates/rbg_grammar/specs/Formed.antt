@@ -17,14 +17,14 @@ is_of_rank Product Minus = false
 is_of_rank Product Times = true
 is_of_rank Product Over = true
 
--- the operator of the rank that a first operand has
+-- the operator is that of the first operand in a chain of this rank
 abbrev pub is_first_of : Rank → Operator → Bool
 is_first_of Sum Plus = true
 is_first_of Sum _ = false
 is_first_of Product Times = true
 is_first_of Product _ = false
 
--- at least two operands of this rank
+-- at least two operands of this rank, of which the first has Plus in a sum and Times in a product
 abbrev pub are_of_rank : Rank → SpeltOperands → Bool
 are_of_rank rank no_operands = false
 are_of_rank rank (more_operands no_operands p e) = false
@@ -55,7 +55,8 @@ abbrev mutual
   are_formed_operands (more_operands os p e) = are_formed_operands os && is_formed_expression e
 
 abbrev mutual
-  -- each sequence and each sum in the rules has at least two parts, and so have those of their arithmetic
+  -- each sequence and each sum in the rules has at least two parts, and each chain in their arithmetic is a sum or a product
+  -- of at least two operands
   pub is_formed : SpeltRule → Bool
   is_formed (SpeltRule.act a) = is_formed_action a
   is_formed (SpeltRule.sequence rs) = has_two_rules rs && are_formed rs

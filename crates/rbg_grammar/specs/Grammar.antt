@@ -98,7 +98,7 @@ pub data IsBoard : List Lexeme → SpeltBoard → List Lexeme → Type 0 where
       → IsGenerated (codes "graph") IsGraph ts b rest
       → IsBoard ts b rest
 
--- "==" | "!=" | "<" | "<=" | ">" | ">="
+-- the relation that a token of this kind is
 abbrev pub relation_of : TokenKind → Option Relation
 relation_of kinds.Name = None
 relation_of kinds.Number = None
@@ -110,10 +110,11 @@ relation_of (kinds.Symbol GreaterThan) = Some relations.Greater
 relation_of (kinds.Symbol GreaterOrEqual) = Some relations.GreaterOrEqual
 relation_of (kinds.Symbol _) = None
 
+-- relation = "==" | "!=" | "<" | "<=" | ">" | ">="
 abbrev pub IsRelation : Phrase Relation
 IsRelation = IsOneOf relation_of
 
--- "+" | "-" in sums, and "*" | "/" in products
+-- the operator of this rank that a token of this kind is
 abbrev pub operator_of : Rank → TokenKind → Option Operator
 operator_of rank kinds.Name = None
 operator_of rank kinds.Number = None
@@ -124,6 +125,7 @@ operator_of ranks.Product (kinds.Symbol Star) = Some operators.Times
 operator_of ranks.Product (kinds.Symbol Slash) = Some operators.Over
 operator_of ranks.Product (kinds.Symbol _) = None
 
+-- "+" | "-" in sums, and "*" | "/" in products
 abbrev pub IsOperator : Rank → Phrase Operator
 IsOperator rank = IsOneOf (operator_of rank)
 

@@ -84,14 +84,14 @@ pub record SpeltDescription : Type 0 where
   pub board : SpeltBoard
   pub rules : SpeltRule
 
+-- an operand with its operator
+abbrev pub SpeltOperand : Type 0
+SpeltOperand = Operator × SpeltExpression
+
 -- further parts at the end of a list of parts
 abbrev pub rules_after : SpeltRules → List SpeltRule → SpeltRules
 rules_after first [] = first
 rules_after first (r ∷ rs) = rules_after (more_rules first r) rs
-
--- an operand with its operator
-abbrev pub SpeltOperand : Type 0
-SpeltOperand = Operator × SpeltExpression
 
 abbrev pub operands_after : SpeltOperands → List SpeltOperand → SpeltOperands
 operands_after first [] = first
@@ -106,7 +106,7 @@ abbrev pub choice_of : SpeltRule → List SpeltRule → SpeltRule
 choice_of r [] = r
 choice_of r (s ∷ rs) = choice (rules_after no_rules (r ∷ s ∷ rs))
 
--- the operator of the first operand, which isn't spelt
+-- The operator of a chain's first operand: none is spelt before it.
 abbrev pub first_of : Rank → Operator
 first_of Sum = Plus
 first_of Product = Times

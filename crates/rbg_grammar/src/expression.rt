@@ -9,8 +9,8 @@ pub enum Expression<'a> {
     Name(Name<'a>),
     /// 0 minus the expression, as `-x`.
     Negated(Box<Expression<'a>>),
-    /// A sum or a product: at least two operands, taken from the left. The first one has `Plus` in a sum, and `Times` in a
-    /// product.
+    /// A sum or a product: at least two operands, taken from the left, whose operators are all of one rank. The first one
+    /// has `Plus` in a sum, and `Times` in a product.
     Chain(Vec<Operand<'a>>),
 }
 

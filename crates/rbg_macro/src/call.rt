@@ -81,8 +81,8 @@ fn closing(kind: TokenKind, further: usize) -> Effect
     }
 }
 
-/// Finds the arguments in the tokens after a call's `(`. Returns the number of their tokens together with the `)`, or
-/// `None` if the token that closes the call is missing or isn't `)`.
+/// Puts the arguments in the tokens after a call's `(` into `found`, which is empty before. Returns the number of their
+/// tokens together with the `)`, or `None` if the token that closes the call is missing or isn't `)`.
 fn find_arguments<'t, 'j>(
     found: &mut Arguments<'t, 'j>,
     tokens: &'j [ReadToken<'t, 'j>],

@@ -35,7 +35,8 @@ abbrev mutual
   ArithmeticIs names (SpeltExpression.negated e) a = (b : AbstractArithmetic) × ArithmeticIs names e b × (a ≡ negated b)
   ArithmeticIs names (SpeltExpression.chain operands) a = ChainIs names operands a
 
-  -- A sum or a product from the left: its first operand, or what stands before combined with the last operand.
+  -- A sum or a product from the left: its first operand, or what stands before the last one, combined with the last one by
+  -- its operator.
   pub ChainIs : Names → SpeltOperands → AbstractArithmetic → Type 0
   ChainIs names no_operands a = ⊥
   ChainIs names (more_operands operands operator e) a =

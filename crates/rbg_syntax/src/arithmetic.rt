@@ -137,7 +137,7 @@ impl<'a> Parser<'a> {
         Ok(Expression::Name(name))
     }
 
-    /// An operator of this rank.
+    /// An operator of this rank. Its callers have seen that one is next, so the misfit is never told.
     #[tactic(auto, unfolding(rbg_grammar::specs::Reading::one_of_at))]
     fn operator(&mut self, rank: Rank) -> Reading<Operator>
         ensures { Gives (λ o. (o, self.new)) result (one_of_at (operator_of rank) self.old) }

@@ -54,7 +54,7 @@ pub enum Expectation {
 }
 
 impl Expectation {
-    /// The name that it prints.
+    /// Its name in a refusal, as `Closing`.
     #[tactic(auto, unfolding(crate::specs::Names::part_name))]
     pub fn name(self) -> &'static str
         ensures { result.now ≡ part_name self }

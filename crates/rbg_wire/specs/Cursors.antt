@@ -36,7 +36,7 @@ IsWithin bytes TooLong = Unit {0}
 -- What a cursor finds in the buffer.
 --   cursor: it is still one of this buffer
 --   found, within: the first of the items that are complete, and the cursor is behind it
---   none: no item is complete, and as many bytes are unread as before
+--   none: no item is complete, and what the unread bytes complete, and what is left of them, are as before
 pub record FindsNext (limit : ℕ) (bytes : List ℕ) (old new : Cursor) (result : Option Found) : Type 0 where
   pub cursor : IsCursorOf new bytes
   pub found : IfSome result (λ one. unread limit old bytes ≡ after_items (found_item bytes one ∷ []) (unread limit new bytes))

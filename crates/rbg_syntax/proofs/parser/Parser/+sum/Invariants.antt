@@ -9,7 +9,7 @@ use Rattle.rbg_grammar.specs.Views.{expression_of, operand_of}
 use Rattle.rbg_grammar.proofs.Turns.{ReadsOn}
 use Rattle.rbg_syntax.proofs.parser.Parser.+sum.Given as goal
 
--- how many calls of a rank may stand in one of this rank
+-- the calls of a product that stand inside one of this rank: four in a sum, none in a product
 abbrev pub below : Rank → ℕ
 below ranks.Product = 0
 below ranks.Sum = 4
