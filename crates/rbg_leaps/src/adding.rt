@@ -21,15 +21,29 @@ pub(crate) fn unit(position: Position, vertex: Vertex) -> Target
     }
 }
 
-/// Where a target between two places has the position and the column of another one.
+/// Where a target between two places has the position and the column of another one. It is looked for at a likely place
+/// first: what is told behind neighbours has nearly one order, so that mostly the next target is behind the last one.
 #[inline(always)]
-pub(crate) fn find(targets: &[Target], from: usize, to: usize, target: Target) -> Option<usize>
+pub(crate) fn find(
+    targets: &[Target],
+    from: usize,
+    to: usize,
+    target: Target,
+    likely: usize,
+) -> Option<usize>
     requires { to ≤ length targets.now }
     ensures behind { IfSome result (λ i. from ≤ i) }
     ensures before { IfSome result (λ i. i < to) }
     ensures position { IfSome result (λ i. (target_at targets.now i).position ≡ target.position) }
     ensures column { IfSome result (λ i. (target_at targets.now i).column ≡ target.column) }
 {
+    if from <= likely
+        && likely < to
+        && targets[likely].position == target.position
+        && targets[likely].column == target.column
+    {
+        return Some(likely);
+    }
     for index in from..to {
         if targets[index].position == target.position && targets[index].column == target.column {
             return Some(index);
@@ -39,16 +53,23 @@ pub(crate) fn find(targets: &[Target], from: usize, to: usize, target: Target) -
 }
 
 /// Adds a target to those from a place on: its word is joined with that of the same position and column, if there is one.
+/// Where that one is likely to be is given, and then where the next one is.
 #[inline(always)]
-pub(crate) fn add(targets: &mut Vec<Target>, start: usize, target: Target) -> Result<(), Memory>
+pub(crate) fn add(
+    targets: &mut Vec<Target>,
+    start: usize,
+    target: Target,
+    likely: &mut usize,
+) -> Result<(), Memory>
     requires { start ≤ length targets.old.items }
     ensures keeps { Keeps start targets.old.items targets.new.items }
     ensures adds { OnOk result (AddsTarget start targets.old.items targets.new.items target) }
 {
-    let Some(index) = find(targets, start, targets.len(), target) else {
+    let Some(index) = find(targets, start, targets.len(), target, *likely) else {
         targets.push(target)?;
         return Ok(());
     };
+    *likely = index + 1;
     let word = targets[index].word | target.word;
     targets[index] = Target {
         position: target.position,
@@ -71,9 +92,10 @@ pub(crate) fn add_all(
     ensures keeps { Keeps start targets.old.items targets.new.items }
     ensures adds { OnOk result (AddsAll start targets.old.items targets.new.items from to) }
 {
+    let mut likely = start;
     for index in from..to {
         let target = targets[index];
-        add(targets, start, target)?;
+        add(targets, start, target, &mut likely)?;
     }
     Ok(())
 }

@@ -11,14 +11,24 @@ use crate::table::{Entry, Table};
 use crate::target::Target;
 use rbg_base::{Position, Vertex};
 
-/// Whether an entry tells of all vertices of a target.
-fn tells(table: &Table, entry: Entry, target: Target) -> bool
+/// Whether an entry tells of all vertices of a target. Where it is likely to do so is given, and then where it is likely to
+/// tell of the next one.
+fn tells(table: &Table, entry: Entry, target: Target, likely: &mut usize) -> bool
     requires { IsWithin (length table.now.targets.items) entry }
     ensures { IsTrue result → (j u : ℕ) → IsEndOf target j u → TellsAt table.now entry j u }
 {
     let start = entry.start as usize;
-    match find(&table.targets, start, start + entry.many as usize, target) {
-        Some(index) => table.targets[index].word | target.word == table.targets[index].word,
+    match find(
+        &table.targets,
+        start,
+        start + entry.many as usize,
+        target,
+        *likely,
+    ) {
+        Some(index) => {
+            *likely = index + 1;
+            table.targets[index].word | target.word == table.targets[index].word
+        }
         None => false,
     }
 }
@@ -41,8 +51,9 @@ fn tells_targets(table: &Table, entry: Entry, other: Entry) -> bool
         return true;
     }
     let start = other.start as usize;
+    let mut likely = entry.start as usize;
     for index in start..start + other.many as usize {
-        if !tells(table, entry, table.targets[index]) {
+        if !tells(table, entry, table.targets[index], &mut likely) {
             return false;
         }
     }
@@ -76,7 +87,8 @@ fn is_told(
     ensures { IsTrue result → IsToldAt ground.now lists.now table.now entry vertex position }
 {
     if !ground.is_shift(position) {
-        return tells(table, entry, unit(position, vertex));
+        let mut likely = entry.start as usize;
+        return tells(table, entry, unit(position, vertex), &mut likely);
     }
     match ground.to(vertex, position) {
         Some(to) => tells_all(table, entry, table.entry(lists.after(position), to)),

@@ -160,7 +160,8 @@ impl Table {
         ensures grows { OnOk result (Grows start self.old self.new) }
         ensures adds { OnOk result (AddsTarget start self.old.targets.items self.new.targets.items target) }
     {
-        add(&mut self.targets, start, target)
+        let mut likely = start;
+        add(&mut self.targets, start, target, &mut likely)
     }
 
     /// Adds the targets between two places to those from a place on.
