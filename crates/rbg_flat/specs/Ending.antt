@@ -6,7 +6,8 @@ use Rattle.rbg_rules.specs.Words.{Start}
 use Rattle.rbg_flat.specs.Candidates.{IsCandidate, MayEnd}
 use Rattle.rbg_flat.specs.Found.{HasCandidates, most_candidates}
 
--- No modifier and no pattern may come next: so many candidates there are, and `ends` tells whether a word may end.
+-- No modifier and no pattern may come next, whether it holds or not. There are `many` candidates, and `ends` tells whether
+-- a word may end.
 pub record IsDeadEnd (game : AbstractGame) (s : AbstractState) (f : Start) (many : ℕ) (ends : Bool) : Type 0 where
   pub candidates : HasCandidates game s f many
   pub few : many ≤ most_candidates game

@@ -30,9 +30,9 @@ pub struct DeadEnd {
 }
 
 impl Paths {
-    /// What is told of the inside of a pattern at a vertex from where leaps lead to no modifier, to no pattern and to nothing
-    /// that holds: there are no further candidates. It needs no sets. None elsewhere, and where it isn't looked for: it
-    /// is where leaps lead to several positions, and to one vertex at each.
+    /// How many candidates the inside of a pattern has at a vertex, and whether a word may end, where the first leaps lead
+    /// only to ons and comparisons that don't hold. This needs no sets. It is looked for only where the first leaps lead
+    /// to several positions, at one vertex each; else it is None.
     #[inline(always)]
     pub fn dead_end(
         &self,

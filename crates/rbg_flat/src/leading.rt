@@ -17,7 +17,7 @@ use rbg_rules::Game;
 use rbg_state::SemiState;
 
 /// Meets the vertices of a word at a position, whose word is at a place. What is new of them is to be looked at, unless a
-/// modifier stands there, or an on of which no piece stands on the vertex.
+/// modifier stands there, an on of which no piece stands on the vertex, or a comparison that doesn't hold.
 #[inline(always)]
 fn meet_at(
     sets: &mut Sets,

@@ -48,8 +48,8 @@ pub struct Paths {
     pub(crate) leaps: Leaps,
     pub(crate) facts: Vec<Facts>,
     /// Whether a pattern stands at each position, from 0 on, whose inside begins with leaps to several positions, to one
-    /// vertex at each, as far as was looked. It only tells where to look for the end of a pattern: nothing rests on it.
-    /// With a byte more the facts of a position would be read as one word, and cut.
+    /// vertex at each, as far as was looked. It only tells where to look for a dead end: nothing rests on it. It is kept
+    /// apart, since a third field would make each read of the facts slower.
     branches: Vec<bool>,
 }
 
@@ -102,7 +102,7 @@ impl Paths {
         self.facts(position).still
     }
 
-    /// Whether it is worth looking whether nothing goes on in the pattern at a position.
+    /// Whether to look for a dead end in the pattern at a position.
     #[inline(always)]
     pub(crate) fn branches(&self, position: Position) -> bool {
         match self.branches.get(position as usize) {

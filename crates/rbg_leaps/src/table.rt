@@ -104,7 +104,8 @@ impl Table {
         }
     }
 
-    /// The entry of a node and a vertex, which is there. It is lent: a copy is one word, out of which each part would be cut.
+    /// The entry of a node and a vertex, which is there. It is lent, since a copy would be read as one word, from which each
+    /// field is cut.
     #[inline(always)]
     pub(crate) fn entry_there(&self, node: usize, vertex: Vertex) -> &Entry
         requires { node * self.now.vertices + vertex < length self.now.entries.items }
@@ -127,8 +128,9 @@ impl Table {
 
     /// Puts the entry of a node and a vertex in its place, with all targets from a place on. Memory is said to be out where
     /// an entry can't name them: behind 4,294,967,295 targets, which take 64 gigabytes, and where they are more than 65,535,
-    /// which is never met: from 65 vertices on, the limit of words allows at most 4,194,304 / 65 for the positions and
-    /// columns of one entry.
+    /// which is never met. Up to 64 vertices each target of an entry has a position of its own, of which there are at most
+    /// 20,000; from 65 vertices on, the limit of words allows at most 4,194,304 / 65 for the positions and columns of one
+    /// entry.
     #[inline(always)]
     pub(crate) fn put(
         &mut self,

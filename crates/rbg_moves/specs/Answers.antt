@@ -1,4 +1,4 @@
--- What a call that asks about the moves of a place says of its answer, or of the want of one. Each record speaks of the
+-- What a call that asks about the moves of a place says of its answer, or why there is none. Each record speaks of the
 -- result of the call, in whatever form this tells a move or a list of moves.
 use Rattle.std.specs.Prelude.{◌≡◌, ℕ, ◌⊎◌, List, length, Bool, Option, Result, Err, IfOk, IfSome, IfNone, OnOk}
 use Rattle.rbg_base.specs.Move.{IsMoveLength}
@@ -23,7 +23,7 @@ pub record GivesUp {X : Type 0}
     pub deep : result ≡ Err Deep → IsDeepAt game question place
     pub wide : result ≡ Err Wide → IsWideAt game question place
 
--- Some legal move of the place was found, if there is one.
+-- Some legal move of the place was found, if there is one. `pairs_of` gives the pairs of what was found.
 --   found, sized: what was found has the pairs of a legal move, as many as a move may have
 --   finished: where nothing was found, play is finished
 --   given_up, fits: it was given up only above the limits, and answered only within them
@@ -54,7 +54,7 @@ pub record TriesMove
     pub fits : OnOk result ((cut : Bool) → FitsLimits game cut (try_move pairs) place)
 
 -- The legal moves of the place were listed.
---   lists: they are as they should be; Lists says how
+--   lists: the answer is as Lists says
 --   given_up, fits: it was given up only above the limits, and answered only within them; cut_of tells whether the list
 --   was cut
 pub record ListsMoves {X : Type 0}

@@ -137,7 +137,7 @@ impl PlayedGame {
         scores
     }
 
-    /// Buffers and counts for questions, which none has used yet.
+    /// A new workspace for questions, whose counts are 0.
     pub fn workspace(&self) -> Workspace
         ensures { result.searches ≡ record { openings = 0; pairs = 0 } }
     {

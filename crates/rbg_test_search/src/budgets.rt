@@ -167,7 +167,7 @@ fn eight_nested_patterns_with_stars_of_offs_end(rt: HostRuntime) -> Result<(), F
     Ok(())
 }
 
-/// How many openings are taken up to find that white has no move; none where white has one.
+/// How many openings are taken up, by sets, to find that white has no move; none where white has one.
 fn openings_of_none(alloc: Global, rules: &str) -> Result<Option<u64>, Fail> {
     let text = text_of(alloc, "[e]", rules)?;
     let game = load(alloc, text.as_bytes())?;

@@ -24,7 +24,8 @@ pub record IsDeadTarget (game : AbstractGame) (s : AbstractState) (t : Target) :
   pub only : (v p : ℕ) → IsInWord t.position t.column t.word v p → v ≡ vertex
   pub dead : IsDead game s vertex t.position
 
--- The targets have one vertex each, at greater and greater positions up to the last one, and each is dead.
+-- The targets have one vertex each, at greater and greater positions up to the last one, and each is dead. The pairs are
+-- the vertex of each target with its position.
 pub record AreDead (game : AbstractGame) (s : AbstractState) (targets : List Target) (last : ℕ) : Type 0 where
   pub pairs : List (ℕ × ℕ)
   pub all : (v p : ℕ) → Contains pairs (v, p) ↔ IsAmong targets v p

@@ -156,6 +156,7 @@ pub record Shares (old new : Table) (n v : ℕ) (e : Entry) : Type 0 where
 pub record TellsStill (start : ℕ) (old new : List Target) : Type 0 where
   pub tells : (j u : ℕ) → Tells old start (length old) j u → Tells new start (length new) j u
 
+-- The table still tells, from a place on, all that it told.
 abbrev pub KeepsTold : (start : ℕ) → Table → Table → Type 0
 KeepsTold start old new = TellsStill start old.targets.items new.targets.items
 
