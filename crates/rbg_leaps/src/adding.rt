@@ -6,6 +6,9 @@ ghost use Rattle.rbg_leaps.specs.internal.Tables.{target_at, Keeps, AddsTarget, 
 use crate::target::Target;
 use rbg_base::{Memory, Position, Vertex};
 
+/// A place that is not likely, since no list is as long.
+pub(crate) const NOWHERE: usize = usize::MAX;
+
 /// The target that has a vertex alone.
 #[inline(always)]
 pub(crate) fn unit(position: Position, vertex: Vertex) -> Target
@@ -37,8 +40,8 @@ pub(crate) fn find(
     ensures position { IfSome result (λ i. (target_at targets.now i).position ≡ target.position) }
     ensures column { IfSome result (λ i. (target_at targets.now i).column ≡ target.column) }
 {
-    if from <= likely
-        && likely < to
+    if likely < to
+        && from <= likely
         && targets[likely].position == target.position
         && targets[likely].column == target.column
     {
@@ -92,7 +95,7 @@ pub(crate) fn add_all(
     ensures keeps { Keeps start targets.old.items targets.new.items }
     ensures adds { OnOk result (AddsAll start targets.old.items targets.new.items from to) }
 {
-    let mut likely = start;
+    let mut likely = NOWHERE;
     for index in from..to {
         let target = targets[index];
         add(targets, start, target, &mut likely)?;

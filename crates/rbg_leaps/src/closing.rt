@@ -4,7 +4,7 @@ ghost use Rattle.rbg_leaps.specs.Asked.{IsEndOf};
 ghost use Rattle.rbg_leaps.specs.Entries.{end_of, IsWithin};
 ghost use Rattle.rbg_leaps.specs.internal.Tables.{entry_at, TellsAt, IsUnder, IsToldAt, IsToldEverywhere, AreClosedAt, IsLaidOut};
 
-use crate::adding::{find, unit};
+use crate::adding::{NOWHERE, find, unit};
 use crate::ground::Ground;
 use crate::lists::Lists;
 use crate::table::{Entry, Table};
@@ -51,7 +51,7 @@ fn tells_targets(table: &Table, entry: Entry, other: Entry) -> bool
         return true;
     }
     let start = other.start as usize;
-    let mut likely = entry.start as usize;
+    let mut likely = NOWHERE;
     for index in start..start + other.many as usize {
         if !tells(table, entry, table.targets[index], &mut likely) {
             return false;
@@ -87,7 +87,7 @@ fn is_told(
     ensures { IsTrue result → IsToldAt ground.now lists.now table.now entry vertex position }
 {
     if !ground.is_shift(position) {
-        let mut likely = entry.start as usize;
+        let mut likely = NOWHERE;
         return tells(table, entry, unit(position, vertex), &mut likely);
     }
     match ground.to(vertex, position) {

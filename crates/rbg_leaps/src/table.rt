@@ -2,7 +2,7 @@
 ghost use Rattle.std.specs.Prelude.{All, length};
 ghost use Rattle.rbg_leaps.specs.Entries.{IsWithin};
 
-use crate::adding::{add, add_all};
+use crate::adding::{NOWHERE, add, add_all};
 use crate::entries::entry_in_place;
 use crate::target::Target;
 use rbg_base::{Memory, Vertex};
@@ -162,7 +162,7 @@ impl Table {
         ensures grows { OnOk result (Grows start self.old self.new) }
         ensures adds { OnOk result (AddsTarget start self.old.targets.items self.new.targets.items target) }
     {
-        let mut likely = start;
+        let mut likely = NOWHERE;
         add(&mut self.targets, start, target, &mut likely)
     }
 
