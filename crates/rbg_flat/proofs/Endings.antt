@@ -1,6 +1,6 @@
 -- Places from which nothing goes on.
-use Rattle.std.proofs.Common.{◌≡◌, ◌≢◌, ℕ, ◌+◌, ◌*◌, ◌/◌, ◌%◌, ◌<◌, ◌≤◌, ◌⊎◌, inl, inr, List, [], ◌∷◌, ◌++◌, length, get_or, take, Bool, refl, sym, ap, subst, ◌∙◌, arith}
-use Rattle.std.specs.Prelude.{◌↔◌, All, AllPairs, Contains, IsTrue}
+use Rattle.std.proofs.Common.{◌≡◌, ◌≢◌, ℕ, ◌+◌, ◌*◌, ◌%◌, ◌<◌, ◌≤◌, ◌⊎◌, inl, inr, List, [], ◌∷◌, ◌++◌, length, get_or, take, Bool, refl, sym, ap, subst, ◌∙◌, arith}
+use Rattle.std.specs.Prelude.{◌↔◌, Contains, IsTrue}
 use Rattle.std.specs.Int.{bit_at}
 use native.Mathlib.Decide.{ℕ_discrete}
 use Rattle.std.proofs.Math.Nat.{le-mul_of_pos_right}
@@ -15,7 +15,7 @@ use Rattle.rbg_rules.specs.Words.{Start}
 use Rattle.rbg_leaps.specs.Asked.{AreTargetsFrom}
 use Rattle.rbg_leaps.specs.Leaps.{IsLeap, EndsAcross}
 use Rattle.rbg_leaps.specs.declared.target.Target.{Target}
-use Rattle.rbg_flat.specs.Candidates.{IsCandidate, MayEnd}
+use Rattle.rbg_flat.specs.Candidates.{IsCandidate}
 use Rattle.rbg_flat.specs.Chains.{at_vertex, Holds, IsMet, first, then, EndsMet}
 use Rattle.rbg_flat.specs.Ending.{IsDeadEnd}
 use Rattle.rbg_flat.specs.internal.Ending.{AreDead, IsDead, IsDeadTarget, IsFilledTarget}
@@ -24,7 +24,7 @@ use Rattle.rbg_flat.specs.internal.Passing.{IsToTry}
 use Rattle.rbg_flat.specs.internal.Sets.{IsInWord}
 use Rattle.rbg_flat.proofs.ChainLemmas.{candidate_of, met_of, met_end_of, end_of}
 use Rattle.rbg_flat.proofs.Leadings.{one_more, among_apart, among_first, among_second, none_among}
-use Rattle.rbg_flat.proofs.Leaping.{among_leap, leap_among, targets_for}
+use Rattle.rbg_flat.proofs.Leaping.{among_leap, leap_among}
 use Rattle.rbg_flat.proofs.ToTry.{holds_to_try, pattern_to_try}
 
 no_bit : (word b : ℕ) → word ≡ 0 → bit_at word b ≡ 1 → ⊥

@@ -1,6 +1,4 @@
-use Rattle.std.proofs.Common.{◌≡◌, ℕ, ◌+◌, ◌*◌, List, [], ◌∷◌, ◌⊎◌, inl, inr, subst}
-use Rattle.rbg_rules.specs.Expression.{Expression, on}
-use Rattle.rbg_rules.specs.Positions.{HasAction}
+use Rattle.std.proofs.Common.{◌≡◌, ℕ, ◌+◌, ◌*◌, [], ◌∷◌, ◌⊎◌, inl, inr, subst}
 use Rattle.rbg_flat.specs.Paths.{IsKind}
 use Rattle.rbg_flat.specs.declared.paths.Kind.{Kind}
 use Rattle.rbg_flat.specs.declared.paths.Kind.TheVariants.{On, OnEither, OnAny, Comparison}
