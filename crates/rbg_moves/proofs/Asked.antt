@@ -1,8 +1,8 @@
 -- What is said of a question that was asked at a place, and handed on to who asked.
-use Rattle.std.proofs.Common.{◌≡◌, ℕ, ◌+◌, ◌-◌, ◌^◌, ◌≤◌, min, List, [], length, Bool, true, false, Option, Some, None, refl, sym, ap, ◌∙◌, subst, inl, inr}
+use Rattle.std.proofs.Common.{◌≡◌, ℕ, ◌+◌, ◌-◌, ◌^◌, ◌≤◌, min, List, [], length, Bool, false, Option, Some, None, refl, sym, ap, ◌∙◌, subst, inl, inr}
 use Rattle.std.specs.Prelude.{Result, Ok, Err, IsErrAnd, IfSome, IfNone}
 use Rattle.rbg_base.specs.Move.{most_pairs, IsMoveLength}
-use Rattle.rbg_rules.specs.Limits.{most_openings, most_modifiers}
+use Rattle.rbg_rules.specs.Limits.{most_modifiers}
 use Rattle.rbg_rules.specs.Positions.{IsNumbered}
 use Rattle.rbg_rules.specs.State.{AbstractGame, AbstractState}
 use Rattle.rbg_rules.specs.Words.{Start}

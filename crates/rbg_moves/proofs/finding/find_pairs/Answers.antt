@@ -11,7 +11,6 @@ use Rattle.rbg_rules.specs.Moves.{AbstractPlace, Finished, IsLegal}
 use Rattle.rbg_rules.specs.Questions.{find_move}
 use Rattle.rbg_state.specs.History.{History, IsAfter}
 use Rattle.rbg_state.proofs.Histories.{after_nothing, no_shorter}
-use Rattle.rbg_search.specs.Searching.{Searching}
 use Rattle.rbg_search.specs.declared.over.Over.{Over}
 use Rattle.rbg_search.proofs.Asking.{after_room}
 use Rattle.rbg_moves.specs.internal.Stepping.{GoesOnByMove}

@@ -1,7 +1,6 @@
 -- The pairs lead to a place, or nowhere, or the question was given up.
-use Rattle.std.proofs.Common.{◌≡◌, ℕ, ◌≤◌, List, [], length, true, false, refl, ap, ◌∙◌, subst, arith}
+use Rattle.std.proofs.Common.{◌≡◌, ℕ, List, [], length, true, false, refl, ap, ◌∙◌, subst, arith}
 use Rattle.std.specs.Prelude.{Option, Some, None, IfSome}
-use Rattle.rbg_rules.specs.Limits.{most_modifiers}
 use Rattle.rbg_rules.specs.State.{AbstractGame, AbstractState}
 use Rattle.rbg_rules.specs.Moves.{AbstractPlace, stand_of}
 use Rattle.rbg_rules.specs.Places.{IsPlaceOf}
@@ -13,9 +12,8 @@ use Rattle.rbg_search.specs.Searching.{Searching}
 use Rattle.rbg_moves.specs.Answers.{GivesUp}
 use Rattle.rbg_moves.specs.Limits.{FitsLimits}
 use Rattle.rbg_moves.specs.Tallying.{IsTallied}
-use Rattle.rbg_moves.specs.internal.Asking.{CountsAnswer}
 use Rattle.rbg_moves.specs.internal.Stepping.{place_behind, IsTried}
-use Rattle.rbg_moves.proofs.Asked.{asked_in_vain, asked_fits, asked_tallies, at_place, gives_answer, gives_memory, tallies_none, tallies_one, tries_none, uncut_answer}
+use Rattle.rbg_moves.proofs.Asked.{asked_in_vain, asked_fits, asked_tallies, at_place, gives_answer, gives_memory, tallies_one, tries_none, uncut_answer}
 use Rattle.rbg_moves.proofs.Forcing.{illegal_counts, illegal_fits}
 use Rattle.rbg_moves.proofs.Tallies.{tallied}
 use Rattle.rbg_moves.proofs.trying.try_pairs.Goals as goal
