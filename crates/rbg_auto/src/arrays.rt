@@ -12,7 +12,6 @@ use rbg_base::Position;
 /// rules go on in the same way share one from the start. What `compact` makes has, beside what was laid at each
 /// position, a record of what a search reads of it: where its list is, and what is told at once of its action. These
 /// records are lent.
-#[derive(Debug)]
 pub struct Compact {
     pub(crate) table: Table,
     pub(crate) rules: Opening,

@@ -11,7 +11,7 @@ use rbg_base::Position;
 
 /// What comes after a position, and what is told at once of its action, as it is lent. A search reads many of them, so
 /// a step is small.
-#[derive(Debug, Clone, Copy, Drop)]
+#[derive(Clone, Copy, Drop)]
 pub(crate) struct Step {
     /// Where the list of what may come next starts among the entries.
     pub(crate) start: usize,

@@ -3,21 +3,21 @@
 use crate::steps::Glance;
 
 /// A list of the array: where it starts and where it ends.
-#[derive(Debug, Clone, Copy, Drop)]
+#[derive(Clone, Copy, Drop)]
 pub(crate) struct Span {
     pub(crate) start: usize,
     pub(crate) end: usize,
 }
 
 /// How the words of a level begin.
-#[derive(Debug, Clone, Copy, Drop)]
+#[derive(Clone, Copy, Drop)]
 pub(crate) struct Opening {
     pub(crate) first: Span,
     pub(crate) may_be_empty: bool,
 }
 
 /// What comes after a position, and what is told at once of its action.
-#[derive(Debug, Clone, Copy, Drop)]
+#[derive(Clone, Copy, Drop)]
 pub(crate) struct Node {
     pub(crate) next: Span,
     pub(crate) may_end: bool,

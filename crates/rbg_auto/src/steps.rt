@@ -9,7 +9,7 @@ use crate::lent::Lent;
 use rbg_base::{Direction, Piece, Position};
 
 /// An expression whose words are asked for: the rules, or the inside of the pattern at a position.
-#[derive(Debug, Clone, Copy, PartialEq, Eq, Drop)]
+#[derive(Clone, Copy, PartialEq, Eq, Drop)]
 pub enum Expr {
     Rules,
     Inside(Position),
@@ -18,7 +18,7 @@ pub enum Expr {
 /// What an automaton tells at once of the action at a position, so that the game need not be asked. What `compact` makes
 /// tells of every action but assignments, comparisons, and ons of no piece or of more than two. What it lends tells of
 /// the same actions, but of none where words may end.
-#[derive(Debug, Clone, Copy, PartialEq, Eq, Drop)]
+#[derive(Clone, Copy, PartialEq, Eq, Drop)]
 pub enum Glance {
     /// Nothing is told.
     Unknown,

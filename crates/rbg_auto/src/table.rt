@@ -10,7 +10,6 @@ use std::alloc::Global;
 
 /// The array, and what was laid at each position: a node, and in a list beside the nodes how the words of its inside
 /// begin. Nothing is laid at position 0.
-#[derive(Debug)]
 pub(crate) struct Table {
     pub(crate) entries: Vec<Position>,
     pub(crate) nodes: Vec<Node>,

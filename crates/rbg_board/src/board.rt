@@ -11,7 +11,6 @@ use std::marker::Model;
 pub const MAX_VERTICES: usize = 4096;
 
 /// A board: a graph whose vertices are numbered from 0, each with its first piece.
-#[derive(Debug)]
 pub struct Board {
     first: Vec<Piece>,
     /// The number of entries for each vertex: one for each direction below this number.

@@ -21,7 +21,7 @@ use rbg_rules::Game;
 use rbg_state::SemiState;
 
 /// What is told of the inside of a pattern at a vertex from which nothing goes on.
-#[derive(Clone, Copy, Debug, Drop)]
+#[derive(Clone, Copy, Drop)]
 pub struct DeadEnd {
     /// How many candidates there are.
     pub many: usize,

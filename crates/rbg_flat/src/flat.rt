@@ -31,7 +31,7 @@ use rbg_state::SemiState;
 use std::alloc::Global;
 
 /// A flat part that is being found: what may come next from one place with no modifier before it.
-#[derive(Debug, Drop)]
+#[derive(Drop)]
 pub struct Flat {
     sets: Sets,
     /// Whether a word may end with no modifier more.

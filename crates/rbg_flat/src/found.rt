@@ -17,7 +17,7 @@ use std::alloc::Global;
 use std::marker::Model;
 
 /// Vertices with one position.
-#[derive(Clone, Copy, Debug)]
+#[derive(Clone, Copy)]
 struct Word {
     /// The vertex of the lowest bit.
     base: Vertex,
@@ -28,7 +28,7 @@ struct Word {
 
 /// The modifiers that come next in a flat part and are valid, each with its vertex. They are kept by words of 64 vertices.
 /// Contracts see the list of all pairs.
-#[derive(Debug, Drop)]
+#[derive(Drop)]
 pub struct Modifiers {
     words: Vec<Word>,
 }

@@ -16,7 +16,7 @@ use rbg_rules::{Action, Game};
 use std::alloc::Global;
 
 /// What a flat part does with the action at a position.
-#[derive(Debug, Clone, Copy, Drop)]
+#[derive(Clone, Copy, Drop)]
 pub(crate) enum Kind {
     /// A modifier: it is found, and nothing is led on from it.
     Modifier,
@@ -35,7 +35,7 @@ pub(crate) enum Kind {
 }
 
 /// What flat parts need to know of a position.
-#[derive(Debug, Clone, Copy, Drop)]
+#[derive(Clone, Copy, Drop)]
 pub(crate) struct Facts {
     /// Whether no shift comes next behind it.
     pub(crate) still: bool,
@@ -43,7 +43,6 @@ pub(crate) struct Facts {
 }
 
 /// The leaps of a game, with the facts of each position, from 0 on.
-#[derive(Debug)]
 pub struct Paths {
     pub(crate) leaps: Leaps,
     pub(crate) facts: Vec<Facts>,

@@ -11,7 +11,7 @@ use std::alloc::Global;
 use std::marker::Model;
 
 /// A row of vertices for each position, a bit for each, 64 in a word.
-#[derive(Debug, Drop)]
+#[derive(Drop)]
 pub(crate) struct Sets {
     size: usize,
     /// How many words a row has: 2 to the power of `shift`, so that a place is split into its position and its column

@@ -9,7 +9,7 @@ use std::marker::Model;
 
 /// Words of bits, one for each place. The places whose words have bits are listed, each once, the latest last. To add
 /// bits takes no memory.
-#[derive(Debug, Drop)]
+#[derive(Drop)]
 pub(crate) struct BitTable {
     words: Vec<u64>,
     /// The places that are listed, and behind them room for all others.

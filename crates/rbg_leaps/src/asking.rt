@@ -12,7 +12,7 @@ use rbg_base::{Position, Vertex};
 
 /// The leaps of a game: where shifts alone lead from each place in the rules and each vertex. `leaps` makes them once;
 /// to ask for them takes no memory.
-#[derive(Debug, Drop)]
+#[derive(Drop)]
 pub struct Leaps {
     /// An entry for each position, from 0 on, and each vertex: of what comes after.
     pub(crate) afters: Vec<Entry>,

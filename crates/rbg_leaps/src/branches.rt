@@ -8,7 +8,7 @@ use rbg_base::{Direction, Memory, Position};
 use std::alloc::Global;
 
 /// A position of a list, its direction if it is a shift, and the node after it.
-#[derive(Debug, Clone, Copy, Drop)]
+#[derive(Clone, Copy, Drop)]
 pub(crate) struct Branch {
     pub(crate) position: Position,
     pub(crate) direction: Option<Direction>,

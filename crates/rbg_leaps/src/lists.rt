@@ -11,7 +11,7 @@ use rbg_rules::Game;
 use std::alloc::Global;
 
 /// The nodes of a game's rules, by place.
-#[derive(Debug, Drop)]
+#[derive(Drop)]
 pub(crate) struct Lists {
     pub(crate) shelf: Shelf,
     /// The node at the beginning of the rules.

@@ -4,7 +4,7 @@ use rbg_auto::Expr;
 use rbg_base::Position;
 
 /// Where one stands in the rules of a game.
-#[derive(Debug, Clone, Copy, PartialEq, Eq, Drop)]
+#[derive(Clone, Copy, PartialEq, Eq, Drop)]
 pub enum Origin {
     /// At the beginning of an expression.
     Begin(Expr),

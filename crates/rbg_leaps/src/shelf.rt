@@ -7,7 +7,7 @@ use std::alloc::Global;
 use std::collections::HashMap;
 
 /// A list of positions that come next somewhere in the rules, and whether words may end there.
-#[derive(Debug, Clone, Copy, Drop)]
+#[derive(Clone, Copy, Drop)]
 pub(crate) struct Node {
     pub(crate) start: usize,
     pub(crate) end: usize,
@@ -15,7 +15,7 @@ pub(crate) struct Node {
 }
 
 /// The lists in one array, and a node for each that differs from the others.
-#[derive(Debug, Drop)]
+#[derive(Drop)]
 pub(crate) struct Shelf {
     pub(crate) positions: Vec<Position>,
     pub(crate) nodes: Vec<Node>,

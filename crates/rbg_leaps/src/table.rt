@@ -10,7 +10,7 @@ use std::alloc::{AllocError, Global};
 
 /// The leaps from one place and vertex: which of the targets they are, and whether a word may end on the way. There are
 /// many entries, so each is small.
-#[derive(Debug, Clone, Copy, Drop)]
+#[derive(Clone, Copy, Drop)]
 pub(crate) struct Entry {
     /// Where its targets begin among all of them.
     pub(crate) start: u32,
@@ -20,7 +20,7 @@ pub(crate) struct Entry {
 }
 
 /// An entry for each node and each vertex, node by node, with targets. Entries may share targets.
-#[derive(Debug, Drop)]
+#[derive(Drop)]
 pub(crate) struct Table {
     pub(crate) vertices: usize,
     pub(crate) entries: Vec<Entry>,

@@ -3,7 +3,7 @@
 use rbg_base::Position;
 
 /// A position to which leaps lead, and some vertices: those with a bit in a word, in one column of 64 vertices.
-#[derive(Debug, Clone, Copy, Drop)]
+#[derive(Clone, Copy, Drop)]
 pub struct Target {
     pub position: Position,
     pub column: u32,

@@ -31,7 +31,7 @@ use rbg_state::SemiState;
 use std::alloc::Global;
 
 /// The legal moves that were listed.
-#[derive(Debug, Drop)]
+#[derive(Drop)]
 pub struct Listed {
     /// The moves in order: pair by pair, by vertex and then by position.
     pub moves: Vec<Move>,
@@ -40,7 +40,7 @@ pub struct Listed {
 }
 
 /// The legal moves that were found.
-#[derive(Debug, Drop)]
+#[derive(Drop)]
 pub struct Gathered {
     /// The moves in the order in which they were found.
     pub moves: MoveList,

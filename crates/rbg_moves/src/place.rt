@@ -9,7 +9,7 @@ use std::alloc::Global;
 use std::marker::Model;
 
 /// A semi-state, and the position of the last action; none at the beginning of the rules.
-#[derive(Debug, Drop)]
+#[derive(Drop)]
 pub struct Place {
     pub state: SemiState,
     pub after: Option<Position>,

@@ -29,7 +29,6 @@ use std::alloc::Global;
 use std::marker::Model;
 
 /// A game with the automaton of its rules and with its leaps, which are made once. Contracts see the game.
-#[derive(Debug)]
 pub struct PlayedGame {
     alloc: Global,
     game: Game,

@@ -8,7 +8,6 @@ use rbg_state::SemiState;
 use std::alloc::Global;
 
 /// What questions leave to later ones: their buffers, and what they took up in all.
-#[derive(Debug)]
 pub struct Workspace {
     pub(crate) searches: SearchWorkspace,
     /// The copy of a semi-state on which a question is asked.

@@ -23,7 +23,7 @@ use rbg_state::{SemiState, Trial};
 use std::alloc::Global;
 
 /// A flat part that is being found.
-#[derive(Debug, Drop)]
+#[derive(Drop)]
 pub struct Flat {
     queue: Queue,
     /// How many of the queue's pairs were taken.

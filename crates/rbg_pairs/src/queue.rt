@@ -15,7 +15,7 @@ use std::alloc::Global;
 use std::marker::Model;
 
 /// The pairs that were met since the last `clear`.
-#[derive(Debug, Drop)]
+#[derive(Drop)]
 pub(crate) struct Queue {
     vertices: usize,
     /// How many marks there are: one for each vertex, for each position.

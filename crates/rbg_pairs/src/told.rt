@@ -16,7 +16,7 @@ use rbg_auto::Glance;
 use rbg_base::{Piece, Position, Vertex};
 
 /// How far a flat part is.
-#[derive(Debug, Clone, Copy, Drop)]
+#[derive(Clone, Copy, Drop)]
 pub(crate) struct Progress {
     /// How many pairs were met.
     pub(crate) met: usize,

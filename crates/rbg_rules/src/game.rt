@@ -26,7 +26,6 @@ pub struct Parts {
 
 /// A game that was checked: its rules speak of its own players, pieces, variables and directions, and their actions
 /// are numbered.
-#[derive(Debug)]
 pub struct Game {
     players: Vec<String>,
     pieces: Vec<String>,

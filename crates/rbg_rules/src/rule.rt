@@ -92,7 +92,7 @@ impl Action {
 }
 
 /// The rules of a game: each action once, by its position, and the tree in which the positions stand.
-#[derive(Debug, Drop)]
+#[derive(Drop)]
 pub struct Rules {
     pub tree: Rule,
     /// The action of each position, from position 1 on.

@@ -46,7 +46,7 @@ use std::marker::Model;
 use std::mem::replace;
 
 /// How much a search may do.
-#[derive(Clone, Copy, Debug, PartialEq, Eq, Drop)]
+#[derive(Clone, Copy, PartialEq, Eq, Drop)]
 pub struct Budget {
     /// The most openings that are taken up.
     pub openings: u32,
@@ -55,7 +55,7 @@ pub struct Budget {
 }
 
 /// What is reached without a modifier.
-#[derive(Debug, Drop)]
+#[derive(Drop)]
 pub struct Reached {
     /// The valid modifiers that come next, each with the vertex where it is valid.
     pub pairs: Vec<(Vertex, Position)>,

@@ -15,7 +15,7 @@ use rbg_pairs::{GameSteps, Origin, Outcome, one_more, tried};
 use rbg_state::SemiState;
 
 /// What is told of a pattern that needs no flat part, by a walk along a straight line or by its first leaps.
-#[derive(Debug, Drop)]
+#[derive(Drop)]
 pub(crate) struct Walk {
     /// Whether a word ends on the way.
     pub(crate) ends: bool,

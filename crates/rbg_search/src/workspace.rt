@@ -7,7 +7,7 @@ use std::alloc::Global;
 use std::marker::Model;
 
 /// What searches leave to later ones: their buffers, and what they took up in all. Contracts see the two counts.
-#[derive(Debug, Drop)]
+#[derive(Drop)]
 pub struct Workspace {
     /// Flat parts that are not in use.
     pub(crate) flats: Vec<Box<Flat>>,

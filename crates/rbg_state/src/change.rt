@@ -4,7 +4,7 @@ use rbg_base::{Piece, Player, Variable, Vertex};
 use std::marker::Model;
 
 /// A change of one part of a semi-state.
-#[derive(Clone, Copy, Debug, PartialEq, Eq)]
+#[derive(Clone, Copy, PartialEq, Eq)]
 pub(crate) enum Change {
     /// Makes a player, or the keeper, the current one.
     Player(Player),

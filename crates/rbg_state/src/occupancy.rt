@@ -10,7 +10,7 @@ use std::marker::Model;
 use std::mem::replace;
 
 /// The piece on each vertex.
-#[derive(Debug, Drop)]
+#[derive(Drop)]
 pub(crate) struct Occupancy {
     pieces: Vec<Piece>,
     /// The vertices on which each piece of the game stands.

@@ -13,7 +13,7 @@ use std::marker::Model;
 use std::mem::replace;
 
 /// Who is to act, what stands on each vertex, what each variable holds, and the current vertex.
-#[derive(Debug, Drop)]
+#[derive(Drop)]
 pub(crate) struct Parts {
     player: Player,
     vertex: Vertex,

@@ -7,7 +7,7 @@ use rbg_base::{Memory, Piece, Vertex};
 use std::alloc::Global;
 
 /// For each of the first pieces a row of bits: the vertices on which it stands, 64 in a word.
-#[derive(Debug, Drop)]
+#[derive(Drop)]
 pub(crate) struct Rows {
     /// How many words a row has.
     columns: usize,

@@ -21,7 +21,6 @@ pub use trials::Trial;
 
 /// A semi-state of a game. Two of them are equal if they have the same player, vertex, pieces and
 /// values, whatever their changes are.
-#[derive(Debug)]
 pub struct SemiState {
     parts: Parts,
     /// The changes that lead back, the latest change last.
