@@ -17,13 +17,8 @@ use Rattle.rbg_rules.proofs.PatternLemmas.{only_one, own_stands, word_own}
 use Rattle.rbg_rules.proofs.MoveLemmas.{applied_acts}
 use Rattle.rbg_examples.proofs.ExampleLemmas.{not_equal, no_switch_at, goes_on, begins_with, join_word, at_front, PairAmong, pair_first, pair_later, split}
 use Rattle.rbg_examples.proofs.Offs.{offs, pairs, length-pairs, word, no_switch}
+use Rattle.rbg_examples.proofs.ExampleStates.{start, with_piece}
 use Rattle.rbg_examples.proofs.examples.heavy_with_a_move.Goals as goal
-
-abbrev start : AbstractState
-start = state_of 1 (0 ∷ []) 0
-
-abbrev with_piece : AbstractState
-with_piece = state_of 1 (1 ∷ []) 0
 
 numbered : IsNumbered heavy_choice.rules
 numbered = record { in_order = refl }

@@ -8,9 +8,10 @@ use Rattle.rbg_rules.specs.Positions.{HasAction, IsNumbered, IsSwitchAt, HasNoSw
 use Rattle.rbg_rules.specs.State.{AbstractState}
 use Rattle.rbg_rules.specs.Actions.{Applies, rest, step}
 use Rattle.rbg_rules.specs.Moves.{stay, modify, pass}
-use Rattle.rbg_examples.specs.ExampleGames.{looking_right, state_of}
+use Rattle.rbg_examples.specs.ExampleGames.{looking_right}
 use Rattle.rbg_rules.proofs.PositionLemmas.{Among, Among_left, Among_right}
 use Rattle.rbg_examples.proofs.ExampleLemmas.{no_switch_at, goes_on, pair_first, pair_position, places, acts_word, only_word}
+use Rattle.rbg_examples.proofs.ExampleStates.{at_first, at_second, after_off}
 use Rattle.rbg_examples.proofs.examples.pattern_is_undone.Goals as goal
 
 numbered : IsNumbered looking_right.rules
@@ -34,16 +35,7 @@ puts = inl (inr (inl (refl, refl)))
 ends : HasAction looking_right.rules 8 (switch 2)
 ends = inr (inl (refl, refl))
 
--- white before it moves, on the second square, and there after its off
-abbrev at_first : AbstractState
-at_first = state_of 1 (0 ∷ 0 ∷ []) 0
-
-abbrev at_second : AbstractState
-at_second = record { player = 1; pieces = 0 ∷ 0 ∷ []; values = 0 ∷ 0 ∷ 0 ∷ []; vertex = 1 }
-
-abbrev after_off : AbstractState
-after_off = record { player = 1; pieces = 0 ∷ 1 ∷ []; values = 0 ∷ 0 ∷ 0 ∷ []; vertex = 1 }
-
+-- what its switch leaves
 abbrev after_switch : AbstractState
 after_switch = record { player = 2; pieces = 0 ∷ 1 ∷ []; values = 0 ∷ 0 ∷ 0 ∷ []; vertex = 1 }
 
