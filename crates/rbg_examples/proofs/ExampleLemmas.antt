@@ -6,11 +6,11 @@ use Rattle.std.specs.Str.{bytes_eq}
 use Rattle.std.proofs.lemmas.Bool.{or_parts}
 use Rattle.std.proofs.lemmas.Slice.Eq.{bytes_eq-Decides}
 use Rattle.rbg_rules.specs.Expression.{AbstractAction, off, switch, Expression, act, sequence_of}
-use Rattle.rbg_rules.specs.Positions.{HasAction, HasOwnAction, IsNumbered, IsSwitchAt, outermost, is_modifier}
+use Rattle.rbg_rules.specs.Positions.{HasAction, HasOwnAction, IsNumbered, IsSwitchAt, HasNoSwitch, outermost, is_modifier}
 use Rattle.rbg_rules.specs.Words.{Word, Follows, after}
 use Rattle.rbg_rules.specs.State.{AbstractGame, AbstractState}
 use Rattle.rbg_rules.specs.Actions.{Applies}
-use Rattle.rbg_rules.specs.Moves.{RunPairs, stay, modify, pass, AbstractPlace, Legal}
+use Rattle.rbg_rules.specs.Moves.{RunPairs, stay, modify, pass, AbstractPlace, Legal, IsLegal, stand_of}
 use Rattle.rbg_rules.specs.Laws.{IsJoinOfWords}
 use Rattle.rbg_rules.proofs.PositionLemmas.{Among, Among_right, one_stands}
 use Rattle.rbg_rules.proofs.PatternLemmas.{word_own}
@@ -161,6 +161,11 @@ differs name (other ∷ names) none zero e =
     let first = (or_parts (bytes_eq other name) (list_any (λ n. bytes_eq n name) names) none).0 in
     true_not_false (sym ((bytes_eq-Decides other name).1 same) ∙ first)
 differs name (other ∷ names) none (suc k) e = differs name names (or_parts (bytes_eq other name) (list_any (λ n. bytes_eq n name) names) none).1 k e
+
+-- A move: the positions before its last one, that one, the state to which it leads, and why it is legal.
+pub legal_by : {game : AbstractGame} {from : AbstractPlace} {ps : List (ℕ × ℕ)} (before : List ℕ) (last : ℕ) (end : AbstractState) → Follows game.rules (stand_of from.last) (before ++ last ∷ []) → RunPairs game (before ++ last ∷ []) from.state end ps → IsSwitchAt game.rules last → HasNoSwitch game.rules before → IsLegal game from ps
+legal_by before last end follows runs switches none_before =
+    (record { state = end; last = Some last }, record { before = before; last = last; follows = follows; runs = runs; switches = switches; none_before = none_before; stands = refl })
 
 -- What is in front of something, of one pair or of none, is nothing.
 pub only_nothing : (qs more : List (ℕ × ℕ)) → more ≢ [] → ¬ ([] ≡ qs ++ more)

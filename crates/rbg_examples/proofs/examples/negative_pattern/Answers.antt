@@ -12,7 +12,7 @@ use Rattle.rbg_rules.specs.Moves.{RunPairs, stay, modify, pass}
 use Rattle.rbg_examples.specs.ExampleGames.{nothing_right, one_square, two_squares, state_of}
 use Rattle.rbg_rules.proofs.PositionLemmas.{Among}
 use Rattle.rbg_rules.proofs.MoveLemmas.{applied_acts}
-use Rattle.rbg_examples.proofs.ExampleLemmas.{no_switch_at, goes_on, at_front, first_applies, acts_word, only_word}
+use Rattle.rbg_examples.proofs.ExampleLemmas.{legal_by, no_switch_at, goes_on, at_front, first_applies, acts_word, only_word}
 use Rattle.rbg_examples.proofs.ExampleStates.{start, with_piece, at_first, at_second, after_off}
 use Rattle.rbg_examples.proofs.examples.negative_pattern.Goals as goal
 
@@ -59,18 +59,11 @@ nothing w end word run = first_fails (subst (λ (v : List ℕ). Runs (ActsIn (no
     first_fails (step {middle} first later) = no_right middle first
 
 pub returns-clause-holds : goal.returns-clause-holds
-returns-clause-holds c = (
-  record { state = state_of 2 (1 ∷ []) 0; last = Some 7 },
-  record {
-    before = 2 ∷ 6 ∷ [];
-    last = 7;
-    follows = (outermost, [], [], record { expression = (nothing_right one_square).rules; is_level = refl; is_word = acts_word actions });
-    runs = pass {middle = start} (record { action = negative right_off; stands = looks one_square; acts = ((λ (w, end, word, run). nothing w end word run), refl) }) refl (modify {middle = with_piece} (record { action = off 1; stands = puts one_square; acts = refl }) refl (modify (record { action = switch 2; stands = ends one_square; acts = refl }) refl stay));
-    switches = record { player = 2; stands = ends one_square };
-    none_before = not one_square 2 (6 ∷ []) (no_switch_at (nothing_right one_square).rules (numbered one_square) 2 (negative right_off) (looks one_square) (λ n e. cc)) (not one_square 6 [] (no_switch_at (nothing_right one_square).rules (numbered one_square) 6 (off 1) (puts one_square) (λ n e. cc)) (All-nil (λ p. ¬ IsSwitchAt (nothing_right one_square).rules p)));
-    stands = refl;
-  },
-)
+returns-clause-holds c =
+    legal_by (2 ∷ 6 ∷ []) 7 (state_of 2 (1 ∷ []) 0)
+    (outermost, [], [], record { expression = (nothing_right one_square).rules; is_level = refl; is_word = acts_word actions })
+    (pass {middle = start} (record { action = negative right_off; stands = looks one_square; acts = ((λ (w, end, word, run). nothing w end word run), refl) }) refl (modify {middle = with_piece} (record { action = off 1; stands = puts one_square; acts = refl }) refl (modify (record { action = switch 2; stands = ends one_square; acts = refl }) refl stay)))
+    (record { player = 2; stands = ends one_square }) (not one_square 2 (6 ∷ []) (no_switch_at (nothing_right one_square).rules (numbered one_square) 2 (negative right_off) (looks one_square) (λ n e. cc)) (not one_square 6 [] (no_switch_at (nothing_right one_square).rules (numbered one_square) 6 (off 1) (puts one_square) (λ n e. cc)) (All-nil (λ p. ¬ IsSwitchAt (nothing_right one_square).rules p))))
 
 -- On two squares the inside runs: one step to the right, w put there, and found there.
 runs_right : Runs (ActsIn (nothing_right two_squares) right_off) (3 ∷ 4 ∷ 5 ∷ []) at_first after_off
