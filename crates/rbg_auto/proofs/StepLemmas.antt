@@ -209,19 +209,15 @@ right_of_part laid whole part k end i into back right = record {
     down j (inl (u, v, word)) = inl (u, v, back u (j ∷ v) word)
     down j (inr ((u, word), there)) = inr ((u, back u [] word), there)
 
+right_alone : (laid : Laid) (x y z : Expression) (k : List ℕ) (end : Bool) (i : ℕ) → ((w : List ℕ) → Word y w → Word x w) → ((w : List ℕ) → Word x w → Word y w ⊎ Word z w) → ¬ Among i (positions_of z) → IsRight laid y k end i → IsRight laid x k end i
+right_alone laid x y z k end i into apart_from apart = right_of_part laid x y k end i into
+    (λ u v word. elim (apart_from (u ++ i ∷ v) word) [ inl here ↦ here | inr there ↦ absurd (apart (word_position z u i v there)) ])
+
 right_one : (laid : Laid) (x y : Expression) (k : List ℕ) (end : Bool) (i : ℕ) → ¬ Among i (positions_of y) → IsRight laid x k end i → IsRight laid (choice x y) k end i
-right_one laid x y k end i apart = right_of_part laid (choice x y) x k end i (λ w word. inl word) back
-  where
-    back : (u v : List ℕ) → Word (choice x y) (u ++ i ∷ v) → Word x (u ++ i ∷ v)
-    back u v (inl word) = word
-    back u v (inr word) = absurd (apart (word_position y u i v word))
+right_one laid x y k end i = right_alone laid (choice x y) x y k end i (λ w word. inl word) (λ w word. word)
 
 right_other : (laid : Laid) (x y : Expression) (k : List ℕ) (end : Bool) (i : ℕ) → ¬ Among i (positions_of x) → IsRight laid y k end i → IsRight laid (choice x y) k end i
-right_other laid x y k end i apart = right_of_part laid (choice x y) y k end i (λ w word. inr word) back
-  where
-    back : (u v : List ℕ) → Word (choice x y) (u ++ i ∷ v) → Word y (u ++ i ∷ v)
-    back u v (inr word) = word
-    back u v (inl word) = absurd (apart (word_position x u i v word))
+right_other laid x y k end i = right_alone laid (choice x y) y x k end i (λ w word. inr word) (λ w word. elim word [ inl first ↦ inr first | inr second ↦ inl second ])
 
 right_star : (laid : Laid) (x : Expression) (k m : List ℕ) (end : Bool) (i : ℕ) → HasNoEmptySum x → IsUnion (firsts x) k m → IsRight laid x m end i → IsRight laid (star x) k end i
 right_star laid x k m end i none union right = record {

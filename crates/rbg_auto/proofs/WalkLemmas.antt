@@ -12,12 +12,13 @@ use Rattle.rbg_auto.specs.declared.span.Span.{Span}
 use Rattle.rbg_auto.specs.declared.span.Opening.{Opening}
 use Rattle.rbg_auto.specs.declared.span.Node.{Node}
 use Rattle.rbg_auto.specs.declared.steps.Glance.TheVariants.{Unknown}
+use Rattle.rbg_auto.specs.declared.rest.Rest.{Rest}
 use Rattle.rbg_auto.specs.declared.table.Table.{Table}
 use Rattle.rbg_auto.specs.internal.Firsts.{firsts}
 use Rattle.rbg_auto.specs.internal.Laying.{IsLawful, Lays}
 use Rattle.rbg_auto.specs.internal.Trees.{GivesFirsts, LaysAll, of_tree, IsBefore, IsAgain}
 use Rattle.rbg_auto.specs.internal.Tables.{IsSpan, IsNextWithin, IsFirstWithin, listed, laid_of, Keeps, IsKept, Grows, no_span, no_node, no_inside, laid_at, told_at}
-use Rattle.rbg_auto.specs.internal.Walks.{laid_in, Extends, AddsList, SetsNode, LaysTree, LaysSequence, LaysSum, LaysLevel}
+use Rattle.rbg_auto.specs.internal.Walks.{laid_in, Extends, AddsList, LaysAt, LaysTree, LaysBefore, LaysSequence, LaysLevel}
 use Rattle.rbg_auto.proofs.LayTreeLemmas.{plain_laid, pattern_laid, BeginsTree, act_laid, pattern_laid_whole, then_laid, or_laid, star_laid, SumLaid, sum_laid_none, sum_laid_more, sum_laid_all, SequenceOwed, sequence_owed_all, sequence_owed_fewer, sequence_owed_none, resized}
 
 -- Lists stay where they are while the array grows.
@@ -107,44 +108,36 @@ adds_list old new more entries nodes insides = record {
           may_be_empty = (inside q).may_be_empty;
         }
 
--- The node at a position.
-abbrev pub node_of : Span → Bool → Node
-node_of s end = record { next = s; may_end = end; glance = Unknown }
+-- An action, and a pattern behind its inside.
+pub lays_act : (p : ℕ) (old new : Table) (rest : Rest) → LaysAt old new p no_inside rest → LaysBefore old new (Act p) rest
+lays_act p old new rest at = record {
+  extends = Extends-trans old at.middle new at.adds.extends at.sets.extends;
+  lays = act_laid (length old.nodes.items) p (laid_in old) (laid_in new) rest.positions.items rest.may_end there (λ q other. at.sets.others q other ∙ at.adds.same q);
+}
+  where
+    there : p < length old.nodes.items → laid_in new p ≡ plain_laid rest.positions.items rest.may_end
+    there below = at.sets.there (subst (λ (n : ℕ). p < n) (sym at.adds.extends.size) below) ∙ ap (λ (xs : List ℕ). plain_laid xs rest.may_end) at.keeps.list
 
-module _ (p : ℕ) (old middle new : Table) (s : Span) (k : List ℕ) (end : Bool) where
-  pub lays_act : AddsList old middle → Keeps middle.entries.items s k → SetsNode middle new p (node_of s end) no_inside → LaysTree old new (Act p) k end
-  lays_act adds keeps sets = record {
-    extends = Extends-trans old middle new adds.extends sets.extends;
-    lays = act_laid (length old.nodes.items) p (laid_in old) (laid_in new) k end there (λ q other. sets.others q other ∙ adds.same q);
-  }
-    where
-      there : p < length old.nodes.items → laid_in new p ≡ plain_laid k end
-      there below = sets.there (subst (λ (n : ℕ). p < n) (sym adds.extends.size) below) ∙ ap (λ (xs : List ℕ). plain_laid xs end) keeps.list
+pub lays_pattern : (p : ℕ) (inside : Box Rule Global) (old level new : Table) (rest : Rest) (opening : Opening) → LaysLevel old level inside.value opening → LaysAt level new p opening rest → LaysBefore old new (Pattern p inside) rest
+lays_pattern p inside old level new rest opening lays_level at = record {
+  extends = Extends-trans old level new lays_level.extends (Extends-trans level at.middle new at.adds.extends at.sets.extends);
+  lays = pattern_laid_whole (length old.nodes.items) p inside (laid_in old) (laid_in level) (laid_in new) rest.positions.items rest.may_end (listed at.middle.entries.items opening.first) opening.may_be_empty lays_level.lays begins there (λ q other. at.sets.others q other ∙ at.adds.same q);
+}
+  where
+    begins : BeginsTree inside.value (listed at.middle.entries.items opening.first) opening.may_be_empty
+    begins = record {
+      first_of = λ actions none. (Keeps-grows level.entries.items at.middle.entries.items opening.first (firsts (expression_of actions inside.value)) at.adds.extends.entries (lays_level.first actions none)).list;
+      empty_of = λ actions none. lays_level.empty actions none;
+    }
 
-module _ (p : ℕ) (inside : Box Rule Global) (old level middle new : Table) (s : Span) (k : List ℕ) (end : Bool) (opening : Opening) where
-  pub lays_pattern : LaysLevel old level inside.value opening → AddsList level middle → Keeps middle.entries.items s k → SetsNode middle new p (node_of s end) opening → LaysTree old new (Pattern p inside) k end
-  lays_pattern lays_level adds keeps sets = record {
-    extends = Extends-trans old level new lays_level.extends (Extends-trans level middle new adds.extends sets.extends);
-    lays = pattern_laid_whole (length old.nodes.items) p inside (laid_in old) (laid_in level) (laid_in new) k end (listed middle.entries.items opening.first) opening.may_be_empty lays_level.lays begins there (λ q other. sets.others q other ∙ adds.same q);
-  }
-    where
-      begins : BeginsTree inside.value (listed middle.entries.items opening.first) opening.may_be_empty
-      begins = record {
-        first_of = λ actions none. (Keeps-grows level.entries.items middle.entries.items opening.first (firsts (expression_of actions inside.value)) adds.extends.entries (lays_level.first actions none)).list;
-        empty_of = λ actions none. lays_level.empty actions none;
-      }
-
-      there : p < length old.nodes.items → laid_in new p ≡ pattern_laid k end (listed middle.entries.items opening.first) opening.may_be_empty
-      there below =
-          let size : length middle.nodes.items ≡ length old.nodes.items = adds.extends.size ∙ lays_level.extends.size in
-          sets.there (subst (λ (n : ℕ). p < n) (sym size) below) ∙ ap (λ (xs : List ℕ). pattern_laid xs end (listed middle.entries.items opening.first) opening.may_be_empty) keeps.list
+    there : p < length old.nodes.items → laid_in new p ≡ pattern_laid rest.positions.items rest.may_end (listed at.middle.entries.items opening.first) opening.may_be_empty
+    there below =
+        let size : length at.middle.nodes.items ≡ length old.nodes.items = at.adds.extends.size ∙ lays_level.extends.size in
+        at.sets.there (subst (λ (n : ℕ). p < n) (sym size) below) ∙ ap (λ (xs : List ℕ). pattern_laid xs rest.may_end (listed at.middle.entries.items opening.first) opening.may_be_empty) at.keeps.list
 
 -- Trees of parts.
 pub lays_then : (parts : Vec Rule Global) (old new : Table) (k : List ℕ) (end : Bool) → LaysSequence old new parts.items k end → LaysTree old new (Then parts) k end
 lays_then parts old new k end one = record { extends = one.extends; lays = then_laid (length old.nodes.items) (laid_in old) (laid_in new) k end parts one.lays }
-
-pub lays_or : (parts : Vec Rule Global) (old new : Table) (k : List ℕ) (end : Bool) → LaysSum old new parts.items k end → LaysTree old new (Or parts) k end
-lays_or parts old new k end one = record { extends = one.extends; lays = or_laid (length old.nodes.items) (laid_in old) (laid_in new) k end parts one.lays }
 
 pub lays_star_tree : (part : Box Rule Global) (old new : Table) (k m : List ℕ) (end : Bool) → IsAgain part.value k m → LaysTree old new part.value m end → LaysTree old new (Star part) k end
 lays_star_tree part old new k m end again one = record { extends = one.extends; lays = star_laid (length old.nodes.items) (laid_in old) (laid_in new) k end part m again one.lays }
@@ -167,8 +160,11 @@ sum_goes_on old now new parts i part k end below is one other = record {
   so_far = sum_laid_more (length old.nodes.items) (laid_in old) parts k end (laid_in now) (laid_in new) i part below is one.so_far (next_laid old now new part k end one.extends other);
 }
 
-pub sum_ends : (old now : Table) (parts : List Rule) (i : ℕ) (k : List ℕ) (end : Bool) → length parts ≤ i → SumSoFar old now parts i k end → LaysSum old now parts k end
-sum_ends old now parts i k end all one = record { extends = one.extends; lays = sum_laid_all (length old.nodes.items) (laid_in old) parts k end (laid_in now) i all one.so_far }
+pub sum_ends : (old now : Table) (parts : Vec Rule Global) (i : ℕ) (k : List ℕ) (end : Bool) → length parts.items ≤ i → SumSoFar old now parts.items i k end → LaysTree old now (Or parts) k end
+sum_ends old now parts i k end all one = record {
+  extends = one.extends;
+  lays = or_laid (length old.nodes.items) (laid_in old) (laid_in now) k end parts (sum_laid_all (length old.nodes.items) (laid_in old) parts.items k end (laid_in now) i all one.so_far);
+}
 
 -- The parts of a sequence that are still to be laid.
 pub record SequenceOwes (old now : Table) (parts : List Rule) (i : ℕ) (k : List ℕ) (end : Bool) (m : List ℕ) (may_end : Bool) : Type 0 where

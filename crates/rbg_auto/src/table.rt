@@ -30,6 +30,19 @@ impl Drop for Table {
     }
 }
 
+/// What stands at a position, or what stands for none.
+#[inline(always)]
+fn at_or<T: Copy>(items: &[T], position: Position, none: T) -> T
+    ensures { result ≡ slice_index_or items.now position none }
+{
+    let index = position as usize;
+    if index < items.len() {
+        items[index]
+    } else {
+        none
+    }
+}
+
 impl Table {
     ghost use Rattle.std.specs.Prelude.{[], replicate};
     ghost use Rattle.rbg_auto.specs.internal.Tables.{Keeps, IsSpan, IsNextWithin, IsFirstWithin, listed, no_node, no_inside};
@@ -71,12 +84,7 @@ impl Table {
         ensures node { result ≡ slice_index_or self.now.nodes.items position no_node }
         ensures within { IsNextWithin (length self.now.entries.items) result }
     {
-        let index = position as usize;
-        if index < self.nodes.len() {
-            self.nodes[index]
-        } else {
-            Node::NONE
-        }
+        at_or(&self.nodes, position, Node::NONE)
     }
 
     /// How the words of the inside of a position begin.
@@ -84,12 +92,7 @@ impl Table {
         ensures inside { result ≡ slice_index_or self.now.insides.items position no_inside }
         ensures within { IsFirstWithin (length self.now.entries.items) result }
     {
-        let index = position as usize;
-        if index < self.insides.len() {
-            self.insides[index]
-        } else {
-            Opening::NONE
-        }
+        at_or(&self.insides, position, Opening::NONE)
     }
 
     /// Lays a node and an opening at a position, if the table has it.

@@ -1,8 +1,8 @@
 //! The walk over the rules that lays down what comes after each position.
 ghost use Rattle.std.specs.Prelude.{◌≡◌, ◌<◌, List, [], length, replicate, slice_index_or, IfOk};
-ghost use Rattle.rbg_auto.specs.internal.Tables.{Keeps, IsKept, no_node, no_inside};
+ghost use Rattle.rbg_auto.specs.internal.Tables.{Keeps, IsFirstWithin, no_node, no_inside};
 ghost use Rattle.rbg_auto.specs.internal.Trees.{IsBefore};
-ghost use Rattle.rbg_auto.specs.internal.Walks.{AddsList, LaysTree, LaysSequence, LaysSum, LaysLevel, Extends};
+ghost use Rattle.rbg_auto.specs.internal.Walks.{AddsList, IsKeptOf, LaysAt, LaysBefore, LaysPartsBefore, LaysLevel};
 
 use crate::rest::{Rest, again, before};
 use crate::shelf::{Shelf, hash_of};
@@ -57,12 +57,11 @@ impl Walk {
 
     /// Where the list of what comes next is in the table.
     fn keep(&mut self, rest: &Rest, kept: &mut Option<Span>) -> Result<Span, Memory>
-        requires { IsKept self.old.table.entries.items kept.old rest.now.positions.items }
+        requires { IsKeptOf self.old.table kept.old rest.now }
         ensures adds { IfOk result (λ _. AddsList self.old.table self.new.table) }
         ensures keeps { IfOk result (λ span.
             Keeps self.new.table.entries.items span rest.now.positions.items) }
-        ensures kept { IfOk result (λ _.
-            IsKept self.new.table.entries.items kept.new rest.now.positions.items) }
+        ensures kept { IfOk result (λ _. IsKeptOf self.new.table kept.new rest.now) }
     {
         if let Some(span) = *kept {
             return Ok(span);
@@ -72,40 +71,50 @@ impl Walk {
         Ok(span)
     }
 
+    /// Lays a position, behind which the rest comes.
+    fn lay_at(
+        &mut self,
+        position: Position,
+        inside: Opening,
+        rest: &Rest,
+        kept: &mut Option<Span>,
+    ) -> Result<(), Memory>
+        requires kept { IsKeptOf self.old.table kept.old rest.now }
+        requires inside { IsFirstWithin (length self.old.table.entries.items) inside }
+        ensures lays { IfOk result (λ _.
+            LaysAt self.old.table self.new.table position inside rest.now) }
+        ensures kept { IfOk result (λ _. IsKeptOf self.new.table kept.new rest.now) }
+    {
+        let next = self.keep(rest, kept)?;
+        let node = Node {
+            next,
+            may_end: rest.may_end,
+            glance: Glance::Unknown,
+        };
+        self.table.set(position, node, inside);
+        Ok(())
+    }
+
     /// Lays a part of the rules.
     #[cycle(laying)]
     fn lay(&mut self, rule: &Rule, rest: &Rest, kept: &mut Option<Span>) -> Result<(), Memory>
-        requires { IsKept self.old.table.entries.items kept.old rest.now.positions.items }
-        ensures lays { IfOk result (λ _.
-            LaysTree self.old.table self.new.table rule.now rest.now.positions.items
-            rest.now.may_end) }
-        ensures kept { IfOk result (λ _.
-            IsKept self.new.table.entries.items kept.new rest.now.positions.items) }
+        requires { IsKeptOf self.old.table kept.old rest.now }
+        ensures lays { IfOk result (λ _. LaysBefore self.old.table self.new.table rule.now rest.now) }
+        ensures kept { IfOk result (λ _. IsKeptOf self.new.table kept.new rest.now) }
     {
         match rule {
-            Rule::Act(position) => {
-                let next = self.keep(rest, kept)?;
-                let node = Node {
-                    next,
-                    may_end: rest.may_end,
-                    glance: Glance::Unknown,
-                };
-                self.table.set(*position, node, Opening::NONE);
-                Ok(())
-            }
+            Rule::Act(position) => self.lay_at(*position, Opening::NONE, rest, kept),
             Rule::Pattern { position, inside } => {
                 let inside = self.lay_level(inside)?;
-                let next = self.keep(rest, kept)?;
-                let node = Node {
-                    next,
-                    may_end: rest.may_end,
-                    glance: Glance::Unknown,
-                };
-                self.table.set(*position, node, inside);
-                Ok(())
+                self.lay_at(*position, inside, rest, kept)
             }
             Rule::Then(parts) => self.lay_sequence(parts.as_slice(), rest, kept),
-            Rule::Or(parts) => self.lay_sum(parts.as_slice(), rest, kept),
+            Rule::Or(parts) => {
+                for part in parts {
+                    self.lay(part, rest, kept)?;
+                }
+                Ok(())
+            }
             Rule::Star(part) => {
                 let again = again(self.alloc, part, rest)?;
                 let mut own = None;
@@ -143,12 +152,9 @@ impl Walk {
         rest: &Rest,
         kept: &mut Option<Span>,
     ) -> Result<Rest, Memory>
-        requires { IsKept self.old.table.entries.items kept.old rest.now.positions.items }
-        ensures lays { IfOk result (λ _.
-            LaysTree self.old.table self.new.table part.now rest.now.positions.items
-            rest.now.may_end) }
-        ensures kept { IfOk result (λ _.
-            IsKept self.new.table.entries.items kept.new rest.now.positions.items) }
+        requires { IsKeptOf self.old.table kept.old rest.now }
+        ensures lays { IfOk result (λ _. LaysBefore self.old.table self.new.table part.now rest.now) }
+        ensures kept { IfOk result (λ _. IsKeptOf self.new.table kept.new rest.now) }
         ensures before { IfOk result (λ before.
             IsBefore part.now rest.now.positions.items rest.now.may_end before.positions.items
             before.may_end) }
@@ -165,12 +171,10 @@ impl Walk {
         rest: &Rest,
         kept: &mut Option<Span>,
     ) -> Result<(), Memory>
-        requires { IsKept self.old.table.entries.items kept.old rest.now.positions.items }
+        requires { IsKeptOf self.old.table kept.old rest.now }
         ensures lays { IfOk result (λ _.
-            LaysSequence self.old.table self.new.table parts.now rest.now.positions.items
-            rest.now.may_end) }
-        ensures kept { IfOk result (λ _.
-            IsKept self.new.table.entries.items kept.new rest.now.positions.items) }
+            LaysPartsBefore self.old.table self.new.table parts.now rest.now) }
+        ensures kept { IfOk result (λ _. IsKeptOf self.new.table kept.new rest.now) }
     {
         if parts.is_empty() {
             return Ok(());
@@ -181,27 +185,6 @@ impl Walk {
             left -= 1;
             let mut own = None;
             before = self.lay_part(&parts[left], &before, &mut own)?;
-        }
-        Ok(())
-    }
-
-    /// Lays the parts of a sum, all with the same rest.
-    #[cycle(laying)]
-    fn lay_sum(
-        &mut self,
-        parts: &[Rule],
-        rest: &Rest,
-        kept: &mut Option<Span>,
-    ) -> Result<(), Memory>
-        requires { IsKept self.old.table.entries.items kept.old rest.now.positions.items }
-        ensures lays { IfOk result (λ _.
-            LaysSum self.old.table self.new.table parts.now rest.now.positions.items
-            rest.now.may_end) }
-        ensures kept { IfOk result (λ _.
-            IsKept self.new.table.entries.items kept.new rest.now.positions.items) }
-    {
-        for part in parts {
-            self.lay(part, rest, kept)?;
         }
         Ok(())
     }

@@ -3,7 +3,6 @@ ghost use Rattle.std.specs.Prelude.{◌≡◌};
 ghost use Rattle.rbg_board.specs.declared.error.BoardError.TheVariants.{Memory};
 
 use rbg_base::Memory as OutOfMemory;
-use std::alloc::AllocFailed;
 use thiserror::Error;
 
 /// Why a generator refuses its arguments. Each generator documents the order in which it looks for faults.
@@ -26,18 +25,11 @@ pub enum BoardError {
     Memory,
 }
 
-impl From<OutOfMemory> for BoardError {
+/// Whatever says that memory is refused, as a failed allocation does.
+impl<E: Into<OutOfMemory> + Drop> From<E> for BoardError {
     ghost from_gives = { λ _ error. error ≡ Memory };
 
-    fn from(_error: OutOfMemory) -> BoardError {
-        BoardError::Memory
-    }
-}
-
-impl<T: Drop> From<AllocFailed<T>> for BoardError {
-    ghost from_gives = { λ _ error. error ≡ Memory };
-
-    fn from(_error: AllocFailed<T>) -> BoardError {
+    fn from(_error: E) -> BoardError {
         BoardError::Memory
     }
 }

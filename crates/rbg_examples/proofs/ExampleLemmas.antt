@@ -1,12 +1,16 @@
 -- Steps of the proofs about small games.
-use Rattle.std.proofs.Common.{◌≡◌, ◌≢◌, ℕ, suc, List, [], ◌∷◌, ◌++◌, refl, sym, ap, ◌∙◌, subst, ◌⊎◌, inl, inr, arith}
-use Rattle.std.specs.Prelude.{All}
-use Rattle.rbg_rules.specs.Expression.{AbstractAction, switch, Expression, act, sequence_of}
-use Rattle.rbg_rules.specs.Positions.{HasAction, HasOwnAction, IsNumbered, IsSwitchAt, outermost}
+use Rattle.std.proofs.Common.{◌≡◌, ◌≢◌, ℕ, zero, suc, List, [], ◌∷◌, ◌++◌, refl, sym, ap, ◌∙◌, subst, ◌⊎◌, inl, inr, arith, true, false}
+use Rattle.std.specs.Prelude.{All, Some, slice_get}
+use Rattle.std.specs.List.{list_any}
+use Rattle.std.specs.Str.{bytes_eq}
+use Rattle.std.proofs.lemmas.Bool.{or_parts}
+use Rattle.std.proofs.lemmas.Slice.Eq.{bytes_eq-Decides}
+use Rattle.rbg_rules.specs.Expression.{AbstractAction, off, switch, Expression, act, sequence_of}
+use Rattle.rbg_rules.specs.Positions.{HasAction, HasOwnAction, IsNumbered, IsSwitchAt, HasNoSwitch, outermost, is_modifier}
 use Rattle.rbg_rules.specs.Words.{Word, Follows, after}
 use Rattle.rbg_rules.specs.State.{AbstractGame, AbstractState}
 use Rattle.rbg_rules.specs.Actions.{Applies}
-use Rattle.rbg_rules.specs.Moves.{RunPairs, stay, modify, pass, AbstractPlace, Legal}
+use Rattle.rbg_rules.specs.Moves.{RunPairs, stay, modify, pass, AbstractPlace, Legal, IsLegal, stand_of}
 use Rattle.rbg_rules.specs.Laws.{IsJoinOfWords}
 use Rattle.rbg_rules.proofs.PositionLemmas.{Among, Among_right, one_stands}
 use Rattle.rbg_rules.proofs.PatternLemmas.{word_own}
@@ -134,3 +138,40 @@ split (z ∷ m) (y ∷ b) q x back e =
       | inl h ↦ inl (inr h)
       | inr (rest, is) ↦ inr (rest, ap (λ (l : List ℕ). z ∷ l) is ∙ ap (λ (k : ℕ). k ∷ (b ++ rest)) head)
     ]
+
+pub true_not_false : true ≡ false → ⊥
+true_not_false e = cc
+
+-- An off is a modifier, so a run of one off is one pair, and none is no run of one.
+pub modifies : (game : AbstractGame) → IsNumbered game.rules → (p x : ℕ) → HasAction game.rules p (off x) → {s t : AbstractState} (applied : Applies game p s t) → is_modifier applied.action ≡ true
+modifies game numbered p x puts applied = ap is_modifier (one_stands game.rules numbered p applied.action (off x) applied.stands puts)
+
+pub no_pairs : (game : AbstractGame) (s t : AbstractState) (ps : List (ℕ × ℕ)) → RunPairs game [] s t ps → ps ≡ []
+no_pairs game s t ps stay = refl
+
+pub one_pair : (game : AbstractGame) → IsNumbered game.rules → (p x : ℕ) → HasAction game.rules p (off x) → (s t : AbstractState) (ps : List (ℕ × ℕ)) → RunPairs game (p ∷ []) s t ps → ps ≡ (s.vertex, p) ∷ []
+one_pair game numbered p x puts s t ps (modify applied is stay) = refl
+one_pair game numbered p x puts s t ps (pass applied quiet stay) = absurd (true_not_false (sym (modifies game numbered p x puts applied) ∙ quiet))
+
+-- A name that differs from each of some names is none of them.
+pub differs : (name : List ℕ) (names : List (List ℕ)) → list_any (λ other. bytes_eq other name) names ≡ false → (k : ℕ) → ¬ (slice_get names k ≡ Some name)
+differs name [] none k e = cc
+differs name (other ∷ names) none zero e =
+    let same : other ≡ name = cc in
+    let first = (or_parts (bytes_eq other name) (list_any (λ n. bytes_eq n name) names) none).0 in
+    true_not_false (sym ((bytes_eq-Decides other name).1 same) ∙ first)
+differs name (other ∷ names) none (suc k) e = differs name names (or_parts (bytes_eq other name) (list_any (λ n. bytes_eq n name) names) none).1 k e
+
+-- A move: the positions before its last one, that one, the state to which it leads, and why it is legal.
+pub legal_by : {game : AbstractGame} {from : AbstractPlace} {ps : List (ℕ × ℕ)} (before : List ℕ) (last : ℕ) (end : AbstractState) → Follows game.rules (stand_of from.last) (before ++ last ∷ []) → RunPairs game (before ++ last ∷ []) from.state end ps → IsSwitchAt game.rules last → HasNoSwitch game.rules before → IsLegal game from ps
+legal_by before last end follows runs switches none_before =
+    (record { state = end; last = Some last }, record { before = before; last = last; follows = follows; runs = runs; switches = switches; none_before = none_before; stands = refl })
+
+-- What is in front of something, of one pair or of none, is nothing.
+pub only_nothing : (qs more : List (ℕ × ℕ)) → more ≢ [] → ¬ ([] ≡ qs ++ more)
+only_nothing [] more some e = some (sym e)
+only_nothing (q ∷ qs) more some e = cc
+
+pub all_of_one : (pair : ℕ × ℕ) (qs more : List (ℕ × ℕ)) → more ≢ [] → pair ∷ [] ≡ qs ++ more → qs ≡ []
+all_of_one pair [] more some e = refl
+all_of_one pair (q ∷ qs) more some e = let tails : [] ≡ qs ++ more = cc in absurd (only_nothing qs more some tails)

@@ -1,5 +1,6 @@
 -- Boards of rows by the numbers of their names: the board, and what is wrong with it.
-use Rattle.std.proofs.Common.{◌≡◌, ◌≢◌, ◌↔◌, ℕ, ◌<◌, ◌≤◌, List, [], Some, length, get_or, slice_get, slice_index, All, sym, ap, ◌∙◌, subst, arith}
+use Rattle.std.proofs.Common.{◌≡◌, ◌≢◌, ◌↔◌, ℕ, ◌<◌, ◌≤◌, List, [], Some, length, get_or, slice_get, slice_index, All, Result, Ok, Err, sym, ap, ◌∙◌, subst, arith}
+use Rattle.std.specs.Prelude.{IfOk, IfErr, OnOk}
 use Rattle.std.specs.List.{AllZip, concat, range_with_len}
 use Rattle.std.proofs.lemmas.List.{length-map, get_or-map}
 use Rattle.std.proofs.lemmas.Option.{slice_get-get_or}
@@ -11,15 +12,17 @@ use Rattle.rbg_board.specs.RowLaws.{MakesRows}
 use Rattle.rbg_board.specs.declared.error.BoardError.{BoardError}
 use Rattle.rbg_board.specs.declared.error.BoardError.TheVariants as board_errors
 use Rattle.rbg_rules.specs.Limits.{most_directions}
-use Rattle.rbg_rules.specs.LawfulNames.{AreDifferentNames, AreLawfulNames}
+use Rattle.rbg_rules.specs.LawfulNames.{AreDifferentNames}
 use Rattle.rbg_numbering.specs.declared.error.NumberingError.{NumberingError}
-use Rattle.rbg_game.specs.Descriptions.{IsRowsBoard, BoardIs}
+use Rattle.rbg_game.specs.Descriptions.{IsRowsBoard, BoardIs, NamedBoard as DescribedBoard}
 use Rattle.rbg_game.specs.GameErrors.{game_error_of}
+use Rattle.rbg_game.specs.declared.checking.boards.NamedBoard.{NamedBoard}
+use Rattle.rbg_game.specs.declared.game_error.GameError.{GameError}
 use Rattle.rbg_game.specs.declared.game_error.GameError.TheVariants as errors
 use Rattle.rbg_numbering.specs.Names.{IsNumberOf, texts_of}
 use Rattle.rbg_game.specs.Faults.{board_pieces, HasRowsFault, HasBoardFault, unknown_piece, board_memory}
 use Rattle.rbg_numbering.specs.NameTables.{HasLookUpFault, not_there, no_memory as look_up_memory}
-use Rattle.rbg_game.specs.internal.Boards.{HasVertices, MakesBoard, NumbersDirections, refusal_of}
+use Rattle.rbg_game.specs.internal.Boards.{MakesBoard, NumbersDirections, IsNamed, IsRefusedFor, refusal_of}
 use Rattle.rbg_numbering.proofs.Lists.{AllZip-at}
 use Rattle.rbg_game.proofs.BoardNames.{rows_below}
 
@@ -45,32 +48,12 @@ numbers_agree table names numbers differ named i j i_within j_within =
 in_turn : (names : List SpeltName) (numbers : List ℕ) (count : ℕ) → length names ≡ count → numbers ≡ range_with_len 0 (length names) → numbers ≡ range_with_len 0 count
 in_turn names numbers count long is = is ∙ ap (range_with_len 0) long
 
--- The board.
+-- what is so of each thing that is made, or of each error, is so of this one
+pub of_ok : {A E : Type 0} {made : Result A E} {x : A} (P : A → Type 0) → made ≡ Ok x → IfOk made P → P x
+of_ok P same all = subst (λ r. IfOk r P) same all
 
-module _ (pieces : List (List ℕ)) (names : List SpeltName) (rows : List (List SpeltName)) (cells : List (List ℕ)) (numbers : List ℕ) (table : List (List ℕ)) (board : Graph)
-    (named : AllZip (AllZip (IsNumberOf pieces)) rows cells) (numbered : NumbersDirections names numbers table) (lawful : AreLawfulNames table) (vertices : HasVertices board) where
-  -- by the generator, whose cells are the same
-  pub rows_made : (Cells Lawful : Rows → Type 0) (Edge : List ℕ → Rows → ℕ → ℕ → ℕ → Type 0) (count : ℕ) (spelt : SpeltBoard)
-      → (IsRowsBoard (MakesRows Cells Lawful) Edge (range_with_len 0 count) (record { directions = table; pieces = pieces; board = board }) names rows → BoardIs (record { directions = table; pieces = pieces; board = board }) spelt)
-      → length names ≡ count → count ≤ most_directions → (given : Rows) → given ≡ cells → MakesRows Cells Lawful numbers given → IsGraphOf board (concat given) (Edge numbers given) → HasWidth (width_of numbers) board → MakesBoard pieces spelt table board
-  rows_made Cells Lawful Edge count spelt is_spelt long few given same makes is wide =
-      let in_order = numbered.in_order makes.different in
-      let first : numbers ≡ range_with_len 0 count = in_turn names numbers count long in_order.0 in
-      record {
-        is_board = is_spelt (record {
-          cells = given;
-          named = subst (AllZip (AllZip (IsNumberOf pieces)) rows) (sym same) named;
-          directions = in_order.1;
-          differ = lawful.differ;
-          makes = subst (λ ds. MakesRows Cells Lawful ds given) first makes;
-          board = subst (λ ds. IsGraphOf board (concat given) (Edge ds given)) first is;
-          width = subst (λ ds. HasWidth (width_of ds) board) first wide;
-        });
-        names = lawful;
-        few = omega (arith, numbered.few, long);
-        vertices = vertices;
-        first_pieces = subst (All (λ x. x < length pieces)) (sym (is.first_pieces ∙ ap concat same)) (rows_below pieces rows cells named);
-      }
+pub of_err : {A E : Type 0} {made : Result A E} {e : E} (P : E → Type 0) → made ≡ Err e → IfErr made P → P e
+of_err P same all = subst (λ r. IfErr r P) same all
 
 -- Faults.
 
@@ -89,15 +72,50 @@ by_refusal pieces board board_errors.UnknownVertex fault = fault (λ memory. cc)
 by_refusal pieces board board_errors.SameVertex fault = fault (λ memory. cc)
 by_refusal pieces board board_errors.Memory fault = board_memory
 
--- what a generator refuses is a fault of the rows
-pub rows_fault : (Refusal : List ℕ → Rows → BoardError → Type 0) (pieces : List (List ℕ)) (names : List SpeltName) (rows : List (List SpeltName)) (numbers : List ℕ) (cells : List (List ℕ)) (table : List (List ℕ)) (error : BoardError) → AllZip (AllZip (IsNumberOf pieces)) rows cells → NumbersDirections names numbers table → Refusal numbers cells error → error ≢ board_errors.Memory → HasRowsFault Refusal pieces names rows error
-rows_fault Refusal pieces names rows numbers cells table error named numbered refused is_fault =
-    record {
-      directions = numbers;
-      cells = cells;
-      one_each = AllZip-long (IsNumberOf table) names numbers numbered.named;
-      numbered = numbers_agree table names numbers numbered.differ numbered.named;
-      named = named;
-      refused = refused;
-      is_fault = is_fault;
-    }
+-- The board.
+
+module _ (pieces : List (List ℕ)) (names : List SpeltName) (rows : List (List SpeltName)) (cells : List (List ℕ)) (numbers : List ℕ) (table : List (List ℕ))
+    (named : AllZip (AllZip (IsNumberOf pieces)) rows cells) (numbered : NumbersDirections names numbers table) (spelt : SpeltBoard) where
+  abbrev described : Graph → DescribedBoard
+  described board = record { directions = table; pieces = pieces; board = board }
+
+  -- by the generator, whose cells are the same
+  pub rows_made : (Cells Lawful : Rows → Type 0) (Edge : List ℕ → Rows → ℕ → ℕ → ℕ → Type 0) (count : ℕ)
+      → ((board : Graph) → IsRowsBoard (MakesRows Cells Lawful) Edge (range_with_len 0 count) (described board) names rows → BoardIs (described board) spelt)
+      → length names ≡ count → count ≤ most_directions → (given : Rows) → given ≡ cells
+      → (made : Result Graph BoardError) → OnOk made (MakesRows Cells Lawful numbers given) → IfOk made (λ board. IsGraphOf board (concat given) (Edge numbers given)) → IfOk made (HasWidth (width_of numbers))
+      → (b : NamedBoard) → IsNamed table made b → MakesBoard pieces spelt b.directions b.board
+  rows_made Cells Lawful Edge count is_spelt long few given same made lawful graph wide b it =
+      let makes : MakesRows Cells Lawful numbers given = subst (λ (r : Result Graph BoardError). OnOk r (MakesRows Cells Lawful numbers given)) it.is lawful in
+      let is = of_ok (λ board. IsGraphOf board (concat given) (Edge numbers given)) it.is graph in
+      let in_order = numbered.in_order makes.different in
+      let first : numbers ≡ range_with_len 0 count = in_turn names numbers count long in_order.0 in
+      rw it.directions (record {
+        is_board = is_spelt b.board (record {
+          cells = given;
+          named = subst (AllZip (AllZip (IsNumberOf pieces)) rows) (sym same) named;
+          directions = in_order.1;
+          differ = it.names.differ;
+          makes = subst (λ ds. MakesRows Cells Lawful ds given) first makes;
+          board = subst (λ ds. IsGraphOf b.board (concat given) (Edge ds given)) first is;
+          width = subst (λ ds. HasWidth (width_of ds) b.board) first (of_ok (HasWidth (width_of numbers)) it.is wide);
+        });
+        names = it.names;
+        few = omega (arith, numbered.few, long);
+        vertices = it.vertices;
+        first_pieces = subst (All (λ x. x < length pieces)) (sym (is.first_pieces ∙ ap concat same)) (rows_below pieces rows cells named);
+      })
+
+  -- what it refuses is a fault of the board, unless memory ran out
+  pub rows_refused : (Refusal : List ℕ → Rows → BoardError → Type 0) → ((cause : BoardError) → HasRowsFault Refusal pieces names rows cause → HasBoardFault pieces spelt (errors.Board cause))
+      → (given : Rows) → given ≡ cells → (made : Result Graph BoardError) → IfErr made (Refusal numbers given) → (e : GameError) → IsRefusedFor made e → HasBoardFault pieces spelt e
+  rows_refused Refusal is_fault given same made refusal e it =
+      rw it.refusal (by_refusal pieces spelt it.cause (λ unless. is_fault it.cause (record {
+        directions = numbers;
+        cells = cells;
+        one_each = AllZip-long (IsNumberOf table) names numbers numbered.named;
+        numbered = numbers_agree table names numbers numbered.differ numbered.named;
+        named = named;
+        refused = subst (λ (rs : Rows). Refusal numbers rs it.cause) same (of_err (Refusal numbers given) it.is refusal);
+        is_fault = unless;
+      })))

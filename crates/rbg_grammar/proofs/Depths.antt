@@ -3,7 +3,8 @@ use Rattle.std.proofs.Common.{◌≡◌, ◌≤◌, ◌+◌, ℕ, zero, suc, Lis
 use Rattle.rbg_tokens.specs.Token.{Lexeme}
 use Rattle.rbg_grammar.specs.Grammar.{AreRules}
 use Rattle.rbg_grammar.specs.Laws.{OneTooDeepLaw}
-use Rattle.rbg_grammar.specs.Spells.{IsTooDeep, opens, open_with, open_after}
+use Rattle.rbg_grammar.specs.Spells.{IsTooDeep, open_with, open_after}
+use Rattle.rbg_tokens.specs.Kinds.{opens}
 use Rattle.rbg_grammar.specs.Tree.{SpeltRule}
 use Rattle.rbg_grammar.specs.Reading.{Fault, misfit, too_deep, Reading, ◌>>=◌, ended_at, whole_at}
 use Rattle.rbg_grammar.specs.RuleReading.{rules_at}

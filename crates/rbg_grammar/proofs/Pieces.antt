@@ -4,7 +4,8 @@ use Rattle.rbg_tokens.specs.Token.{Lexeme}
 use Rattle.rbg_tokens.specs.declared.token.Symbol.{Symbol}
 use Rattle.rbg_tokens.specs.declared.token.TokenKind.TheVariants as kinds
 use Rattle.rbg_grammar.specs.Phrase.{IsSymbol, symbol}
-use Rattle.rbg_grammar.specs.Spells.{opens, closes, open_with, open_after}
+use Rattle.rbg_grammar.specs.Spells.{open_with, open_after}
+use Rattle.rbg_tokens.specs.Kinds.{opens, closes}
 use Rattle.rbg_grammar.specs.Reading.{misfit, too_deep, Reading, ◌>>=◌}
 use Rattle.rbg_grammar.proofs.Nesting.{Fits, open_after-append, fits_append, opened, closed, passed, plain_fits}
 

@@ -13,7 +13,8 @@ use Rattle.rbg_grammar.specs.Tree.{SpeltExpression, SpeltRule, SpeltAction, act,
 use Rattle.rbg_grammar.specs.Phrase.{IsSymbol, Separated, separated, within}
 use Rattle.rbg_grammar.specs.Grammar.{relation_of, operator_of, IsOperator, IsFurtherOperand, further_operand, IsChain, chained, IsFactor, plain, minus, IsSumOver, IsNumberOrName, number as a_number, name as a_name, IsPrimary, IsSum, IsRelation, IsOpenAtom, moves, switches, keeps, IsComparison, comparison, IsAssignment, assignment, AreAssignments, assignments, IsBracketAtom, groups, stands_on, puts, compares, assigns, holds, fails, IsItem, once, starred, IsSequence, in_turn, AreRulesOver, either, IsAtom, AreRules}
 use Rattle.rbg_grammar.specs.Reading.{Fault, misfit, Reading, ◌>>=◌, TakesSome, next_is, is_name, is_number, is_symbol, symbol_at, name_at, one_of_at, repeated_at, after_at, listed_at, within_at, open_atom_at, on_at, off_at, in_sequence}
-use Rattle.rbg_grammar.specs.RuleReading.{too_deep_at, is_operator, number_or_name_at, factor_at, further_operand_at, chain_at, operand_at, sum_over_at, primary_at, sum_at, comparison_at, assignment_at, assignments_at, in_choice, positive_at, negative_at, in_braces_at, in_brackets_at, is_opening, bracket_atom_at, item_at, begins_atom, sequence_at, rules_over_at, atom_at, rules_at}
+use Rattle.rbg_tokens.specs.Kinds.{opens}
+use Rattle.rbg_grammar.specs.RuleReading.{too_deep_at, is_operator, number_or_name_at, factor_at, further_operand_at, chain_at, operand_at, sum_over_at, primary_at, sum_at, comparison_at, assignment_at, assignments_at, in_choice, positive_at, negative_at, in_braces_at, in_brackets_at, bracket_atom_at, item_at, begins_atom, sequence_at, rules_over_at, atom_at, rules_at}
 use Rattle.rbg_grammar.proofs.Misfits.{Judged, Judges, Behind, seen, given, bind, choose, choose_at, same_reader}
 use Rattle.rbg_grammar.proofs.MisfitCombinators.{one_of_judged, symbol_judged, name_judged, number_judged, after_judged, closed_as, closed_at, closed_judged, within_judged, repeated_judged, separated_judged}
 use Rattle.rbg_grammar.proofs.PhraseLaws.{further_operand_takes_some, assignment_takes_some, item_takes_some, sequence_takes_some}
@@ -266,13 +267,13 @@ module _ (Atom : List Lexeme → SpeltRule → List Lexeme → Type 0) (atom : L
 -- by how many brackets may be open at once
 open_only : Judges (IsAtom zero) (atom_at zero)
 unfolding atom_at
-open_only = record { at = λ ts. choose_at IsOpenAtom (next_is is_opening) (λ t us vs. refl) too_deep_at open_atom_at ts (λ e. deep_at IsOpenAtom is_opening ts e) (λ e. open_atom_judged.at ts) }
+open_only = record { at = λ ts. choose_at IsOpenAtom (next_is opens) (λ t us vs. refl) too_deep_at open_atom_at ts (λ e. deep_at IsOpenAtom opens ts e) (λ e. open_atom_judged.at ts) }
 
 module _ (n : ℕ) (j : Judges (IsAtom n) (atom_at n)) where
   atoms_judged : Judges (IsAtom (suc n)) (atom_at (suc n))
   unfolding atom_at
   atoms_judged =
-      choose (next_is is_opening) (λ t us vs. refl)
+      choose (next_is opens) (λ t us vs. refl)
       (seen (λ ts x rest d. inr d)
       (bracket_atom_judged (AreRules n) (rules_over_at (atom_at n)) (rules_over_judged (IsAtom n) (atom_at n) j (item_takes_some n) (sequence_takes_some n)) (IsSum n) (sum_at n) (sum_judged n) (assignment_takes_some n)))
       (seen (λ ts x rest d. inl d) open_atom_judged)

@@ -10,9 +10,9 @@ use Rattle.rbg_base.specs.declared.relation.Relation.TheVariants as relations
 use Rattle.rbg_grammar.specs.Tree.{SpeltName, SpeltExpression, SpeltRule, SpeltAction, act, shift, switch, assign, compare, positive, negative, star, sequence_of}
 use Rattle.rbg_grammar.specs.Phrase.{IsSymbol, symbol, IsName, name, one_of, Repeated, done, After, Separated, separated, Listed, nothing, Within, within}
 use Rattle.rbg_grammar.specs.Grammar.{relation_of, IsRelation, IsSum, IsOpenAtom, moves, switches, keeps, IsComparison, comparison, IsAssignment, assignment, AreAssignments, assignments, IsBracketAtom, groups, stands_on, puts, compares, assigns, holds, fails, IsItem, once, starred, IsSequence, in_turn, AreRulesOver, either, IsAtom, AreRules}
-use Rattle.rbg_grammar.specs.Spells.{opens, closes}
+use Rattle.rbg_tokens.specs.Kinds.{opens, closes}
 use Rattle.rbg_grammar.specs.Reading.{too_deep, Reading, ◌>>=◌, next_is, is_name, is_symbol, symbol_at, name_at, one_of_at, listed_at, repeated_at, after_at, separated_at, within_at, open_atom_at, on_at, off_at, in_sequence}
-use Rattle.rbg_grammar.specs.RuleReading.{comparison_at, assignment_at, assignments_at, in_choice, positive_at, negative_at, in_braces_at, in_brackets_at, is_opening, bracket_atom_at, item_at, begins_atom, sequence_at, rules_over_at, atom_at, rules_at, sum_at}
+use Rattle.rbg_grammar.specs.RuleReading.{comparison_at, assignment_at, assignments_at, in_choice, positive_at, negative_at, in_braces_at, in_brackets_at, bracket_atom_at, item_at, begins_atom, sequence_at, rules_over_at, atom_at, rules_at, sum_at}
 use Rattle.rbg_grammar.proofs.Pieces.{Piece, Deep, Sample, Outcome, bind, seen_piece, seen_deep, pieces, first_deep, symbol_piece}
 use Rattle.rbg_grammar.proofs.Readers.{symbol_read, one_of_read}
 use Rattle.rbg_grammar.proofs.SharedOutcomes.{bind_same, map_outcome, seen_outcome, later, both_outcome, none_sample, symbol_never, name_never, name_piece, one_of_never, one_of_piece, no_bracket, name_outcome, names_outcome, repeated_outcome, after_outcome, separated_outcome, bracket_outcome}
@@ -264,7 +264,7 @@ deep_atom t ts other' value' is spells' = record {
   spells = spells';
 }
 
-deep_at : (t : Lexeme) (ts : List Lexeme) (k : TokenKind) → t.kind ≡ k → is_opening k ≡ true → Deep (IsAtom 1) 0 t.at (t ∷ ts)
+deep_at : (t : Lexeme) (ts : List Lexeme) (k : TokenKind) → t.kind ≡ k → opens k ≡ true → Deep (IsAtom 1) 0 t.at (t ∷ ts)
 deep_at t ts kinds.Name k e = cc
 deep_at t ts kinds.Number k e = cc
 deep_at t ts (kinds.Symbol OpenParenthesis) k e = deep_atom t ts (a_token ∷ mark CloseParenthesis ∷ []) _ (ap opens k) (parenthesis_spells t a_token (mark CloseParenthesis) k refl refl)
@@ -276,9 +276,9 @@ deep_at t ts (kinds.Symbol _) k e = cc
 none_outcome : (ts : List Lexeme) → Outcome (IsAtom 1) 0 ts (atom_at 0 ts) (atom_at 1 ts)
 unfolding atom_at
 none_outcome [] = seen_outcome IsOpenAtom (IsAtom 1) 0 (λ ts x rest d. inl d) [] (open_atom_at []) (open_atom_at []) (open_atom_outcome 0 [])
-none_outcome (t ∷ ts) = go (is_opening t.kind) refl
+none_outcome (t ∷ ts) = go (opens t.kind) refl
   where
-    go : (b : Bool) → is_opening t.kind ≡ b → Outcome (IsAtom 1) 0 (t ∷ ts)
+    go : (b : Bool) → opens t.kind ≡ b → Outcome (IsAtom 1) 0 (t ∷ ts)
         (cond {A = Reading SpeltRule} b (Err (too_deep t.at)) (open_atom_at (t ∷ ts))) (cond {A = Reading SpeltRule} b (bracket_atom_at (rules_over_at (atom_at 0)) (sum_at 0) (t ∷ ts)) (open_atom_at (t ∷ ts)))
     go true e = deep_at t ts t.kind refl e
     go false e = seen_outcome IsOpenAtom (IsAtom 1) 0 (λ ts x rest d. inl d) (t ∷ ts) (open_atom_at (t ∷ ts)) (open_atom_at (t ∷ ts)) (open_atom_outcome 0 (t ∷ ts))
@@ -292,7 +292,7 @@ module _ (n : ℕ) (reads : (ts : List Lexeme) → Outcome (IsAtom (suc n)) n ts
 
   more_outcome : (ts : List Lexeme) → Outcome (IsAtom (suc (suc n))) (suc n) ts (atom_at (suc n) ts) (atom_at (suc (suc n)) ts)
   unfolding atom_at
-  more_outcome ts = go (next_is is_opening ts)
+  more_outcome ts = go (next_is opens ts)
     where
       go : (b : Bool) → Outcome (IsAtom (suc (suc n))) (suc n) ts (cond {A = Reading SpeltRule} b (bracket_atom_at (rules_over_at (atom_at n)) (sum_at n) ts) (open_atom_at ts))
           (cond {A = Reading SpeltRule} b (bracket_atom_at (rules_over_at (atom_at (suc n))) (sum_at (suc n)) ts) (open_atom_at ts))

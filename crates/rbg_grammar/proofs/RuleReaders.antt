@@ -12,7 +12,8 @@ use Rattle.rbg_grammar.specs.Tree.{SpeltName, SpeltExpression, SpeltRule, SpeltA
 use Rattle.rbg_grammar.specs.Phrase.{IsSymbol, symbol, IsName, Repeated, After, Separated, separated, Listed, nothing, listed, Within, within}
 use Rattle.rbg_grammar.specs.Grammar.{relation_of, IsRelation, IsSum, IsOpenAtom, IsComparison, comparison, IsAssignment, assignment, AreAssignments, assignments, IsBracketAtom, groups, stands_on, puts, compares, assigns, holds, fails, IsItem, once, starred, IsSequence, in_turn, AreRulesOver, either, IsAtom, AreRules}
 use Rattle.rbg_grammar.specs.Reading.{Reading, ◌>>=◌, next_is, is_symbol, is_in, symbol_at, name_at, repeated_at, after_at, separated_at, within_at, open_atom_at, on_at, off_at, in_sequence}
-use Rattle.rbg_grammar.specs.RuleReading.{too_deep_at, is_operator, comparison_at, assignment_at, assignments_at, in_choice, positive_at, negative_at, in_braces_at, in_brackets_at, is_opening, bracket_atom_at, item_at, begins_atom, sequence_at, rules_over_at, atom_at, rules_at, sum_at}
+use Rattle.rbg_tokens.specs.Kinds.{opens}
+use Rattle.rbg_grammar.specs.RuleReading.{too_deep_at, is_operator, comparison_at, assignment_at, assignments_at, in_choice, positive_at, negative_at, in_braces_at, in_brackets_at, bracket_atom_at, item_at, begins_atom, sequence_at, rules_over_at, atom_at, rules_at, sum_at}
 use Rattle.rbg_grammar.proofs.Readers.{bind_ok, ok_one, IsReadBy, Always, symbol_read, symbol_next, name_read, one_of_complete, one_of_read, one_of_test, next_test-symbol}
 use Rattle.rbg_grammar.proofs.Combinators.{FirstThen, first_then, both_read, repeated_read, Begins, Stops, after_read, within_read, separated_read, may_follow}
 use Rattle.rbg_grammar.proofs.SectionReaders.{piece_read}
@@ -278,14 +279,14 @@ module _ (Rules : List Lexeme → SpeltRule → List Lexeme → Type 0) (rules' 
   bracket_atom_shorter (holds {first = first} {last = last} {r = r} d e f) = omega (arith, symbol_shorter d, (inside_read Question).shorter first r last e, symbol_shorter f)
   bracket_atom_shorter (fails {first = first} {last = last} {r = r} d e f) = omega (arith, symbol_shorter d, (inside_read Exclamation).shorter first r last e, symbol_shorter f)
 
-  bracket_atom_opens : {ts rest : List Lexeme} {x : SpeltRule} → IsBracketAtom Rules Sum ts x rest → next_is is_opening ts ≡ true
-  bracket_atom_opens (groups d) = within_test d is_opening
-  bracket_atom_opens (stands_on d) = within_test d is_opening
-  bracket_atom_opens (puts d) = within_test d is_opening
-  bracket_atom_opens (compares d) = within_test d is_opening
-  bracket_atom_opens (assigns d) = within_test d is_opening
-  bracket_atom_opens (holds d e f) = symbol_test d is_opening
-  bracket_atom_opens (fails d e f) = symbol_test d is_opening
+  bracket_atom_opens : {ts rest : List Lexeme} {x : SpeltRule} → IsBracketAtom Rules Sum ts x rest → next_is opens ts ≡ true
+  bracket_atom_opens (groups d) = within_test d opens
+  bracket_atom_opens (stands_on d) = within_test d opens
+  bracket_atom_opens (puts d) = within_test d opens
+  bracket_atom_opens (compares d) = within_test d opens
+  bracket_atom_opens (assigns d) = within_test d opens
+  bracket_atom_opens (holds d e f) = symbol_test d opens
+  bracket_atom_opens (fails d e f) = symbol_test d opens
 
   bracket_atom_begins : {ts rest : List Lexeme} {x : SpeltRule} → IsBracketAtom Rules Sum ts x rest → next_is begins_atom ts ≡ true
   bracket_atom_begins (groups d) = within_test d begins_atom
@@ -380,7 +381,7 @@ module _ (Atom : List Lexeme → SpeltRule → List Lexeme → Type 0) (atom : L
 -- by how many brackets may be open at once
 open_atom_sound : (ts : List Lexeme) (x : SpeltRule) (rest : List Lexeme) → atom_at zero ts ≡ Ok (x, rest) → IsOpenAtom ts x rest
 unfolding atom_at
-open_atom_sound ts x rest e = first (next_is is_opening ts) ts e
+open_atom_sound ts x rest e = first (next_is opens ts) ts e
   where
     first : (b : Bool) (us : List Lexeme) → cond {A = Reading SpeltRule} b (too_deep_at us) (open_atom_at ts) ≡ Ok (x, rest) → IsOpenAtom ts x rest
     first true [] e = cc
@@ -389,12 +390,12 @@ open_atom_sound ts x rest e = first (next_is is_opening ts) ts e
 
 open_atom_complete : {ts rest : List Lexeme} {x : SpeltRule} → IsOpenAtom ts x rest → atom_at zero ts ≡ Ok (x, rest)
 unfolding atom_at
-open_atom_complete {ts} {rest} {x} d = rw (open_atom_begins d is_opening refl refl, open_atom_read.complete ts x rest d tt)
+open_atom_complete {ts} {rest} {x} d = rw (open_atom_begins d opens refl refl, open_atom_read.complete ts x rest d tt)
 
 module _ (n : ℕ) (rules_reads : IsReadBy 1 (AreRulesOver (IsAtom n)) EndsRules (rules_over_at (atom_at n))) where
   atom_sound : (ts : List Lexeme) (x : SpeltRule) (rest : List Lexeme) → atom_at (suc n) ts ≡ Ok (x, rest) → IsAtom (suc n) ts x rest
   unfolding atom_at
-  atom_sound ts x rest e = first (next_is is_opening ts) e
+  atom_sound ts x rest e = first (next_is opens ts) e
     where
       first : (b : Bool) → cond {A = Reading SpeltRule} b (bracket_atom_at (rules_over_at (atom_at n)) (sum_at n) ts) (open_atom_at ts) ≡ Ok (x, rest) → IsAtom (suc n) ts x rest
       first true e = inr (bracket_atom_sound (AreRulesOver (IsAtom n)) (rules_over_at (atom_at n)) rules_reads (IsSum n) (sum_at n) (sum_read n) ts x rest e)
@@ -402,7 +403,7 @@ module _ (n : ℕ) (rules_reads : IsReadBy 1 (AreRulesOver (IsAtom n)) EndsRules
 
   atom_complete : {ts rest : List Lexeme} {x : SpeltRule} → IsAtom (suc n) ts x rest → atom_at (suc n) ts ≡ Ok (x, rest)
   unfolding atom_at
-  atom_complete {ts} {rest} {x} (inl d) = rw (open_atom_begins d is_opening refl refl, open_atom_read.complete ts x rest d tt)
+  atom_complete {ts} {rest} {x} (inl d) = rw (open_atom_begins d opens refl refl, open_atom_read.complete ts x rest d tt)
   atom_complete {ts} {rest} {x} (inr d) =
       rw (bracket_atom_opens (AreRulesOver (IsAtom n)) (rules_over_at (atom_at n)) rules_reads (IsSum n) (sum_at n) (sum_read n) d, bracket_atom_complete (AreRulesOver (IsAtom n)) (rules_over_at (atom_at n)) rules_reads (IsSum n) (sum_at n) (sum_read n) d)
 

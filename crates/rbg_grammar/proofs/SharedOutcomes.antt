@@ -7,7 +7,7 @@ use Rattle.rbg_tokens.specs.declared.token.TokenKind.{TokenKind}
 use Rattle.rbg_tokens.specs.declared.token.TokenKind.TheVariants as kinds
 use Rattle.rbg_base.specs.Decimals.{number_of_digits}
 use Rattle.rbg_grammar.specs.Phrase.{IsSymbol, IsName, name, IsNumber, number, IsOneOf, one_of, Repeated, done, again as more_of, After, after, Separated, separated, Listed, nothing, listed}
-use Rattle.rbg_grammar.specs.Spells.{opens, closes}
+use Rattle.rbg_tokens.specs.Kinds.{opens, closes}
 use Rattle.rbg_grammar.specs.Tree.{SpeltName, SpeltNumber}
 use Rattle.rbg_grammar.specs.Reading.{Fault, misfit, too_deep, Reading, ◌>>=◌, next_is, is_name, is_number, is_symbol, token_at, symbol_at, name_at, number_at, or_misfit, one_of_at, repeated_within, repeated_at, after_at, separated_at, listed_at}
 use Rattle.rbg_grammar.proofs.Nesting.{passed, plain_fits}

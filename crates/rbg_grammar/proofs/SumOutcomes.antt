@@ -9,7 +9,7 @@ use Rattle.rbg_grammar.specs.declared.expression.Rank.TheVariants as ranks
 use Rattle.rbg_grammar.specs.Tree.{SpeltExpression, SpeltOperand, first_of, in_chain}
 use Rattle.rbg_grammar.specs.Phrase.{IsName, name, IsNumber, symbol, Repeated, done, After, Within, within}
 use Rattle.rbg_grammar.specs.Grammar.{operator_of, IsOperator, IsFurtherOperand, further_operand, IsChain, chained, IsFactor, plain, minus, IsTerm, IsSumOver, IsNumberOrName, number as a_number, name as a_name, IsPrimary, IsSum}
-use Rattle.rbg_grammar.specs.Spells.{opens}
+use Rattle.rbg_tokens.specs.Kinds.{opens}
 use Rattle.rbg_grammar.specs.Reading.{too_deep, Reading, ◌>>=◌, next_is, is_number, is_symbol, name_at, number_at, one_of_at, repeated_at, after_at, within_at}
 use Rattle.rbg_grammar.specs.RuleReading.{is_operator, number_or_name_at, factor_at, further_operand_at, chain_at, operand_at, sum_over_at, primary_at, sum_at}
 use Rattle.rbg_grammar.proofs.Pieces.{Piece, Deep, Outcome}

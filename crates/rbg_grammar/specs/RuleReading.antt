@@ -1,8 +1,9 @@
 -- What is read of arithmetic and of rules, as deep as brackets may be nested.
-use Rattle.std.specs.Prelude.{ℕ, None, zero, suc, List, [], ◌∷◌, Bool, true, false, drop, Ok, Err, if◌then◌else◌}
+use Rattle.std.specs.Prelude.{ℕ, None, zero, suc, List, [], ◌∷◌, Bool, true, drop, Ok, Err, if◌then◌else◌}
 use Rattle.rbg_tokens.specs.Token.{Lexeme}
 use Rattle.rbg_tokens.specs.declared.token.Symbol.{Symbol}
 use Rattle.rbg_tokens.specs.declared.token.Symbol.TheVariants.{DoubleArrow, Arrow, Equals, Plus, Minus, Star, OpenParenthesis, CloseParenthesis, OpenBracket, CloseBracket, OpenBrace, CloseBrace, Comma, Dollar, Question, Exclamation}
+use Rattle.rbg_tokens.specs.Kinds.{opens}
 use Rattle.rbg_tokens.specs.declared.token.TokenKind.{TokenKind}
 use Rattle.rbg_tokens.specs.declared.token.TokenKind.TheVariants as kinds
 use Rattle.rbg_grammar.specs.declared.expression.Rank.{Rank}
@@ -127,14 +128,6 @@ in_brackets_at sum ts =
     then within_at OpenBracket CloseBracket (after_at Dollar (assignments_at sum)) ts
     else off_at ts
 
-abbrev pub is_opening : TokenKind → Bool
-is_opening kinds.Name = false
-is_opening kinds.Number = false
-is_opening (kinds.Symbol OpenParenthesis) = true
-is_opening (kinds.Symbol OpenBracket) = true
-is_opening (kinds.Symbol OpenBrace) = true
-is_opening (kinds.Symbol _) = false
-
 unfoldable pub bracket_atom_at :
     (List Lexeme → Reading SpeltRule) → (List Lexeme → Reading SpeltExpression) → List Lexeme → Reading SpeltRule
 bracket_atom_at rules sum ts =
@@ -152,13 +145,9 @@ item_at atom ts = do
 -- whether an atom begins with such a token
 abbrev pub begins_atom : TokenKind → Bool
 begins_atom kinds.Name = true
-begins_atom kinds.Number = false
-begins_atom (kinds.Symbol OpenParenthesis) = true
-begins_atom (kinds.Symbol OpenBracket) = true
-begins_atom (kinds.Symbol OpenBrace) = true
 begins_atom (kinds.Symbol Arrow) = true
 begins_atom (kinds.Symbol DoubleArrow) = true
-begins_atom (kinds.Symbol _) = false
+begins_atom kind = opens kind
 
 unfoldable pub sequence_at : (List Lexeme → Reading SpeltRule) → List Lexeme → Reading SpeltRule
 sequence_at atom ts = do
@@ -173,9 +162,9 @@ rules_over_at atom ts = do
 
 -- an atom with at most this many brackets open at once
 unfoldable pub atom_at : ℕ → List Lexeme → Reading SpeltRule
-atom_at zero ts = if next_is is_opening ts then too_deep_at ts else open_atom_at ts
+atom_at zero ts = if next_is opens ts then too_deep_at ts else open_atom_at ts
 atom_at (suc n) ts =
-    if next_is is_opening ts then bracket_atom_at (rules_over_at (atom_at n)) (sum_at n) ts else open_atom_at ts
+    if next_is opens ts then bracket_atom_at (rules_over_at (atom_at n)) (sum_at n) ts else open_atom_at ts
 
 unfoldable pub rules_at : ℕ → List Lexeme → Reading SpeltRule
 rules_at n ts = rules_over_at (atom_at n) ts

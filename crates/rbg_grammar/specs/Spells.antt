@@ -1,12 +1,11 @@
 -- Which sections spell which description, and where tokens stop fitting.
-use Rattle.std.specs.Prelude.{◌≡◌, ◌≤◌, ◌+◌, ◌-◌, ℕ, List, [], ◌∷◌, ◌++◌, ◌⊎◌, Bool, true, false, if◌then◌else◌}
+use Rattle.std.specs.Prelude.{◌≡◌, ◌≤◌, ◌+◌, ◌-◌, ℕ, List, [], ◌∷◌, ◌++◌, ◌⊎◌, true, if◌then◌else◌}
 use Rattle.rbg_tokens.specs.Token.{Lexeme}
 use Rattle.rbg_macro.specs.Sections.{SectionTokens}
 use Rattle.rbg_macro.specs.declared.source.SectionKind.{SectionKind}
 use Rattle.rbg_macro.specs.declared.source.SectionKind.TheVariants.{Players, Pieces, Variables, Board, Rules}
-use Rattle.rbg_tokens.specs.declared.token.Symbol.TheVariants.{OpenParenthesis, CloseParenthesis, OpenBracket, CloseBracket, OpenBrace, CloseBrace}
 use Rattle.rbg_tokens.specs.declared.token.TokenKind.{TokenKind}
-use Rattle.rbg_tokens.specs.declared.token.TokenKind.TheVariants as kinds
+use Rattle.rbg_tokens.specs.Kinds.{opens, closes}
 use Rattle.rbg_grammar.specs.Sections.{sections_of}
 use Rattle.rbg_grammar.specs.Phrase.{Phrase}
 use Rattle.rbg_grammar.specs.Tree.{SpeltBounded, SpeltName, SpeltBoard, SpeltRule, SpeltDescription}
@@ -81,22 +80,6 @@ pub record IsMisspelt (sections : List SectionTokens) (at : ℕ) : Type 0 where
   pub has : HasSection sections kind ts
   pub spells_nothing : IsSpelt kind ts → ⊥
   pub place : StopsAt kind has.section at
-
-abbrev pub opens : TokenKind → Bool
-opens kinds.Name = false
-opens kinds.Number = false
-opens (kinds.Symbol OpenParenthesis) = true
-opens (kinds.Symbol OpenBracket) = true
-opens (kinds.Symbol OpenBrace) = true
-opens (kinds.Symbol _) = false
-
-abbrev pub closes : TokenKind → Bool
-closes kinds.Name = false
-closes kinds.Number = false
-closes (kinds.Symbol CloseParenthesis) = true
-closes (kinds.Symbol CloseBracket) = true
-closes (kinds.Symbol CloseBrace) = true
-closes (kinds.Symbol _) = false
 
 -- how many brackets are open after a token, and after tokens, if this many are open before
 abbrev pub open_with : ℕ → TokenKind → ℕ

@@ -345,6 +345,6 @@ none_marked game lists t many sound = record {
 pub is_listed : (xs : List ℕ) (i : ℕ) → i < length xs → Contains xs (get_or xs i 0)
 is_listed xs i below = (i, below, same_item xs i (get_or xs i 0) below)
 
--- What is so of each item is so of what the list contains.
-pub each_listed : (P : ℕ → Type 0) (xs : List ℕ) → ((i : ℕ) → i < length xs → P (get_or xs i 0)) → (p : ℕ) → Contains xs p → P p
-each_listed P xs each p there = All-contains P xs p (λ k d below. subst P (sym (same_item xs k d below)) (each k below)) there
+-- What is so of each item is so of what the list contains, under the name of which it was asked.
+pub each_listed : (P : ℕ → Type 0) {xs ys : List ℕ} → xs ≡ ys → ((i : ℕ) → i < length xs → P (get_or xs i 0)) → (p : ℕ) → Contains ys p → P p
+each_listed P {xs} same each p there = All-contains P xs p (λ k d below. subst P (sym (same_item xs k d below)) (each k below)) (subst (λ (zs : List ℕ). Contains zs p) (sym same) there)

@@ -16,6 +16,9 @@ use crate::table::{Entry, Table};
 use rbg_base::{Direction, Memory, Position, Vertex};
 use std::alloc::Global;
 
+/// Whether there was memory for what is filled.
+type Filled = Result<(), Memory>;
+
 /// Puts what one step leads to into the entry of a node and a vertex.
 #[inline(always)]
 fn fill_one(
@@ -23,10 +26,10 @@ fn fill_one(
     lists: &Lists,
     ground: &Ground<'_>,
     node: usize,
+    vertex: Vertex,
     list: &[Branch],
     may_end: bool,
-    vertex: Vertex,
-) -> Result<(), Memory>
+) -> Filled
     requires at { IsRightAt ground.now lists.now table.old node }
     requires list { list.now ≡ branches_at lists.now node }
     requires may_end { may_end ≡ may_end_at lists.now.shelf node }
@@ -79,32 +82,6 @@ fn entry_behind(
     }
 }
 
-/// Lets the entry of a node and a vertex share what is told behind a shift of its list.
-#[inline(always)]
-fn share_one(
-    table: &mut Table,
-    lists: &Lists,
-    ground: &Ground<'_>,
-    node: usize,
-    vertex: Vertex,
-    branch: &Branch,
-    direction: Direction,
-    may_end: bool,
-)
-    requires at { IsRightAt ground.now lists.now table.old node }
-    requires vertex { vertex < length ground.now.board.first }
-    requires only { IsOnly (list_at lists.now.shelf node) branch.now.position }
-    requires branch { IsBranch ground.now.rules lists.now.afters.items branch.now.position branch.now }
-    requires direction { branch.now.direction ≡ Some direction }
-    requires may_end { may_end ≡ may_end_at lists.now.shelf node }
-    ensures { FillsOne ground.now lists.now table.old table.new node vertex }
-{
-    let entry = entry_behind(
-        table, lists, ground, node, vertex, branch, direction, may_end,
-    );
-    table.share(node, vertex, entry);
-}
-
 /// The branch that a node's list has alone.
 fn only_of(lists: &Lists, ground: &Ground<'_>, node: usize) -> Option<Branch>
     requires lists { AreListsOf ground.now.rules lists.now }
@@ -132,17 +109,12 @@ fn share_node(
     ensures { FillsUpTo ground.now lists.now table.old table.new node (length ground.now.board.first) }
 {
     let may_end = lists.shelf.may_end(node);
-    for vertex in 0..ground.vertices() {
-        share_one(
-            table,
-            lists,
-            ground,
-            node,
-            vertex as Vertex,
-            branch,
-            direction,
-            may_end,
+    for index in 0..ground.vertices() {
+        let vertex = index as Vertex;
+        let entry = entry_behind(
+            table, lists, ground, node, vertex, branch, direction, may_end,
         );
+        table.share(node, vertex, entry);
     }
 }
 
@@ -156,7 +128,7 @@ fn place_one(
     vertex: Vertex,
     position: Position,
     may_end: bool,
-) -> Result<(), Memory>
+) -> Filled
     requires at { IsRightAt ground.now lists.now table.old node }
     requires vertex { vertex < length ground.now.board.first }
     requires only { IsOnly (list_at lists.now.shelf node) position }
@@ -177,7 +149,7 @@ fn place_node(
     ground: &Ground<'_>,
     node: usize,
     position: Position,
-) -> Result<(), Memory>
+) -> Filled
     requires at { IsRightAt ground.now lists.now table.old node }
     requires only { IsOnly (list_at lists.now.shelf node) position }
     requires plain { ¬ IsShiftAt ground.now.rules position }
@@ -199,31 +171,21 @@ fn place_node(
 }
 
 /// Fills the entries of a node forwards over the vertices.
-fn fill_forwards(
-    table: &mut Table,
-    lists: &Lists,
-    ground: &Ground<'_>,
-    node: usize,
-) -> Result<(), Memory>
+fn fill_forwards(table: &mut Table, lists: &Lists, ground: &Ground<'_>, node: usize) -> Filled
     requires { IsRightAt ground.now lists.now table.old node }
     ensures { OnOk result (FillsUpTo ground.now lists.now table.old table.new node (length ground.now.board.first)) }
 {
     let list = lists.branches(node);
     let may_end = lists.shelf.may_end(node);
     for vertex in 0..ground.vertices() {
-        fill_one(table, lists, ground, node, list, may_end, vertex as Vertex)?;
+        fill_one(table, lists, ground, node, vertex as Vertex, list, may_end)?;
     }
     Ok(())
 }
 
 /// Fills the entries of a node backwards over the vertices: that is enough where shifts lead from it to later vertices of
 /// its own alone.
-fn fill_backwards(
-    table: &mut Table,
-    lists: &Lists,
-    ground: &Ground<'_>,
-    node: usize,
-) -> Result<(), Memory>
+fn fill_backwards(table: &mut Table, lists: &Lists, ground: &Ground<'_>, node: usize) -> Filled
     requires { IsRightAt ground.now lists.now table.old node }
     ensures { OnOk result (FillsDownTo ground.now lists.now table.old table.new node (length ground.now.board.first)) }
 {
@@ -232,18 +194,13 @@ fn fill_backwards(
     let vertices = ground.vertices();
     for index in 0..vertices {
         let vertex = (vertices - 1 - index) as Vertex;
-        fill_one(table, lists, ground, node, list, may_end, vertex)?;
+        fill_one(table, lists, ground, node, vertex, list, may_end)?;
     }
     Ok(())
 }
 
 /// Fills the entries of a node from which no shift leads to the node again.
-fn fill_once(
-    table: &mut Table,
-    lists: &Lists,
-    ground: &Ground<'_>,
-    node: usize,
-) -> Result<(), Memory>
+fn fill_once(table: &mut Table, lists: &Lists, ground: &Ground<'_>, node: usize) -> Filled
     requires { IsRightAt ground.now lists.now table.old node }
     ensures { OnOk result (FillsUpTo ground.now lists.now table.old table.new node (length ground.now.board.first)) }
 {
@@ -325,7 +282,7 @@ pub(crate) fn fill_again(
     lists: &Lists,
     ground: &Ground<'_>,
     node: usize,
-) -> Result<(), Memory>
+) -> Filled
     requires { IsRightAt ground.now lists.now table.old node }
     ensures fills { OnOk result (FillsRightly ground.now lists.now table.old table.new node) }
     ensures closed { OnOk result (LeadsOneWay ground.now lists.now node → AreClosedAt ground.now lists.now table.new node) }
@@ -380,12 +337,7 @@ fn is_ready(lists: &Lists, ground: &Ground<'_>, filled: &[bool], node: usize) ->
 }
 
 /// Fills the entries of a node.
-fn fill_node(
-    table: &mut Table,
-    lists: &Lists,
-    ground: &Ground<'_>,
-    node: usize,
-) -> Result<(), Memory>
+fn fill_node(table: &mut Table, lists: &Lists, ground: &Ground<'_>, node: usize) -> Filled
     requires { IsRightAt ground.now lists.now table.old node }
     ensures fills { OnOk result (FillsRightly ground.now lists.now table.old table.new node) }
     ensures closed { OnOk result (LeadsOneWay ground.now lists.now node → AreClosedAt ground.now lists.now table.new node) }

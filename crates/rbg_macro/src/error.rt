@@ -3,7 +3,6 @@ ghost use Rattle.std.specs.Prelude.{◌≡◌};
 ghost use Rattle.rbg_macro.specs.declared.error.MacroError.TheVariants as macro_errors;
 
 use rbg_base::Memory;
-use std::alloc::AllocFailed;
 use thiserror::Error;
 
 /// Why tokens have no expansion.
@@ -31,18 +30,11 @@ pub enum MacroError {
     Memory,
 }
 
-impl From<Memory> for MacroError {
+/// Whatever says that memory is refused, as a failed allocation does.
+impl<E: Into<Memory> + Drop> From<E> for MacroError {
     ghost from_gives = { λ _ e. e ≡ macro_errors.Memory };
 
-    fn from(_error: Memory) -> MacroError {
-        MacroError::Memory
-    }
-}
-
-impl<T: Drop> From<AllocFailed<T>> for MacroError {
-    ghost from_gives = { λ _ e. e ≡ macro_errors.Memory };
-
-    fn from(_error: AllocFailed<T>) -> MacroError {
+    fn from(_error: E) -> MacroError {
         MacroError::Memory
     }
 }

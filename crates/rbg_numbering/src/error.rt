@@ -2,7 +2,7 @@
 ghost use Rattle.std.specs.Prelude.{◌≡◌};
 ghost use Rattle.rbg_numbering.specs.declared.error.NumberingError.TheVariants as numbering_errors;
 
-use std::alloc::{AllocError, AllocFailed};
+use rbg_base::Memory;
 use thiserror::Error;
 
 /// Why names and rules have no numbers. Offsets are those of the text.
@@ -30,18 +30,11 @@ pub enum NumberingError {
     Memory,
 }
 
-impl From<AllocError> for NumberingError {
-    ghost from_gives = { λ _ error. error ≡ numbering_errors.Memory };
+/// Whatever says that memory is refused, as a failed allocation does.
+impl<E: Into<Memory> + Drop> From<E> for NumberingError {
+    ghost from_gives = { λ _ e. e ≡ numbering_errors.Memory };
 
-    fn from(_error: AllocError) -> NumberingError {
-        NumberingError::Memory
-    }
-}
-
-impl<T: Drop> From<AllocFailed<T>> for NumberingError {
-    ghost from_gives = { λ _ error. error ≡ numbering_errors.Memory };
-
-    fn from(_error: AllocFailed<T>) -> NumberingError {
+    fn from(_error: E) -> NumberingError {
         NumberingError::Memory
     }
 }

@@ -188,28 +188,13 @@ one_place_law game numbered from ps to to' one other =
 
 -- A legal move is a move of the question at the place, and the other way round.
 legal_moves : (game : AbstractGame) (place : AbstractPlace) (ps : List (ℕ × ℕ)) → IsLegal game place ps → IsMove game place.state (stand_of place.last) ps
-legal_moves game place ps (to, legal) = record {
-  before = legal.before;
-  last = legal.last;
-  end = to.state;
-  no_switch = legal.none_before;
-  switches = legal.switches;
-  follows = legal.follows;
-  runs = legal.runs;
-}
+legal_moves game place ps (to, legal) =
+    record { before = legal.before; last = legal.last; end = to.state; no_switch = legal.none_before; switches = legal.switches; follows = legal.follows; runs = legal.runs }
 
 moves_legal : (game : AbstractGame) (place : AbstractPlace) (ps : List (ℕ × ℕ)) → IsMove game place.state (stand_of place.last) ps → IsLegal game place ps
 moves_legal game place ps move = (
   record { state = move.end; last = Some move.last },
-  record {
-    before = move.before;
-    last = move.last;
-    follows = move.follows;
-    runs = move.runs;
-    switches = move.switches;
-    none_before = move.no_switch;
-    stands = refl;
-  },
+  record { before = move.before; last = move.last; follows = move.follows; runs = move.runs; switches = move.switches; none_before = move.no_switch; stands = refl },
 )
 
 pub move_law : MoveLaw

@@ -127,6 +127,10 @@ stands_shown rules p a (Switch n) x here shows = subst (HasAction rules p) shows
 stands_shown rules p a Positive x here shows = (x, subst (HasAction rules p) shows here)
 stands_shown rules p a Negative x here shows = (x, subst (HasAction rules p) shows here)
 
+-- What is shown of the rules inside a game is so of those that are seen of it.
+pub of_seen : (P : Expression → Type 0) {inside seen : Expression} {p : ℕ} → inside ≡ seen → p ≤ length (positions_of seen) → (p ≤ length (positions_of inside) → P inside) → P seen
+of_seen P {inside} {seen} {p} same there shows = subst P same (shows (subst (λ (x : Expression). p ≤ length (positions_of x)) (sym same) there))
+
 -- The table has the action that stands at a position.
 pub stands_at : (actions : List Action) (r : Rule) → IsNumbered (expression_of actions r) → length actions ≡ length (positions_of (expression_of actions r)) → (p : ℕ) (d : Action) → 0 < p → p ≤ length (positions_of (expression_of actions r)) → Stands (expression_of actions r) p (get_or actions (p - 1) d)
 stands_at actions r numbered size p d from_one there =

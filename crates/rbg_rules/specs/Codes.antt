@@ -19,6 +19,14 @@ arithmetic_code (difference e f) = gcons (gnum 5) (gcons (arithmetic_code e) (ar
 arithmetic_code (product e f) = gcons (gnum 6) (gcons (arithmetic_code e) (arithmetic_code f))
 arithmetic_code (quotient e f) = gcons (gnum 7) (gcons (arithmetic_code e) (arithmetic_code f))
 
+-- what is coded by the codes of its two parts has these parts
+both : {X : Type 0} (code : X → Gv) (x y z w : X) (n : ℕ) → (code x ≡ code z → x ≡ z) → (code y ≡ code w → y ≡ w)
+    → gcons (gnum n) (gcons (code x) (code y)) ≡ gcons (gnum n) (gcons (code z) (code w)) → (x ≡ z) × (y ≡ w)
+both code x y z w n first second p =
+    let left : code x ≡ code z = cc in
+    let right : code y ≡ code w = cc in
+    (first left, second right)
+
 pub arithmetic_inj : (x y : AbstractArithmetic) → arithmetic_code x ≡ arithmetic_code y → x ≡ y
 arithmetic_inj (number n) (number m) p = cc
 arithmetic_inj (variable v) (variable w) p = cc
@@ -28,28 +36,16 @@ arithmetic_inj (negated e) (negated f) p =
     let same = arithmetic_inj e f parts in
     cc
 arithmetic_inj (sum e f) (sum g h) p =
-    let left : arithmetic_code e ≡ arithmetic_code g = cc in
-    let right : arithmetic_code f ≡ arithmetic_code h = cc in
-    let same = arithmetic_inj e g left in
-    let same' = arithmetic_inj f h right in
+    let (left, right) = both arithmetic_code e f g h 4 (arithmetic_inj e g) (arithmetic_inj f h) p in
     cc
 arithmetic_inj (difference e f) (difference g h) p =
-    let left : arithmetic_code e ≡ arithmetic_code g = cc in
-    let right : arithmetic_code f ≡ arithmetic_code h = cc in
-    let same = arithmetic_inj e g left in
-    let same' = arithmetic_inj f h right in
+    let (left, right) = both arithmetic_code e f g h 5 (arithmetic_inj e g) (arithmetic_inj f h) p in
     cc
 arithmetic_inj (product e f) (product g h) p =
-    let left : arithmetic_code e ≡ arithmetic_code g = cc in
-    let right : arithmetic_code f ≡ arithmetic_code h = cc in
-    let same = arithmetic_inj e g left in
-    let same' = arithmetic_inj f h right in
+    let (left, right) = both arithmetic_code e f g h 6 (arithmetic_inj e g) (arithmetic_inj f h) p in
     cc
 arithmetic_inj (quotient e f) (quotient g h) p =
-    let left : arithmetic_code e ≡ arithmetic_code g = cc in
-    let right : arithmetic_code f ≡ arithmetic_code h = cc in
-    let same = arithmetic_inj e g left in
-    let same' = arithmetic_inj f h right in
+    let (left, right) = both arithmetic_code e f g h 7 (arithmetic_inj e g) (arithmetic_inj f h) p in
     cc
 arithmetic_inj _ _ p = cc
 
@@ -128,17 +124,11 @@ mutual
       cc
   expression_inj skip skip e = refl
   expression_inj (sequence x y) (sequence z w) e =
-      let left : expression_code x ≡ expression_code z = cc in
-      let right : expression_code y ≡ expression_code w = cc in
-      let same = expression_inj x z left in
-      let same' = expression_inj y w right in
+      let (first, second) = both expression_code x y z w 2 (expression_inj x z) (expression_inj y w) e in
       cc
   expression_inj fail fail e = refl
   expression_inj (choice x y) (choice z w) e =
-      let left : expression_code x ≡ expression_code z = cc in
-      let right : expression_code y ≡ expression_code w = cc in
-      let same = expression_inj x z left in
-      let same' = expression_inj y w right in
+      let (first, second) = both expression_code x y z w 4 (expression_inj x z) (expression_inj y w) e in
       cc
   expression_inj (star x) (star y) e =
       let parts : expression_code x ≡ expression_code y = cc in

@@ -7,7 +7,8 @@ use Rattle.rbg_tokens.specs.declared.token.TokenKind.{TokenKind}
 use Rattle.rbg_grammar.specs.declared.expression.Rank.{Rank}
 use Rattle.rbg_grammar.specs.Tree.{SpeltExpression, SpeltOperand, SpeltRule, first_of, in_chain, act, positive, negative, sequence_of}
 use Rattle.rbg_grammar.specs.Reading.{Fault, misfit, too_deep, Reading, ◌>>=◌, next_is, is_symbol, symbol_at, repeated_at, after_at, separated_at, within_at, further_at, in_sequence, open_atom_at}
-use Rattle.rbg_grammar.specs.RuleReading.{too_deep_at, chain_at, further_operand_at, in_choice, is_opening, is_operator, number_or_name_at, primary_at, sum_at, atom_at, begins_atom, bracket_atom_at, item_at, sequence_at, rules_over_at, rules_at, pattern_at, positive_at, negative_at}
+use Rattle.rbg_tokens.specs.Kinds.{opens}
+use Rattle.rbg_grammar.specs.RuleReading.{too_deep_at, chain_at, further_operand_at, in_choice, is_operator, number_or_name_at, primary_at, sum_at, atom_at, begins_atom, bracket_atom_at, item_at, sequence_at, rules_over_at, rules_at, pattern_at, positive_at, negative_at}
 use Rattle.rbg_grammar.proofs.Turns.{repeated_ends}
 
 further_stops : {X : Type 0} (x : X) (test : TokenKind → Bool) (read : List Lexeme → Reading X) (ts : List Lexeme) → next_is test ts ≡ false → further_at x test read ts ≡ Ok (x ∷ [], ts)
@@ -162,17 +163,17 @@ pub primary_none : (ts : List Lexeme) → next_is (is_symbol OpenParenthesis) ts
 unfolding primary_at
 primary_none ts e = rw e
 
-pub atom_inside : (n : ℕ) (ts : List Lexeme) → (n ≡ 0 → ⊥) → next_is is_opening ts ≡ true → atom_at n ts ≡ bracket_atom_at (rules_at (n - 1)) (sum_at (n - 1)) ts
+pub atom_inside : (n : ℕ) (ts : List Lexeme) → (n ≡ 0 → ⊥) → next_is opens ts ≡ true → atom_at n ts ≡ bracket_atom_at (rules_at (n - 1)) (sum_at (n - 1)) ts
 unfolding atom_at rules_at
 atom_inside zero ts some e = absurd (some refl)
 atom_inside (suc n) ts some e = rw e (ap (λ k. bracket_atom_at (rules_at k) (sum_at k) ts) (one_less n))
 
-pub atom_open : (n : ℕ) (ts : List Lexeme) → next_is is_opening ts ≡ false → atom_at n ts ≡ open_atom_at ts
+pub atom_open : (n : ℕ) (ts : List Lexeme) → next_is opens ts ≡ false → atom_at n ts ≡ open_atom_at ts
 unfolding atom_at
 atom_open zero ts e = rw e
 atom_open (suc n) ts e = rw e
 
-pub atom_none : (ts : List Lexeme) → next_is is_opening ts ≡ true → atom_at 0 ts ≡ too_deep_at ts
+pub atom_none : (ts : List Lexeme) → next_is opens ts ≡ true → atom_at 0 ts ≡ too_deep_at ts
 unfolding atom_at
 atom_none ts e = rw e
 

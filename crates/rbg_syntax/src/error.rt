@@ -6,7 +6,6 @@ ghost use Rattle.std.specs.Prelude.{◌≡◌};
 
 use rbg_base::Memory;
 use rbg_macro::SectionKind;
-use std::alloc::AllocFailed;
 use std::fmt;
 use thiserror::Error;
 
@@ -116,18 +115,11 @@ impl ReadError {
     }
 }
 
-impl From<Memory> for ReadError {
+/// Whatever says that memory is refused, as a failed allocation does.
+impl<E: Into<Memory> + Drop> From<E> for ReadError {
     ghost from_gives = { λ _ e. e ≡ errors.Memory };
 
-    fn from(_error: Memory) -> ReadError {
-        ReadError::Memory
-    }
-}
-
-impl<T: Drop> From<AllocFailed<T>> for ReadError {
-    ghost from_gives = { λ _ e. e ≡ errors.Memory };
-
-    fn from(_error: AllocFailed<T>) -> ReadError {
+    fn from(_error: E) -> ReadError {
         ReadError::Memory
     }
 }

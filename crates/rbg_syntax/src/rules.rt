@@ -4,7 +4,8 @@ ghost use Rattle.std.specs.Prelude.{◌≡◌, map};
 ghost use Rattle.rbg_tokens.specs.declared.token.Symbol.TheVariants as symbols;
 ghost use Rattle.rbg_syntax.specs.internal.Giving.{GivesWithin};
 ghost use Rattle.rbg_grammar.specs.Reading.{after_at, further_at, is_symbol, next_is};
-ghost use Rattle.rbg_grammar.specs.RuleReading.{atom_at, begins_atom, bracket_atom_at, in_braces_at, in_choice, is_opening, item_at, pattern_at, rules_at, sequence_at, sum_at};
+ghost use Rattle.rbg_tokens.specs.Kinds.{opens};
+ghost use Rattle.rbg_grammar.specs.RuleReading.{atom_at, begins_atom, bracket_atom_at, in_braces_at, in_choice, item_at, pattern_at, rules_at, sequence_at, sum_at};
 ghost use Rattle.rbg_grammar.specs.Views.{rule_of};
 
 use crate::error::{Expectation, Reading};
@@ -179,10 +180,10 @@ impl<'a> Parser<'a> {
 
     /// Whether the next token is an opening bracket.
     fn next_is_opening(&self) -> bool
-        ensures { result ≡ next_is is_opening self.now }
+        ensures { result ≡ next_is opens self.now }
     {
         match self.peek() {
-            Some(token) => is_opening(token.kind),
+            Some(token) => token.kind.opens(),
             None => false,
         }
     }
@@ -202,15 +203,6 @@ fn begins_atom(kind: TokenKind) -> bool
                     | Symbol::Arrow
                     | Symbol::DoubleArrow
             )
-    )
-}
-
-fn is_opening(kind: TokenKind) -> bool
-    ensures { result ≡ is_opening kind }
-{
-    matches!(
-        kind,
-        TokenKind::Symbol(Symbol::OpenParenthesis | Symbol::OpenBracket | Symbol::OpenBrace)
     )
 }
 

@@ -174,21 +174,18 @@ no_name_and_number (b ∷ bs) name number =
     let none = digit_starts_no_name b (and_parts (is_ascii_digit b) (list_all is_ascii_digit bs) number).0 in
     cc (start, none)
 
+no_symbol : (begins : ℕ → Bool) (word : List ℕ) (s : Symbol) → begins (get_or (word ++ []) 0 0) ≡ true → begins (get_or (spelling s ++ []) 0 0) ≡ false → word ≡ spelling s → ⊥
+no_symbol begins word s start none is =
+    let first = subst (λ (w : List ℕ). begins (get_or (w ++ []) 0 0) ≡ false) (sym is) none in
+    cc (start, first)
+
 no_name_and_symbol : (word : List ℕ) (s : Symbol) → Spells Name word → word ≡ spelling s → ⊥
 no_name_and_symbol [] s name is = cc
-no_name_and_symbol (b ∷ bs) s name is =
-    let start = (and_parts (is_name_start b) (list_all is_name_part bs) name).0 in
-    let none : is_name_start (get_or (spelling s ++ []) 0 0) ≡ false = symbol_starts_no_name s [] in
-    let first = subst (λ (w : List ℕ). is_name_start (get_or (w ++ []) 0 0) ≡ false) (sym is) none in
-    cc (start, first)
+no_name_and_symbol (b ∷ bs) s name is = no_symbol is_name_start (b ∷ bs) s (and_parts (is_name_start b) (list_all is_name_part bs) name).0 (symbol_starts_no_name s []) is
 
 no_number_and_symbol : (word : List ℕ) (s : Symbol) → Spells Number word → word ≡ spelling s → ⊥
 no_number_and_symbol [] s number is = cc
-no_number_and_symbol (b ∷ bs) s number is =
-    let start = (and_parts (is_ascii_digit b) (list_all is_ascii_digit bs) number).0 in
-    let none : is_ascii_digit (get_or (spelling s ++ []) 0 0) ≡ false = symbol_starts_no_number s [] in
-    let first = subst (λ (w : List ℕ). is_ascii_digit (get_or (w ++ []) 0 0) ≡ false) (sym is) none in
-    cc (start, first)
+no_number_and_symbol (b ∷ bs) s number is = no_symbol is_ascii_digit (b ∷ bs) s (and_parts (is_ascii_digit b) (list_all is_ascii_digit bs) number).0 (symbol_starts_no_number s []) is
 
 same_kind : (k l : TokenKind) (word : List ℕ) → Spells k word → Spells l word → k ≡ l
 same_kind Name Name word one other = refl

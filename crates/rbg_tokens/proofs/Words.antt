@@ -122,35 +122,29 @@ number_front [] start = cc
 number_front (b ∷ bs) start =
     rw (start, add_comm 1 (prefix_len is_ascii_digit bs), add-one, start) (list_all-prefix_len is_ascii_digit bs)
 
-pub name_is_token : (bytes : List ℕ) → is_name_start (get_or bytes 0 0) ≡ true → IsToken Name (take (prefix_len is_name_part bytes) bytes) (drop (prefix_len is_name_part bytes) bytes)
-name_is_token bytes start = record {
-  spelt = name_front bytes start;
-  longest = λ k longer after spelt e.
-      let whole = e ∙ take-append-drop (prefix_len is_name_part bytes) bytes in
-      let first : is_name_start (get_or (longer ++ after) 0 0) ≡ true = rw whole start in
-      let bound = longest_name k longer after first spelt in
+-- the longest prefix of bytes of one kind is a token, if it is spelt so and none is longer
+prefix_is_token : (k : TokenKind) (part begins : ℕ → Bool) (bytes : List ℕ) → begins 47 ≡ false → begins (get_or bytes 0 0) ≡ true → Spells k (take (prefix_len part bytes) bytes)
+    → ((l : TokenKind) (longer after : List ℕ) → begins (get_or (longer ++ after) 0 0) ≡ true → Spells l longer → length longer ≤ prefix_len part (longer ++ after))
+    → IsToken k (take (prefix_len part bytes) bytes) (drop (prefix_len part bytes) bytes)
+prefix_is_token k part begins bytes no_slash start spelt longest = record {
+  spelt = spelt;
+  longest = λ l longer after spells e.
+      let whole = e ∙ take-append-drop (prefix_len part bytes) bytes in
+      let first : begins (get_or (longer ++ after) 0 0) ≡ true = rw whole start in
+      let bound = longest l longer after first spells in
       let within = rw whole at bound in
-      rw (length-prefix_len is_name_part bytes) within;
+      rw (length-prefix_len part bytes) within;
   no_comment = λ line e.
-      let whole = sym (take-append-drop (prefix_len is_name_part bytes) bytes) ∙ e in
+      let whole = sym (take-append-drop (prefix_len part bytes) bytes) ∙ e in
       let first = rw whole at start in
       cc;
 }
 
+pub name_is_token : (bytes : List ℕ) → is_name_start (get_or bytes 0 0) ≡ true → IsToken Name (take (prefix_len is_name_part bytes) bytes) (drop (prefix_len is_name_part bytes) bytes)
+name_is_token bytes start = prefix_is_token Name is_name_part is_name_start bytes refl start (name_front bytes start) longest_name
+
 pub number_is_token : (bytes : List ℕ) → is_ascii_digit (get_or bytes 0 0) ≡ true → IsToken Number (take (prefix_len is_ascii_digit bytes) bytes) (drop (prefix_len is_ascii_digit bytes) bytes)
-number_is_token bytes start = record {
-  spelt = number_front bytes start;
-  longest = λ k longer after spelt e.
-      let whole = e ∙ take-append-drop (prefix_len is_ascii_digit bytes) bytes in
-      let first : is_ascii_digit (get_or (longer ++ after) 0 0) ≡ true = rw whole start in
-      let bound = longest_number k longer after first spelt in
-      let within = rw whole at bound in
-      rw (length-prefix_len is_ascii_digit bytes) within;
-  no_comment = λ line e.
-      let whole = sym (take-append-drop (prefix_len is_ascii_digit bytes) bytes) ∙ e in
-      let first = rw whole at start in
-      cc;
-}
+number_is_token bytes start = prefix_is_token Number is_ascii_digit is_ascii_digit bytes refl start (number_front bytes start) longest_number
 
 pub symbol_is_token : (bytes : List ℕ) (symbol : Symbol) → is_name_start (get_or bytes 0 0) ≡ false → is_ascii_digit (get_or bytes 0 0) ≡ false → ((line : List ℕ) → bytes ≡ 47 ∷ 47 ∷ line → ⊥) → IsLongestSymbol bytes symbol → IsToken (A_Symbol symbol) (take (length (spelling symbol)) bytes) (drop (length (spelling symbol)) bytes)
 symbol_is_token bytes symbol no_name no_number no_comment is = record {

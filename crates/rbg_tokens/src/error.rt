@@ -3,7 +3,6 @@ ghost use Rattle.std.specs.Prelude.{◌≡◌};
 ghost use Rattle.rbg_tokens.specs.declared.error.TextError.TheVariants as text_errors;
 
 use rbg_base::Memory;
-use std::alloc::AllocFailed;
 use thiserror::Error;
 
 /// Why a text has no tokens.
@@ -22,18 +21,11 @@ pub enum TextError {
     Memory,
 }
 
-impl From<Memory> for TextError {
+/// Whatever says that memory is refused, as a failed allocation does.
+impl<E: Into<Memory> + Drop> From<E> for TextError {
     ghost from_gives = { λ _ e. e ≡ text_errors.Memory };
 
-    fn from(_error: Memory) -> TextError {
-        TextError::Memory
-    }
-}
-
-impl<T: Drop> From<AllocFailed<T>> for TextError {
-    ghost from_gives = { λ _ e. e ≡ text_errors.Memory };
-
-    fn from(_error: AllocFailed<T>) -> TextError {
+    fn from(_error: E) -> TextError {
         TextError::Memory
     }
 }

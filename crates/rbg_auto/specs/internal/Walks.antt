@@ -1,18 +1,20 @@
 -- What the walk over a tree of the program does to the table.
-use Rattle.std.specs.Prelude.{◌≡◌, ℕ, ◌<◌, ◌⊎◌, List, [], length, Bool, true}
+use Rattle.std.specs.Prelude.{◌≡◌, ℕ, ◌<◌, ◌⊎◌, List, [], length, Bool, true, Option}
 use Rattle.rbg_rules.specs.declared.rule.Action.{Action}
 use Rattle.rbg_rules.specs.declared.rule.Rule.{Rule}
 use Rattle.rbg_rules.specs.Translation.{expression_of}
 use Rattle.rbg_rules.specs.Games.{HasNoEmptySum}
 use Rattle.rbg_auto.specs.declared.span.Node.{Node}
 use Rattle.rbg_auto.specs.declared.span.Opening.{Opening}
+use Rattle.rbg_auto.specs.declared.span.Span.{Span}
 use Rattle.rbg_auto.specs.declared.steps.Glance.{Glance}
 use Rattle.rbg_auto.specs.declared.steps.Glance.TheVariants.{Unknown}
+use Rattle.rbg_auto.specs.declared.rest.Rest.{Rest}
 use Rattle.rbg_auto.specs.declared.table.Table.{Table}
 use Rattle.rbg_auto.specs.internal.Firsts.{may_be_empty, firsts}
 use Rattle.rbg_auto.specs.internal.Laying.{Laid}
-use Rattle.rbg_auto.specs.internal.Trees.{LaysAll, of_tree, in_sequence, in_sum}
-use Rattle.rbg_auto.specs.internal.Tables.{IsSpan, Keeps, Grows, laid_at, laid_of, told_at}
+use Rattle.rbg_auto.specs.internal.Trees.{LaysAll, of_tree, in_sequence}
+use Rattle.rbg_auto.specs.internal.Tables.{IsSpan, Keeps, IsKept, Grows, laid_at, laid_of, told_at}
 
 -- What the table has at each position.
 abbrev pub laid_in : Table → ℕ → Laid
@@ -39,6 +41,17 @@ pub record SetsNode (old new : Table) (p : ℕ) (node : Node) (inside : Opening)
   pub there : p < length old.nodes.items → laid_in new p ≡ laid_of old.entries.items node inside
   pub others : (q : ℕ) → ¬ (q ≡ p) → laid_in new q ≡ laid_in old q
 
+-- The list of what comes after was added, and then the node with it and the opening were laid.
+abbrev pub node_of : Span → Bool → Node
+node_of s end = record { next = s; may_end = end; glance = Unknown }
+
+pub record LaysAt (old new : Table) (p : ℕ) (inside : Opening) (rest : Rest) : Type 0 where
+  pub middle : Table
+  pub next : Span
+  pub adds : AddsList old middle
+  pub keeps : Keeps middle.entries.items next rest.positions.items
+  pub sets : SetsNode middle new p (node_of next rest.may_end) inside
+
 -- The action at the position was told of, if the table has it, and nothing else was changed.
 pub record Tells (old new : Table) (p : ℕ) (glance : Glance) : Type 0 where
   pub size : length new.nodes.items ≡ length old.nodes.items
@@ -46,7 +59,7 @@ pub record Tells (old new : Table) (p : ℕ) (glance : Glance) : Type 0 where
   pub laid : (q : ℕ) → laid_in new q ≡ laid_in old q
   pub told : (q : ℕ) → (told_in new q ≡ told_in old q) ⊎ ((q ≡ p) × (told_in new q ≡ glance))
 
--- The tree is laid, or trees in a sequence or in a sum.
+-- The tree is laid, or trees in a sequence.
 pub record LaysTree (old new : Table) (tree : Rule) (k : List ℕ) (end : Bool) : Type 0 where
   pub extends : Extends old new
   pub lays : LaysAll (length old.nodes.items) (laid_in old) (laid_in new) (of_tree tree) k end
@@ -55,9 +68,16 @@ pub record LaysSequence (old new : Table) (parts : List Rule) (k : List ℕ) (en
   pub extends : Extends old new
   pub lays : LaysAll (length old.nodes.items) (laid_in old) (laid_in new) (in_sequence parts) k end
 
-pub record LaysSum (old new : Table) (parts : List Rule) (k : List ℕ) (end : Bool) : Type 0 where
-  pub extends : Extends old new
-  pub lays : LaysAll (length old.nodes.items) (laid_in old) (laid_in new) (in_sum parts) k end
+-- The same where a rest comes after them.
+abbrev pub LaysBefore : Table → Table → Rule → Rest → Type 0
+LaysBefore old new tree rest = LaysTree old new tree rest.positions.items rest.may_end
+
+abbrev pub LaysPartsBefore : Table → Table → List Rule → Rest → Type 0
+LaysPartsBefore old new parts rest = LaysSequence old new parts rest.positions.items rest.may_end
+
+-- A span that is known holds what comes after.
+abbrev pub IsKeptOf : Table → Option Span → Rest → Type 0
+IsKeptOf t kept rest = IsKept t.entries.items kept rest.positions.items
 
 -- The tree is laid as a level of its own, whose words begin as the opening says.
 pub record LaysLevel (old new : Table) (tree : Rule) (opening : Opening) : Type 0 where

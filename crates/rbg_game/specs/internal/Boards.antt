@@ -1,5 +1,5 @@
 -- A board by the numbers of its names.
-use Rattle.std.specs.Prelude.{◌≡◌, ℕ, ◌<◌, ◌≤◌, ◌⊎◌, List, [], ◌∷◌, ◌++◌, Some, length, slice_get, Contains, All}
+use Rattle.std.specs.Prelude.{◌≡◌, ℕ, ◌<◌, ◌≤◌, ◌⊎◌, List, [], ◌∷◌, ◌++◌, Some, length, slice_get, Contains, All, Result, Ok, Err}
 use Rattle.std.specs.List.{AllZip, range_with_len}
 use Rattle.rbg_board.specs.Graph.{Graph, IsClosed}
 use Rattle.rbg_board.specs.Cells.{AreDifferent}
@@ -8,6 +8,7 @@ use Rattle.rbg_board.specs.declared.error.BoardError.TheVariants as board_errors
 use Rattle.rbg_grammar.specs.Tree.{SpeltName, SpeltBoard}
 use Rattle.rbg_rules.specs.Limits.{most_directions, most_vertices}
 use Rattle.rbg_rules.specs.LawfulNames.{AreDifferentNames, AreLawfulNames}
+use Rattle.rbg_game.specs.declared.checking.boards.NamedBoard.{NamedBoard}
 use Rattle.rbg_game.specs.declared.game_error.GameError.{GameError}
 use Rattle.rbg_game.specs.declared.game_error.GameError.TheVariants as errors
 use Rattle.rbg_numbering.specs.Names.{IsNumberOf, texts_of}
@@ -51,3 +52,16 @@ pub record NumbersDirections (names : List SpeltName) (numbers : List ℕ) (tabl
 abbrev pub refusal_of : BoardError → GameError
 refusal_of board_errors.Memory = errors.Memory
 refusal_of error = errors.Board error
+
+-- what a generator made is the board, whose directions have these names
+pub record IsNamed (table : List (List ℕ)) (made : Result Graph BoardError) (named : NamedBoard) : Type 0 where
+  pub is : made ≡ Ok named.board
+  pub directions : named.directions ≡ table
+  pub names : AreLawfulNames table
+  pub vertices : HasVertices named.board
+
+-- what a generator was given is refused, and this is the error
+pub record IsRefusedFor (made : Result Graph BoardError) (error : GameError) : Type 0 where
+  pub cause : BoardError
+  pub is : made ≡ Err cause
+  pub refusal : error ≡ refusal_of cause

@@ -2,13 +2,12 @@
 ghost use Rattle.std.specs.Prelude.{◌≡◌, ◌<◌, ◌≤◌, ◌^◌, ◌∷◌, [], length, map, flat_map, IfOk, OnOk, IfErr};
 ghost use Rattle.std.specs.List.{AllZip};
 ghost use Rattle.rbg_board.specs.Cells.{rows_of};
-ghost use Rattle.rbg_grammar.specs.Tree.{rectangle, hexagon};
 ghost use Rattle.rbg_grammar.specs.Views.{name_of, names_of, board_of};
 ghost use Rattle.rbg_rules.specs.LawfulNames.{AreLawfulNames};
 ghost use Rattle.rbg_numbering.specs.Names.{IsNumberOf};
 ghost use Rattle.rbg_numbering.specs.NameTables.{HasLookUpFault};
 ghost use Rattle.rbg_game.specs.Faults.{HasBoardFault};
-ghost use Rattle.rbg_game.specs.internal.Boards.{MakesBoard, HasVertices, refusal_of};
+ghost use Rattle.rbg_game.specs.internal.Boards.{MakesBoard, HasVertices, NumbersDirections, IsNamed, IsRefusedFor, refusal_of};
 
 use crate::checking::directions::number_directions;
 use crate::checking::graphs::make_graph;
@@ -16,7 +15,7 @@ use crate::game_error::GameError;
 use rbg_board::{Board, BoardError, MAX_VERTICES, hexagon, rectangle};
 use rbg_grammar::Name;
 use rbg_numbering::{NameTable, NumberingError};
-use rbg_rules::limits::MAX_PIECES;
+use rbg_rules::limits::{MAX_DIRECTIONS, MAX_PIECES};
 use std::alloc::Global;
 
 /// A board, and the names of its directions in order of their numbers.
@@ -46,7 +45,7 @@ fn number_rows(
 }
 
 /// What a board is refused for. Out of memory has one name in every layer.
-pub(crate) fn refusal_of(error: BoardError) -> GameError
+fn refusal_of(error: BoardError) -> GameError
     ensures { result ≡ refusal_of error }
 {
     match error {
@@ -56,7 +55,7 @@ pub(crate) fn refusal_of(error: BoardError) -> GameError
 }
 
 /// A board with the names of its directions.
-pub(crate) fn name_board(directions: NameTable, board: Board) -> NamedBoard
+fn name_board(directions: NameTable, board: Board) -> NamedBoard
     ensures directions { result.directions ≡ directions }
     ensures board { result.board ≡ board }
     ensures names { AreLawfulNames directions }
@@ -67,50 +66,48 @@ pub(crate) fn name_board(directions: NameTable, board: Board) -> NamedBoard
     NamedBoard { directions, board }
 }
 
-/// The board of a rectangle.
-fn make_rectangle(
-    alloc: Global,
-    pieces: &NameTable,
-    names: &[Name<'_>; 4],
-    rows: &[Vec<Name<'_>>],
+/// The board that a generator made, with the names of its directions, or what it is refused for.
+pub(crate) fn named(
+    directions: NameTable,
+    made: Result<Board, BoardError>,
 ) -> Result<NamedBoard, GameError>
-    requires { length pieces.now ≤ MAX_PIECES }
-    ensures board { IfOk result
-        (λ b. MakesBoard pieces.now (rectangle (map name_of names.now) (map names_of rows.now))
-        b.directions b.board) }
-    ensures fault { IfErr result (HasBoardFault pieces.now
-        (rectangle (map name_of names.now) (map names_of rows.now))) }
+    ensures board { IfOk result (IsNamed directions made) }
+    ensures refusal { IfErr result (IsRefusedFor made) }
 {
-    let cells = number_rows(alloc, pieces, rows)?;
-    let mut numbers = [0; 4];
-    let directions = number_directions(alloc, names, &mut numbers)?;
-    match rectangle(alloc, numbers, &cells) {
+    match made {
         Ok(board) => Ok(name_board(directions, board)),
         Err(error) => Err(refusal_of(error)),
     }
 }
 
-/// The board of a hexagon.
-fn make_hexagon(
+/// Rows by the numbers of their pieces, and directions in order of their numbers.
+#[derive(Drop)]
+struct NumberedRows {
+    cells: Vec<Vec<u16>>,
+    directions: NameTable,
+}
+
+/// The numbers of the pieces on rows of cells and of the names of their directions.
+fn number_parts(
     alloc: Global,
     pieces: &NameTable,
-    names: &[Name<'_>; 6],
+    names: &[Name<'_>],
+    numbers: &mut [u16],
     rows: &[Vec<Name<'_>>],
-) -> Result<NamedBoard, GameError>
-    requires { length pieces.now ≤ MAX_PIECES }
-    ensures board { IfOk result
-        (λ b. MakesBoard pieces.now (hexagon (map name_of names.now) (map names_of rows.now))
-        b.directions b.board) }
-    ensures fault { IfErr result (HasBoardFault pieces.now
-        (hexagon (map name_of names.now) (map names_of rows.now))) }
+) -> Result<NumberedRows, NumberingError>
+    requires pieces { length pieces.now ≤ 2 ^ 16 }
+    requires one_each { length numbers.old ≡ length names.now }
+    requires few { length names.now ≤ MAX_DIRECTIONS }
+    ensures cells { IfOk result (λ parts. AllZip (AllZip (IsNumberOf pieces.now)) (map names_of rows.now)
+        (rows_of parts.cells.items)) }
+    ensures directions { IfOk result (λ parts.
+        NumbersDirections (map name_of names.now) numbers.new parts.directions) }
+    ensures fault { IfErr result (HasLookUpFault pieces.now (flat_map (λ row.
+        row) (map names_of rows.now))) }
 {
     let cells = number_rows(alloc, pieces, rows)?;
-    let mut numbers = [0; 6];
-    let directions = number_directions(alloc, names, &mut numbers)?;
-    match hexagon(alloc, numbers, &cells) {
-        Ok(board) => Ok(name_board(directions, board)),
-        Err(error) => Err(refusal_of(error)),
-    }
+    let directions = number_directions(alloc, names, numbers)?;
+    Ok(NumberedRows { cells, directions })
 }
 
 /// The board of a description, with its pieces by their numbers. An unknown piece of a cell is refused before
@@ -127,10 +124,14 @@ pub(crate) fn make_board(
 {
     match board {
         rbg_grammar::Board::Rectangle { directions, rows } => {
-            make_rectangle(alloc, pieces, &directions.names, rows)
+            let mut numbers = [0; 4];
+            let parts = number_parts(alloc, pieces, &directions.names, &mut numbers, rows)?;
+            named(parts.directions, rectangle(alloc, numbers, &parts.cells))
         }
         rbg_grammar::Board::Hexagon { directions, rows } => {
-            make_hexagon(alloc, pieces, &directions.names, rows)
+            let mut numbers = [0; 6];
+            let parts = number_parts(alloc, pieces, &directions.names, &mut numbers, rows)?;
+            named(parts.directions, hexagon(alloc, numbers, &parts.cells))
         }
         rbg_grammar::Board::Graph { vertices } => make_graph(alloc, pieces, vertices),
     }

@@ -12,7 +12,7 @@ ghost use Rattle.rbg_numbering.specs.NameTables.{HasLookUpFault};
 ghost use Rattle.rbg_game.specs.internal.Boards.{MakesBoard};
 ghost use Rattle.rbg_game.specs.internal.Graphs.{AddsInOrder, edge_directions, IsEdge, IsCell};
 
-use crate::checking::boards::{NamedBoard, name_board, refusal_of};
+use crate::checking::boards::{NamedBoard, named};
 use crate::checking::directions::join;
 use crate::game_error::{GameError, Thing};
 use rbg_board::{BoardError, Cell, MAX_VERTICES, graph};
@@ -166,8 +166,5 @@ pub(crate) fn make_graph(
     }
     let names = name_vertices(alloc, vertices)?;
     let cells = number_cells(alloc, &first, &directions, &names, vertices)?;
-    match graph(alloc, &cells) {
-        Ok(board) => Ok(name_board(directions, board)),
-        Err(error) => Err(refusal_of(error)),
-    }
+    named(directions, graph(alloc, &cells))
 }

@@ -1,9 +1,9 @@
 -- The proofs of `compiling::fill` and the two functions over parts.
-use Rattle.std.proofs.Common.{rules, ◌≡◌, ◌<◌, ◌-◌, ◌+◌, [], length, List, ℕ, Bool, true, refl, sym, subst, arith}
+use Rattle.std.proofs.Common.{rules, ◌≡◌, ◌<◌, [], length, List, ℕ, Bool, true, refl, sym, subst, arith}
 use Rattle.std.proofs.lemmas.List.Elements.{same_from_all_zip}
 use Rattle.std.proofs.lemmas.Result.{IfOk-weaker}
 use Rattle.rbg_rules.specs.declared.rule.Rule.{Rule}
-use Rattle.rbg_rules.specs.declared.rule.Rule.TheVariants.{Then, Or, Star}
+use Rattle.rbg_rules.specs.declared.rule.Rule.TheVariants.{Star}
 use Rattle.rbg_auto.specs.internal.Trees.{GivesFirsts, IsAgain}
 use Rattle.rbg_auto.specs.internal.Places.{FillsTree, FillsSequence, FillsSum}
 use Rattle.rbg_auto.proofs.PlaceLemmas.{fills_act, fills_pattern, fills_then, fills_or, fills_star, OwesPlaces, filled_more, owes_places_all, part_filled, sequence_filled}

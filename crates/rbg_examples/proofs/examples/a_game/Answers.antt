@@ -1,6 +1,8 @@
 -- The proof of `examples::a_game`.
-use Rattle.std.proofs.Common.{◌≡◌, ℕ, zero, suc, ◌<◌, ◌≤◌, [], ◌∷◌, Option, ap, refl, inl, inr, sym, subst, arith}
-use Rattle.std.specs.Prelude.{Some, IsTrue, List, slice_get, codes}
+use Rattle.std.proofs.Common.{◌≡◌, ℕ, zero, suc, ◌<◌, ◌≤◌, [], ◌∷◌, false, refl, inl, inr, sym, subst, arith}
+use Rattle.std.specs.Prelude.{Some, IsTrue, List}
+use Rattle.std.specs.List.{list_any}
+use Rattle.std.specs.Str.{bytes_eq}
 use Rattle.std.proofs.lemmas.List.Elements.{All-cons, All-nil}
 use Rattle.rbg_board.specs.Graph.{next}
 use Rattle.rbg_rules.specs.Limits.{greatest_bound}
@@ -11,7 +13,7 @@ use Rattle.rbg_rules.specs.Games.{IsActionOf}
 use Rattle.rbg_examples.specs.ExampleGames.{looking_right, two_squares}
 use Rattle.rbg_rules.proofs.NameLemmas.{no_names, lawful_name}
 use Rattle.rbg_base.specs.Names.{is_name}
-use Rattle.rbg_examples.proofs.ExampleLemmas.{not_equal}
+use Rattle.rbg_examples.proofs.ExampleLemmas.{differs}
 use Rattle.rbg_examples.proofs.examples.a_game.Goals as goal
 
 abbrev right_off : Expression
@@ -72,51 +74,17 @@ edge (suc zero) (suc (suc (suc (suc d)))) u e = absurd (cc e)
 edge (suc (suc v)) d u e = absurd (cc e)
 
 -- The names of the game are names, and differ.
-abbrev first_byte : Option (List ℕ) → ℕ
-first_byte (Some (byte ∷ bytes)) = byte
-first_byte _ = 0
-
-one_name : (name : List ℕ) → IsTrue (is_name name) → AreLawfulNames (name ∷ [])
-one_name name is = lawful_name name [] is (λ k e. cc) no_names
+name_before : (name : List ℕ) (names : List (List ℕ)) → IsTrue (is_name name) → list_any (λ other. bytes_eq other name) names ≡ false → AreLawfulNames names → AreLawfulNames (name ∷ names)
+name_before name names is others = lawful_name name names is (differs name names others)
 
 variable_names : AreLawfulNames looking_right.variables
-variable_names = lawful_name (codes "white") (codes "black" ∷ codes "n" ∷ []) refl not_white (lawful_name (codes "black") (codes "n" ∷ []) refl not_black (one_name (codes "n") refl))
-  where
-    not_white : (k : ℕ) → ¬ (slice_get (codes "black" ∷ codes "n" ∷ []) k ≡ Some (codes "white"))
-    not_white zero e = not_equal 98 119 (omega arith) (ap first_byte e)
-    not_white (suc zero) e = not_equal 110 119 (omega arith) (ap first_byte e)
-    not_white (suc (suc k)) e = cc
-
-    not_black : (k : ℕ) → ¬ (slice_get (codes "n" ∷ []) k ≡ Some (codes "black"))
-    not_black zero e = not_equal 110 98 (omega arith) (ap first_byte e)
-    not_black (suc k) e = cc
+variable_names = name_before _ _ refl refl (name_before _ _ refl refl (name_before _ _ refl refl no_names))
 
 piece_names : AreLawfulNames looking_right.pieces
-piece_names = lawful_name (codes "e") (codes "w" ∷ []) refl not_e (one_name (codes "w") refl)
-  where
-    not_e : (k : ℕ) → ¬ (slice_get (codes "w" ∷ []) k ≡ Some (codes "e"))
-    not_e zero e = not_equal 119 101 (omega arith) (ap first_byte e)
-    not_e (suc k) e = cc
+piece_names = name_before _ _ refl refl (name_before _ _ refl refl no_names)
 
 direction_names : AreLawfulNames looking_right.directions
-direction_names =
-    lawful_name (codes "up") (codes "down" ∷ codes "left" ∷ codes "right" ∷ []) refl not_up
-    (lawful_name (codes "down") (codes "left" ∷ codes "right" ∷ []) refl not_down (lawful_name (codes "left") (codes "right" ∷ []) refl not_left (one_name (codes "right") refl)))
-  where
-    not_up : (k : ℕ) → ¬ (slice_get (codes "down" ∷ codes "left" ∷ codes "right" ∷ []) k ≡ Some (codes "up"))
-    not_up zero e = not_equal 100 117 (omega arith) (ap first_byte e)
-    not_up (suc zero) e = not_equal 108 117 (omega arith) (ap first_byte e)
-    not_up (suc (suc zero)) e = not_equal 114 117 (omega arith) (ap first_byte e)
-    not_up (suc (suc (suc k))) e = cc
-
-    not_down : (k : ℕ) → ¬ (slice_get (codes "left" ∷ codes "right" ∷ []) k ≡ Some (codes "down"))
-    not_down zero e = not_equal 108 100 (omega arith) (ap first_byte e)
-    not_down (suc zero) e = not_equal 114 100 (omega arith) (ap first_byte e)
-    not_down (suc (suc k)) e = cc
-
-    not_left : (k : ℕ) → ¬ (slice_get (codes "right" ∷ []) k ≡ Some (codes "left"))
-    not_left zero e = not_equal 114 108 (omega arith) (ap first_byte e)
-    not_left (suc k) e = cc
+direction_names = name_before _ _ refl refl (name_before _ _ refl refl (name_before _ _ refl refl (name_before _ _ refl refl no_names)))
 
 pub returns : goal.returns
 returns c = record {

@@ -1,28 +1,20 @@
 -- The proof of `examples::bounded_assignment`.
 use Rattle.std.proofs.Common.{[], ◌∷◌, refl, inl, inr, arith}
-use Rattle.std.specs.Prelude.{Some}
 use Rattle.std.proofs.lemmas.List.Elements.{All-cons, All-nil}
 use Rattle.rbg_rules.specs.Expression.{assignment, switch, variable, number, sum}
 use Rattle.rbg_rules.specs.Positions.{IsSwitchAt, outermost}
 use Rattle.rbg_rules.specs.Words.{done, again}
 use Rattle.rbg_rules.specs.Moves.{stay, modify}
 use Rattle.rbg_examples.specs.ExampleGames.{counting, state_of}
-use Rattle.rbg_examples.proofs.ExampleLemmas.{no_switch_at}
+use Rattle.rbg_examples.proofs.ExampleLemmas.{legal_by, no_switch_at}
 use Rattle.rbg_examples.proofs.examples.bounded_assignment.Goals as goal
 
 pub returns-clause-at_zero : goal.returns-clause-at_zero
 returns-clause-at_zero c = record { action = assignment 2 (sum (variable 2) (number 1)); stands = inl (inr (inl (refl, refl))); acts = (1, refl, omega arith, refl) }
 
 pub returns-clause-once : goal.returns-clause-once
-returns-clause-once c = (
-  record { state = state_of 2 (0 ∷ []) 1; last = Some 3 },
-  record {
-    before = 2 ∷ [];
-    last = 3;
-    follows = (outermost, [], [], record { expression = counting.rules; is_level = refl; is_word = (1 ∷ 2 ∷ [], 3 ∷ [], (1 ∷ [], 2 ∷ [], ([], 1 ∷ [], refl, refl, refl), again refl done, refl), refl, refl) });
-    runs = modify (record { action = assignment 2 (sum (variable 2) (number 1)); stands = inl (inr (inl (refl, refl))); acts = (1, refl, omega arith, refl) }) refl (modify (record { action = switch 2; stands = inr (inl (refl, refl)); acts = refl }) refl stay);
-    switches = record { player = 2; stands = inr (inl (refl, refl)) };
-    none_before = All-cons (λ p. ¬ IsSwitchAt counting.rules p) 2 [] (no_switch_at counting.rules (record { in_order = refl }) 2 (assignment 2 (sum (variable 2) (number 1))) (inl (inr (inl (refl, refl)))) (λ n e. cc)) (All-nil (λ p. ¬ IsSwitchAt counting.rules p));
-    stands = refl;
-  },
-)
+returns-clause-once c =
+    legal_by (2 ∷ []) 3 (state_of 2 (0 ∷ []) 1)
+    (outermost, [], [], record { expression = counting.rules; is_level = refl; is_word = (1 ∷ 2 ∷ [], 3 ∷ [], (1 ∷ [], 2 ∷ [], ([], 1 ∷ [], refl, refl, refl), again refl done, refl), refl, refl) })
+    (modify (record { action = assignment 2 (sum (variable 2) (number 1)); stands = inl (inr (inl (refl, refl))); acts = (1, refl, omega arith, refl) }) refl (modify (record { action = switch 2; stands = inr (inl (refl, refl)); acts = refl }) refl stay))
+    (record { player = 2; stands = inr (inl (refl, refl)) }) (All-cons (λ p. ¬ IsSwitchAt counting.rules p) 2 [] (no_switch_at counting.rules (record { in_order = refl }) 2 (assignment 2 (sum (variable 2) (number 1))) (inl (inr (inl (refl, refl)))) (λ n e. cc)) (All-nil (λ p. ¬ IsSwitchAt counting.rules p)))

@@ -1,6 +1,5 @@
 -- The proof of `examples::heavy_with_a_move`.
 use Rattle.std.proofs.Common.{◌≡◌, ℕ, zero, suc, List, [], ◌∷◌, ◌++◌, refl, inl, inr, sym, ap, ◌∙◌, subst, ◌⊎◌, true, false, append_assoc, arith}
-use Rattle.std.specs.Prelude.{Some}
 use Rattle.std.proofs.lemmas.List.{append-nil}
 use Rattle.std.proofs.lemmas.List.Elements.{All-cons, All-nil}
 use Rattle.rbg_rules.specs.Expression.{AbstractAction, off, on, switch, act, star, choice_of, sequence_of, Expression}
@@ -15,15 +14,10 @@ use Rattle.rbg_examples.specs.ExampleGames.{heavy_choice, state_of}
 use Rattle.rbg_rules.proofs.PositionLemmas.{Among, Among_left, Among_right, Among_cases, one_stands}
 use Rattle.rbg_rules.proofs.PatternLemmas.{only_one, own_stands, word_own}
 use Rattle.rbg_rules.proofs.MoveLemmas.{applied_acts}
-use Rattle.rbg_examples.proofs.ExampleLemmas.{not_equal, no_switch_at, goes_on, begins_with, join_word, at_front, PairAmong, pair_first, pair_later, split}
+use Rattle.rbg_examples.proofs.ExampleLemmas.{legal_by, not_equal, no_switch_at, goes_on, begins_with, join_word, at_front, PairAmong, pair_first, pair_later, split}
 use Rattle.rbg_examples.proofs.Offs.{offs, pairs, length-pairs, word, no_switch}
+use Rattle.rbg_examples.proofs.ExampleStates.{start, with_piece}
 use Rattle.rbg_examples.proofs.examples.heavy_with_a_move.Goals as goal
-
-abbrev start : AbstractState
-start = state_of 1 (0 ∷ []) 0
-
-abbrev with_piece : AbstractState
-with_piece = state_of 1 (1 ∷ []) 0
 
 numbered : IsNumbered heavy_choice.rules
 numbered = record { in_order = refl }
@@ -60,18 +54,11 @@ not_four = no_switch_at heavy_choice.rules numbered 4 (off 1) puts_w (λ n e. cc
 
 -- The move by [w].
 pub returns-clause-legal : goal.returns-clause-legal
-returns-clause-legal c = (
-  record { state = state_of 2 (1 ∷ []) 0; last = Some 5 },
-  record {
-    before = 4 ∷ [];
-    last = 5;
-    follows = (outermost, [], [], record { expression = heavy_choice.rules; is_level = refl; is_word = (1 ∷ 4 ∷ [], 5 ∷ [], (1 ∷ [], 4 ∷ [], ([], 1 ∷ [], refl, refl, refl), inr refl, refl), refl, refl) });
-    runs = modify {middle = with_piece} (record { action = off 1; stands = puts_w; acts = refl }) refl (modify (record { action = switch 2; stands = ends; acts = refl }) refl stay);
-    switches = record { player = 2; stands = ends };
-    none_before = All-cons (λ p. ¬ IsSwitchAt heavy_choice.rules p) 4 [] not_four (All-nil (λ p. ¬ IsSwitchAt heavy_choice.rules p));
-    stands = refl;
-  },
-)
+returns-clause-legal c =
+    legal_by (4 ∷ []) 5 (state_of 2 (1 ∷ []) 0)
+    (outermost, [], [], record { expression = heavy_choice.rules; is_level = refl; is_word = (1 ∷ 4 ∷ [], 5 ∷ [], (1 ∷ [], 4 ∷ [], ([], 1 ∷ [], refl, refl, refl), inr refl, refl), refl, refl) })
+    (modify {middle = with_piece} (record { action = off 1; stands = puts_w; acts = refl }) refl (modify (record { action = switch 2; stands = ends; acts = refl }) refl stay))
+    (record { player = 2; stands = ends }) (All-cons (λ p. ¬ IsSwitchAt heavy_choice.rules p) 4 [] not_four (All-nil (λ p. ¬ IsSwitchAt heavy_choice.rules p)))
 
 branch : (n : ℕ) → Word either (offs n ++ 3 ∷ [])
 branch n = inl (inr (offs n, 3 ∷ [], ([], offs n, refl, word 0 n, refl), refl, refl))

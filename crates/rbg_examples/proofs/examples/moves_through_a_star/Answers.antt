@@ -1,6 +1,5 @@
 -- The proof of `examples::moves_through_a_star`.
 use Rattle.std.proofs.Common.{◌≡◌, ℕ, [], ◌∷◌, ◌++◌, List, refl, inl, inr, ap, sym, ◌∙◌, subst}
-use Rattle.std.specs.Prelude.{Some}
 use Rattle.std.proofs.lemmas.List.Elements.{All-cons, All-nil}
 use Rattle.rbg_rules.specs.Expression.{off, switch}
 use Rattle.rbg_rules.specs.Positions.{HasAction, IsNumbered, IsSwitchAt, HasNoSwitch, outermost}
@@ -9,7 +8,7 @@ use Rattle.rbg_rules.specs.Actions.{Applies}
 use Rattle.rbg_rules.specs.Moves.{stay, modify}
 use Rattle.rbg_examples.specs.ExampleGames.{star_of_offs, state_of}
 use Rattle.rbg_rules.proofs.PlaceLemmas.{RunPairs-append, one_switch, snoc_same}
-use Rattle.rbg_examples.proofs.ExampleLemmas.{no_switch_at, last_pair, PairAmong, pair_first, pair_position, all_among}
+use Rattle.rbg_examples.proofs.ExampleLemmas.{legal_by, no_switch_at, last_pair, PairAmong, pair_first, pair_position, all_among}
 use Rattle.rbg_examples.proofs.examples.moves_through_a_star.Goals as goal
 
 numbered : IsNumbered star_of_offs.rules
@@ -37,46 +36,25 @@ abbrev ending : Applies star_of_offs 3 (state_of 1 (0 ∷ []) 0) (state_of 2 (0 
 ending = record { action = switch 2; stands = to_black; acts = refl }
 
 pub returns-clause-opening : goal.returns-clause-opening
-returns-clause-opening c = (
-  record { state = state_of 1 (0 ∷ []) 0; last = Some 1 },
-  record {
-    before = [];
-    last = 1;
-    follows = (3 ∷ [], record { expression = star_of_offs.rules; is_level = refl; is_word = (1 ∷ [], 3 ∷ [], (1 ∷ [], [], ([], 1 ∷ [], refl, refl, refl), done, refl), refl, refl) });
-    runs = modify (record { action = switch 1; stands = to_white; acts = refl }) refl stay;
-    switches = record { player = 1; stands = to_white };
-    none_before = none;
-    stands = refl;
-  },
-)
+returns-clause-opening c =
+    legal_by [] 1 (state_of 1 (0 ∷ []) 0)
+    (3 ∷ [], record { expression = star_of_offs.rules; is_level = refl; is_word = (1 ∷ [], 3 ∷ [], (1 ∷ [], [], ([], 1 ∷ [], refl, refl, refl), done, refl), refl, refl) })
+    (modify (record { action = switch 1; stands = to_white; acts = refl }) refl stay)
+    (record { player = 1; stands = to_white }) none
 
 pub returns-clause-at_once : goal.returns-clause-at_once
-returns-clause-at_once c = (
-  record { state = state_of 2 (0 ∷ []) 0; last = Some 3 },
-  record {
-    before = [];
-    last = 3;
-    follows = (outermost, [], [], record { expression = star_of_offs.rules; is_level = refl; is_word = (1 ∷ [], 3 ∷ [], (1 ∷ [], [], ([], 1 ∷ [], refl, refl, refl), done, refl), refl, refl) });
-    runs = modify ending refl stay;
-    switches = record { player = 2; stands = to_black };
-    none_before = none;
-    stands = refl;
-  },
-)
+returns-clause-at_once c =
+    legal_by [] 3 (state_of 2 (0 ∷ []) 0)
+    (outermost, [], [], record { expression = star_of_offs.rules; is_level = refl; is_word = (1 ∷ [], 3 ∷ [], (1 ∷ [], [], ([], 1 ∷ [], refl, refl, refl), done, refl), refl, refl) })
+    (modify ending refl stay)
+    (record { player = 2; stands = to_black }) none
 
 pub returns-clause-after_two : goal.returns-clause-after_two
-returns-clause-after_two c = (
-  record { state = state_of 2 (0 ∷ []) 0; last = Some 3 },
-  record {
-    before = 2 ∷ 2 ∷ [];
-    last = 3;
-    follows = (outermost, [], [], record { expression = star_of_offs.rules; is_level = refl; is_word = (1 ∷ 2 ∷ 2 ∷ [], 3 ∷ [], (1 ∷ [], 2 ∷ 2 ∷ [], ([], 1 ∷ [], refl, refl, refl), again refl (again refl done), refl), refl, refl) });
-    runs = modify putting refl (modify putting refl (modify ending refl stay));
-    switches = record { player = 2; stands = to_black };
-    none_before = All-cons (λ p. ¬ IsSwitchAt star_of_offs.rules p) 2 (2 ∷ []) off_no_switch (All-cons (λ p. ¬ IsSwitchAt star_of_offs.rules p) 2 [] off_no_switch none);
-    stands = refl;
-  },
-)
+returns-clause-after_two c =
+    legal_by (2 ∷ 2 ∷ []) 3 (state_of 2 (0 ∷ []) 0)
+    (outermost, [], [], record { expression = star_of_offs.rules; is_level = refl; is_word = (1 ∷ 2 ∷ 2 ∷ [], 3 ∷ [], (1 ∷ [], 2 ∷ 2 ∷ [], ([], 1 ∷ [], refl, refl, refl), again refl (again refl done), refl), refl, refl) })
+    (modify putting refl (modify putting refl (modify ending refl stay)))
+    (record { player = 2; stands = to_black }) (All-cons (λ p. ¬ IsSwitchAt star_of_offs.rules p) 2 (2 ∷ []) off_no_switch (All-cons (λ p. ¬ IsSwitchAt star_of_offs.rules p) 2 [] off_no_switch none))
 
 -- The off would be the move's last position, and it is no switch.
 pub returns-clause-no_switch : goal.returns-clause-no_switch

@@ -12,7 +12,8 @@ use Rattle.rbg_rules.specs.Moves.{RunPairs, stay, modify, pass}
 use Rattle.rbg_examples.specs.ExampleGames.{nothing_right, one_square, two_squares, state_of}
 use Rattle.rbg_rules.proofs.PositionLemmas.{Among}
 use Rattle.rbg_rules.proofs.MoveLemmas.{applied_acts}
-use Rattle.rbg_examples.proofs.ExampleLemmas.{no_switch_at, goes_on, at_front, first_applies, acts_word, only_word}
+use Rattle.rbg_examples.proofs.ExampleLemmas.{legal_by, no_switch_at, goes_on, at_front, first_applies, acts_word, only_word}
+use Rattle.rbg_examples.proofs.ExampleStates.{start, with_piece, at_first, at_second, after_off}
 use Rattle.rbg_examples.proofs.examples.negative_pattern.Goals as goal
 
 abbrev right_off : Expression
@@ -57,52 +58,30 @@ nothing w end word run = first_fails (subst (λ (v : List ℕ). Runs (ActsIn (no
     first_fails : ¬ Runs (ActsIn (nothing_right one_square) right_off) (3 ∷ 4 ∷ 5 ∷ []) (state_of 1 (0 ∷ []) 0) end
     first_fails (step {middle} first later) = no_right middle first
 
-abbrev before_move : AbstractState
-before_move = state_of 1 (0 ∷ []) 0
-
-abbrev after_off : AbstractState
-after_off = state_of 1 (1 ∷ []) 0
-
 pub returns-clause-holds : goal.returns-clause-holds
-returns-clause-holds c = (
-  record { state = state_of 2 (1 ∷ []) 0; last = Some 7 },
-  record {
-    before = 2 ∷ 6 ∷ [];
-    last = 7;
-    follows = (outermost, [], [], record { expression = (nothing_right one_square).rules; is_level = refl; is_word = acts_word actions });
-    runs = pass {middle = before_move} (record { action = negative right_off; stands = looks one_square; acts = ((λ (w, end, word, run). nothing w end word run), refl) }) refl (modify {middle = after_off} (record { action = off 1; stands = puts one_square; acts = refl }) refl (modify (record { action = switch 2; stands = ends one_square; acts = refl }) refl stay));
-    switches = record { player = 2; stands = ends one_square };
-    none_before = not one_square 2 (6 ∷ []) (no_switch_at (nothing_right one_square).rules (numbered one_square) 2 (negative right_off) (looks one_square) (λ n e. cc)) (not one_square 6 [] (no_switch_at (nothing_right one_square).rules (numbered one_square) 6 (off 1) (puts one_square) (λ n e. cc)) (All-nil (λ p. ¬ IsSwitchAt (nothing_right one_square).rules p)));
-    stands = refl;
-  },
-)
+returns-clause-holds c =
+    legal_by (2 ∷ 6 ∷ []) 7 (state_of 2 (1 ∷ []) 0)
+    (outermost, [], [], record { expression = (nothing_right one_square).rules; is_level = refl; is_word = acts_word actions })
+    (pass {middle = start} (record { action = negative right_off; stands = looks one_square; acts = ((λ (w, end, word, run). nothing w end word run), refl) }) refl (modify {middle = with_piece} (record { action = off 1; stands = puts one_square; acts = refl }) refl (modify (record { action = switch 2; stands = ends one_square; acts = refl }) refl stay)))
+    (record { player = 2; stands = ends one_square }) (not one_square 2 (6 ∷ []) (no_switch_at (nothing_right one_square).rules (numbered one_square) 2 (negative right_off) (looks one_square) (λ n e. cc)) (not one_square 6 [] (no_switch_at (nothing_right one_square).rules (numbered one_square) 6 (off 1) (puts one_square) (λ n e. cc)) (All-nil (λ p. ¬ IsSwitchAt (nothing_right one_square).rules p))))
 
 -- On two squares the inside runs: one step to the right, w put there, and found there.
-abbrev start : AbstractState
-start = state_of 1 (0 ∷ 0 ∷ []) 0
-
-abbrev at_second : AbstractState
-at_second = record { player = 1; pieces = 0 ∷ 0 ∷ []; values = 0 ∷ 0 ∷ 0 ∷ []; vertex = 1 }
-
-abbrev with_piece : AbstractState
-with_piece = record { player = 1; pieces = 0 ∷ 1 ∷ []; values = 0 ∷ 0 ∷ 0 ∷ []; vertex = 1 }
-
-runs_right : Runs (ActsIn (nothing_right two_squares) right_off) (3 ∷ 4 ∷ 5 ∷ []) start with_piece
+runs_right : Runs (ActsIn (nothing_right two_squares) right_off) (3 ∷ 4 ∷ 5 ∷ []) at_first after_off
 unfolding next
-runs_right = step {middle = at_second} (inl (inl (inr (refl, (1, refl, refl))))) (step {middle = with_piece} (inl (inr (refl, refl))) (step {middle = with_piece} (inr (refl, ((0, omega arith, refl), refl))) rest))
+runs_right = step {middle = at_second} (inl (inl (inr (refl, (1, refl, refl))))) (step {middle = after_off} (inl (inr (refl, refl))) (step {middle = after_off} (inr (refl, ((0, omega arith, refl), refl))) rest))
 
-stopped : (t : AbstractState) → ¬ Applies (nothing_right two_squares) 2 start t
-stopped t applied = (applied_acts (nothing_right two_squares) (numbered two_squares) 2 (negative right_off) (looks two_squares) applied).0 (3 ∷ 4 ∷ 5 ∷ [], with_piece, acts_word inner, runs_right)
+stopped : (t : AbstractState) → ¬ Applies (nothing_right two_squares) 2 at_first t
+stopped t applied = (applied_acts (nothing_right two_squares) (numbered two_squares) 2 (negative right_off) (looks two_squares) applied).0 (3 ∷ 4 ∷ 5 ∷ [], after_off, acts_word inner, runs_right)
 
 -- Each move of white begins with the pattern.
-begins : (before : List ℕ) (last : ℕ) (end : AbstractState) (ps : List (ℕ × ℕ)) (back : List ℕ) → (before ++ last ∷ []) ++ back ≡ 2 ∷ 6 ∷ 7 ∷ [] → ¬ RunPairs (nothing_right two_squares) (before ++ last ∷ []) start end ps
+begins : (before : List ℕ) (last : ℕ) (end : AbstractState) (ps : List (ℕ × ℕ)) (back : List ℕ) → (before ++ last ∷ []) ++ back ≡ 2 ∷ 6 ∷ 7 ∷ [] → ¬ RunPairs (nothing_right two_squares) (before ++ last ∷ []) at_first end ps
 begins [] last end ps back e run =
     let first : last ≡ 2 = cc in
-    let applies = first_applies (subst (λ (p : ℕ). RunPairs (nothing_right two_squares) (p ∷ []) start end ps) first run) in
+    let applies = first_applies (subst (λ (p : ℕ). RunPairs (nothing_right two_squares) (p ∷ []) at_first end ps) first run) in
     stopped applies.0 applies.1
 begins (p ∷ before) last end ps back e run =
     let first : p ≡ 2 = cc in
-    let applies = first_applies (subst (λ (q : ℕ). RunPairs (nothing_right two_squares) (q ∷ (before ++ last ∷ [])) start end ps) first run) in
+    let applies = first_applies (subst (λ (q : ℕ). RunPairs (nothing_right two_squares) (q ∷ (before ++ last ∷ [])) at_first end ps) first run) in
     stopped applies.0 applies.1
 
 no_one : Among 1 (2 ∷ 6 ∷ 7 ∷ []) → ⊥

@@ -15,7 +15,7 @@ use Rattle.rbg_rules.proofs.PositionLemmas.{Among, Among_cases, one_stands}
 use Rattle.rbg_rules.proofs.PatternLemmas.{word_own}
 use Rattle.rbg_rules.proofs.MoveLemmas.{applied_acts}
 use Rattle.rbg_rules.proofs.PlaceLemmas.{RunPairs-append}
-use Rattle.rbg_examples.proofs.ExampleLemmas.{not_equal, no_switch_at, goes_on, begins_with, join_word, at_front, acts_word, only_word, split}
+use Rattle.rbg_examples.proofs.ExampleLemmas.{legal_by, not_equal, no_switch_at, goes_on, begins_with, join_word, at_front, acts_word, only_word, split}
 use Rattle.rbg_examples.proofs.examples.nested_patterns.Goals as goal
 
 numbered : IsNumbered nested.rules
@@ -117,18 +117,11 @@ move_runs =
     (modify (record { action = switch 2; stands = ends; acts = refl }) refl stay)))
 
 pub returns-clause-second : goal.returns-clause-second
-returns-clause-second c = (
-  record { state = record { player = 2; pieces = 0 ∷ 1 ∷ []; values = 0 ∷ 0 ∷ 0 ∷ []; vertex = 1 }; last = Some 10 },
-  record {
-    before = 2 ∷ 4 ∷ 9 ∷ [];
-    last = 10;
-    follows = (outermost, [], [], record { expression = nested.rules; is_level = refl; is_word = whole_word });
-    runs = move_runs;
-    switches = record { player = 2; stands = ends };
-    none_before = none_before;
-    stands = refl;
-  },
-)
+returns-clause-second c =
+    legal_by (2 ∷ 4 ∷ 9 ∷ []) 10 (record { player = 2; pieces = 0 ∷ 1 ∷ []; values = 0 ∷ 0 ∷ 0 ∷ []; vertex = 1 })
+    (outermost, [], [], record { expression = nested.rules; is_level = refl; is_word = whole_word })
+    move_runs
+    (record { player = 2; stands = ends }) none_before
 
 -- On the first square the inside runs: a step to the right, and none to the left.
 runs_right : (s : AbstractState) → s.vertex ≡ 0 → Runs (ActsIn nested only_right) (5 ∷ 7 ∷ []) s s

@@ -1,5 +1,5 @@
 -- The proof of `examples::openings_in_a_pattern`.
-use Rattle.std.proofs.Common.{◌≡◌, ℕ, List, [], ◌∷◌, ◌++◌, refl, inl, inr, sym, ap, ◌∙◌, subst, true, false, ◌≢◌}
+use Rattle.std.proofs.Common.{◌≡◌, ℕ, List, [], ◌∷◌, refl, inl, inr, sym, ap, ◌∙◌, subst}
 use Rattle.std.proofs.lemmas.List.Elements.{All-cons, All-nil}
 use Rattle.rbg_board.specs.Graph.{next}
 use Rattle.rbg_rules.specs.Expression.{AbstractAction, shift, on, off, positive, negative, switch, act, Expression, sequence_of}
@@ -8,9 +8,10 @@ use Rattle.rbg_rules.specs.Words.{beginning, WordOf, Word}
 use Rattle.rbg_rules.specs.State.{AbstractState}
 use Rattle.rbg_rules.specs.Moves.{RunPairs, stay, modify, pass}
 use Rattle.rbg_rules.specs.Questions.{at, behind, AnswersBehind, GoesTo, pattern}
-use Rattle.rbg_examples.specs.ExampleGames.{looking_right, state_of}
-use Rattle.rbg_examples.proofs.ExampleLemmas.{no_switch_at, acts_word, only_word}
+use Rattle.rbg_examples.specs.ExampleGames.{looking_right}
+use Rattle.rbg_examples.proofs.ExampleLemmas.{no_switch_at, true_not_false, only_nothing, all_of_one, acts_word, only_word}
 use Rattle.rbg_rules.proofs.PositionLemmas.{one_stands}
+use Rattle.rbg_examples.proofs.ExampleStates.{at_first, at_second, after_off}
 use Rattle.rbg_examples.proofs.examples.openings_in_a_pattern.Goals as goal
 
 numbered : IsNumbered looking_right.rules
@@ -37,18 +38,9 @@ puts = inl (inl (inl (inl (inr (inr (inr (inl (refl, refl))))))))
 no_switch : HasNoSwitch looking_right.rules (3 ∷ 4 ∷ [])
 no_switch = All-cons (λ p. ¬ IsSwitchAt looking_right.rules p) 3 (4 ∷ []) (no_switch_at looking_right.rules numbered 3 (shift 3) steps (λ n e. cc)) (All-cons (λ p. ¬ IsSwitchAt looking_right.rules p) 4 [] (no_switch_at looking_right.rules numbered 4 (off 1) puts (λ n e. cc)) (All-nil (λ p. ¬ IsSwitchAt looking_right.rules p)))
 
-abbrev first : AbstractState
-first = state_of 1 (0 ∷ 0 ∷ []) 0
-
-abbrev second : AbstractState
-second = record { player = 1; pieces = 0 ∷ 0 ∷ []; values = 0 ∷ 0 ∷ 0 ∷ []; vertex = 1 }
-
-abbrev after_off : AbstractState
-after_off = record { player = 1; pieces = 0 ∷ 1 ∷ []; values = 0 ∷ 0 ∷ 0 ∷ []; vertex = 1 }
-
-runs_inside : RunPairs looking_right (3 ∷ 4 ∷ []) first after_off ((1, 4) ∷ [])
+runs_inside : RunPairs looking_right (3 ∷ 4 ∷ []) at_first after_off ((1, 4) ∷ [])
 unfolding next
-runs_inside = pass {middle = second} (record { action = shift 3; stands = steps; acts = (1, refl, refl) }) refl (modify {middle = after_off} (record { action = off 1; stands = puts; acts = refl }) refl stay)
+runs_inside = pass {middle = at_second} (record { action = shift 3; stands = steps; acts = (1, refl, refl) }) refl (modify {middle = after_off} (record { action = off 1; stands = puts; acts = refl }) refl stay)
 
 -- The inside of the pattern at position 2 is the one written there, with one word.
 inside_is : (x : Expression) → IsLevel looking_right.rules (inside 2) x → x ≡ right_off
@@ -59,30 +51,19 @@ inside_word : (w : List ℕ) → WordOf looking_right.rules (inside 2) w → w �
 inside_word w of_level = only_word inner w (subst (λ (x : Expression). Word x w) (inside_is of_level.expression of_level.is_level) of_level.is_word)
 
 -- .. and no run of it is without a modifier.
-some_pair : (t : AbstractState) → ¬ RunPairs looking_right (3 ∷ 4 ∷ []) first t []
+some_pair : (t : AbstractState) → ¬ RunPairs looking_right (3 ∷ 4 ∷ []) at_first t []
 some_pair t (pass applied quiet (pass applied' quiet' stay)) =
     let same : applied'.action ≡ off 1 = one_stands looking_right.rules numbered 4 applied'.action (off 1) applied'.stands puts in
-    not_both (sym (ap is_modifier same) ∙ quiet')
-  where
-    not_both : true ≡ false → ⊥
-    not_both e = cc
+    true_not_false (sym (ap is_modifier same) ∙ quiet')
 
-only_nothing : (qs more : List (ℕ × ℕ)) → more ≢ [] → ¬ ([] ≡ qs ++ more)
-only_nothing [] more some e = some (sym e)
-only_nothing (q ∷ qs) more some e = cc
+no_answer : ¬ AnswersBehind looking_right pattern at_first (beginning (inside 2)) []
+no_answer (m, t, runs, ends) = some_pair t (subst (λ (w : List ℕ). RunPairs looking_right w at_first t []) (inside_word m ends) runs.runs)
 
-front : (qs more : List (ℕ × ℕ)) → more ≢ [] → (1, 4) ∷ [] ≡ qs ++ more → qs ≡ []
-front [] more some e = refl
-front (q ∷ qs) more some e = let tails : [] ≡ qs ++ more = cc in absurd (only_nothing qs more some tails)
-
-no_answer : ¬ AnswersBehind looking_right pattern first (beginning (inside 2)) []
-no_answer (m, t, runs, ends) = some_pair t (subst (λ (w : List ℕ). RunPairs looking_right w first t []) (inside_word m ends) runs.runs)
-
-goes_inside : GoesTo looking_right pattern first (beginning (inside 2)) ((1, 4) ∷ [])
-goes_inside qs (more, some, e) answer = no_answer (subst (λ (ps : List (ℕ × ℕ)). AnswersBehind looking_right pattern first (beginning (inside 2)) ps) (front qs more some e) answer)
+goes_inside : GoesTo looking_right pattern at_first (beginning (inside 2)) ((1, 4) ∷ [])
+goes_inside qs (more, some, e) answer = no_answer (subst (λ (ps : List (ℕ × ℕ)). AnswersBehind looking_right pattern at_first (beginning (inside 2)) ps) (all_of_one (1, 4) qs more some e) answer)
 
 pub returns : goal.returns
-returns c = behind {m = []} {t = first} {ps = []} {p = 2}
+returns c = behind {m = []} {t = at_first} {ps = []} {p = 2}
     (record { no_switch = All-nil (λ p. ¬ IsSwitchAt looking_right.rules p); follows = (outermost, [], 2 ∷ 5 ∷ 6 ∷ 7 ∷ 8 ∷ [], record { expression = looking_right.rules; is_level = refl; is_word = acts_word actions }); runs = stay })
     (λ qs (more, some, e). absurd (only_nothing qs more some e))
     (outermost, [], 5 ∷ 6 ∷ 7 ∷ 8 ∷ [], record { expression = looking_right.rules; is_level = refl; is_word = acts_word actions })

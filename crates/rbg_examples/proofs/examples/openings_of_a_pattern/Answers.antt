@@ -1,27 +1,22 @@
 -- The proof of `examples::openings_of_a_pattern`.
-use Rattle.std.proofs.Common.{◌≡◌, ◌≢◌, ℕ, List, [], ◌∷◌, ◌++◌, refl, inl, inr, sym, ap, ◌∙◌, subst, ◌⊎◌, arith, true, false, Bool}
+use Rattle.std.proofs.Common.{◌≡◌, ◌≢◌, ℕ, List, [], ◌∷◌, ◌++◌, refl, inl, inr, sym, ap, ◌∙◌, subst, ◌⊎◌, arith, Bool}
 use Rattle.std.specs.Prelude.{All, Contains, AllPairs}
 use Rattle.std.proofs.lemmas.List.Elements.{All-cons, All-nil}
 use Rattle.std.proofs.lemmas.List.Kept.{AllPairs-cons}
 use Rattle.rbg_rules.specs.Expression.{on, off, positive, negative, Expression}
-use Rattle.rbg_rules.specs.Positions.{HasAction, IsNumbered, IsSwitchAt, IsPatternAt, HasNoSwitch, IsLevel, inside, is_modifier}
+use Rattle.rbg_rules.specs.Positions.{HasAction, IsNumbered, IsSwitchAt, IsPatternAt, HasNoSwitch, IsLevel, inside}
 use Rattle.rbg_rules.specs.Words.{Word, WordOf, Start, beginning, Follows}
 use Rattle.rbg_rules.specs.State.{AbstractState}
 use Rattle.rbg_rules.specs.Actions.{Applies}
 use Rattle.rbg_rules.specs.Moves.{RunPairs, stay, modify, pass}
 use Rattle.rbg_rules.specs.Questions.{Item, modifier_at, RunsOn, Opening, at, behind, GoesTo, Forced, SomeWordRuns, pattern, items_of}
-use Rattle.rbg_examples.specs.ExampleGames.{asking_a_sum, off_and_stop, state_of}
+use Rattle.rbg_examples.specs.ExampleGames.{asking_a_sum, off_and_stop}
 use Rattle.rbg_rules.proofs.PositionLemmas.{Among, Among_left, Among_right, one_stands}
 use Rattle.rbg_rules.proofs.MoveLemmas.{applied_acts}
 use Rattle.rbg_rules.proofs.TableLemmas.{plain_stands}
-use Rattle.rbg_examples.proofs.ExampleLemmas.{no_switch_at}
+use Rattle.rbg_examples.proofs.ExampleLemmas.{no_switch_at, no_pairs, one_pair}
+use Rattle.rbg_examples.proofs.ExampleStates.{start, with_piece}
 use Rattle.rbg_examples.proofs.examples.openings_of_a_pattern.Goals as goal
-
-abbrev start : AbstractState
-start = state_of 1 (0 ∷ []) 0
-
-abbrev with_piece : AbstractState
-with_piece = state_of 1 (1 ∷ []) 0
 
 abbrev asked : Start
 asked = beginning (inside 2)
@@ -109,19 +104,6 @@ short m s t ps (z, word) run = elim (of_level (m ++ z) word) [ inl e ↦ by_fron
     by_front p (inl (inr is)) one = one is
     by_front p (inr (rest, is)) one = absurd (stopped_then p rest s t ps (subst (λ (v : List ℕ). RunPairs asking_a_sum v s t ps) is run))
 
-modifies : (p : ℕ) (x : ℕ) → HasAction asking_a_sum.rules p (off x) → {s t : AbstractState} (applied : Applies asking_a_sum p s t) → is_modifier applied.action ≡ true
-modifies p x puts applied = ap is_modifier (one_stands asking_a_sum.rules numbered p applied.action (off x) applied.stands puts)
-
-true_not_false : true ≡ false → ⊥
-true_not_false e = cc
-
-no_pairs : (t : AbstractState) (ps : List (ℕ × ℕ)) → RunPairs asking_a_sum [] start t ps → ps ≡ []
-no_pairs t ps stay = refl
-
-one_pair : (p x : ℕ) → HasAction asking_a_sum.rules p (off x) → (s t : AbstractState) (ps : List (ℕ × ℕ)) → RunPairs asking_a_sum (p ∷ []) s t ps → ps ≡ (s.vertex, p) ∷ []
-one_pair p x puts s t ps (modify applied is stay) = refl
-one_pair p x puts s t ps (pass applied quiet stay) = absurd (true_not_false (sym (modifies p x puts applied) ∙ quiet))
-
 -- No pattern stands inside the pattern.
 no_pattern : (p : ℕ) → (p ≡ 3) ⊎ ((p ≡ 4) ⊎ (p ≡ 5)) → ¬ IsPatternAt asking_a_sum.rules p
 no_pattern p (inl e) pattern_at_p = plain_stands asking_a_sum.rules numbered 3 (off 1) refl puts_w (subst (IsPatternAt asking_a_sum.rules) e pattern_at_p)
@@ -150,9 +132,9 @@ abbrev three : List (List Item)
 three = [] ∷ (modifier_at 0 3 ∷ []) ∷ (modifier_at 0 4 ∷ []) ∷ []
 
 is_one : (m : List ℕ) (t : AbstractState) (ps : List (ℕ × ℕ)) → RunPairs asking_a_sum m start t ps → IsShort m → Contains three (items_of ps)
-is_one m t ps run (inl (inl e)) = let same = no_pairs t ps (subst (λ (w : List ℕ). RunPairs asking_a_sum w start t ps) e run) in (0, omega arith, sym (ap items_of same))
-is_one m t ps run (inl (inr e)) = let same = one_pair 3 1 puts_w start t ps (subst (λ (w : List ℕ). RunPairs asking_a_sum w start t ps) e run) in (1, omega arith, sym (ap items_of same))
-is_one m t ps run (inr e) = let same = one_pair 4 0 puts_e start t ps (subst (λ (w : List ℕ). RunPairs asking_a_sum w start t ps) e run) in (2, omega arith, sym (ap items_of same))
+is_one m t ps run (inl (inl e)) = let same = no_pairs asking_a_sum start t ps (subst (λ (w : List ℕ). RunPairs asking_a_sum w start t ps) e run) in (0, omega arith, sym (ap items_of same))
+is_one m t ps run (inl (inr e)) = let same = one_pair asking_a_sum numbered 3 1 puts_w start t ps (subst (λ (w : List ℕ). RunPairs asking_a_sum w start t ps) e run) in (1, omega arith, sym (ap items_of same))
+is_one m t ps run (inr e) = let same = one_pair asking_a_sum numbered 4 0 puts_e start t ps (subst (λ (w : List ℕ). RunPairs asking_a_sum w start t ps) e run) in (2, omega arith, sym (ap items_of same))
 
 pub returns-clause-no_other : goal.returns-clause-no_other
 returns-clause-no_other c o (at {m} {t} {ps} runs goes_on) = is_one m t ps runs.runs (short m start t ps runs.follows runs.runs)

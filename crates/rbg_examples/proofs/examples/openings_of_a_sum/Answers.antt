@@ -1,5 +1,5 @@
 -- The proof of `examples::openings_of_a_sum`.
-use Rattle.std.proofs.Common.{◌≡◌, ◌≢◌, ℕ, List, [], ◌∷◌, ◌++◌, refl, inl, inr, sym, ap, ◌∙◌, subst, ◌⊎◌, arith, true, false}
+use Rattle.std.proofs.Common.{◌≡◌, ◌≢◌, ℕ, List, [], ◌∷◌, ◌++◌, refl, inl, inr, sym, ap, ◌∙◌, subst, ◌⊎◌, arith, false}
 use Rattle.std.specs.Prelude.{All, Contains, AllPairs}
 use Rattle.std.proofs.lemmas.List.Elements.{All-cons, All-nil}
 use Rattle.std.proofs.lemmas.List.Kept.{AllPairs-cons}
@@ -7,20 +7,14 @@ use Rattle.rbg_rules.specs.Expression.{AbstractAction, off, switch, positive, ne
 use Rattle.rbg_rules.specs.Positions.{HasAction, IsNumbered, IsSwitchAt, IsPatternAt, HasNoSwitch, outermost, is_modifier}
 use Rattle.rbg_rules.specs.Words.{after, Follows, Word}
 use Rattle.rbg_rules.specs.State.{AbstractState}
-use Rattle.rbg_rules.specs.Actions.{Applies}
 use Rattle.rbg_rules.specs.Moves.{RunPairs, stay, modify, pass}
 use Rattle.rbg_rules.specs.Laws.{IsJoinOfWords}
 use Rattle.rbg_rules.specs.Questions.{Item, modifier_at, Opening, at, behind, GoesTo, AnswersBehind, find_move, items_of}
-use Rattle.rbg_examples.specs.ExampleGames.{small_sum, state_of}
-use Rattle.rbg_rules.proofs.PositionLemmas.{Among, one_stands}
-use Rattle.rbg_examples.proofs.ExampleLemmas.{no_switch_at, goes_on, join_word, at_front, all_among}
+use Rattle.rbg_examples.specs.ExampleGames.{small_sum}
+use Rattle.rbg_rules.proofs.PositionLemmas.{Among}
+use Rattle.rbg_examples.proofs.ExampleLemmas.{no_switch_at, true_not_false, only_nothing, all_of_one, modifies, no_pairs, one_pair, goes_on, join_word, at_front, all_among}
+use Rattle.rbg_examples.proofs.ExampleStates.{start, with_piece}
 use Rattle.rbg_examples.proofs.examples.openings_of_a_sum.Goals as goal
-
-abbrev start : AbstractState
-start = state_of 1 (0 ∷ []) 0
-
-abbrev with_piece : AbstractState
-with_piece = state_of 1 (1 ∷ []) 0
 
 numbered : IsNumbered small_sum.rules
 numbered = record { in_order = refl }
@@ -50,19 +44,14 @@ rest_of w (u, v, inl (inl none), others, e) = absurd none
 rest_of w (u, v, inl (inr two), (x, y, four, none, f), e) = inl cc
 rest_of w (u, v, inr three, (x, y, four, none, f), e) = inr cc
 
+not_among : (x a b : ℕ) → x ≢ a → x ≢ b → ¬ Among x (a ∷ b ∷ [])
+not_among x a b first second (inl e) = first e
+not_among x a b first second (inr (inl e)) = second e
+not_among x a b first second (inr (inr none)) = absurd none
+
 no_one : (w : List ℕ) → (w ≡ 2 ∷ 4 ∷ []) ⊎ (w ≡ 3 ∷ 4 ∷ []) → ¬ Among 1 w
-no_one w (inl e) h = in_two (subst (Among 1) e h)
-  where
-    in_two : ¬ Among 1 (2 ∷ 4 ∷ [])
-    in_two (inl f) = cc
-    in_two (inr (inl f)) = cc
-    in_two (inr (inr none)) = absurd none
-no_one w (inr e) h = in_three (subst (Among 1) e h)
-  where
-    in_three : ¬ Among 1 (3 ∷ 4 ∷ [])
-    in_three (inl f) = cc
-    in_three (inr (inl f)) = cc
-    in_three (inr (inr none)) = absurd none
+no_one w (inl e) h = not_among 1 2 4 (omega arith) (omega arith) (subst (Among 1) e h)
+no_one w (inr e) h = not_among 1 3 4 (omega arith) (omega arith) (subst (Among 1) e h)
 
 begins : (m : List ℕ) → Follows small_sum.rules (after 1) m → Begins m
 begins m follows =
@@ -83,22 +72,8 @@ short (x ∷ y ∷ m) none begun = absurd (all_among (λ p. ¬ IsSwitchAt small_
     fourth (inl e) = cc
     fourth (inr e) = cc
 
--- An off is a modifier.
-modifies : (p : ℕ) (x : ℕ) → HasAction small_sum.rules p (off x) → {s t : AbstractState} (applied : Applies small_sum p s t) → is_modifier applied.action ≡ true
-modifies p x puts applied = ap is_modifier (one_stands small_sum.rules numbered p applied.action (off x) applied.stands puts)
-
-true_not_false : true ≡ false → ⊥
-true_not_false e = cc
-
-no_pairs : (t : AbstractState) (ps : List (ℕ × ℕ)) → RunPairs small_sum [] start t ps → ps ≡ []
-no_pairs t ps stay = refl
-
-one_pair : (p x : ℕ) → HasAction small_sum.rules p (off x) → (s t : AbstractState) (ps : List (ℕ × ℕ)) → RunPairs small_sum (p ∷ []) s t ps → ps ≡ (s.vertex, p) ∷ []
-one_pair p x puts s t ps (modify applied is stay) = refl
-one_pair p x puts s t ps (pass applied quiet stay) = absurd (true_not_false (sym (modifies p x puts applied) ∙ quiet))
-
 some_pair : (p x : ℕ) → HasAction small_sum.rules p (off x) → (w : List ℕ) (s t : AbstractState) → ¬ RunPairs small_sum (p ∷ w) s t []
-some_pair p x puts w s t (pass applied quiet run) = true_not_false (sym (modifies p x puts applied) ∙ quiet)
+some_pair p x puts w s t (pass applied quiet run) = true_not_false (sym (modifies small_sum numbered p x puts applied) ∙ quiet)
 
 -- No switch is behind no modifier.
 no_answer : ¬ AnswersBehind small_sum find_move start (after 1) []
@@ -115,16 +90,8 @@ no_answer (x ∷ m, t, q, runs, follows, switch_at) =
       | inr e ↦ let first : x ≡ 3 = cc in some_pair 3 1 puts_w m start t (subst (λ (p : ℕ). RunPairs small_sum (p ∷ m) start t []) first runs.runs)
     ]
 
-only_nothing : (qs more : List (ℕ × ℕ)) → more ≢ [] → ¬ ([] ≡ qs ++ more)
-only_nothing [] more some e = some (sym e)
-only_nothing (q ∷ qs) more some e = cc
-
-front : (pair : ℕ × ℕ) (qs more : List (ℕ × ℕ)) → more ≢ [] → pair ∷ [] ≡ qs ++ more → qs ≡ []
-front pair [] more some e = refl
-front pair (q ∷ qs) more some e = let tails : [] ≡ qs ++ more = cc in absurd (only_nothing qs more some tails)
-
 goes_to : (pair : ℕ × ℕ) → GoesTo small_sum find_move start (after 1) (pair ∷ [])
-goes_to pair qs (more, some, e) answer = no_answer (subst (λ (ps : List (ℕ × ℕ)). AnswersBehind small_sum find_move start (after 1) ps) (front pair qs more some e) answer)
+goes_to pair qs (more, some, e) answer = no_answer (subst (λ (ps : List (ℕ × ℕ)). AnswersBehind small_sum find_move start (after 1) ps) (all_of_one pair qs more some e) answer)
 
 word_two : Word small_sum.rules (1 ∷ 2 ∷ 4 ∷ [])
 word_two = (1 ∷ 2 ∷ [], 4 ∷ [], (1 ∷ [], 2 ∷ [], ([], 1 ∷ [], refl, refl, refl), inl (inr refl), refl), refl, refl)
@@ -173,9 +140,9 @@ no_pattern p pattern = elim pattern.stands [ inl h ↦ plain (positive pattern.i
     plain a quiet (inr (inr no_action)) = absurd no_action
 
 is_one : (m : List ℕ) (t : AbstractState) (ps : List (ℕ × ℕ)) → RunPairs small_sum m start t ps → ((m ≡ []) ⊎ (m ≡ 2 ∷ [])) ⊎ (m ≡ 3 ∷ []) → Contains three (items_of ps)
-is_one m t ps run (inl (inl e)) = let same = no_pairs t ps (subst (λ (w : List ℕ). RunPairs small_sum w start t ps) e run) in (0, omega arith, sym (ap items_of same))
-is_one m t ps run (inl (inr e)) = let same = one_pair 2 0 puts_e start t ps (subst (λ (w : List ℕ). RunPairs small_sum w start t ps) e run) in (1, omega arith, sym (ap items_of same))
-is_one m t ps run (inr e) = let same = one_pair 3 1 puts_w start t ps (subst (λ (w : List ℕ). RunPairs small_sum w start t ps) e run) in (2, omega arith, sym (ap items_of same))
+is_one m t ps run (inl (inl e)) = let same = no_pairs small_sum start t ps (subst (λ (w : List ℕ). RunPairs small_sum w start t ps) e run) in (0, omega arith, sym (ap items_of same))
+is_one m t ps run (inl (inr e)) = let same = one_pair small_sum numbered 2 0 puts_e start t ps (subst (λ (w : List ℕ). RunPairs small_sum w start t ps) e run) in (1, omega arith, sym (ap items_of same))
+is_one m t ps run (inr e) = let same = one_pair small_sum numbered 3 1 puts_w start t ps (subst (λ (w : List ℕ). RunPairs small_sum w start t ps) e run) in (2, omega arith, sym (ap items_of same))
 
 pub returns-clause-no_other : goal.returns-clause-no_other
 returns-clause-no_other c o (at {m} {t} {ps} runs goes) = is_one m t ps runs.runs (short m runs.no_switch (begins m runs.follows))

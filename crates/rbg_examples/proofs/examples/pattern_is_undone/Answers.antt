@@ -1,6 +1,5 @@
 -- The proof of `examples::pattern_is_undone`.
 use Rattle.std.proofs.Common.{ℕ, List, [], ◌∷◌, ◌++◌, refl, inl, inr, subst, arith}
-use Rattle.std.specs.Prelude.{Some}
 use Rattle.std.proofs.lemmas.List.Elements.{All-cons, All-nil}
 use Rattle.rbg_board.specs.Graph.{next}
 use Rattle.rbg_rules.specs.Expression.{AbstractAction, shift, on, off, positive, switch, act, Expression, sequence_of}
@@ -8,9 +7,10 @@ use Rattle.rbg_rules.specs.Positions.{HasAction, IsNumbered, IsSwitchAt, HasNoSw
 use Rattle.rbg_rules.specs.State.{AbstractState}
 use Rattle.rbg_rules.specs.Actions.{Applies, rest, step}
 use Rattle.rbg_rules.specs.Moves.{stay, modify, pass}
-use Rattle.rbg_examples.specs.ExampleGames.{looking_right, state_of}
+use Rattle.rbg_examples.specs.ExampleGames.{looking_right}
 use Rattle.rbg_rules.proofs.PositionLemmas.{Among, Among_left, Among_right}
-use Rattle.rbg_examples.proofs.ExampleLemmas.{no_switch_at, goes_on, pair_first, pair_position, places, acts_word, only_word}
+use Rattle.rbg_examples.proofs.ExampleLemmas.{legal_by, no_switch_at, goes_on, pair_first, pair_position, places, acts_word, only_word}
+use Rattle.rbg_examples.proofs.ExampleStates.{at_first, at_second, after_off}
 use Rattle.rbg_examples.proofs.examples.pattern_is_undone.Goals as goal
 
 numbered : IsNumbered looking_right.rules
@@ -34,16 +34,7 @@ puts = inl (inr (inl (refl, refl)))
 ends : HasAction looking_right.rules 8 (switch 2)
 ends = inr (inl (refl, refl))
 
--- white before it moves, on the second square, and there after its off
-abbrev at_first : AbstractState
-at_first = state_of 1 (0 ∷ 0 ∷ []) 0
-
-abbrev at_second : AbstractState
-at_second = record { player = 1; pieces = 0 ∷ 0 ∷ []; values = 0 ∷ 0 ∷ 0 ∷ []; vertex = 1 }
-
-abbrev after_off : AbstractState
-after_off = record { player = 1; pieces = 0 ∷ 1 ∷ []; values = 0 ∷ 0 ∷ 0 ∷ []; vertex = 1 }
-
+-- what its switch leaves
 abbrev after_switch : AbstractState
 after_switch = record { player = 2; pieces = 0 ∷ 1 ∷ []; values = 0 ∷ 0 ∷ 0 ∷ []; vertex = 1 }
 
@@ -63,18 +54,11 @@ not p w here others = All-cons (λ q. ¬ IsSwitchAt looking_right.rules q) p w h
 
 pub returns-clause-legal : goal.returns-clause-legal
 unfolding looking stepping
-returns-clause-legal c = (
-  record { state = after_switch; last = Some 8 },
-  record {
-    before = 2 ∷ 5 ∷ 6 ∷ 7 ∷ [];
-    last = 8;
-    follows = (outermost, [], [], record { expression = looking_right.rules; is_level = refl; is_word = acts_word actions });
-    runs = pass looking refl (pass stepping refl (pass {middle = at_second} (record { action = on (0 ∷ []); stands = tests; acts = ((0, omega arith, refl), refl) }) refl (modify {middle = after_off} (record { action = off 1; stands = puts; acts = refl }) refl (modify (record { action = switch 2; stands = ends; acts = refl }) refl stay))));
-    switches = record { player = 2; stands = ends };
-    none_before = not 2 (5 ∷ 6 ∷ 7 ∷ []) (no_switch_at looking_right.rules numbered 2 (positive right_off) looks (λ n e. cc)) (not 5 (6 ∷ 7 ∷ []) (no_switch_at looking_right.rules numbered 5 (shift 3) steps (λ n e. cc)) (not 6 (7 ∷ []) (no_switch_at looking_right.rules numbered 6 (on (0 ∷ [])) tests (λ n e. cc)) (not 7 [] (no_switch_at looking_right.rules numbered 7 (off 1) puts (λ n e. cc)) (All-nil (λ p. ¬ IsSwitchAt looking_right.rules p)))));
-    stands = refl;
-  },
-)
+returns-clause-legal c =
+    legal_by (2 ∷ 5 ∷ 6 ∷ 7 ∷ []) 8 after_switch
+    (outermost, [], [], record { expression = looking_right.rules; is_level = refl; is_word = acts_word actions })
+    (pass looking refl (pass stepping refl (pass {middle = at_second} (record { action = on (0 ∷ []); stands = tests; acts = ((0, omega arith, refl), refl) }) refl (modify {middle = after_off} (record { action = off 1; stands = puts; acts = refl }) refl (modify (record { action = switch 2; stands = ends; acts = refl }) refl stay)))))
+    (record { player = 2; stands = ends }) (not 2 (5 ∷ 6 ∷ 7 ∷ []) (no_switch_at looking_right.rules numbered 2 (positive right_off) looks (λ n e. cc)) (not 5 (6 ∷ 7 ∷ []) (no_switch_at looking_right.rules numbered 5 (shift 3) steps (λ n e. cc)) (not 6 (7 ∷ []) (no_switch_at looking_right.rules numbered 6 (on (0 ∷ [])) tests (λ n e. cc)) (not 7 [] (no_switch_at looking_right.rules numbered 7 (off 1) puts (λ n e. cc)) (All-nil (λ p. ¬ IsSwitchAt looking_right.rules p))))))
 
 -- Position 4 belongs to the pattern, so no word of the rules has it.
 pub returns-clause-not_its_off : goal.returns-clause-not_its_off

@@ -1,5 +1,4 @@
 use Rattle.std.proofs.Common.{◌≢◌, ◌∙◌, ℕ, List, Bool, get_or, sym, subst, arith}
-use Rattle.std.specs.Prelude.{Contains}
 use Rattle.rbg_leaps.specs.Leaps.{IsShiftAt}
 use Rattle.rbg_leaps.specs.internal.Tables.{IsMarked}
 use Rattle.rbg_leaps.proofs.Cases.{not_both}
@@ -25,8 +24,6 @@ loop-listed-preserved c =
     ]
 
 pub returns : goal.returns
-returns c = λ t p there.
-    let xs : List ℕ = c.list-listed-items.result.now in
-    each_listed (λ q. IsShiftAt c.args.ground.now.rules q → get_or c.args.lists.now.afters.items q 0 ≢ c.args.node → IsMarked c.args.filled.now (get_or c.args.lists.now.afters.items q 0)) xs
-    (λ i below. c.loop-listed.invariant i (omega (arith, below, c.loop-listed-test.false)))
-    p (subst (λ (ys : List ℕ). Contains ys p) (sym c.list-listed-items.ensures) there)
+returns c = λ t.
+    each_listed (λ q. IsShiftAt c.args.ground.now.rules q → get_or c.args.lists.now.afters.items q 0 ≢ c.args.node → IsMarked c.args.filled.now (get_or c.args.lists.now.afters.items q 0))
+    c.list-listed-items.ensures (λ i below. c.loop-listed.invariant i (omega (arith, below, c.loop-listed-test.false)))

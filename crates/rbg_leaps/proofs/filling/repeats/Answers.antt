@@ -1,4 +1,4 @@
-use Rattle.std.proofs.Common.{◌≡◌, ℕ, List, get_or, sym, subst, arith}
+use Rattle.std.proofs.Common.{◌≡◌, ℕ, List, get_or, subst, arith}
 use Rattle.std.specs.Prelude.{Contains}
 use Rattle.rbg_leaps.specs.Leaps.{IsShiftAt}
 use Rattle.rbg_leaps.specs.internal.Tables.{StepsBack, StepsForth}
@@ -12,15 +12,11 @@ returns-then-repeats_by-clause-none c = λ l forth.
     absurd (not_both c.if-repeats_by.true (c.repeats_by.ensures.none l (forth (get_or xs c.loop-listed.listed-index 0) (subst (λ (ys : List ℕ). Contains ys (get_or xs c.loop-listed.listed-index 0)) c.list-listed-items.ensures (is_listed xs c.loop-listed.listed-index c.loop-listed-test.true)))))
 
 pub returns-clause-back : goal.returns-clause-back
-returns-clause-back c = λ l none p there.
-    let xs : List ℕ = c.list-listed-items.result.now in
-    each_listed (λ q. IsShiftAt c.args.ground.now.rules q → get_or c.args.lists.now.afters.items q 0 ≡ c.args.node → StepsBack c.args.ground.now q) xs
-    (λ i below. c.loop-listed.invariant.back l i (omega (arith, below, c.loop-listed-test.false)))
-    p (subst (λ (ys : List ℕ). Contains ys p) (sym c.list-listed-items.ensures) there)
+returns-clause-back c = λ l none.
+    each_listed (λ q. IsShiftAt c.args.ground.now.rules q → get_or c.args.lists.now.afters.items q 0 ≡ c.args.node → StepsBack c.args.ground.now q)
+    c.list-listed-items.ensures (λ i below. c.loop-listed.invariant.back l i (omega (arith, below, c.loop-listed-test.false)))
 
 pub returns-clause-forth : goal.returns-clause-forth
-returns-clause-forth c = λ l none p there.
-    let xs : List ℕ = c.list-listed-items.result.now in
-    each_listed (λ q. IsShiftAt c.args.ground.now.rules q → get_or c.args.lists.now.afters.items q 0 ≡ c.args.node → StepsForth c.args.ground.now q) xs
-    (λ i below. c.loop-listed.invariant.forth l i (omega (arith, below, c.loop-listed-test.false)))
-    p (subst (λ (ys : List ℕ). Contains ys p) (sym c.list-listed-items.ensures) there)
+returns-clause-forth c = λ l none.
+    each_listed (λ q. IsShiftAt c.args.ground.now.rules q → get_or c.args.lists.now.afters.items q 0 ≡ c.args.node → StepsForth c.args.ground.now q)
+    c.list-listed-items.ensures (λ i below. c.loop-listed.invariant.forth l i (omega (arith, below, c.loop-listed-test.false)))

@@ -1,69 +1,66 @@
 -- The proofs of the walk.
-use Rattle.std.proofs.Common.{rules, ◌<◌, List, [], length, ℕ, ◌+◌, ◌-◌, Bool, true, subst, arith}
+use Rattle.std.proofs.Common.{rules, ◌<◌, List, [], length, ℕ, ◌+◌, ◌-◌, Bool, true, ap, subst, arith}
 use Rattle.std.proofs.lemmas.Result.{IfOk-weaker}
 use Rattle.rbg_rules.specs.declared.rule.Rule.{Rule}
 use Rattle.rbg_rules.specs.declared.rule.Rule.TheVariants.{Star}
 use Rattle.rbg_auto.specs.internal.Trees.{GivesFirsts, IsAgain}
 use Rattle.rbg_auto.specs.internal.Tables.{Keeps, IsKept}
-use Rattle.rbg_auto.specs.internal.Walks.{LaysTree, LaysSequence, LaysSum, LaysLevel}
-use Rattle.rbg_auto.proofs.WalkLemmas.{IsKept-grows, lays_act, lays_pattern, lays_then, lays_or, lays_star_tree, lays_level_by, sequence_begins, sequence_owes_fewer, part_laid, sequence_laid, sum_goes_on}
+use Rattle.rbg_auto.specs.internal.Walks.{LaysTree, LaysSequence, LaysLevel}
+use Rattle.rbg_auto.proofs.WalkLemmas.{IsKept-grows, lays_act, lays_pattern, SumSoFar, lays_then, lays_star_tree, lays_level_by, sequence_begins, sequence_owes_fewer, part_laid, sequence_laid, sum_goes_on, sum_ends}
 use Rattle.rbg_auto.proofs.walk.Walk.+laying.Goals as goal
 
-pub lay-keep-requires-in-Pattern : goal.lay-keep-requires-in-Pattern
-lay-keep-requires-in-Pattern t c =
+pub lay-lay_at-requires-in-Pattern-clause-kept : goal.lay-lay_at-requires-in-Pattern-clause-kept
+lay-lay_at-requires-in-Pattern-clause-kept t c =
     let level : LaysLevel c.args.self.now.table c.lay_level.new.self.table c.deref.result.now c.in_ok-inside-in-Pattern.inside = c.in_ok-inside-in-Pattern.ensures in
     IsKept-grows c.args.self.now.table.entries.items c.lay_level.new.self.table.entries.items c.args.kept.now c.args.rest.now.positions.items level.extends.entries c.requires
 
-pub lay-returns-in_ok-next-in-Act-clause-lays : goal.lay-returns-in_ok-next-in-Act-clause-lays
-lay-returns-in_ok-next-in-Act-clause-lays t c =
-    rw c.in-Act.is
-    (lays_act c.in-Act.position c.args.self.now.table c.keep.new.self.table c.set.new.self c.in_ok-next-in-Act.next c.args.rest.now.positions.items c.args.rest.now.may_end c.in_ok-next-in-Act.ensures.adds c.in_ok-next-in-Act.ensures.keeps c.set.ensures)
+pub lay-returns-in-Act-clause-lays : goal.lay-returns-in-Act-clause-lays
+lay-returns-in-Act-clause-lays t c = rw c.in-Act.is (IfOk-weaker c.lay_at.result _ _ (λ _ at. lays_act c.in-Act.position c.args.self.now.table c.lay_at.new.self.table c.args.rest.now at) c.lay_at.ensures.lays)
 
-pub lay-returns-in_ok-next-in-Act-clause-kept : goal.lay-returns-in_ok-next-in-Act-clause-kept
-lay-returns-in_ok-next-in-Act-clause-kept t c = IsKept-grows c.keep.new.self.table.entries.items c.set.new.self.entries.items c.keep.new.kept c.args.rest.now.positions.items c.set.ensures.extends.entries c.in_ok-next-in-Act.ensures.kept
-
-pub lay-returns-in_ok-next-in-Pattern-clause-lays :
-    goal.lay-returns-in_ok-next-in-Pattern-clause-lays
-lay-returns-in_ok-next-in-Pattern-clause-lays t c =
+pub lay-returns-in_ok-inside-in-Pattern-clause-lays : goal.lay-returns-in_ok-inside-in-Pattern-clause-lays
+lay-returns-in_ok-inside-in-Pattern-clause-lays t c =
     let level = subst (λ (r : Rule). LaysLevel c.args.self.now.table c.lay_level.new.self.table r c.in_ok-inside-in-Pattern.inside) c.deref.ensures c.in_ok-inside-in-Pattern.ensures in
-    rw c.in-Pattern.is
-    (lays_pattern c.in-Pattern.position c.in-Pattern.inside c.args.self.now.table c.lay_level.new.self.table c.keep-in-Pattern.new.self.table c.set-in-Pattern.new.self c.in_ok-next-in-Pattern.next c.args.rest.now.positions.items c.args.rest.now.may_end c.in_ok-inside-in-Pattern.inside level c.in_ok-next-in-Pattern.ensures.adds c.in_ok-next-in-Pattern.ensures.keeps c.set-in-Pattern.ensures)
-
-pub lay-returns-in_ok-next-in-Pattern-clause-kept :
-    goal.lay-returns-in_ok-next-in-Pattern-clause-kept
-lay-returns-in_ok-next-in-Pattern-clause-kept t c = IsKept-grows c.keep-in-Pattern.new.self.table.entries.items c.set-in-Pattern.new.self.entries.items c.keep-in-Pattern.new.kept c.args.rest.now.positions.items c.set-in-Pattern.ensures.extends.entries c.in_ok-next-in-Pattern.ensures.kept
+    rw c.in-Pattern.is (IfOk-weaker c.lay_at-in-Pattern.result _ _
+    (λ _ at. lays_pattern c.in-Pattern.position c.in-Pattern.inside c.args.self.now.table c.lay_level.new.self.table c.lay_at-in-Pattern.new.self.table c.args.rest.now c.in_ok-inside-in-Pattern.inside level at) c.lay_at-in-Pattern.ensures.lays)
 
 pub lay-returns-in-Then-clause-lays : goal.lay-returns-in-Then-clause-lays
 lay-returns-in-Then-clause-lays t c =
     rw c.in-Then.is (IfOk-weaker c.lay_sequence.result _ _
     (λ _ one. lays_then c.in-Then.parts _ _ _ _ (subst (λ (rs : List Rule). LaysSequence c.args.self.now.table c.lay_sequence.new.self.table rs c.args.rest.now.positions.items c.args.rest.now.may_end) c.as_slice.ensures.value one)) c.lay_sequence.ensures.lays)
 
-pub lay-returns-in-Or-clause-lays : goal.lay-returns-in-Or-clause-lays
-lay-returns-in-Or-clause-lays t c =
-    rw c.in-Or.is (IfOk-weaker c.lay_sum.result _ _
-    (λ _ one. lays_or c.in-Or.parts _ _ _ _ (subst (λ (rs : List Rule). LaysSum c.args.self.now.table c.lay_sum.new.self.table rs c.args.rest.now.positions.items c.args.rest.now.may_end) c.as_slice-in-Or.ensures.value one)) c.lay_sum.ensures.lays)
+pub lay-loop-part-preserved : goal.lay-loop-part-preserved
+lay-loop-part-preserved t c =
+    record {
+      so_far = sum_goes_on c.args.self.now.table c.loop-part.self.table c.lay.new.self.table c.deref-part-items.result.now c.loop-part.part-index c.part-item.result c.args.rest.now.positions.items c.args.rest.now.may_end (omega arith) c.part-item.is c.loop-part.invariant.so_far c.in_ok-lay-in-Or.ensures.lays;
+      kept = c.in_ok-lay-in-Or.ensures.kept;
+    }
+
+pub lay-returns-after-loop-part-clause-lays : goal.lay-returns-after-loop-part-clause-lays
+lay-returns-after-loop-part-clause-lays t c =
+    let so_far = subst (λ (rs : List Rule). SumSoFar c.args.self.now.table c.loop-part.self.table rs c.loop-part.part-index c.args.rest.now.positions.items c.args.rest.now.may_end) c.deref-part-items.ensures.value c.loop-part.invariant.so_far in
+    rw c.in-Or.is (sum_ends c.args.self.now.table c.loop-part.self.table c.in-Or.parts c.loop-part.part-index c.args.rest.now.positions.items c.args.rest.now.may_end (omega (arith, ap length c.deref-part-items.ensures.value, c.loop-part-test.false)) so_far)
 
 pub lay-returns-in_ok-again-in-Star-clause-lays : goal.lay-returns-in_ok-again-in-Star-clause-lays
 lay-returns-in_ok-again-in-Star-clause-lays t c =
     let old = c.args.self.now.table in
-    let new = c.lay.new.self.table in
+    let new = c.lay-in-Star.new.self.table in
     let k = c.args.rest.now.positions.items in
     let end = c.args.rest.now.may_end in
     let part = c.in-Star.part in
     let m = c.in_ok-again-in-Star.again.positions.items in
     let again : IsAgain part.value k m = subst (λ (r : Rule). IsAgain r k m) c.deref-in-Star.ensures c.in_ok-again-in-Star.ensures.positions in
-    rw c.in-Star.is (IfOk-weaker c.lay.result (λ _. LaysTree old new c.deref-in-Star-2.result.now m c.in_ok-again-in-Star.again.may_end) (λ _. LaysTree old new (Star part) k end)
-    (λ _ one. lays_star_tree part old new k m end again (subst (λ (e : Bool). LaysTree old new part.value m e) c.in_ok-again-in-Star.ensures.may_end (subst (λ (r : Rule). LaysTree old new r m c.in_ok-again-in-Star.again.may_end) c.deref-in-Star-2.ensures one))) c.lay.ensures.lays)
+    rw c.in-Star.is (IfOk-weaker c.lay-in-Star.result (λ _. LaysTree old new c.deref-in-Star-2.result.now m c.in_ok-again-in-Star.again.may_end) (λ _. LaysTree old new (Star part) k end)
+    (λ _ one. lays_star_tree part old new k m end again (subst (λ (e : Bool). LaysTree old new part.value m e) c.in_ok-again-in-Star.ensures.may_end (subst (λ (r : Rule). LaysTree old new r m c.in_ok-again-in-Star.again.may_end) c.deref-in-Star-2.ensures one))) c.lay-in-Star.ensures.lays)
 
 pub lay-returns-in_ok-again-in-Star-clause-kept : goal.lay-returns-in_ok-again-in-Star-clause-kept
 lay-returns-in_ok-again-in-Star-clause-kept t c =
     let old = c.args.self.now.table in
-    let new = c.lay.new.self.table in
+    let new = c.lay-in-Star.new.self.table in
     let k = c.args.rest.now.positions.items in
     let m = c.in_ok-again-in-Star.again.positions.items in
     let end = c.in_ok-again-in-Star.again.may_end in
-    IfOk-weaker c.lay.result (λ _. LaysTree old new c.deref-in-Star-2.result.now m end) (λ _. IsKept new.entries.items c.args.kept.now k)
-    (λ _ one. let lays : LaysTree old new c.deref-in-Star-2.result.now m end = one in IsKept-grows old.entries.items new.entries.items c.args.kept.now k lays.extends.entries c.requires) c.lay.ensures.lays
+    IfOk-weaker c.lay-in-Star.result (λ _. LaysTree old new c.deref-in-Star-2.result.now m end) (λ _. IsKept new.entries.items c.args.kept.now k)
+    (λ _ one. let lays : LaysTree old new c.deref-in-Star-2.result.now m end = one in IsKept-grows old.entries.items new.entries.items c.args.kept.now k lays.extends.entries c.requires) c.lay-in-Star.ensures.lays
 
 pub lay_level-returns : goal.lay_level-returns
 lay_level-returns t c =
@@ -109,16 +106,3 @@ pub lay_sequence-returns-clause-lays : goal.lay_sequence-returns-clause-lays
 lay_sequence-returns-clause-lays t c =
     let test = c.loop-left-test.false in
     sequence_laid (omega (arith, test)) c.loop-left.invariant.owes
-
-pub lay_sum-loop-part-preserved : goal.lay_sum-loop-part-preserved
-lay_sum-loop-part-preserved t c =
-    let old = c.args.self.now.table in
-    let now = c.loop-part.self.table in
-    let new = c.lay.new.self.table in
-    let parts = c.args.parts.now in
-    let k = c.args.rest.now.positions.items in
-    let end = c.args.rest.now.may_end in
-    record {
-      so_far = sum_goes_on old now new parts c.loop-part.part-index c.part-item.result k end (omega arith) c.part-item.is c.loop-part.invariant.so_far c.in_ok-lay.ensures.lays;
-      kept = c.in_ok-lay.ensures.kept;
-    }

@@ -14,8 +14,8 @@ invariant-lay_sequence-loop-left l = record {
 abbrev pub decreases-lay_sequence-loop-left : goal.decreases-lay_sequence-loop-left
 decreases-lay_sequence-loop-left l = l.left
 
-abbrev pub invariant-lay_sum-loop-part : goal.invariant-lay_sum-loop-part
-invariant-lay_sum-loop-part l = record {
-  so_far : SumSoFar l.initial.self.table l.self.table l.parts l.part-index l.rest.positions.items l.rest.may_end;
+abbrev pub invariant-lay-loop-part : goal.invariant-lay-loop-part
+invariant-lay-loop-part l = record {
+  so_far : SumSoFar l.fn.self.table l.self.table l.part-items l.part-index l.rest.positions.items l.rest.may_end;
   kept : IsKept l.self.table.entries.items l.kept l.rest.positions.items;
 }

@@ -1,9 +1,12 @@
-use Rattle.std.proofs.Common.{◌≡◌, ℕ, List, length, map, ap, ◌∙◌, subst, sym, arith}
+use Rattle.std.proofs.Common.{◌≡◌, ℕ, List, Result, length, map, ap, ◌∙◌, subst, sym, arith}
 use Rattle.std.specs.List.{AllZip}
+use Rattle.std.specs.Prelude.{OnOk}
 use Rattle.std.proofs.lemmas.List.{length-map}
+use Rattle.std.proofs.lemmas.Result.{IfOk-weaker, IfErr-weaker}
 use Rattle.std.proofs.lemmas.Slice.Zip.{AllZip-long}
 use Rattle.rbg_board.specs.Cells.{width_of}
-use Rattle.rbg_board.specs.Graph.{HasWidth}
+use Rattle.rbg_board.specs.Graph.{Graph, HasWidth}
+use Rattle.rbg_board.specs.declared.error.BoardError.{BoardError}
 use Rattle.rbg_board.specs.Vertices.{written_of}
 use Rattle.rbg_board.specs.Written.{Written, directions_of, IsWritten, MakesGraph, GraphRefusal}
 use Rattle.rbg_board.specs.declared.graphs.Cell.{Cell}
@@ -11,13 +14,15 @@ use Rattle.rbg_grammar.specs.Tree.{SpeltVertex, graph}
 use Rattle.rbg_grammar.specs.Views.{vertex_of}
 use Rattle.rbg_rules.specs.LawfulNames.{AreDifferentNames}
 use Rattle.rbg_game.specs.GameErrors.{game_error_of}
+use Rattle.rbg_game.specs.declared.checking.boards.NamedBoard.{NamedBoard}
 use Rattle.rbg_game.specs.declared.game_error.GameError.{GameError}
+use Rattle.rbg_game.specs.internal.Boards.{MakesBoard}
 use Rattle.rbg_numbering.specs.Names.{IsNumberOf}
 use Rattle.rbg_numbering.proofs.LookUps.{passed_on}
 use Rattle.rbg_game.specs.Descriptions.{vertex_names}
 use Rattle.rbg_game.specs.Faults.{board_pieces, HasBoardFault, many_directions, no_graph, many_vertices, board_memory}
 use Rattle.rbg_game.specs.internal.Graphs.{IsCell}
-use Rattle.rbg_game.proofs.NamedRows.{cells_fault, by_refusal}
+use Rattle.rbg_game.proofs.NamedRows.{of_ok, of_err, cells_fault, by_refusal}
 use Rattle.rbg_game.proofs.NamedGraphs.{graph_made, graph_fault}
 use Rattle.rbg_game.proofs.checking.graphs.make_graph.Goals as goal
 
@@ -59,23 +64,28 @@ cells_numbered pieces directions names vertices written first given differ are s
   subst (λ ns. AllZip (IsCell pieces directions ns) vertices written) are (all pieces (subst (AllZip (IsNumberOf pieces) (board_pieces (graph vertices))) (sym same) named)),
 )
 
-pub returns-in-Ok-clause-board : goal.returns-in-Ok-clause-board
-returns-in-Ok-clause-board c =
+pub returns-clause-board : goal.returns-clause-board
+returns-clause-board c =
     let vertices = map vertex_of c.args.vertices.now in
     let (differ, cells) =
     cells_numbered c.args.pieces.now c.in_ok-directions.directions c.in_ok-names.names vertices (written_of c.in_ok-cells.cells.items) c.in_ok-first.first.items c.deref.result.now c.in_ok-names.ensures.differ c.in_ok-names.ensures.names c.deref.ensures.value c.in_ok-first.ensures.numbers c.in_ok-cells.ensures.cells in
-    let makes = subst (λ (cs : List Cell). MakesGraph (written_of cs)) c.deref-2.ensures.value c.in-Ok.ensures.lawful in
-    let is = subst (λ (cs : List Cell). IsWritten (written_of cs) c.in-Ok.board) c.deref-2.ensures.value c.in-Ok.ensures.board in
-    let wide = subst (λ (cs : List Cell). HasWidth (width_of (directions_of (written_of cs))) c.in-Ok.board) c.deref-2.ensures.value c.in-Ok.ensures.width in
-    rw (c.name_board.ensures.directions, c.name_board.ensures.board)
-    (graph_made c.args.pieces.now c.in_ok-directions.directions vertices (written_of c.in_ok-cells.cells.items) differ cells c.in-Ok.board c.in_ok-directions.ensures.order c.name_board.ensures.names (omega (arith, c.if-len-gt-MAX_DIRECTIONS.false, c.len.ensures.count)) c.name_board.ensures.vertices makes is wide)
+    IfOk-weaker c.named.result _ (λ (b : NamedBoard). MakesBoard c.args.pieces.now (graph vertices) b.directions b.board)
+    (λ b it.
+        let lawful = subst (λ (r : Result Graph BoardError). OnOk r (MakesGraph (written_of c.deref-2.result.now))) it.is c.graph.ensures.lawful in
+        let makes = subst (λ (cs : List Cell). MakesGraph (written_of cs)) c.deref-2.ensures.value lawful in
+        let is = subst (λ (cs : List Cell). IsWritten (written_of cs) b.board) c.deref-2.ensures.value (of_ok (IsWritten (written_of c.deref-2.result.now)) it.is c.graph.ensures.board) in
+        let wide = subst (λ (cs : List Cell). HasWidth (width_of (directions_of (written_of cs))) b.board) c.deref-2.ensures.value (of_ok (HasWidth (width_of (directions_of (written_of c.deref-2.result.now)))) it.is c.graph.ensures.width) in
+        rw it.directions
+        (graph_made c.args.pieces.now c.in_ok-directions.directions vertices (written_of c.in_ok-cells.cells.items) differ cells b.board c.in_ok-directions.ensures.order it.names (omega (arith, c.if-len-gt-MAX_DIRECTIONS.false, c.len.ensures.count)) it.vertices makes is wide))
+    c.named.ensures.board
 
 pub returns-clause-fault : goal.returns-clause-fault
 returns-clause-fault c =
     let vertices = map vertex_of c.args.vertices.now in
     let (differ, cells) =
     cells_numbered c.args.pieces.now c.in_ok-directions.directions c.in_ok-names.names vertices (written_of c.in_ok-cells.cells.items) c.in_ok-first.first.items c.deref.result.now c.in_ok-names.ensures.differ c.in_ok-names.ensures.names c.deref.ensures.value c.in_ok-first.ensures.numbers c.in_ok-cells.ensures.cells in
-    let error = c.in-Err.error in
-    let refused = subst (λ (cs : List Cell). GraphRefusal (written_of cs) error) c.deref-2.ensures.value c.in-Err.ensures.refusal in
-    rw c.refusal_of.ensures
-    (by_refusal c.args.pieces.now (graph vertices) error (λ is_fault. no_graph (graph_fault c.args.pieces.now c.in_ok-directions.directions vertices (written_of c.in_ok-cells.cells.items) differ cells error refused is_fault)))
+    IfErr-weaker c.named.result _ (HasBoardFault c.args.pieces.now (graph vertices))
+    (λ e it.
+        let refused = subst (λ (cs : List Cell). GraphRefusal (written_of cs) it.cause) c.deref-2.ensures.value (of_err (GraphRefusal (written_of c.deref-2.result.now)) it.is c.graph.ensures.refusal) in
+        rw it.refusal (by_refusal c.args.pieces.now (graph vertices) it.cause (λ is_fault. no_graph (graph_fault c.args.pieces.now c.in_ok-directions.directions vertices (written_of c.in_ok-cells.cells.items) differ cells it.cause refused is_fault))))
+    c.named.ensures.refusal

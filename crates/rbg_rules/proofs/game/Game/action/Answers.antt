@@ -1,18 +1,15 @@
 -- The proof of `game::Game::action`.
-use Rattle.std.proofs.Common.{◌≡◌, ◌≤◌, length, subst, sym, ap}
+use Rattle.std.proofs.Common.{subst, sym, ap}
 use Rattle.rbg_rules.specs.Expression.{Expression}
-use Rattle.rbg_rules.specs.Positions.{positions_of}
 use Rattle.rbg_rules.specs.State.{AbstractGame}
 use Rattle.rbg_rules.specs.Table.{Stands}
 use Rattle.rbg_rules.specs.Translation.{rules_of}
-use Rattle.rbg_rules.proofs.TableLemmas.{stands_at}
+use Rattle.rbg_rules.proofs.TableLemmas.{of_seen, stands_at}
 use Rattle.rbg_rules.proofs.game.Game.action.Goals as goal
 
 pub returns : goal.returns
 returns c =
     let rules = c.self.inside.rules in
-    let same : rules_of rules ≡ c.args.self.now.rules = ap (λ (g : AbstractGame). g.rules) c.self.view_is in
-    let there : c.args.position ≤ length (positions_of (rules_of rules)) = subst (λ (x : Expression). c.args.position ≤ length (positions_of x)) (sym same) c.requires.there in
-    let at_entry = stands_at rules.actions.items rules.tree c.self.invariant.lawful.numbered c.self.invariant.actions c.args.position c.index.result.now c.requires.from_one there in
-    subst (λ (x : Expression). Stands x c.args.position c.index.result.now) same
-    (subst (Stands (rules_of rules) c.args.position) (sym c.index.ensures) at_entry)
+    of_seen (λ (x : Expression). Stands x c.args.position c.index.result.now) (ap (λ (g : AbstractGame). g.rules) c.self.view_is) c.requires.there
+    (λ there. subst (Stands (rules_of rules) c.args.position) (sym c.index.ensures)
+    (stands_at rules.actions.items rules.tree c.self.invariant.lawful.numbered c.self.invariant.actions c.args.position c.index.result.now c.requires.from_one there))

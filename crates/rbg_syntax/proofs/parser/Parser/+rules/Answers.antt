@@ -1,7 +1,8 @@
 use Rattle.std.proofs.Common.{rules, ◌≡◌, [], ◌∷◌, map, true, false, sym, ◌∙◌}
 use Rattle.rbg_tokens.specs.declared.token.Symbol.TheVariants as symbols
 use Rattle.rbg_grammar.specs.Reading.{after_at, is_symbol, next_is}
-use Rattle.rbg_grammar.specs.RuleReading.{atom_at, begins_atom, is_opening, item_at, sequence_at, too_deep_at}
+use Rattle.rbg_tokens.specs.Kinds.{opens}
+use Rattle.rbg_grammar.specs.RuleReading.{atom_at, begins_atom, item_at, sequence_at, too_deep_at}
 use Rattle.rbg_grammar.specs.Views.{rule_of}
 use Rattle.rbg_syntax.proofs.Parts.{atom_inside, atom_open, atom_none, same_deep, rules_fail, rules_alone, rules_more, rules_more_fail, sequence_fail, sequence_alone, sequence_more, sequence_more_fail}
 use Rattle.rbg_grammar.proofs.PhraseLaws.{item_takes_some, sequence_takes_some}
@@ -99,7 +100,7 @@ atom-returns-then-not-next_is_opening t c =
 
 pub atom-returns-then-brackets-eq0 : goal.atom-returns-then-brackets-eq0
 atom-returns-then-brackets-eq0 t c =
-    let here : next_is is_opening c.args.self.now ≡ true = sym c.next_is_opening.ensures ∙ c.if-not-next_is_opening.false in
+    let here : next_is opens c.args.self.now ≡ true = sym c.next_is_opening.ensures ∙ c.if-not-next_is_opening.false in
     FailsWithin-from c.too_deep.result (too_deep_at {A = Unit {0}} c.args.self.now) (atom_at c.args.brackets c.args.self.now)
     (λ f e. rw c.if-brackets-eq0.true (atom_none c.args.self.now here ∙ same_deep c.args.self.now f e)) c.too_deep.ensures
 
