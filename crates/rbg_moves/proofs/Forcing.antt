@@ -1,5 +1,5 @@
 -- Which openings are forced of the questions about moves, and that they were taken up.
-use Rattle.std.proofs.Common.{◌≡◌, ◌≢◌, ℕ, suc, ◌-◌, ◌<◌, ◌≤◌, List, [], ◌∷◌, ◌++◌, length, Bool, true, false, refl, sym, ap, subst, inl, inr, arith}
+use Rattle.std.proofs.Common.{◌≡◌, ◌≢◌, ℕ, zero, suc, ◌-◌, ◌<◌, ◌≤◌, List, [], ◌∷◌, ◌++◌, length, Bool, true, false, refl, sym, ap, subst, inl, inr, arith}
 use Rattle.std.specs.Prelude.{All, Contains, Some}
 use Rattle.std.proofs.lemmas.List.Elements.{All-head, All-contains}
 use Rattle.rbg_rules.specs.Positions.{IsNumbered, IsSwitchAt}
@@ -14,10 +14,14 @@ use Rattle.rbg_rules.specs.Questions.{Question, try_move, find_move, list_moves,
 use Rattle.rbg_rules.proofs.MoveLemmas.{Applies_one}
 use Rattle.rbg_pairs.specs.Flat.{IsNext, IsFlatPart}
 use Rattle.rbg_search.specs.Forced.{CountsForced, TakesBehind}
+use Rattle.rbg_search.specs.Passing.{Passes, finding, listing}
 use Rattle.rbg_search.proofs.Forcing.{ForcesOn, all_counted, none_deep, takes_none, takes_more, forced_at_once, forced_behind}
 use Rattle.rbg_moves.specs.Limits.{FitsLimits}
 use Rattle.rbg_moves.specs.internal.Stepping.{standing_at, place_behind}
+use Rattle.rbg_moves.specs.internal.Asking.{question_of, is_cut}
+use Rattle.rbg_moves.specs.internal.Gathering.{Gathers, IsLegalBy, IsSwitchOr}
 use Rattle.rbg_moves.proofs.Steps.{legal_on}
+use Rattle.rbg_moves.proofs.Gathering.{none_wanted}
 use Rattle.rbg_search.specs.Forced.{CountsAllForced}
 
 -- ---- a move is a legal list of pairs
@@ -69,9 +73,6 @@ pub record TakenSoFar (game : AbstractGame) (question : Question) (s : AbstractS
   pub behind_it : TakesBehind game false question s done middle b left most
 
 module _ (game : AbstractGame) (numbered : IsNumbered game.rules) where
-  pub so_far_none : (question : Question) (s : AbstractState) (f : Start) (a b left most : ℕ) → CountsForced game false reach s f a b left most → TakenSoFar game question s f [] a b left most
-  so_far_none question s f a b left most counts = record { middle = b; at_once = counts; behind_it = takes_none game numbered false question s b b left most (omega arith) }
-
   pub so_far_one : (question : Question) (s : AbstractState) (f : Start) (done : List (ℕ × ℕ)) (q : ℕ × ℕ) (later : AbstractState) (a b c left most : ℕ) → Applies game q.1 (standing_at s q.0) later → 1 < left → TakenSoFar game question s f done a b left most → CountsForced game false question later (after q.1) b c (left - 1) most → TakenSoFar game question s f (done ++ q ∷ []) a c left most
   so_far_one question s f done q later a b c left most applies more_left taken more = record {
     middle = taken.middle;
@@ -104,14 +105,25 @@ module _ (game : AbstractGame) (numbered : IsNumbered game.rules) where
   found_at_once s f ps move o (behind on goes (inl none) follows is inner) = behind on none tt follows is inner
   found_at_once s f ps move o (behind on goes (inr never) follows is inner) = absurd (never ps move)
 
-  pub found_forced : (place : AbstractPlace) (ps : List (ℕ × ℕ)) (a b c left most : ℕ) → IsLegal game place ps → b ≤ c → CountsForced game false reach place.state (stand_of place.last) a b left most → CountsForced game false find_move place.state (stand_of place.last) a c left most
+  found_forced : (place : AbstractPlace) (ps : List (ℕ × ℕ)) (a b c left most : ℕ) → IsLegal game place ps → b ≤ c → CountsForced game false reach place.state (stand_of place.last) a b left most → CountsForced game false find_move place.state (stand_of place.last) a c left most
   found_forced place ps a b c left most legal grows counts =
       forced_at_once game numbered false find_move place.state (stand_of place.last) a b c left most (found_at_once place.state (stand_of place.last) ps (legal_move game place legal.0 ps legal.1)) grows counts
 
-  -- .. in the middle of the loop.
-  pub found_so_far : (place : AbstractPlace) (ps : List (ℕ × ℕ)) (done : List (ℕ × ℕ)) (a b c left most : ℕ) → IsLegal game place ps → TakenSoFar game find_move place.state (stand_of place.last) done a b left most → b ≤ c → CountsForced game false find_move place.state (stand_of place.last) a c left most
-  found_so_far place ps done a b c left most legal taken grows =
-      found_forced place ps a taken.middle c left most legal (omega (arith, taken.behind_it.fits, grows)) taken.at_once
+  -- An answer behind these modifiers is a move of them and of one switch.
+  record AnswerMove (s : AbstractState) (f : Start) (qs : List (ℕ × ℕ)) : Type 0 where
+    pair : ℕ × ℕ
+    switches : IsSwitchAt game.rules pair.1
+    move : IsMove game s f (qs ++ pair ∷ [])
+
+  answer_move : (s : AbstractState) (f : Start) (qs : List (ℕ × ℕ)) → AnswersBehind game find_move s f qs → AnswerMove s f qs
+  answer_move s f qs (m, t, q, on, follows, switches) =
+      let end : AbstractState = record t { player = switches.player } in
+      let applied : Applies game q t end = record { action = switch switches.player; stands = switches.stands; acts = refl } in
+      record {
+        pair = (t.vertex, q);
+        switches = switches;
+        move = record { before = m; last = q; end = end; no_switch = on.no_switch; switches = switches; follows = follows; runs = RunPairs_join on.runs (modify applied refl stay) };
+      }
 
   -- Where there is none, there is none behind a modifier, and there too all is forced.
   finished_forces : (place : AbstractPlace) → Finished game place → ForcesOn game false find_move find_move place.state (stand_of place.last)
@@ -119,18 +131,11 @@ module _ (game : AbstractGame) (numbered : IsNumbered game.rules) where
       let never : (qs : List (ℕ × ℕ)) → ¬ IsMove game later (after p) qs = λ qs move.
       let legal = move_legal game (place_behind later p) qs move in
       finished.no_move ((v, p) ∷ qs) legal.0 (legal_on game numbered place v p later qs legal.0 next plain applies legal.1) in (
-        (λ qs prefix (m, t, q, on, follows, switches). never_answers later p qs never (m, t, q, on, follows, switches)),
+        (λ qs prefix answer. let last = answer_move later (after p) qs answer in never (qs ++ last.pair ∷ []) last.move),
         inr never,
       )
-    where
-      never_answers : (later : AbstractState) (p : ℕ) (qs : List (ℕ × ℕ)) → ((rs : List (ℕ × ℕ)) → ¬ IsMove game later (after p) rs) → ¬ AnswersBehind game find_move later (after p) qs
-      never_answers later p qs never (m, t, q, on, follows, switches) =
-          let end : AbstractState = record t { player = switches.player } in
-          let applied : Applies game q t end = record { action = switch switches.player; stands = switches.stands; acts = refl } in
-          let move : IsMove game later (after p) (qs ++ (t.vertex, q) ∷ []) = record { before = m; last = q; end = end; no_switch = on.no_switch; switches = switches; follows = follows; runs = RunPairs_join on.runs (modify applied refl stay) } in
-          never (qs ++ (t.vertex, q) ∷ []) move
 
-  pub finished_forced : (place : AbstractPlace) (pairs : List (ℕ × ℕ)) (ends : Bool) (a b left most : ℕ) → Finished game place → IsFlatPart game place.state (stand_of place.last) pairs ends → TakenSoFar game find_move place.state (stand_of place.last) pairs a b left most → CountsForced game false find_move place.state (stand_of place.last) a b left most
+  finished_forced : (place : AbstractPlace) (pairs : List (ℕ × ℕ)) (ends : Bool) (a b left most : ℕ) → Finished game place → IsFlatPart game place.state (stand_of place.last) pairs ends → TakenSoFar game find_move place.state (stand_of place.last) pairs a b left most → CountsForced game false find_move place.state (stand_of place.last) a b left most
   finished_forced place pairs ends a b left most finished part taken =
       forced_behind game numbered false find_move find_move place.state (stand_of place.last) pairs a taken.middle b left most (finished_forces place finished) (λ v p ps next plain goes. (part.next v p).1 next) taken.at_once taken.behind_it
 
@@ -149,16 +154,36 @@ module _ (game : AbstractGame) (numbered : IsNumbered game.rules) where
       true_not_false : true ≡ false → ⊥
       true_not_false e = cc
 
-  pub cut_forced : (s : AbstractState) (f : Start) (a b c left most : ℕ) → b ≤ c → CountsForced game false reach s f a b left most → CountsForced game true list_moves s f a c left most
+  cut_forced : (s : AbstractState) (f : Start) (a b c left most : ℕ) → b ≤ c → CountsForced game false reach s f a b left most → CountsForced game true list_moves s f a c left most
   cut_forced s f a b c left most grows counts = forced_at_once game numbered true list_moves s f a b c left most (cut_at_once s f) grows (counts_uncut game true reach s f a b left most counts)
 
-  pub cut_so_far : (s : AbstractState) (f : Start) (done : List (ℕ × ℕ)) (a b c left most : ℕ) → TakenSoFar game list_moves s f done a b left most → b ≤ c → CountsForced game true list_moves s f a c left most
-  cut_so_far s f done a b c left most taken grows = cut_forced s f a taken.middle c left most (omega (arith, taken.behind_it.fits, grows)) taken.at_once
-
   -- Where it isn't, all is forced.
-  pub listed_forced : (s : AbstractState) (f : Start) (pairs : List (ℕ × ℕ)) (ends : Bool) (a b left most : ℕ) → IsFlatPart game s f pairs ends → TakenSoFar game list_moves s f pairs a b left most → CountsForced game false list_moves s f a b left most
+  listed_forced : (s : AbstractState) (f : Start) (pairs : List (ℕ × ℕ)) (ends : Bool) (a b left most : ℕ) → IsFlatPart game s f pairs ends → TakenSoFar game list_moves s f pairs a b left most → CountsForced game false list_moves s f a b left most
   listed_forced s f pairs ends a b left most part taken =
       forced_behind game numbered false list_moves list_moves s f pairs a taken.middle b left most (λ v p later ps next applies plain goes forced. (tt, inr refl)) (λ v p ps next plain goes. (part.next v p).1 next) taken.at_once taken.behind_it
+
+  -- ---- a walk that looks for some move or lists the moves
+
+  -- It goes on behind a modifier: where it looks for some move, no switch came next.
+  pub walk_passes : (max : ℕ) (place : AbstractPlace) (done front : List (ℕ × ℕ)) (had has : List (List (ℕ × ℕ))) (first : List (ℕ × ℕ)) (v p : ℕ) → Gathers (IsLegalBy game place (IsSwitchOr game.rules done)) front max had has first false → Passes game place.state (stand_of place.last) v p (question_of max) (question_of max)
+  walk_passes zero place done front had has first v p gathers =
+      finding (λ answer.
+      let last = answer_move place.state (stand_of place.last) [] answer in
+      none_wanted (IsLegalBy game place (IsSwitchOr game.rules done)) front had has first gathers (last.pair ∷ []) (record { legal = move_legal game place (last.pair ∷ []) last.move; begins = inl last.switches }))
+  walk_passes (suc n) place done front had has first v p gathers = listing
+
+  -- Where it ends early there is a move, or its list is cut.
+  pub early_forced : (max : ℕ) (place : AbstractPlace) (front : List (ℕ × ℕ)) (had has : List (List (ℕ × ℕ))) (first : List (ℕ × ℕ)) (a b c left most : ℕ) → Gathers (IsLegal game place) front max had has first true → b ≤ c → CountsForced game false reach place.state (stand_of place.last) a b left most → CountsForced game (is_cut true max) (question_of max) place.state (stand_of place.last) a c left most
+  early_forced zero place front had has first a b c left most gathers grows counts =
+      let other = gathers.more refl in
+      found_forced place other.pairs a b c left most other.wanted grows counts
+  early_forced (suc n) place front had has first a b c left most gathers grows counts = cut_forced place.state (stand_of place.last) a b c left most grows counts
+
+  -- Where it doesn't, play is finished, or all moves are listed.
+  pub all_forced_at : (max : ℕ) (place : AbstractPlace) (front : List (ℕ × ℕ)) (had has : List (List (ℕ × ℕ))) (first pairs : List (ℕ × ℕ)) (ends : Bool) (a b left most : ℕ) → Gathers (IsLegal game place) front max had has first false → IsFlatPart game place.state (stand_of place.last) pairs ends → TakenSoFar game (question_of max) place.state (stand_of place.last) pairs a b left most → CountsForced game false (question_of max) place.state (stand_of place.last) a b left most
+  all_forced_at zero place front had has first pairs ends a b left most gathers part taken =
+      finished_forced place pairs ends a b left most (record { no_move = λ ps to legal. none_wanted (IsLegal game place) front had has first gathers ps (to, legal) }) part taken
+  all_forced_at (suc n) place front had has first pairs ends a b left most gathers part taken = listed_forced place.state (stand_of place.last) pairs ends a b left most part taken
 
   -- ---- pairs are tried
 

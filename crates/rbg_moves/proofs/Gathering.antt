@@ -1,9 +1,10 @@
 -- Lists of moves that are gathered part by part.
-use Rattle.std.proofs.Common.{◌≡◌, ◌≢◌, ℕ, suc, ◌<◌, ◌≤◌, ◌⊎◌, List, [], ◌∷◌, ◌++◌, length, get_or, map, Bool, true, false, refl, sym, ap, ◌∙◌, subst, inl, inr, arith, append_assoc, length-append}
+use Rattle.std.proofs.Common.{◌≡◌, ◌≢◌, ℕ, suc, ◌+◌, ◌<◌, ◌≤◌, ◌⊎◌, List, [], ◌∷◌, ◌++◌, length, get_or, map, Bool, true, false, refl, sym, ap, ◌∙◌, subst, inl, inr, arith, append_assoc, length-append}
 use Rattle.std.specs.Prelude.{All, AllPairs, Contains, ◌↔◌}
 use Rattle.std.proofs.lemmas.List.{append-nil, map-append, length-map, get_or-map}
 use Rattle.std.proofs.lemmas.List.Elements.{All-nil, All-cons, All-head, All-tail, All-append, All-map, All-weaker, All-contains, Contains-append_left, Contains-append_right, Contains-append_cases}
 use Rattle.std.proofs.lemmas.List.Kept.{AllPairs-cons}
+use Rattle.rbg_base.specs.Move.{IsMoveLength}
 use Rattle.rbg_moves.specs.internal.Gathering.{Gathers, IsBehind}
 
 true_not_false : true ≡ false → ⊥
@@ -52,8 +53,8 @@ contains_map_back f apart xs x (k, under, is) =
     (k, under', apart (get_or xs k x) x (sym (get_or-map f xs k x (f x) under') ∙ is))
 
 -- Nothing is wanted.
-pub gathers_none : (P : List (ℕ × ℕ) → Type 0) (front : List (ℕ × ℕ)) (max : ℕ) (old : List (List (ℕ × ℕ))) → length old ≤ max → ((ps : List (ℕ × ℕ)) → ¬ P ps) → Gathers P front max old old false
-gathers_none P front max old few none = record {
+pub gathers_none : (P : List (ℕ × ℕ) → Type 0) (front : List (ℕ × ℕ)) (max : ℕ) (old : List (List (ℕ × ℕ))) (first : List (ℕ × ℕ)) → length old ≤ max → ((ps : List (ℕ × ℕ)) → ¬ P ps) → Gathers P front max old old first false
+gathers_none P front max old first few none = record {
   found = [];
   grown = sym (append-nil old);
   wanted = All-nil P;
@@ -65,8 +66,8 @@ gathers_none P front max old few none = record {
 }
 
 -- One list is wanted, and there is room for it.
-pub gathers_one : (P : List (ℕ × ℕ) → Type 0) (front : List (ℕ × ℕ)) (max : ℕ) (old : List (List (ℕ × ℕ))) (one : List (ℕ × ℕ)) → length old < max → P one → ((ps : List (ℕ × ℕ)) → P ps → ps ≡ one) → Gathers P front max old (old ++ (front ++ one) ∷ []) false
-gathers_one P front max old one room wanted only = record {
+pub gathers_one : (P : List (ℕ × ℕ) → Type 0) (front : List (ℕ × ℕ)) (max : ℕ) (old : List (List (ℕ × ℕ))) (first one : List (ℕ × ℕ)) → length old < max → P one → ((ps : List (ℕ × ℕ)) → P ps → ps ≡ one) → Gathers P front max old (old ++ (front ++ one) ∷ []) first false
+gathers_one P front max old first one room wanted only = record {
   found = one ∷ [];
   grown = refl;
   wanted = All-cons P one [] wanted (All-nil P);
@@ -78,8 +79,8 @@ gathers_one P front max old one room wanted only = record {
 }
 
 -- One is wanted, and there is no room.
-pub gathers_full : (P : List (ℕ × ℕ) → Type 0) (front : List (ℕ × ℕ)) (max : ℕ) (old : List (List (ℕ × ℕ))) (one : List (ℕ × ℕ)) → length old ≡ max → P one → Gathers P front max old old true
-gathers_full P front max old one size wanted = record {
+pub gathers_full : (P : List (ℕ × ℕ) → Type 0) (front : List (ℕ × ℕ)) (max : ℕ) (old : List (List (ℕ × ℕ))) (first one : List (ℕ × ℕ)) → length old ≡ max → P one → (max ≡ 0 → first ≡ front ++ one) → (max ≡ 0 → IsMoveLength (length first)) → Gathers P front max old old first true
+gathers_full P front max old first one size wanted told sized = record {
   found = [];
   grown = sym (append-nil old);
   wanted = All-nil P;
@@ -87,40 +88,42 @@ gathers_full P front max old one size wanted = record {
   few = omega (arith, size);
   whole = λ e. absurd (true_not_false e);
   full = λ _. size;
-  more = λ _. record { pairs = one; wanted = wanted; missing = λ (k, under, _). absurd (omega (arith, under)) };
+  more = λ _. record { pairs = one; wanted = wanted; missing = λ (k, under, _). absurd (omega (arith, under)); told = told; sized = sized };
 }
 
 -- Two parts that have none in common.
-pub gathers_both : (P Q : List (ℕ × ℕ) → Type 0) (front : List (ℕ × ℕ)) (max : ℕ) (old middle new : List (List (ℕ × ℕ))) (cut : Bool) → Gathers P front max old middle false → Gathers Q front max middle new cut → ((ps : List (ℕ × ℕ)) → P ps → Q ps → ⊥) → Gathers (λ ps. P ps ⊎ Q ps) front max old new cut
-gathers_both P Q front max old middle new cut first second apart = record {
-  found = first.found ++ second.found;
+pub gathers_both : (P Q : List (ℕ × ℕ) → Type 0) (front : List (ℕ × ℕ)) (max : ℕ) (old middle new : List (List (ℕ × ℕ))) (none first : List (ℕ × ℕ)) (cut : Bool) → Gathers P front max old middle none false → Gathers Q front max middle new first cut → ((ps : List (ℕ × ℕ)) → P ps → Q ps → ⊥) → Gathers (λ ps. P ps ⊎ Q ps) front max old new first cut
+gathers_both P Q front max old middle new none first cut one second apart = record {
+  found = one.found ++ second.found;
   grown =
       second.grown
-      ∙ ap (λ (xs : List (List (ℕ × ℕ))). xs ++ map (λ ps. front ++ ps) second.found) first.grown
-      ∙ append_assoc old (map (λ ps. front ++ ps) first.found) (map (λ ps. front ++ ps) second.found)
-      ∙ ap (λ (xs : List (List (ℕ × ℕ))). old ++ xs) (sym (map-append (λ ps. front ++ ps) first.found second.found));
+      ∙ ap (λ (xs : List (List (ℕ × ℕ))). xs ++ map (λ ps. front ++ ps) second.found) one.grown
+      ∙ append_assoc old (map (λ ps. front ++ ps) one.found) (map (λ ps. front ++ ps) second.found)
+      ∙ ap (λ (xs : List (List (ℕ × ℕ))). old ++ xs) (sym (map-append (λ ps. front ++ ps) one.found second.found));
   wanted =
-      All-append (λ ps. P ps ⊎ Q ps) first.found second.found
-      (All-weaker P (λ ps. P ps ⊎ Q ps) (λ ps h. inl h) first.found first.wanted)
+      All-append (λ ps. P ps ⊎ Q ps) one.found second.found
+      (All-weaker P (λ ps. P ps ⊎ Q ps) (λ ps h. inl h) one.found one.wanted)
       (All-weaker Q (λ ps. P ps ⊎ Q ps) (λ ps h. inr h) second.found second.wanted);
   different =
-      all_pairs_append (λ a b. a ≢ b) first.found second.found first.different second.different
+      all_pairs_append (λ a b. a ≢ b) one.found second.found one.different second.different
       (All-weaker P (λ x. All (λ y. x ≢ y) second.found)
       (λ x p. All-weaker Q (λ y. x ≢ y) (λ y q same. apart y (subst P same p) q) second.found second.wanted)
-      first.found first.wanted);
+      one.found one.wanted);
   few = second.few;
   whole = λ e ps h. elim h [
-    | inl p ↦ Contains-append_left first.found second.found ps (first.whole refl ps p)
-    | inr q ↦ Contains-append_right first.found second.found ps (second.whole e ps q)
+    | inl p ↦ Contains-append_left one.found second.found ps (one.whole refl ps p)
+    | inr q ↦ Contains-append_right one.found second.found ps (second.whole e ps q)
   ];
   full = second.full;
   more = λ e. let other = second.more e in record {
     pairs = other.pairs;
     wanted = inr other.wanted;
-    missing = λ there. elim (Contains-append_cases first.found second.found other.pairs there) [
-      | inl before ↦ apart other.pairs (All-contains P first.found other.pairs first.wanted before) other.wanted
+    missing = λ there. elim (Contains-append_cases one.found second.found other.pairs there) [
+      | inl before ↦ apart other.pairs (All-contains P one.found other.pairs one.wanted before) other.wanted
       | inr after ↦ other.missing after
     ];
+    told = other.told;
+    sized = other.sized;
   };
 }
 
@@ -132,8 +135,8 @@ same_rest : (q : ℕ × ℕ) (ps qs : List (ℕ × ℕ)) → q ∷ ps ≡ q ∷ 
 same_rest q ps qs same = cc
 
 -- What is gathered behind a pair.
-pub gathers_behind : (Q : List (ℕ × ℕ) → Type 0) (front : List (ℕ × ℕ)) (q : ℕ × ℕ) (max : ℕ) (old new : List (List (ℕ × ℕ))) (cut : Bool) → Gathers Q (front ++ q ∷ []) max old new cut → Gathers (IsBehind q Q) front max old new cut
-gathers_behind Q front q max old new cut behind = record {
+pub gathers_behind : (Q : List (ℕ × ℕ) → Type 0) (front : List (ℕ × ℕ)) (q : ℕ × ℕ) (max : ℕ) (old new : List (List (ℕ × ℕ))) (first : List (ℕ × ℕ)) (cut : Bool) → Gathers Q (front ++ q ∷ []) max old new first cut → Gathers (IsBehind q Q) front max old new first cut
+gathers_behind Q front q max old new first cut behind = record {
   found = map (λ ps. q ∷ ps) behind.found;
   grown = behind.grown ∙ ap (λ (xs : List (List (ℕ × ℕ))). old ++ xs) (put_behind front q behind.found);
   wanted =
@@ -147,12 +150,14 @@ gathers_behind Q front q max old new cut behind = record {
     pairs = q ∷ other.pairs;
     wanted = record { rest = other.pairs; is = refl; wanted = other.wanted };
     missing = λ there. other.missing (contains_map_back (λ ps. q ∷ ps) (same_rest q) behind.found other.pairs there);
+    told = λ none. other.told none ∙ append_assoc front (q ∷ []) other.pairs;
+    sized = other.sized;
   };
 }
 
 -- The same is wanted in other words.
-pub gathers_as : (P Q : List (ℕ × ℕ) → Type 0) (front : List (ℕ × ℕ)) (max : ℕ) (old new : List (List (ℕ × ℕ))) (cut : Bool) → ((ps : List (ℕ × ℕ)) → P ps ↔ Q ps) → Gathers P front max old new cut → Gathers Q front max old new cut
-gathers_as P Q front max old new cut same part = record {
+pub gathers_as : (P Q : List (ℕ × ℕ) → Type 0) (front : List (ℕ × ℕ)) (max : ℕ) (old new : List (List (ℕ × ℕ))) (first : List (ℕ × ℕ)) (cut : Bool) → ((ps : List (ℕ × ℕ)) → P ps ↔ Q ps) → Gathers P front max old new first cut → Gathers Q front max old new first cut
+gathers_as P Q front max old new first cut same part = record {
   found = part.found;
   grown = part.grown;
   wanted = All-weaker P Q (λ ps h. (same ps).0 h) part.found part.wanted;
@@ -160,12 +165,12 @@ gathers_as P Q front max old new cut same part = record {
   few = part.few;
   whole = λ e ps h. part.whole e ps ((same ps).1 h);
   full = part.full;
-  more = λ e. let other = part.more e in record { pairs = other.pairs; wanted = (same other.pairs).0 other.wanted; missing = other.missing };
+  more = λ e. let other = part.more e in record { pairs = other.pairs; wanted = (same other.pairs).0 other.wanted; missing = other.missing; told = other.told; sized = other.sized };
 }
 
 -- What is cut may be a part of what is wanted.
-pub gathers_more : (P Q : List (ℕ × ℕ) → Type 0) (front : List (ℕ × ℕ)) (max : ℕ) (old new : List (List (ℕ × ℕ))) → ((ps : List (ℕ × ℕ)) → P ps → Q ps) → Gathers P front max old new true → Gathers Q front max old new true
-gathers_more P Q front max old new more part = record {
+pub gathers_more : (P Q : List (ℕ × ℕ) → Type 0) (front : List (ℕ × ℕ)) (max : ℕ) (old new : List (List (ℕ × ℕ))) (first : List (ℕ × ℕ)) → ((ps : List (ℕ × ℕ)) → P ps → Q ps) → Gathers P front max old new first true → Gathers Q front max old new first true
+gathers_more P Q front max old new first more part = record {
   found = part.found;
   grown = part.grown;
   wanted = All-weaker P Q more part.found part.wanted;
@@ -173,5 +178,14 @@ gathers_more P Q front max old new more part = record {
   few = part.few;
   whole = λ e. absurd (true_not_false e);
   full = part.full;
-  more = λ e. let other = part.more e in record { pairs = other.pairs; wanted = more other.pairs other.wanted; missing = other.missing };
+  more = λ e. let other = part.more e in record { pairs = other.pairs; wanted = more other.pairs other.wanted; missing = other.missing; told = other.told; sized = other.sized };
 }
+
+-- Where there is room for none and nothing is cut, nothing is wanted.
+pub none_wanted : (P : List (ℕ × ℕ) → Type 0) (front : List (ℕ × ℕ)) (old new : List (List (ℕ × ℕ))) (first : List (ℕ × ℕ)) → Gathers P front 0 old new first false → (ps : List (ℕ × ℕ)) → ¬ P ps
+none_wanted P front old new first part ps wanted =
+    let (k, under, _) = part.whole refl ps wanted in
+    let few = part.few in
+    let size : length new ≡ length old + length (map (λ ps. front ++ ps) part.found) = ap (λ (xs : List (List (ℕ × ℕ))). length xs) part.grown ∙ length-append old (map (λ ps. front ++ ps) part.found) in
+    let same : length (map (λ ps. front ++ ps) part.found) ≡ length part.found = length-map part.found (λ ps. front ++ ps) in
+    omega (arith, under, few, size, same)

@@ -6,7 +6,6 @@ pub mod Order
 pub mod Listing
 pub mod Outcome
 pub mod Further
-pub mod Seeking
 pub mod Forcing
 pub mod Copies
 pub mod Scoring

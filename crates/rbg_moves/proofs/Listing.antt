@@ -1,9 +1,11 @@
 -- How the legal moves of a place are gathered by their first pairs.
-use Rattle.std.proofs.Common.{◌≡◌, ℕ, ◌<◌, ◌≤◌, ◌⊎◌, List, [], ◌∷◌, ◌++◌, length, Bool, true, false, refl, sym, ap, subst, inl, inr, arith}
+use Rattle.std.proofs.Common.{◌≡◌, ℕ, ◌+◌, ◌<◌, ◌≤◌, ◌⊎◌, List, [], ◌∷◌, ◌++◌, length, Bool, true, false, refl, sym, ap, ◌∙◌, subst, inl, inr, arith}
 use Rattle.std.specs.Prelude.{◌≢◌, All, AllPairs, Contains, ◌↔◌}
+use Rattle.std.proofs.lemmas.List.{length_push}
 use Rattle.std.proofs.lemmas.List.Elements.{All-contains, All-contains_itself, All-weaker, Contains-append_left, Contains-append_right, Contains-append_cases, Contains-push, Contains-push_cases}
 use Rattle.std.specs.List.Sorted.{IsPermutation}
 use Rattle.std.proofs.lemmas.List.Sorted.{IsPermutation-sym, Contains-permutation}
+use Rattle.rbg_base.specs.Move.{most_pairs, IsMoveLength}
 use Rattle.rbg_rules.specs.Positions.{IsNumbered, IsSwitchAt}
 use Rattle.rbg_rules.specs.State.{AbstractGame, AbstractState}
 use Rattle.rbg_rules.specs.Actions.{Applies}
@@ -69,22 +71,27 @@ Part game place pairs ends = IsFlatPart game place.state (stand_of place.last) p
 not_both : (game : AbstractGame) (place : AbstractPlace) (done : List (ℕ × ℕ)) (q : ℕ × ℕ) → ¬ Contains done q → (ps : List (ℕ × ℕ)) → IsLegalBy game place (IsSwitchAmong game.rules done) ps → ps ≡ q ∷ [] → ⊥
 not_both game place done q new ps h same = new (subst (IsLegalBy game place (IsSwitchAmong game.rules done)) same h).begins.1
 
-add_switch : (game : AbstractGame) → IsNumbered game.rules → (place : AbstractPlace) (pairs : List (ℕ × ℕ)) (ends : Bool) → Part game place pairs ends → (done : List (ℕ × ℕ)) (q : ℕ × ℕ) → Contains pairs q → ¬ Contains done q → IsSwitchAt game.rules q.1 → (front : List (ℕ × ℕ)) (max : ℕ) (old now : List (List (ℕ × ℕ))) → length now < max → Gathers (IsLegalBy game place (IsSwitchAmong game.rules done)) front max old now false → Gathers (IsLegalBy game place (IsSwitchAmong game.rules (done ++ q ∷ []))) front max old (now ++ (front ++ q ∷ []) ∷ []) false
-add_switch game numbered place pairs ends part done q there new switches front max old now room so_far =
-    gathers_as (λ ps. IsLegalBy game place (IsSwitchAmong game.rules done) ps ⊎ (ps ≡ q ∷ [])) (IsLegalBy game place (IsSwitchAmong game.rules (done ++ q ∷ []))) front max old (now ++ (front ++ q ∷ []) ∷ []) false
+add_switch : (game : AbstractGame) → IsNumbered game.rules → (place : AbstractPlace) (pairs : List (ℕ × ℕ)) (ends : Bool) → Part game place pairs ends → (done : List (ℕ × ℕ)) (q : ℕ × ℕ) → Contains pairs q → ¬ Contains done q → IsSwitchAt game.rules q.1 → (front : List (ℕ × ℕ)) (max : ℕ) (old now : List (List (ℕ × ℕ))) (first : List (ℕ × ℕ)) → length now < max → Gathers (IsLegalBy game place (IsSwitchAmong game.rules done)) front max old now first false → Gathers (IsLegalBy game place (IsSwitchAmong game.rules (done ++ q ∷ []))) front max old (now ++ (front ++ q ∷ []) ∷ []) first false
+add_switch game numbered place pairs ends part done q there new switches front max old now first room so_far =
+    gathers_as (λ ps. IsLegalBy game place (IsSwitchAmong game.rules done) ps ⊎ (ps ≡ q ∷ [])) (IsLegalBy game place (IsSwitchAmong game.rules (done ++ q ∷ []))) front max old (now ++ (front ++ q ∷ []) ∷ []) first false
     (with_switch game numbered place pairs ends part done q there switches)
-    (gathers_both (IsLegalBy game place (IsSwitchAmong game.rules done)) (λ ps. ps ≡ q ∷ []) front max old now (now ++ (front ++ q ∷ []) ∷ []) false so_far
-    (gathers_one (λ ps. ps ≡ q ∷ []) front max now (q ∷ []) room refl (λ ps same. same))
+    (gathers_both (IsLegalBy game place (IsSwitchAmong game.rules done)) (λ ps. ps ≡ q ∷ []) front max old now (now ++ (front ++ q ∷ []) ∷ []) first first false so_far
+    (gathers_one (λ ps. ps ≡ q ∷ []) front max now first (q ∷ []) room refl (λ ps same. same))
     (not_both game place done q new))
 
-cut_switch : (game : AbstractGame) → IsNumbered game.rules → (place : AbstractPlace) (pairs : List (ℕ × ℕ)) (ends : Bool) → Part game place pairs ends → (done : List (ℕ × ℕ)) (q : ℕ × ℕ) → ((x : ℕ × ℕ) → Contains done x → Contains pairs x) → Contains pairs q → ¬ Contains done q → IsSwitchAt game.rules q.1 → (front : List (ℕ × ℕ)) (max : ℕ) (old now : List (List (ℕ × ℕ))) → length now ≡ max → Gathers (IsLegalBy game place (IsSwitchAmong game.rules done)) front max old now false → Gathers (IsLegalBy game place (IsSwitchAmong game.rules pairs)) front max old now true
-cut_switch game numbered place pairs ends part done q within there new switches front max old now full so_far =
-    gathers_more (λ ps. IsLegalBy game place (IsSwitchAmong game.rules done) ps ⊎ (ps ≡ q ∷ [])) (IsLegalBy game place (IsSwitchAmong game.rules pairs)) front max old now
+cut_switch : (game : AbstractGame) → IsNumbered game.rules → (place : AbstractPlace) (pairs : List (ℕ × ℕ)) (ends : Bool) → Part game place pairs ends → (done : List (ℕ × ℕ)) (q : ℕ × ℕ) → ((x : ℕ × ℕ) → Contains done x → Contains pairs x) → Contains pairs q → ¬ Contains done q → IsSwitchAt game.rules q.1 → (front : List (ℕ × ℕ)) (max : ℕ) (old now : List (List (ℕ × ℕ))) (none first : List (ℕ × ℕ)) → length now ≡ max → length front < most_pairs → (max ≡ 0 → first ≡ front ++ q ∷ []) → Gathers (IsLegalBy game place (IsSwitchAmong game.rules done)) front max old now none false → Gathers (IsLegalBy game place (IsSwitchAmong game.rules pairs)) front max old now first true
+cut_switch game numbered place pairs ends part done q within there new switches front max old now none first full short kept so_far =
+    gathers_more (λ ps. IsLegalBy game place (IsSwitchAmong game.rules done) ps ⊎ (ps ≡ q ∷ [])) (IsLegalBy game place (IsSwitchAmong game.rules pairs)) front max old now first
     (λ ps h. legal_as game place (IsSwitchAmong game.rules (done ++ q ∷ [])) (IsSwitchAmong game.rules pairs) among ps ((with_switch game numbered place pairs ends part done q there switches ps).0 h))
-    (gathers_both (IsLegalBy game place (IsSwitchAmong game.rules done)) (λ ps. ps ≡ q ∷ []) front max old now now true so_far
-    (gathers_full (λ ps. ps ≡ q ∷ []) front max now (q ∷ []) full refl)
+    (gathers_both (IsLegalBy game place (IsSwitchAmong game.rules done)) (λ ps. ps ≡ q ∷ []) front max old now now none first true so_far
+    (gathers_full (λ ps. ps ≡ q ∷ []) front max now first (q ∷ []) full refl kept sized)
     (not_both game place done q new))
   where
+    sized : max ≡ 0 → IsMoveLength (length first)
+    sized empty =
+        let size : length first ≡ length front + 1 = ap (λ (qs : List (ℕ × ℕ)). length qs) (kept empty) ∙ length_push front q in
+        (omega (arith, size), omega (arith, size, short))
+
     among : (x : ℕ × ℕ) → IsSwitchAmong game.rules (done ++ q ∷ []) x → IsSwitchAmong game.rules pairs x
     among x taken = (
       taken.0,
@@ -109,23 +116,23 @@ there_of pairs done left q moves = taken_there pairs done left q moves q (length
 done_of : (pairs done left : List (ℕ × ℕ)) (q : ℕ × ℕ) → IsPermutation pairs (turned done left q) → (x : ℕ × ℕ) → Contains done x → Contains pairs x
 done_of pairs done left q moves x there = taken_there pairs done left q moves x (Contains-append_left done (q ∷ left) x there)
 
-pub lists_none : (game : AbstractGame) (pairs front : List (ℕ × ℕ)) (max : ℕ) (old : List (List (ℕ × ℕ))) → length old ≤ max → ListsSwitches game pairs [] front max old old false
-lists_none game pairs front max old few = record {
-  lists = λ place ends part. gathers_none (IsLegalBy game place (IsSwitchAmong game.rules [])) front max old few (λ ps h. none place ps h);
+pub lists_none : (game : AbstractGame) (pairs front : List (ℕ × ℕ)) (max : ℕ) (old : List (List (ℕ × ℕ))) (first : List (ℕ × ℕ)) → length old ≤ max → ListsSwitches game pairs [] front max old old first false
+lists_none game pairs front max old first few = record {
+  lists = λ place ends part. gathers_none (IsLegalBy game place (IsSwitchAmong game.rules [])) front max old first few (λ ps h. none place ps h);
 }
   where
     none : (place : AbstractPlace) (ps : List (ℕ × ℕ)) → ¬ IsLegalBy game place (IsSwitchAmong game.rules []) ps
     none place [] h = h.begins
     none place (q ∷ qs) h = no_pair q h.begins.1
 
-pub lists_more : (game : AbstractGame) → IsNumbered game.rules → (pairs front : List (ℕ × ℕ)) (max : ℕ) (old now : List (List (ℕ × ℕ))) (done left : List (ℕ × ℕ)) (q : ℕ × ℕ) → IsPermutation pairs (turned done left q) → IsSwitchAt game.rules q.1 → length now < max → ListsSwitches game pairs done front max old now false → ListsSwitches game pairs (done ++ q ∷ []) front max old (now ++ (front ++ q ∷ []) ∷ []) false
-lists_more game numbered pairs front max old now done left q moves switches room so_far = record {
-  lists = λ place ends part. add_switch game numbered place pairs ends part done q (there_of pairs done left q moves) (new_of pairs done left q moves part.different) switches front max old now room (so_far.lists place ends part);
+pub lists_more : (game : AbstractGame) → IsNumbered game.rules → (pairs front : List (ℕ × ℕ)) (max : ℕ) (old now : List (List (ℕ × ℕ))) (first done left : List (ℕ × ℕ)) (q : ℕ × ℕ) → IsPermutation pairs (turned done left q) → IsSwitchAt game.rules q.1 → length now < max → ListsSwitches game pairs done front max old now first false → ListsSwitches game pairs (done ++ q ∷ []) front max old (now ++ (front ++ q ∷ []) ∷ []) first false
+lists_more game numbered pairs front max old now first done left q moves switches room so_far = record {
+  lists = λ place ends part. add_switch game numbered place pairs ends part done q (there_of pairs done left q moves) (new_of pairs done left q moves part.different) switches front max old now first room (so_far.lists place ends part);
 }
 
-pub lists_cut : (game : AbstractGame) → IsNumbered game.rules → (pairs front : List (ℕ × ℕ)) (max : ℕ) (old now : List (List (ℕ × ℕ))) (done left : List (ℕ × ℕ)) (q : ℕ × ℕ) → IsPermutation pairs (turned done left q) → IsSwitchAt game.rules q.1 → length now ≡ max → ListsSwitches game pairs done front max old now false → ListsSwitches game pairs pairs front max old now true
-lists_cut game numbered pairs front max old now done left q moves switches full so_far = record {
-  lists = λ place ends part. cut_switch game numbered place pairs ends part done q (done_of pairs done left q moves) (there_of pairs done left q moves) (new_of pairs done left q moves part.different) switches front max old now full (so_far.lists place ends part);
+pub lists_cut : (game : AbstractGame) → IsNumbered game.rules → (pairs front : List (ℕ × ℕ)) (max : ℕ) (old now : List (List (ℕ × ℕ))) (none first done left : List (ℕ × ℕ)) (q : ℕ × ℕ) → IsPermutation pairs (turned done left q) → IsSwitchAt game.rules q.1 → length now ≡ max → length front < most_pairs → (max ≡ 0 → first ≡ front ++ q ∷ []) → ListsSwitches game pairs done front max old now none false → ListsSwitches game pairs pairs front max old now first true
+lists_cut game numbered pairs front max old now none first done left q moves switches full short kept so_far = record {
+  lists = λ place ends part. cut_switch game numbered place pairs ends part done q (done_of pairs done left q moves) (there_of pairs done left q moves) (new_of pairs done left q moves part.different) switches front max old now none first full short kept (so_far.lists place ends part);
 }
 
 -- What is so of all pairs is so of those that are left.
@@ -135,10 +142,10 @@ left_over P pairs done left moves all =
     (λ q there. All-contains P pairs q all (Contains-permutation (done ++ left) pairs q (IsPermutation-sym pairs (done ++ left) moves) (Contains-append_right done left q there))) left (All-contains_itself left)
 
 -- All switches were taken.
-pub lists_all : (game : AbstractGame) (pairs front : List (ℕ × ℕ)) (max : ℕ) (old now : List (List (ℕ × ℕ))) (done left : List (ℕ × ℕ)) → IsPermutation pairs (done ++ left) → All (λ (q : ℕ × ℕ). ¬ IsSwitchAt game.rules q.1) left → ListsSwitches game pairs done front max old now false → ListsSwitches game pairs pairs front max old now false
-lists_all game pairs front max old now done left moves plain so_far = record {
+pub lists_all : (game : AbstractGame) (pairs front : List (ℕ × ℕ)) (max : ℕ) (old now : List (List (ℕ × ℕ))) (first done left : List (ℕ × ℕ)) → IsPermutation pairs (done ++ left) → All (λ (q : ℕ × ℕ). ¬ IsSwitchAt game.rules q.1) left → ListsSwitches game pairs done front max old now first false → ListsSwitches game pairs pairs front max old now first false
+lists_all game pairs front max old now first done left moves plain so_far = record {
   lists = λ place ends part.
-      gathers_as (IsLegalBy game place (IsSwitchAmong game.rules done)) (IsLegalBy game place (IsSwitchAmong game.rules pairs)) front max old now false
+      gathers_as (IsLegalBy game place (IsSwitchAmong game.rules done)) (IsLegalBy game place (IsSwitchAmong game.rules pairs)) front max old now first false
       (λ ps. (legal_as game place (IsSwitchAmong game.rules done) (IsSwitchAmong game.rules pairs) wider ps, legal_as game place (IsSwitchAmong game.rules pairs) (IsSwitchAmong game.rules done) narrower ps))
       (so_far.lists place ends part);
 }
@@ -155,17 +162,17 @@ lists_all game pairs front max old now done left moves plain so_far = record {
       ],
     )
 
-pub switches_cut : (game : AbstractGame) (place : AbstractPlace) (pairs : List (ℕ × ℕ)) (ends : Bool) → Part game place pairs ends → (front : List (ℕ × ℕ)) (max : ℕ) (old now : List (List (ℕ × ℕ))) → ListsSwitches game pairs pairs front max old now true → Gathers (IsLegal game place) front max old now true
-switches_cut game place pairs ends part front max old now so_far = gathers_more (IsLegalBy game place (IsSwitchAmong game.rules pairs)) (IsLegal game place) front max old now (λ ps h. h.legal) (so_far.lists place ends part)
+pub switches_cut : (game : AbstractGame) (place : AbstractPlace) (pairs : List (ℕ × ℕ)) (ends : Bool) → Part game place pairs ends → (front : List (ℕ × ℕ)) (max : ℕ) (old now : List (List (ℕ × ℕ))) (first : List (ℕ × ℕ)) → ListsSwitches game pairs pairs front max old now first true → Gathers (IsLegal game place) front max old now first true
+switches_cut game place pairs ends part front max old now first so_far = gathers_more (IsLegalBy game place (IsSwitchAmong game.rules pairs)) (IsLegal game place) front max old now first (λ ps h. h.legal) (so_far.lists place ends part)
 
 -- The first pair of a legal list is among those that come next.
 first_there : (game : AbstractGame) → IsNumbered game.rules → (place : AbstractPlace) (pairs : List (ℕ × ℕ)) (ends : Bool) → Part game place pairs ends → (q : ℕ × ℕ) (qs : List (ℕ × ℕ)) → IsLegal game place (q ∷ qs) → Contains pairs q
 first_there game numbered place pairs ends part (v, p) qs (to, legal) = (part.next v p).1 (legal_cut game numbered place v p qs to legal).next
 
 -- After the switches come the moves behind the other pairs.
-pub others_begin : (game : AbstractGame) → IsNumbered game.rules → (place : AbstractPlace) (pairs : List (ℕ × ℕ)) (ends : Bool) → Part game place pairs ends → (done front : List (ℕ × ℕ)) (max : ℕ) (old now : List (List (ℕ × ℕ))) → All (λ (q : ℕ × ℕ). IsSwitchAt game.rules q.1) done → ListsSwitches game pairs pairs front max old now false → Gathers (IsLegalBy game place (IsSwitchOr game.rules done)) front max old now false
-others_begin game numbered place pairs ends part done front max old now switching so_far =
-    gathers_as (IsLegalBy game place (IsSwitchAmong game.rules pairs)) (IsLegalBy game place (IsSwitchOr game.rules done)) front max old now false
+pub others_begin : (game : AbstractGame) → IsNumbered game.rules → (place : AbstractPlace) (pairs : List (ℕ × ℕ)) (ends : Bool) → Part game place pairs ends → (done front : List (ℕ × ℕ)) (max : ℕ) (old now : List (List (ℕ × ℕ))) (first : List (ℕ × ℕ)) → All (λ (q : ℕ × ℕ). IsSwitchAt game.rules q.1) done → ListsSwitches game pairs pairs front max old now first false → Gathers (IsLegalBy game place (IsSwitchOr game.rules done)) front max old now first false
+others_begin game numbered place pairs ends part done front max old now first switching so_far =
+    gathers_as (IsLegalBy game place (IsSwitchAmong game.rules pairs)) (IsLegalBy game place (IsSwitchOr game.rules done)) front max old now first false
     (λ ps. (legal_as game place (IsSwitchAmong game.rules pairs) (IsSwitchOr game.rules done) (λ x taken. inl taken.0) ps, from ps))
     (so_far.lists place ends part)
   where
@@ -187,11 +194,11 @@ behind_legal game numbered place (v, p) later plain applied qs (to, legal) =
     by_onward here same (ended switches _ _) = absurd (plain switches)
     by_onward here same (going _ legal) = (to, subst (λ (s : AbstractState). Legal game (place_behind s p) qs to) same legal)
 
-pub others_more : (game : AbstractGame) → IsNumbered game.rules → (place : AbstractPlace) (done front : List (ℕ × ℕ)) (max : ℕ) (old now new : List (List (ℕ × ℕ))) (cut : Bool) (q : ℕ × ℕ) (later : AbstractState) → IsNext game place.state (stand_of place.last) q.0 q.1 → ¬ Contains done q → ¬ IsSwitchAt game.rules q.1 → Applies game q.1 (standing_at place.state q.0) later → Gathers (IsLegalBy game place (IsSwitchOr game.rules done)) front max old now false → Gathers (IsBehind q (IsLegal game (place_behind later q.1))) front max now new cut → Gathers (IsLegalBy game place (IsSwitchOr game.rules (done ++ q ∷ []))) front max old new cut
-others_more game numbered place done front max old now new cut q later next fresh plain applied so_far behind =
-    gathers_as (λ ps. IsLegalBy game place (IsSwitchOr game.rules done) ps ⊎ IsBehind q (IsLegal game (place_behind later q.1)) ps) (IsLegalBy game place (IsSwitchOr game.rules (done ++ q ∷ []))) front max old new cut
+pub others_more : (game : AbstractGame) → IsNumbered game.rules → (place : AbstractPlace) (done front : List (ℕ × ℕ)) (max : ℕ) (old now new : List (List (ℕ × ℕ))) (none first : List (ℕ × ℕ)) (cut : Bool) (q : ℕ × ℕ) (later : AbstractState) → IsNext game place.state (stand_of place.last) q.0 q.1 → ¬ Contains done q → ¬ IsSwitchAt game.rules q.1 → Applies game q.1 (standing_at place.state q.0) later → Gathers (IsLegalBy game place (IsSwitchOr game.rules done)) front max old now none false → Gathers (IsBehind q (IsLegal game (place_behind later q.1))) front max now new first cut → Gathers (IsLegalBy game place (IsSwitchOr game.rules (done ++ q ∷ []))) front max old new first cut
+others_more game numbered place done front max old now new none first cut q later next fresh plain applied so_far behind =
+    gathers_as (λ ps. IsLegalBy game place (IsSwitchOr game.rules done) ps ⊎ IsBehind q (IsLegal game (place_behind later q.1)) ps) (IsLegalBy game place (IsSwitchOr game.rules (done ++ q ∷ []))) front max old new first cut
     (λ ps. (to ps, from ps))
-    (gathers_both (IsLegalBy game place (IsSwitchOr game.rules done)) (IsBehind q (IsLegal game (place_behind later q.1))) front max old now new cut so_far behind apart)
+    (gathers_both (IsLegalBy game place (IsSwitchOr game.rules done)) (IsBehind q (IsLegal game (place_behind later q.1))) front max old now new none first cut so_far behind apart)
   where
     wider : (x : ℕ × ℕ) → IsSwitchOr game.rules done x → IsSwitchOr game.rules (done ++ q ∷ []) x
     wider x (inl switches) = inl switches
@@ -227,12 +234,12 @@ others_more game numbered place done front max old now new cut q later next fres
       | inr there ↦ fresh there
     ]
 
-pub others_cut : (game : AbstractGame) (place : AbstractPlace) (done : List (ℕ × ℕ)) (front : List (ℕ × ℕ)) (max : ℕ) (old now : List (List (ℕ × ℕ))) → Gathers (IsLegalBy game place (IsSwitchOr game.rules done)) front max old now true → Gathers (IsLegal game place) front max old now true
-others_cut game place done front max old now so_far = gathers_more (IsLegalBy game place (IsSwitchOr game.rules done)) (IsLegal game place) front max old now (λ ps h. h.legal) so_far
+pub others_cut : (game : AbstractGame) (place : AbstractPlace) (done : List (ℕ × ℕ)) (front : List (ℕ × ℕ)) (max : ℕ) (old now : List (List (ℕ × ℕ))) (first : List (ℕ × ℕ)) → Gathers (IsLegalBy game place (IsSwitchOr game.rules done)) front max old now first true → Gathers (IsLegal game place) front max old now first true
+others_cut game place done front max old now first so_far = gathers_more (IsLegalBy game place (IsSwitchOr game.rules done)) (IsLegal game place) front max old now first (λ ps h. h.legal) so_far
 
-pub others_end : (game : AbstractGame) → IsNumbered game.rules → (place : AbstractPlace) (pairs : List (ℕ × ℕ)) (ends : Bool) → Part game place pairs ends → (front : List (ℕ × ℕ)) (max : ℕ) (old now : List (List (ℕ × ℕ))) → Gathers (IsLegalBy game place (IsSwitchOr game.rules pairs)) front max old now false → Gathers (IsLegal game place) front max old now false
-others_end game numbered place pairs ends part front max old now so_far =
-    gathers_as (IsLegalBy game place (IsSwitchOr game.rules pairs)) (IsLegal game place) front max old now false
+pub others_end : (game : AbstractGame) → IsNumbered game.rules → (place : AbstractPlace) (pairs : List (ℕ × ℕ)) (ends : Bool) → Part game place pairs ends → (front : List (ℕ × ℕ)) (max : ℕ) (old now : List (List (ℕ × ℕ))) (first : List (ℕ × ℕ)) → Gathers (IsLegalBy game place (IsSwitchOr game.rules pairs)) front max old now first false → Gathers (IsLegal game place) front max old now first false
+others_end game numbered place pairs ends part front max old now first so_far =
+    gathers_as (IsLegalBy game place (IsSwitchOr game.rules pairs)) (IsLegal game place) front max old now first false
     (λ ps. ((λ h. h.legal), from ps))
     so_far
   where

@@ -4,7 +4,6 @@
 mod asking;
 mod finding;
 pub mod laws;
-mod least;
 mod list;
 mod making;
 mod place;
@@ -13,6 +12,7 @@ mod settling;
 mod stepping;
 mod trying;
 mod unsettled;
+mod walking;
 mod workspace;
 
 pub use finding::find_move;

@@ -1,9 +1,9 @@
 -- What a search takes up for a question about moves.
-use Rattle.std.specs.Prelude.{ℕ, Bool}
+use Rattle.std.specs.Prelude.{ℕ, zero, suc, Bool, true, false}
 use Rattle.rbg_rules.specs.Limits.{most_openings, most_modifiers}
 use Rattle.rbg_rules.specs.State.{AbstractGame, AbstractState}
 use Rattle.rbg_rules.specs.Words.{Start}
-use Rattle.rbg_rules.specs.Questions.{Question}
+use Rattle.rbg_rules.specs.Questions.{Question, find_move, list_moves}
 use Rattle.rbg_search.specs.Counting.{CountsOpenings, IsOverBudget}
 use Rattle.rbg_search.specs.Forced.{CountsForced}
 use Rattle.rbg_search.specs.Passing.{IsTooDeep}
@@ -33,3 +33,14 @@ pub record IsGivenUp
   where
     pub deep : Deep → IsTooDeep old.game question s f left old.modifiers
     pub wide : Wide → IsOverBudget old.game question s f old.opened old.openings
+
+-- The question of a walk that has room for so many moves: where it has none, it ends with the first move.
+abbrev pub question_of : (max : ℕ) → Question
+question_of zero = find_move
+question_of (suc n) = list_moves
+
+-- Whether the answer to that question is cut where the walk ends early: some move is all that is asked for.
+abbrev pub is_cut : (ended : Bool) → (max : ℕ) → Bool
+is_cut false max = false
+is_cut true zero = false
+is_cut true (suc n) = true

@@ -1,24 +1,33 @@
 -- Moves that are gathered in one list, part by part.
-use Rattle.std.specs.Prelude.{◌≡◌, ◌≢◌, ℕ, ◌≤◌, ◌⊎◌, List, [], ◌∷◌, ◌++◌, length, map, All, AllPairs, Contains, Bool, true, false}
+use Rattle.std.specs.Prelude.{◌≡◌, ◌≢◌, ℕ, ◌-◌, ◌<◌, ◌≤◌, ◌⊎◌, List, [], ◌∷◌, ◌++◌, length, map, All, AllPairs, Contains, Bool, true, false}
 use Rattle.std.specs.List.Sorted.{IsPermutation}
+use Rattle.rbg_base.specs.Move.{most_pairs, IsMoveLength}
 use Rattle.rbg_rules.specs.Expression.{Expression}
 use Rattle.rbg_rules.specs.Positions.{IsSwitchAt}
-use Rattle.rbg_rules.specs.State.{AbstractGame, AbstractState}
-use Rattle.rbg_rules.specs.Actions.{Applies}
+use Rattle.rbg_rules.specs.State.{AbstractGame}
 use Rattle.rbg_rules.specs.Moves.{AbstractPlace, stand_of, IsLegal}
 use Rattle.rbg_pairs.specs.Flat.{IsFlatPart}
-use Rattle.rbg_moves.specs.internal.Stepping.{standing_at, place_behind}
+use Rattle.rbg_search.specs.Searching.{Searching}
+use Rattle.rbg_moves.specs.internal.Asking.{CountsAnswer, question_of, is_cut}
 
--- A list of pairs that is wanted and not among these.
-pub record IsMissing (IsWanted : List (ℕ × ℕ) → Type 0) (found : List (List (ℕ × ℕ))) : Type 0 where
-  pub pairs : List (ℕ × ℕ)
-  pub wanted : IsWanted pairs
-  pub missing : ¬ Contains found pairs
+-- A list of pairs that is wanted and not among these. Where there is room for none, `first` is this list behind these
+-- first pairs, and as long as a move may be.
+pub record IsMissing
+    (IsWanted : List (ℕ × ℕ) → Type 0) (front : List (ℕ × ℕ)) (max : ℕ) (found : List (List (ℕ × ℕ)))
+    (first : List (ℕ × ℕ))
+    : Type 0
+  where
+    pub pairs : List (ℕ × ℕ)
+    pub wanted : IsWanted pairs
+    pub missing : ¬ Contains found pairs
+    pub told : max ≡ 0 → first ≡ front ++ pairs
+    pub sized : max ≡ 0 → IsMoveLength (length first)
 
 -- The new list is the old one with lists of pairs that are wanted, each once and each behind these first pairs. If it
 -- is not cut, they are all that are wanted. If it is cut, the new list is full, and another one is wanted.
 pub record Gathers
-    (IsWanted : List (ℕ × ℕ) → Type 0) (front : List (ℕ × ℕ)) (max : ℕ) (old new : List (List (ℕ × ℕ))) (cut : Bool)
+    (IsWanted : List (ℕ × ℕ) → Type 0) (front : List (ℕ × ℕ)) (max : ℕ) (old new : List (List (ℕ × ℕ)))
+    (first : List (ℕ × ℕ)) (cut : Bool)
     : Type 0
   where
     pub found : List (List (ℕ × ℕ))
@@ -28,7 +37,7 @@ pub record Gathers
     pub few : length new ≤ max
     pub whole : cut ≡ false → (ps : List (ℕ × ℕ)) → IsWanted ps → Contains found ps
     pub full : cut ≡ true → length new ≡ max
-    pub more : cut ≡ true → IsMissing IsWanted found
+    pub more : cut ≡ true → IsMissing IsWanted front max found first
 
 -- The list begins with the pair, and the rest of it is wanted.
 pub record IsBehind (q : ℕ × ℕ) (IsWanted : List (ℕ × ℕ) → Type 0) (ps : List (ℕ × ℕ)) : Type 0 where
@@ -59,13 +68,14 @@ IsSwitchOr rules done q = IsSwitchAt rules q.1 ⊎ Contains done q
 
 -- The new list is the old one with the moves of one switch that is done, wherever the pairs are those that come next.
 pub record ListsSwitches
-    (game : AbstractGame) (pairs done front : List (ℕ × ℕ)) (max : ℕ) (old new : List (List (ℕ × ℕ))) (cut : Bool)
+    (game : AbstractGame) (pairs done front : List (ℕ × ℕ)) (max : ℕ) (old new : List (List (ℕ × ℕ)))
+    (first : List (ℕ × ℕ)) (cut : Bool)
     : Type 0
   where
     pub lists :
         (place : AbstractPlace) (ends : Bool) →
         IsFlatPart game place.state (stand_of place.last) pairs ends →
-        Gathers (IsLegalBy game place (IsSwitchAmong game.rules done)) front max old new cut
+        Gathers (IsLegalBy game place (IsSwitchAmong game.rules done)) front max old new first cut
 
 -- The switches among the pairs were taken, and the others are left.
 pub record LeavesOthers (rules : Expression) (old new : List (ℕ × ℕ)) : Type 0 where
@@ -74,12 +84,14 @@ pub record LeavesOthers (rules : Expression) (old new : List (ℕ × ℕ)) : Typ
   pub switching : All (λ q. IsSwitchAt rules q.1) switches
   pub plain : All (λ q. ¬ IsSwitchAt rules q.1) new
 
--- The new list is the old one with the moves that go on behind the modifier q, wherever it leads.
-pub record GathersBehind
-    (game : AbstractGame) (s : AbstractState) (q : ℕ × ℕ) (front : List (ℕ × ℕ)) (max : ℕ)
-    (old new : List (List (ℕ × ℕ))) (cut : Bool)
+-- A walk from a place gathered its moves behind these first pairs, and counted what its question takes up.
+pub record IsWalked
+    (old new : Searching) (place : AbstractPlace) (front : List (ℕ × ℕ)) (max : ℕ)
+    (had has : List (List (ℕ × ℕ))) (first : List (ℕ × ℕ)) (ended : Bool)
     : Type 0
   where
-    pub gathers :
-        (later : AbstractState) → Applies game q.1 (standing_at s q.0) later →
-        Gathers (IsBehind q (IsLegal game (place_behind later q.1))) front max old new cut
+    pub short : length front < most_pairs
+    pub gathers : Gathers (IsLegal old.game place) front max had has first ended
+    pub counts :
+        CountsAnswer old new (is_cut ended max) (question_of max)
+        place.state (stand_of place.last) (most_pairs - length front)

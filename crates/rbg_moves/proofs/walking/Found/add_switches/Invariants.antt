@@ -3,7 +3,7 @@ use Rattle.std.proofs.Common.{◌≡◌, ◌≤◌, ◌++◌, ℕ, List, All, le
 use Rattle.std.specs.List.Sorted.{IsPermutation}
 use Rattle.rbg_rules.specs.Positions.{IsSwitchAt}
 use Rattle.rbg_moves.specs.internal.Gathering.{ListsSwitches}
-use Rattle.rbg_moves.proofs.list.Found.add_switches.Given as goal
+use Rattle.rbg_moves.proofs.walking.Found.add_switches.Given as goal
 
 abbrev pub invariant-loop-pair : goal.invariant-loop-pair
 invariant-loop-pair l = record {
@@ -12,7 +12,7 @@ invariant-loop-pair l = record {
   switching : All (λ (q : ℕ × ℕ). IsSwitchAt l.game.rules q.1) taken;
   max : l.self.max ≡ l.fn.self.max;
   few : length l.self.moves ≤ l.self.max;
-  lists : ListsSwitches l.game l.fn.pairs taken l.front l.fn.self.max l.fn.self.moves l.self.moves false;
+  lists : ListsSwitches l.game l.fn.pairs taken l.front l.fn.self.max l.fn.self.moves l.self.moves l.self.first.items false;
 }
 
 abbrev pub decreases-loop-pair : goal.decreases-loop-pair

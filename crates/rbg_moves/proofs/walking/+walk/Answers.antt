@@ -1,0 +1,174 @@
+-- The moves that go on from where one stands.
+use Rattle.std.proofs.Common.{◌≡◌, ℕ, ◌+◌, ◌-◌, ◌<◌, List, ◌∷◌, [], ◌++◌, length, refl, sym, ap, ◌∙◌, subst, arith, false, true}
+use Rattle.std.proofs.lemmas.List.{length_push}
+use Rattle.std.proofs.lemmas.Result.{err_from_is_err_and}
+use Rattle.rbg_base.specs.Move.{most_pairs}
+use Rattle.rbg_rules.specs.State.{AbstractGame, IsStateOf}
+use Rattle.rbg_rules.specs.Laws.{IsStart}
+use Rattle.rbg_rules.specs.Moves.{AbstractPlace, stand_of}
+use Rattle.rbg_state.specs.History.{History, IsAfter}
+use Rattle.rbg_state.proofs.Histories.{after_nothing, after_both}
+use Rattle.rbg_pairs.specs.Start.{start_of, IsPositionOf}
+use Rattle.rbg_search.specs.Searching.{Searching}
+use Rattle.rbg_search.proofs.Asking.{after_room, room_twice}
+use Rattle.rbg_search.proofs.Kept.{kept_since, kept_twice}
+use Rattle.rbg_search.proofs.Orders.{flat_permuted}
+use Rattle.rbg_search.proofs.Turns.{turn_fewer}
+use Rattle.rbg_moves.specs.internal.Gathering.{IsWalked, LeavesOthers}
+use Rattle.rbg_moves.specs.internal.Stepping.{place_behind}
+use Rattle.rbg_moves.proofs.Steps.{place_start, modifier_position}
+use Rattle.rbg_moves.proofs.Further.{answered_as, has_come, switches_as, none_come, walk_begun, walk_ended, walk_whole, walk_turn, others_plain, turn_whole, turn_fits, turn_valid, turn_on, turn_ended, turn_given_up, too_many, made, made_given_up}
+use Rattle.rbg_moves.proofs.Results.{on_err, err_of}
+use Rattle.rbg_moves.proofs.walking.+walk.Goals as goal
+
+pub walk-reach_into-requires-clause-stands : goal.walk-reach_into-requires-clause-stands
+walk-reach_into-requires-clause-stands g t c =
+    let game = c.args.search.now.game in
+    let place : AbstractPlace = record { state = c.args.state.now.state; last = c.args.after } in
+    let stands = subst (IsStart game.rules) (sym c.origin_after.ensures) (place_start game c.game-game.ensures.lawful.numbered place c.requires.place) in
+    subst (λ (x : Searching). IsStart x.game.rules (start_of c.origin_after.result)) (sym c.take_list-pairs.ensures) stands
+
+pub walk-returns-in_err-reach_into-clause-given_up : goal.walk-returns-in_err-reach_into-clause-given_up
+walk-returns-in_err-reach_into-clause-given_up g t c =
+    let p = err_from_is_err_and c.from_residual.result c.from_residual.ensures.1 in
+    rw (p.1, p.2) (none_come c.args.found.now.max (most_pairs - length c.args.front.now.items) c.game-game.ensures.lawful.numbered (answered_as c.take_list-pairs.ensures c.origin_after.ensures c.in_err-reach_into.ensures.answered))
+
+pub walk-returns-then-branch-clause-walked : goal.walk-returns-then-branch-clause-walked
+walk-returns-then-branch-clause-walked g t c =
+    let place : AbstractPlace = record { state = c.args.state.now.state; last = c.args.after } in
+    let come = has_come c.take_list-pairs.ensures c.origin_after.ensures c.reach_into.ensures.answered c.in_ok-reach_into.was c.in_ok-reach_into.ensures.found in
+    subst (λ (x : Searching). IsWalked c.args.search.now x place c.args.front.now.items c.args.found.now.max c.args.found.now.moves c.add_switches.new.self.moves c.add_switches.new.self.first.items true) (sym c.keep_list.ensures)
+    (walk_ended c.args.after c.game-game.ensures.lawful.numbered come c.requires.short (switches_as c.game-game.ensures.game c.deref.ensures.value c.if-branch.true c.in_ok-add_switches.ensures.lists))
+
+pub walk-loop-vertex-init : goal.walk-loop-vertex-init
+walk-loop-vertex-init g t c =
+    let old = c.args.search.now in
+    let pairs : List (ℕ × ℕ) = c.reach_into.new.pairs in
+    let ends = c.in_ok-reach_into.field-0 in
+    let come = has_come c.take_list-pairs.ensures c.origin_after.ensures c.reach_into.ensures.answered c.in_ok-reach_into.was c.in_ok-reach_into.ensures.found in
+    let others : LeavesOthers old.game.rules pairs c.add_switches.new.pairs = subst (λ (x : AbstractGame). LeavesOthers x.rules pairs c.add_switches.new.pairs) c.game-game.ensures.game (c.in_ok-add_switches.ensures.others c.if-branch.false) in
+    record {
+      done = others.switches;
+      whole = record { ends = ends; part = flat_permuted old.game c.args.state.now.state (stand_of c.args.after) pairs (others.switches ++ c.add_switches.new.pairs) ends others.moves come.found.reached };
+      plain = others.plain;
+      search = kept_since old c.take_list-pairs.new.self c.reach_into.new.self c.take_list-pairs.ensures c.reach_into.ensures.answered.kept;
+      state = come.asked.given_back;
+      room = come.asked.room;
+      enough = come.found.enough;
+      front = refl;
+      max = c.add_switches.ensures.max;
+      so_far = walk_begun c.args.after c.game-game.ensures.lawful.numbered come others (switches_as c.game-game.ensures.game c.deref.ensures.value c.if-branch.false c.in_ok-add_switches.ensures.lists);
+    }
+
+pub walk-walk_behind-requires : goal.walk-walk_behind-requires
+walk-walk_behind-requires g t c κs within =
+    let now = c.loop-vertex in
+    let inv = c.loop-vertex.invariant in
+    let turn = walk_turn c.game-game.ensures.lawful inv.search (ap (λ (h : History). h.state) inv.state) inv.front inv.max inv.whole inv.plain inv.so_far c.in-Some.ensures.permutation in
+    let size : length now.front.items ≡ length c.args.front.now.items = ap (λ (ys : List (ℕ × ℕ)). length ys) inv.front in
+    let few = inv.so_far.gathers.few in
+    (omega (arith, size, c.requires.short, c.decreases), (within, (turn_fits turn c.requires.place.state, (turn_valid turn c.requires.place.state, (inv.enough, (omega (arith, size, c.requires.short), omega (arith, few, inv.max)))))))
+
+pub walk-returns-in_err-ended-clause-given_up : goal.walk-returns-in_err-ended-clause-given_up
+walk-returns-in_err-ended-clause-given_up g t c =
+    let inv = c.loop-vertex.invariant in
+    let turn = walk_turn c.game-game.ensures.lawful inv.search (ap (λ (h : History). h.state) inv.state) inv.front inv.max inv.whole inv.plain inv.so_far c.in-Some.ensures.permutation in
+    let p = err_from_is_err_and c.from_residual-in_err-ended.result c.from_residual-in_err-ended.ensures.1 in
+    rw (p.1, p.2) (turn_given_up turn _ _ c.requires.short c.in_err-ended.ensures.given_up)
+
+pub walk-returns-then-ended-clause-walked : goal.walk-returns-then-ended-clause-walked
+walk-returns-then-ended-clause-walked g t c =
+    let inv = c.loop-vertex.invariant in
+    let place : AbstractPlace = record { state = c.args.state.now.state; last = c.args.after } in
+    let turn = walk_turn c.game-game.ensures.lawful inv.search (ap (λ (h : History). h.state) inv.state) inv.front inv.max inv.whole inv.plain inv.so_far c.in-Some.ensures.permutation in
+    subst (λ (x : Searching). IsWalked c.args.search.now x place c.args.front.now.items c.args.found.now.max c.args.found.now.moves c.walk_behind.new.found.moves c.walk_behind.new.found.first.items true) (sym c.keep_list-then-ended.ensures)
+    (turn_ended turn c.requires.short c.if-ended.true c.in_ok-ended.ensures.walked)
+
+pub walk-loop-vertex-smaller : goal.walk-loop-vertex-smaller
+walk-loop-vertex-smaller g t c =
+    turn_fewer c.loop-vertex.pairs c.take_least.new.self (c.in-Some.vertex, c.in-Some.position) c.in-Some.ensures.permutation
+
+pub walk-loop-vertex-preserved : goal.walk-loop-vertex-preserved
+walk-loop-vertex-preserved g t c =
+    let now = c.loop-vertex in
+    let inv = c.loop-vertex.invariant in
+    let then = c.walk_behind.new in
+    let q : ℕ × ℕ = (c.in-Some.vertex, c.in-Some.position) in
+    let turn = walk_turn c.game-game.ensures.lawful inv.search (ap (λ (h : History). h.state) inv.state) inv.front inv.max inv.whole inv.plain inv.so_far c.in-Some.ensures.permutation in
+    let more = c.in_ok-ended.ensures in
+    record {
+      done = inv.done ++ q ∷ [];
+      whole = turn_whole turn;
+      plain = others_plain c.args.search.now.game now.pairs c.take_least.new.self q inv.plain c.in-Some.ensures.permutation;
+      search = kept_twice c.args.search.now now.search then.search inv.search c.walk_behind.ensures.search;
+      state = room_twice c.args.state.now now.state then.state inv.state more.state;
+      room = omega (arith, inv.room, more.room);
+      enough = omega (arith, inv.enough, more.room);
+      front = more.front ∙ inv.front;
+      max = c.walk_behind.ensures.max ∙ inv.max;
+      so_far = turn_on turn c.if-ended.false more.walked;
+    }
+
+pub walk-returns-clause-walked : goal.walk-returns-clause-walked
+walk-returns-clause-walked g t c =
+    let now = c.loop-vertex in
+    let inv = c.loop-vertex.invariant in
+    let place : AbstractPlace = record { state = c.args.state.now.state; last = c.args.after } in
+    subst (λ (x : Searching). IsWalked c.args.search.now x place c.args.front.now.items c.args.found.now.max c.args.found.now.moves now.found.moves now.found.first.items false) (sym c.keep_list-2.ensures)
+    (walk_whole c.game-game.ensures.lawful.numbered c.requires.short inv.whole c.in_default.ensures.none inv.so_far)
+
+-- ---- behind a modifier
+
+pub walk_behind-returns-then-len-eq-MAX_PAIRS-clause-given_up : goal.walk_behind-returns-then-len-eq-MAX_PAIRS-clause-given_up
+walk_behind-returns-then-len-eq-MAX_PAIRS-clause-given_up g t c later applied =
+    let front : List (ℕ × ℕ) = c.args.front.now.items in
+    let size = length_push front c.args.pair in
+    too_many c.args.search.now later c.args.pair.1 _ c.args.found.now.max c.game-game.ensures.lawful c.requires.valid.modifies (omega (arith, size, c.len.ensures, c.args.front.now.ok.0, c.if-len-eq-MAX_PAIRS.true)) (λ w. cc)
+
+pub walk_behind-walk-requires : goal.walk_behind-walk-requires
+walk_behind-walk-requires g t c κs within =
+    let pushed : length c.push.new.self.items ≡ length c.args.front.now.items + 1 = ap (λ (ys : List (ℕ × ℕ)). length ys) c.in_ok-push.ensures.items ∙ length_push c.args.front.now.items c.args.pair in
+    let game = c.args.search.now.game in
+    let position : IsPositionOf game.rules c.pair.inside.position =
+    subst (λ (q : ℕ × ℕ). IsPositionOf game.rules q.1) (sym c.pair.view_is)
+    (modifier_position game c.game-game.ensures.lawful.numbered c.args.pair.1 c.requires.valid.modifies) in
+    let fits : IsStateOf game c.apply_at.new.state.state = subst (λ (x : AbstractGame). IsStateOf x c.apply_at.new.state.state) c.game-game.ensures.game c.apply_at.ensures.fits in
+    let short : length c.push.new.self.items < most_pairs = omega (arith, c.requires.short, pushed, c.len.ensures, c.args.front.now.ok.0, c.if-len-eq-MAX_PAIRS.false) in
+    (omega (arith, c.requires.short, pushed, c.decreases), (within, (record { state = fits; last = (position.from_one, position.there) }, (short, c.requires.few))))
+
+pub walk_behind-returns-in_err-ended-clause-given_up : goal.walk_behind-returns-in_err-ended-clause-given_up
+walk_behind-returns-in_err-ended-clause-given_up g t c =
+    let p = err_from_is_err_and c.from_residual-in_err-ended.result c.from_residual-in_err-ended.ensures.1 in
+    rw (p.1, p.2)
+    (made_given_up c.args.search.now c.args.found.now.max c.game-game.result.now c.game-game.ensures.lawful.numbered c.args.state.now.state c.apply_at.new.state.state c.args.pair c.pair.inside.position (c.args.front.now.items ++ c.args.pair ∷ []) c.push.new.self.items c.game-game.ensures.game (ap (λ (x : ℕ × ℕ). x.1) c.pair.view_is) c.in_ok-push.ensures.items c.apply_at.ensures.applied c.in_err-ended.ensures.given_up)
+
+pub walk_behind-returns-clause-walked : goal.walk_behind-returns-clause-walked
+walk_behind-returns-clause-walked g t c =
+    let old = c.args.search.now in
+    let had = c.args.found.now in
+    let has = c.walk.new.found in
+    made (λ ps s n. IsWalked old c.walk.new.search (place_behind s n) ps had.max had.moves has.moves has.first.items c.in_ok-ended.ended) old.game c.game-game.result.now c.game-game.ensures.lawful.numbered c.args.state.now.state c.apply_at.new.state.state c.args.pair c.pair.inside.position (c.args.front.now.items ++ c.args.pair ∷ []) c.push.new.self.items c.game-game.ensures.game (ap (λ (x : ℕ × ℕ). x.1) c.pair.view_is) c.in_ok-push.ensures.items c.apply_at.ensures.applied c.in_ok-ended.ensures.walked
+
+-- ---- after an error all changes can be taken back
+
+after_kept : (h k : History) → k ≡ record h { room = k.room } → IsAfter h k
+after_kept h k kept = after_room h h k (after_nothing h) kept
+
+pub walk-returns-in_err-reach_into-clause-after : goal.walk-returns-in_err-reach_into-clause-after
+walk-returns-in_err-reach_into-clause-after g t c = on_err _ _ (after_kept c.args.state.now c.reach_into.new.state c.reach_into.ensures.answered.given_back)
+
+pub walk-returns-in_err-add_switches-clause-after : goal.walk-returns-in_err-add_switches-clause-after
+walk-returns-in_err-add_switches-clause-after g t c = on_err _ _ (after_kept c.args.state.now c.reach_into.new.state c.reach_into.ensures.answered.given_back)
+
+pub walk-returns-in_err-ended-clause-after : goal.walk-returns-in_err-ended-clause-after
+walk-returns-in_err-ended-clause-after g t c =
+    on_err _ _
+    (after_both c.args.state.now c.loop-vertex.state c.walk_behind.new.state (after_kept c.args.state.now c.loop-vertex.state c.loop-vertex.invariant.state)
+    (err_of c.walk_behind.result c.in_err-ended.field-0.0 _ c.in_err-ended.was c.walk_behind.ensures.after))
+
+pub walk_behind-returns-in_err-push-clause-after : goal.walk_behind-returns-in_err-push-clause-after
+walk_behind-returns-in_err-push-clause-after g t c = on_err _ _ c.apply_at.ensures.after
+
+pub walk_behind-returns-in_err-ended-clause-after : goal.walk_behind-returns-in_err-ended-clause-after
+walk_behind-returns-in_err-ended-clause-after g t c =
+    on_err _ _ (after_both c.args.state.now c.apply_at.new.state c.walk.new.state c.apply_at.ensures.after (err_of c.walk.result c.in_err-ended.field-0.0 _ c.in_err-ended.was c.walk.ensures.after))
