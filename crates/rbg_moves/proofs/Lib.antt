@@ -6,6 +6,7 @@ pub mod Order
 pub mod Listing
 pub mod Outcome
 pub mod Further
+pub mod Following
 pub mod Forcing
 pub mod Copies
 pub mod Scoring

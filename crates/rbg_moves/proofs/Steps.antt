@@ -1,27 +1,23 @@
 -- How a list of pairs is legal by its first pair.
 use Rattle.std.proofs.Common.{◌≡◌, ℕ, ◌<◌, length, List, [], ◌∷◌, ◌++◌, Bool, true, false, refl, sym, ap, ◌∙◌, subst, append_assoc}
-use Rattle.std.specs.Prelude.{All, Contains, Option, Some, None}
-use Rattle.std.proofs.lemmas.List.Elements.{All-nil, All-head, All-tail, All-cons, All-append, All-contains}
+use Rattle.std.specs.Prelude.{All, Option, Some, None}
+use Rattle.std.proofs.lemmas.List.Elements.{All-nil, All-head, All-tail, All-cons, All-append}
 use Rattle.rbg_rules.specs.Expression.{AbstractAction, shift, on, off, assignment, comparison, switch, positive, negative}
 use Rattle.rbg_rules.specs.Positions.{IsNumbered, IsModifierAt, IsSwitchAt, HasNoModifier, HasNoSwitch, is_modifier, is_pattern, IsPatternAt}
 use Rattle.rbg_rules.specs.Words.{Start, after, Follows}
 use Rattle.rbg_rules.specs.State.{AbstractGame, AbstractState, IsStateOf}
 use Rattle.rbg_rules.specs.Actions.{rest, step, Applies, Run}
-use Rattle.rbg_rules.specs.Moves.{RunPairs, stay, modify, pass, AbstractPlace, stand_of, Legal, Finished}
+use Rattle.rbg_rules.specs.Moves.{RunPairs, stay, modify, pass, AbstractPlace, stand_of, Legal}
 use Rattle.rbg_rules.specs.Places.{IsPlaceOf, IsLastOf}
 use Rattle.rbg_rules.specs.Laws.{IsStart}
 use Rattle.rbg_rules.specs.Games.{IsGame}
-use Rattle.rbg_rules.specs.Questions.{Question, try_move, IsDeep}
-use Rattle.rbg_rules.specs.Limits.{most_openings, most_modifiers}
-use Rattle.rbg_search.specs.Counting.{IsOverBudget}
-use Rattle.rbg_search.proofs.CallerLemmas.{over_wide}
+use Rattle.rbg_rules.specs.Questions.{try_move}
 use Rattle.rbg_rules.proofs.StateLemmas.{state_law}
 use Rattle.rbg_rules.proofs.MoveLemmas.{Applies_one}
 use Rattle.rbg_rules.proofs.TableLemmas.{plain_stands, numbered_action}
 use Rattle.rbg_rules.proofs.PlaceLemmas.{RunPairs_join}
 use Rattle.rbg_rules.proofs.LocalityLemmas.{locality_law}
-use Rattle.rbg_pairs.specs.Flat.{IsNext, IsFlatPart}
-use Rattle.rbg_moves.specs.Limits.{IsDeepAt, IsWideAt}
+use Rattle.rbg_pairs.specs.Flat.{IsNext}
 use Rattle.rbg_moves.specs.internal.Stepping.{standing_at, place_behind, IsStep, IsValidAt, IsTried, IsMadeFrom, made, goes_on}
 use Rattle.rbg_search.specs.Passing.{GoesOn, trying}
 use Rattle.rbg_pairs.specs.Start.{IsPositionOf}
@@ -257,20 +253,6 @@ switch_pairs game numbered (q ∷ w) p s t switches (pass applied quiet run) = s
 pub legal_some : (game : AbstractGame) → IsNumbered game.rules → (place to : AbstractPlace) → ¬ Legal game place [] to
 legal_some game numbered place to legal = switch_pairs game numbered legal.before legal.last place.state to.state legal.switches legal.runs
 
--- Nothing is legal where no switch comes next, and nothing is legal behind the modifiers that do.
-pub none_legal : (game : AbstractGame) → IsNumbered game.rules → (place : AbstractPlace) → ((v p : ℕ) → IsNext game place.state (stand_of place.last) v p → ¬ IsSwitchAt game.rules p) → ((v p : ℕ) (later : AbstractState) → IsNext game place.state (stand_of place.last) v p → Applies game p (standing_at place.state v) later → Finished game (place_behind later p)) → Finished game place
-none_legal game numbered place plain nothing = record { no_move = none }
-  where
-    none : (ps : List (ℕ × ℕ)) (to : AbstractPlace) → ¬ Legal game place ps to
-    none [] to legal = legal_some game numbered place to legal
-    none ((v, p) ∷ qs) to legal =
-        let cut = legal_cut game numbered place v p qs to legal in
-        by_onward cut (cut.onward)
-      where
-        by_onward : (cut : CutLegal game place v p qs to) → Onward game cut.later p qs to → ⊥
-        by_onward cut (ended switches _ _) = plain v p cut.next switches
-        by_onward cut (going _ legal) = (nothing v p cut.later cut.next cut.applies).no_move qs to legal
-
 -- What comes next is valid at its vertex.
 pub valid_next : (game : AbstractGame) → IsNumbered game.rules → (s : AbstractState) (f : Start) (v p : ℕ) → v < length game.board.first → IsNext game s f v p → IsValidAt game s v p
 valid_next game numbered s f v p there next = record { there = there; modifies = next.modifies; later = next.later; applies = next_applies game numbered s f v p next }
@@ -280,15 +262,6 @@ pub place_after : (game : AbstractGame) → IsNumbered game.rules → (later : A
 place_after game numbered later p modifier fits =
     let position = modifier_position game numbered p modifier in
     record { state = fits; last = (position.from_one, position.there) }
-
--- What is found in a flat part comes next, and the other way round.
-pub next_from : (game : AbstractGame) (s : AbstractState) (f f' : Start) (pairs items : List (ℕ × ℕ)) (ends : Bool) (q : ℕ × ℕ) → IsFlatPart game s f' items ends → f' ≡ f → pairs ≡ items → Contains pairs q → IsNext game s f q.0 q.1
-next_from game s f f' pairs items ends q part same is has =
-    subst (λ (h : Start). IsNext game s h q.0 q.1) same ((part.next q.0 q.1).0 (subst (λ (qs : List (ℕ × ℕ)). Contains qs q) is has))
-
-pub has_next : (game : AbstractGame) (s : AbstractState) (f f' : Start) (pairs items : List (ℕ × ℕ)) (ends : Bool) (q : ℕ × ℕ) → IsFlatPart game s f' items ends → f' ≡ f → pairs ≡ items → IsNext game s f q.0 q.1 → Contains pairs q
-has_next game s f f' pairs items ends q part same is next =
-    subst (λ (qs : List (ℕ × ℕ)). Contains qs q) (sym is) ((part.next q.0 q.1).1 (subst (λ (h : Start). IsNext game s h q.0 q.1) (sym same) next))
 
 -- What comes next in a semi-state of the game stands at a vertex of the board.
 run_fits : (game : AbstractGame) → IsGame game → {w : List ℕ} {s t : AbstractState} → Run game w s t → IsStateOf game s → IsStateOf game t
@@ -352,31 +325,7 @@ pub made_end : (game : AbstractGame) → IsNumbered game.rules → (place to : A
 made_end game numbered place to made = refl
 made_end game numbered place to (goes_on legal) = absurd (legal_some game numbered place to legal)
 
--- Nothing is legal where no switch is found in the flat part, and nothing is legal behind what is.
-pub none_found : (game : AbstractGame) → IsNumbered game.rules → (place : AbstractPlace) (f' : Start) (pairs : List (ℕ × ℕ)) (ends : Bool) → IsFlatPart game place.state f' pairs ends → f' ≡ stand_of place.last → All (λ (q : ℕ × ℕ). ¬ IsSwitchAt game.rules q.1) pairs → All (λ (q : ℕ × ℕ). (later : AbstractState) → Applies game q.1 (standing_at place.state q.0) later → Finished game (place_behind later q.1)) pairs → Finished game place
-none_found game numbered place f' pairs ends part same plain nothing =
-    none_legal game numbered place
-    (λ v p next. All-contains (λ (q : ℕ × ℕ). ¬ IsSwitchAt game.rules q.1) pairs (v, p) plain (has_next game place.state (stand_of place.last) f' pairs pairs ends (v, p) part same refl next))
-    (λ v p later next. All-contains (λ (q : ℕ × ℕ). (later : AbstractState) → Applies game q.1 (standing_at place.state q.0) later → Finished game (place_behind later q.1)) pairs (v, p) nothing (has_next game place.state (stand_of place.last) f' pairs pairs ends (v, p) part same refl next) later)
-
 -- What becomes of the pairs behind the first one becomes of all.
 pub tried_on : (game : AbstractGame) → IsNumbered game.rules → (place : AbstractPlace) (v p : ℕ) (qs : List (ℕ × ℕ)) (later new : AbstractState) → IsStep game place.state (stand_of place.last) v p later → ¬ IsSwitchAt game.rules p → (end : Option ℕ) → IsTried game (place_behind later p) qs new end → IsTried game place ((v, p) ∷ qs) new end
 tried_on game numbered place v p qs later new taken plain (Some last) legal = step_legal game numbered place v p qs (place_behind new last) later taken plain legal
 tried_on game numbered place v p qs later new taken plain None none = step_none game numbered place v p qs later taken plain none
-
--- A search that is too deep or over its budget is so for the question at the place.
-pub deep_from : (game : AbstractGame) (question : Question) (place : AbstractPlace) (g : AbstractGame) (s : AbstractState) (f : Start) (modifiers : ℕ) → g ≡ game → s ≡ place.state → f ≡ stand_of place.last → modifiers ≡ most_modifiers → IsDeep g question s f modifiers → IsDeepAt game question place
-deep_from game question place g s f modifiers same state start most_m deep =
-    subst (λ (n : ℕ). IsDeep game question place.state (stand_of place.last) n) most_m
-    (subst (λ (h : AbstractGame). IsDeep h question place.state (stand_of place.last) modifiers) same
-    (subst (λ (u : AbstractState). IsDeep g question u (stand_of place.last) modifiers) state
-    (subst (λ (h : Start). IsDeep g question s h modifiers) start deep)))
-
-pub wide_from : (game : AbstractGame) → IsNumbered game.rules → (question : Question) (place : AbstractPlace) (g : AbstractGame) (s : AbstractState) (f : Start) (opened openings : ℕ) → g ≡ game → s ≡ place.state → f ≡ stand_of place.last → opened ≡ 0 → openings ≡ most_openings → IsOverBudget g question s f opened openings → IsWideAt game question place
-wide_from game numbered question place g s f opened openings same state start none most_o over =
-    over_wide game numbered
-    (subst (λ (n : ℕ). IsOverBudget game question place.state (stand_of place.last) 0 n) most_o
-    (subst (λ (n : ℕ). IsOverBudget game question place.state (stand_of place.last) n openings) none
-    (subst (λ (h : AbstractGame). IsOverBudget h question place.state (stand_of place.last) opened openings) same
-    (subst (λ (u : AbstractState). IsOverBudget g question u (stand_of place.last) opened openings) state
-    (subst (λ (h : Start). IsOverBudget g question s h opened openings) start over)))))

@@ -3,26 +3,16 @@ use Rattle.std.proofs.Common.{◌≡◌, ℕ, ◌+◌, ◌-◌, ◌^◌, min, tr
 use Rattle.rbg_rules.specs.State.{AbstractGame, AbstractState}
 use Rattle.rbg_rules.specs.Words.{Start, after}
 use Rattle.rbg_rules.specs.Moves.{AbstractPlace, stand_of}
-use Rattle.rbg_rules.specs.Questions.{Question, reach}
+use Rattle.rbg_rules.specs.Questions.{Question}
 use Rattle.rbg_search.specs.Counting.{CountsOpenings}
 use Rattle.rbg_search.specs.Forced.{CountsAllForced}
 use Rattle.rbg_search.specs.Passing.{GoesOn}
 use Rattle.rbg_search.specs.Searching.{Searching, Tally}
 use Rattle.rbg_search.specs.Taken.{CountsPairs}
-use Rattle.rbg_search.proofs.Takings.{any_part, behind_part, takes_as, takes_then, takes_part_of}
+use Rattle.rbg_search.proofs.Takings.{behind_part, takes_then, takes_part_of}
 use Rattle.rbg_moves.specs.Tallying.{IsTallied}
 
--- What is reached without a modifier is counted first.
-pub begin_takes : (now asked later : Searching) (question : Question) (s : AbstractState) (f f' : Start) (A : Type 0) → asked ≡ now → f' ≡ f → CountsPairs asked.game reach s f' asked.opened later.opened asked.taken later.taken A → A → CountsPairs now.game question s f now.opened later.opened now.taken later.taken (Unit {0})
-begin_takes now asked later question s f f' A same start counts answered =
-    let here : CountsPairs now.game reach s f' now.opened later.opened now.taken later.taken A =
-    subst (λ (x : Searching). CountsPairs x.game reach s f' x.opened later.opened x.taken later.taken A) same counts in
-    let there : CountsPairs now.game reach s f now.opened later.opened now.taken later.taken A =
-    subst (λ (g : Start). CountsPairs now.game reach s g now.opened later.opened now.taken later.taken A) start here in
-    takes_as now.game question s f now.opened later.opened now.taken later.taken A (Unit {0})
-    (takes_part_of now.game question s f reach s f now.opened later.opened now.taken later.taken A (any_part now.game question s f) there) (λ _. answered)
-
--- .. and then what the question counts behind a modifier.
+-- What a question counts so far, and then behind a modifier.
 pub more_takes : (game game' : AbstractGame) (question question' : Question) (s later : AbstractState) (f : Start) (v p a b c t u w : ℕ) → game' ≡ game → GoesOn game question s f v p question' later → CountsPairs game question s f a b t u (Unit {0}) → CountsPairs game' question' later (after p) b c u w (Unit {0}) → CountsPairs game question s f a c t w (Unit {0})
 more_takes game game' question question' s later f v p a b c t u w same on so_far behind =
     takes_then game question s f a b c t u w (Unit {0}) so_far

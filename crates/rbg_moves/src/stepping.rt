@@ -11,8 +11,7 @@ ghost use Rattle.rbg_pairs.specs.Flat.{IsNext};
 ghost use Rattle.rbg_search.specs.Counting.{CountsOpenings, IsOverBudget};
 ghost use Rattle.rbg_search.specs.Forced.{CountsForced};
 ghost use Rattle.rbg_search.specs.Taken.{CountsPairs};
-ghost use Rattle.rbg_pairs.specs.Start.{IsPositionOf};
-ghost use Rattle.rbg_moves.specs.internal.Stepping.{standing_at, place_behind, IsStep, IsValidAt};
+ghost use Rattle.rbg_moves.specs.internal.Stepping.{standing_at, IsStep, IsValidAt};
 
 use crate::asking::origin_after;
 use rbg_auto::Steps;
@@ -48,12 +47,8 @@ pub(crate) fn take<S: Steps>(
     ensures kept { search.new ≡ record search.old { opened = search.new.opened; taken = search.new.taken } }
     ensures taken { IfOk result (λ taken. IsTrue taken
         → IsStep search.old.game state.old.state (stand_of after) pair.0 pair.1 state.new.state) }
-    ensures in_game { IfOk result (λ taken. IsTrue taken
-        → IsPlaceOf search.old.game (place_behind state.new.state pair.1)) }
     ensures refused { IfOk result (λ taken. IsTrue (not taken)
         → ¬ IsNext search.old.game state.old.state (stand_of after) pair.0 pair.1) }
-    ensures position { IfOk result (λ taken. IsTrue taken
-        → IsPositionOf search.old.game.rules pair.1) }
     ensures counted { CountsOpenings search.old.game reach state.old.state (stand_of after)
         search.old.opened search.new.opened }
     ensures paired { OnOk result (CountsPairs search.old.game reach state.old.state (stand_of after)

@@ -1,15 +1,12 @@
 //! Whether a list of pairs is a legal move.
-ghost use Rattle.std.specs.Prelude.{◌≡◌, ◌⊎◌, length, IfOk, IfSome, IfNone, OnOk, OnErr, Err, Bool, false};
-ghost use Rattle.rbg_rules.specs.Moves.{AbstractPlace, stand_of, Legal};
+ghost use Rattle.std.specs.Prelude.{◌≡◌, IfOk, IfSome, IfNone, OnOk, OnErr};
+ghost use Rattle.rbg_rules.specs.Moves.{AbstractPlace, Legal};
 ghost use Rattle.rbg_rules.specs.Places.{IsPlaceOf};
-ghost use Rattle.rbg_rules.specs.Questions.{try_move, IsDeep};
+ghost use Rattle.rbg_rules.specs.Questions.{try_move};
 ghost use Rattle.rbg_flat.specs.Paths.{ArePathsOf};
-ghost use Rattle.rbg_search.specs.Counting.{CountsOpenings, IsOverBudget};
-ghost use Rattle.rbg_search.specs.Forced.{CountsForced};
-ghost use Rattle.rbg_search.specs.Taken.{CountsPairs};
 ghost use Rattle.rbg_moves.specs.Answers.{TriesMove};
 ghost use Rattle.rbg_moves.specs.Tallying.{Tallies};
-ghost use Rattle.rbg_moves.specs.internal.Stepping.{place_behind, IsTried};
+ghost use Rattle.rbg_moves.specs.internal.Stepping.{place_behind, IsFollowed};
 
 use crate::asking::{budget_is_kept, game_is_accepted, is_switch, search_in};
 use crate::place::Place;
@@ -83,26 +80,11 @@ fn follow<S: Steps>(
     pairs: &[Pair],
 ) -> Result<Option<Position>, Over>
     requires place { IsPlaceOf search.old.game (record { state = state.old.state; last = after }) }
-    ensures tried { IfOk result (IsTried search.old.game
-        (record { state = state.old.state; last = after }) pairs.now
-        state.new.state) }
+    ensures followed { IsFollowed search.old search.new
+        (record { state = state.old.state; last = after }) pairs.now state.new.state result }
     ensures in_game { IfOk result (λ end. IfSome end (λ last.
         IsPlaceOf search.old.game (place_behind state.new.state last))) }
-    ensures deep { result ≡ Err Over.Deep
-        → IsDeep search.old.game (try_move pairs.now) state.old.state (stand_of after)
-        search.old.modifiers }
-    ensures wide { result ≡ Err Over.Wide → IsOverBudget search.old.game (try_move pairs.now)
-        state.old.state (stand_of after) search.old.opened search.old.openings }
     ensures kept { search.new ≡ record search.old { opened = search.new.opened; taken = search.new.taken } }
-    ensures counted { OnOk result (CountsOpenings search.old.game (try_move pairs.now)
-        state.old.state (stand_of after) search.old.opened search.new.opened) }
-    ensures paired { OnOk result (CountsPairs search.old.game (try_move pairs.now)
-        state.old.state (stand_of after) search.old.opened search.new.opened
-        search.old.taken search.new.taken (Unit {0})) }
-    ensures forced { IfOk result (λ end.
-        IfSome end (λ _. CountsForced search.old.game false (try_move pairs.now)
-        state.old.state (stand_of after) search.old.opened search.new.opened
-        (length pairs.now) search.old.modifiers)) }
 {
     let game = search.game();
     let Some((pair, rest)) = pairs.split_first() else {

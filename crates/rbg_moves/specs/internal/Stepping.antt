@@ -1,11 +1,20 @@
 -- One modifier of a move, and the place behind it.
-use Rattle.std.specs.Prelude.{◌≡◌, ℕ, ◌<◌, List, [], ◌++◌, ◌∷◌, length, Option, Some, None}
+use Rattle.std.specs.Prelude.{◌≡◌, ℕ, ◌<◌, List, [], length, false, Option, Some, None, Result, Err, IfOk, IfSome, OnOk}
 use Rattle.rbg_rules.specs.Positions.{IsModifierAt}
 use Rattle.rbg_rules.specs.State.{AbstractGame, AbstractState}
 use Rattle.rbg_rules.specs.Actions.{Applies}
-use Rattle.rbg_rules.specs.Moves.{AbstractPlace, Legal, IsLegal}
+use Rattle.rbg_rules.specs.Moves.{AbstractPlace, Legal, stand_of}
+use Rattle.rbg_rules.specs.Places.{IsPlaceOf}
+use Rattle.rbg_rules.specs.Questions.{try_move, IsDeep}
 use Rattle.rbg_rules.specs.Words.{Start}
 use Rattle.rbg_pairs.specs.Flat.{IsNext}
+use Rattle.rbg_pairs.specs.Start.{IsPositionOf}
+use Rattle.rbg_search.specs.Counting.{CountsOpenings, IsOverBudget}
+use Rattle.rbg_search.specs.Forced.{CountsForced}
+use Rattle.rbg_search.specs.Searching.{Searching}
+use Rattle.rbg_search.specs.Taken.{CountsPairs}
+use Rattle.rbg_search.specs.declared.over.Over.{Over}
+use Rattle.rbg_search.specs.declared.over.Over.TheVariants.{Deep, Wide}
 
 -- The semi-state with this current vertex.
 abbrev pub standing_at : AbstractState → ℕ → AbstractState
@@ -26,24 +35,12 @@ pub record IsValidAt (game : AbstractGame) (s : AbstractState) (v p : ℕ) : Typ
   pub later : AbstractState
   pub applies : Applies game p (standing_at s v) later
 
--- The modifier at position p comes next at vertex v, and leads to `later`.
+-- The modifier at position p comes next at vertex v, and leads to `later`, which is a semi-state of the game.
 pub record IsStep (game : AbstractGame) (s : AbstractState) (f : Start) (v p : ℕ) (later : AbstractState) : Type 0 where
   pub next : IsNext game s f v p
   pub applies : Applies game p (standing_at s v) later
-
--- The list goes on from its front by a move that is legal at the place.
-pub record GoesOnByMove (game : AbstractGame) (place : AbstractPlace) (front whole : List (ℕ × ℕ)) : Type 0 where
-  pub pairs : List (ℕ × ℕ)
-  pub joined : whole ≡ front ++ pairs
-  pub legal : IsLegal game place pairs
-
--- The list goes on from its front by the pair of the modifier at position p, and by a move that is legal behind it.
-pub record GoesOnBehind (game : AbstractGame) (s : AbstractState) (v p : ℕ) (front whole : List (ℕ × ℕ)) : Type 0 where
-  pub later : AbstractState
-  pub applies : Applies game p (standing_at s v) later
-  pub pairs : List (ℕ × ℕ)
-  pub joined : whole ≡ front ++ ((v, p) ∷ pairs)
-  pub legal : IsLegal game (place_behind later p) pairs
+  pub position : IsPositionOf game.rules p
+  pub in_game : IsPlaceOf game (place_behind later p)
 
 -- A move goes on from the place: it ends at the other one, or nothing of it is left there.
 pub data IsMadeFrom (game : AbstractGame) (place : AbstractPlace) : List (ℕ × ℕ) → AbstractPlace → Type 0 where
@@ -55,3 +52,26 @@ abbrev pub IsTried :
     AbstractGame → AbstractPlace → List (ℕ × ℕ) → AbstractState → Option ℕ → Type 0
 IsTried game place ps new (Some last) = Legal game place ps (place_behind new last)
 IsTried game place ps new None = (to : AbstractPlace) → ¬ Legal game place ps to
+
+-- The pairs were followed from the place as far as they come next one after another: what became of them, and what was
+-- counted of the question whether they are a move. Where they are, all that is forced was taken up.
+pub record IsFollowed
+    (old new : Searching) (place : AbstractPlace) (pairs : List (ℕ × ℕ)) (to : AbstractState)
+    (result : Result (Option ℕ) Over)
+    : Type 0
+  where
+    pub tried : IfOk result (IsTried old.game place pairs to)
+    pub deep : result ≡ Err Deep → IsDeep old.game (try_move pairs) place.state (stand_of place.last) old.modifiers
+    pub wide :
+        result ≡ Err Wide →
+        IsOverBudget old.game (try_move pairs) place.state (stand_of place.last) old.opened old.openings
+    pub counted :
+        OnOk result (CountsOpenings old.game (try_move pairs) place.state (stand_of place.last) old.opened new.opened)
+    pub paired :
+        OnOk result
+        (CountsPairs old.game (try_move pairs) place.state (stand_of place.last)
+        old.opened new.opened old.taken new.taken (Unit {0}))
+    pub forced :
+        IfOk result (λ end. IfSome end (λ _.
+        CountsForced old.game false (try_move pairs) place.state (stand_of place.last)
+        old.opened new.opened (length pairs) old.modifiers))

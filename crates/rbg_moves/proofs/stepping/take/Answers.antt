@@ -1,21 +1,21 @@
-use Rattle.std.proofs.Common.{◌≡◌, ◌<◌, ℕ, length, true, false, refl, sym, ap, ◌∙◌, subst}
-use Rattle.std.specs.Prelude.{All, Contains}
+use Rattle.std.proofs.Common.{◌≡◌, ◌<◌, ℕ, length, true, false, sym, ap, ◌∙◌, subst}
+use Rattle.std.specs.Prelude.{List, Bool, Contains, Result, Ok}
 use Rattle.std.proofs.lemmas.List.Elements.{All-contains}
 use Rattle.rbg_rules.specs.State.{AbstractGame, AbstractState, IsStateOf}
 use Rattle.rbg_rules.specs.Actions.{Applies}
 use Rattle.rbg_rules.specs.Moves.{stand_of}
+use Rattle.rbg_rules.specs.Words.{Start}
 use Rattle.rbg_rules.specs.Laws.{IsStart}
 use Rattle.rbg_rules.specs.Questions.{reach}
-use Rattle.rbg_pairs.specs.Flat.{IsNext, IsFlatPart}
-use Rattle.rbg_search.specs.Searching.{Searching}
 use Rattle.rbg_pairs.specs.Start.{start_of, IsPositionOf}
+use Rattle.rbg_search.specs.Answered.{IsAnswered, HasReached}
+use Rattle.rbg_search.specs.Searching.{Searching}
+use Rattle.rbg_search.specs.Taken.{CountsPairs}
+use Rattle.rbg_search.specs.declared.over.Over.{Over}
 use Rattle.rbg_state.specs.History.{History}
 use Rattle.rbg_moves.specs.internal.Stepping.{standing_at, IsValidAt}
-use Rattle.rbg_moves.proofs.Steps.{place_start, place_after, valid_next, modifier_position, next_from, has_next}
-use Rattle.std.specs.Prelude.{IsOk}
-use Rattle.rbg_search.specs.Taken.{CountsPairs}
-use Rattle.rbg_search.proofs.Takings.{is_answer}
-use Rattle.rbg_moves.proofs.Tallies.{begin_takes}
+use Rattle.rbg_moves.proofs.Further.{has_come, come_paired}
+use Rattle.rbg_moves.proofs.Steps.{place_start, place_after, valid_next, modifier_position}
 use Rattle.rbg_moves.proofs.stepping.take.Goals as goal
 
 valid_as : (game game' : AbstractGame) (s s' : AbstractState) (v p : ℕ) → game' ≡ game → s' ≡ s → IsValidAt game s v p → IsValidAt game' s' v p
@@ -39,66 +39,49 @@ pub apply_at-requires-clause-valid : goal.apply_at-requires-clause-valid
 apply_at-requires-clause-valid g c =
     let game = c.args.search.now.game in
     let s = c.args.state.now.state in
-    let f = stand_of c.args.after in
     let q = c.args.pair in
     let items = c.reach_into.new.pairs in
+    let come = has_come c.take_list-pairs.ensures c.origin_after.ensures c.reach_into.ensures.answered c.in_ok-reach_into.was c.in_ok-reach_into.ensures.found in
     let has : Contains items q = subst (Contains items) c.pair.view_is (c.contains-comes_next.ensures.0 c.if-comes_next.true) in
-    let next : IsNext game s f q.0 q.1 = next_from game s f _ items items c.in_ok-reach_into.field-0 q (subst (λ (x : Searching). IsFlatPart x.game s (start_of c.origin_after.result) items c.in_ok-reach_into.field-0) c.take_list-pairs.ensures c.in_ok-reach_into.ensures.found.reached) c.origin_after.ensures refl has in
-    let within = All-contains (λ (r : ℕ × ℕ). (r.0 < length game.board.first) × IsPositionOf game.rules r.1) items q (subst (λ (x : Searching). All (λ r. (r.0 < length x.game.board.first) × IsPositionOf x.game.rules r.1) items) c.take_list-pairs.ensures c.in_ok-reach_into.ensures.found.within) has in
+    let within = All-contains (λ (r : ℕ × ℕ). (r.0 < length game.board.first) × IsPositionOf game.rules r.1) items q come.found.within has in
     let here : c.reach_into.new.state.state ≡ s = ap (λ (h : History). h.state) c.in_ok-reach_into.ensures.answered.given_back in
-    valid_as game c.game-game.result.now s c.reach_into.new.state.state q.0 q.1 c.game-game.ensures.game here (valid_next game c.game-game.ensures.lawful.numbered s f q.0 q.1 within.0 next)
+    valid_as game c.game-game.result.now s c.reach_into.new.state.state q.0 q.1 c.game-game.ensures.game here (valid_next game c.game-game.ensures.lawful.numbered s (stand_of c.args.after) q.0 q.1 within.0 ((come.found.reached.next q.0 q.1).0 has))
 
 pub returns-then-comes_next-clause-taken : goal.returns-then-comes_next-clause-taken
 returns-then-comes_next-clause-taken g c _ =
     let game = c.args.search.now.game in
     let s = c.args.state.now.state in
-    let f = stand_of c.args.after in
     let q = c.args.pair in
     let items = c.reach_into.new.pairs in
-    let has : Contains items q = subst (Contains items) c.pair.view_is (c.contains-comes_next.ensures.0 c.if-comes_next.true) in
-    let next : IsNext game s f q.0 q.1 = next_from game s f _ items items c.in_ok-reach_into.field-0 q (subst (λ (x : Searching). IsFlatPart x.game s (start_of c.origin_after.result) items c.in_ok-reach_into.field-0) c.take_list-pairs.ensures c.in_ok-reach_into.ensures.found.reached) c.origin_after.ensures refl has in
+    let later = c.apply_at.new.state.state in
+    let come = has_come c.take_list-pairs.ensures c.origin_after.ensures c.reach_into.ensures.answered c.in_ok-reach_into.was c.in_ok-reach_into.ensures.found in
+    let next = (come.found.reached.next q.0 q.1).0 (subst (Contains items) c.pair.view_is (c.contains-comes_next.ensures.0 c.if-comes_next.true)) in
     let here : c.reach_into.new.state.state ≡ s = ap (λ (h : History). h.state) c.in_ok-reach_into.ensures.answered.given_back in
-    record { next = next; applies = applied_as game c.game-game.result.now s c.reach_into.new.state.state c.apply_at.new.state.state q.0 q.1 c.game-game.ensures.game here c.apply_at.ensures.applied }
-
-pub returns-then-comes_next-clause-in_game : goal.returns-then-comes_next-clause-in_game
-returns-then-comes_next-clause-in_game g c _ =
-    let game = c.args.search.now.game in
-    let s = c.args.state.now.state in
-    let f = stand_of c.args.after in
-    let q = c.args.pair in
-    let items = c.reach_into.new.pairs in
-    let has : Contains items q = subst (Contains items) c.pair.view_is (c.contains-comes_next.ensures.0 c.if-comes_next.true) in
-    let next : IsNext game s f q.0 q.1 = next_from game s f _ items items c.in_ok-reach_into.field-0 q (subst (λ (x : Searching). IsFlatPart x.game s (start_of c.origin_after.result) items c.in_ok-reach_into.field-0) c.take_list-pairs.ensures c.in_ok-reach_into.ensures.found.reached) c.origin_after.ensures refl has in
-    let fits : IsStateOf game c.apply_at.new.state.state = subst (λ (g : AbstractGame). IsStateOf g c.apply_at.new.state.state) c.game-game.ensures.game c.apply_at.ensures.fits in
-    place_after game c.game-game.ensures.lawful.numbered c.apply_at.new.state.state q.1 next.modifies fits
-
-pub returns-then-comes_next-clause-position : goal.returns-then-comes_next-clause-position
-returns-then-comes_next-clause-position g c _ =
-    let game = c.args.search.now.game in
-    let s = c.args.state.now.state in
-    let f = stand_of c.args.after in
-    let q = c.args.pair in
-    let items = c.reach_into.new.pairs in
-    let has : Contains items q = subst (Contains items) c.pair.view_is (c.contains-comes_next.ensures.0 c.if-comes_next.true) in
-    let next : IsNext game s f q.0 q.1 = next_from game s f _ items items c.in_ok-reach_into.field-0 q (subst (λ (x : Searching). IsFlatPart x.game s (start_of c.origin_after.result) items c.in_ok-reach_into.field-0) c.take_list-pairs.ensures c.in_ok-reach_into.ensures.found.reached) c.origin_after.ensures refl has in
-    modifier_position game c.game-game.ensures.lawful.numbered q.1 next.modifies
+    let fits : IsStateOf game later = subst (λ (g : AbstractGame). IsStateOf g later) c.game-game.ensures.game c.apply_at.ensures.fits in
+    record {
+      next = next;
+      applies = applied_as game c.game-game.result.now s c.reach_into.new.state.state later q.0 q.1 c.game-game.ensures.game here c.apply_at.ensures.applied;
+      position = modifier_position game c.game-game.ensures.lawful.numbered q.1 next.modifies;
+      in_game = place_after game c.game-game.ensures.lawful.numbered later q.1 next.modifies fits;
+    }
 
 pub returns-else-comes_next-clause-refused : goal.returns-else-comes_next-clause-refused
 returns-else-comes_next-clause-refused g c _ next =
-    let game = c.args.search.now.game in
-    let s = c.args.state.now.state in
-    let f = stand_of c.args.after in
     let q = c.args.pair in
     let items = c.reach_into.new.pairs in
-    let has = has_next game s f _ items items c.in_ok-reach_into.field-0 q (subst (λ (x : Searching). IsFlatPart x.game s (start_of c.origin_after.result) items c.in_ok-reach_into.field-0) c.take_list-pairs.ensures c.in_ok-reach_into.ensures.found.reached) c.origin_after.ensures refl next in
+    let come = has_come c.take_list-pairs.ensures c.origin_after.ensures c.reach_into.ensures.answered c.in_ok-reach_into.was c.in_ok-reach_into.ensures.found in
+    let has : Contains items q = (come.found.reached.next q.0 q.1).1 next in
     true_not_false (sym (c.contains-comes_next.ensures.1 (subst (Contains items) (sym c.pair.view_is) has)) ∙ c.if-comes_next.false)
+
+-- The pairs of what came next were counted, and the list was given back.
+paired_kept : {lent old now kept : Searching} {s l : History} {f f' : Start} {result : Result Bool Over} {pairs : List (ℕ × ℕ)} {ends : Bool} → lent ≡ old → f' ≡ f → IsAnswered lent now s l reach f' result → result ≡ Ok ends → HasReached lent now s l f' pairs ends → kept ≡ now → CountsPairs old.game reach s.state f old.opened kept.opened old.taken kept.taken (Unit {0})
+paired_kept {old = old} {s = s} {f = f} same start asked was found kept =
+    subst (λ (x : Searching). CountsPairs old.game reach s.state f old.opened x.opened old.taken x.taken (Unit {0})) (sym kept) (come_paired reach (has_come same start asked was found))
 
 pub returns-then-comes_next-clause-paired : goal.returns-then-comes_next-clause-paired
 returns-then-comes_next-clause-paired g c =
-    subst (λ (x : Searching). CountsPairs c.args.search.now.game reach c.args.state.now.state (stand_of c.args.after) c.args.search.now.opened x.opened c.args.search.now.taken x.taken (Unit {0})) (sym c.keep_list.ensures)
-    (begin_takes c.args.search.now c.take_list-pairs.new.self c.reach_into.new.self reach c.args.state.now.state (stand_of c.args.after) (start_of c.origin_after.result) (IsOk c.reach_into.result) c.take_list-pairs.ensures c.origin_after.ensures c.reach_into.ensures.answered.taken (is_answer c.reach_into.result c.in_ok-reach_into.field-0 c.in_ok-reach_into.was))
+    paired_kept c.take_list-pairs.ensures c.origin_after.ensures c.reach_into.ensures.answered c.in_ok-reach_into.was c.in_ok-reach_into.ensures.found c.keep_list.ensures
 
 pub returns-else-comes_next-clause-paired : goal.returns-else-comes_next-clause-paired
 returns-else-comes_next-clause-paired g c =
-    subst (λ (x : Searching). CountsPairs c.args.search.now.game reach c.args.state.now.state (stand_of c.args.after) c.args.search.now.opened x.opened c.args.search.now.taken x.taken (Unit {0})) (sym c.keep_list.ensures)
-    (begin_takes c.args.search.now c.take_list-pairs.new.self c.reach_into.new.self reach c.args.state.now.state (stand_of c.args.after) (start_of c.origin_after.result) (IsOk c.reach_into.result) c.take_list-pairs.ensures c.origin_after.ensures c.reach_into.ensures.answered.taken (is_answer c.reach_into.result c.in_ok-reach_into.field-0 c.in_ok-reach_into.was))
+    paired_kept c.take_list-pairs.ensures c.origin_after.ensures c.reach_into.ensures.answered c.in_ok-reach_into.was c.in_ok-reach_into.ensures.found c.keep_list.ensures

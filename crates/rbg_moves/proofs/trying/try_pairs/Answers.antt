@@ -32,7 +32,7 @@ returns-in_err-end-clause-tries x c =
     tries_none c.from_residual-in_err-end.result _ c.from_residual-in_err-end.ensures.1
     (subst (λ (qs : List (ℕ × ℕ)). GivesUp c.args.game.now (try_move qs) c.args.place.now c.from_residual-in_err-end.result) c.as_slice.ensures.pairs
     (asked_in_vain c.search_in-search.ensures.begun there (try_move c.as_slice.result.now) c.game_is_accepted.ensures.numbered [] c.follow.result c.from_residual-in_err-end.result c.in_err-end.field-0.0 refl c.in_err-end.was c.from_residual-in_err-end.ensures.1
-    (record { deep = λ d. somewhere (c.follow.ensures.deep d); wide = c.follow.ensures.wide })))
+    (record { deep = λ d. somewhere (c.follow.ensures.followed.deep d); wide = c.follow.ensures.followed.wide })))
 
 pub returns-in-Some-clause-tries : goal.returns-in-Some-clause-tries
 returns-in-Some-clause-tries x c =
@@ -41,7 +41,7 @@ returns-in-Some-clause-tries x c =
     let new = c.follow.new.state.state in
     let ps : List (ℕ × ℕ) = c.as_slice.result.now in
     let there = c.to.view_is ∙ c.in_ok-to.ensures.copy in
-    let legal = tried_as game place c.args.pairs.now ps new c.in_ok-end.end (Some c.in-Some.last) c.as_slice.ensures.pairs c.in-Some.is (at_place c.search_in-search.ensures.begun there (λ h p. IsTried h.game p ps new c.in_ok-end.end) c.in_ok-end.ensures.tried) in
+    let legal = tried_as game place c.args.pairs.now ps new c.in_ok-end.end (Some c.in-Some.last) c.as_slice.ensures.pairs c.in-Some.is (at_place c.search_in-search.ensures.begun there (λ h p. IsTried h.game p ps new c.in_ok-end.end) c.in_ok-end.ensures.followed.tried) in
     let within = at_place c.search_in-search.ensures.begun there (λ h p. IfSome c.in_ok-end.end (λ last. IsPlaceOf h.game (place_behind new last))) c.in_ok-end.ensures.in_game in
     record {
       legal = legal;
@@ -52,7 +52,7 @@ returns-in-Some-clause-tries x c =
       fits = λ cut.
           subst (λ (qs : List (ℕ × ℕ)). FitsLimits game cut (try_move qs) place) c.as_slice.ensures.pairs
           (asked_fits c.search_in-search.ensures.begun there (try_move ps) c.follow.new.search cut (length ps) (omega (arith, c.as_slice.ensures.range)) c.follow.ensures.kept c.budget_is_kept.ensures
-          (uncut_answer (record { counted = c.in_ok-end.ensures.counted; paired = c.in_ok-end.ensures.paired; forced = subst (λ o. IfSome o (λ _. CountsForced c.search_in-search.result.game false (try_move ps) c.to.inside.state.state (stand_of c.to.inside.after) c.search_in-search.result.opened c.follow.new.search.opened (length ps) c.search_in-search.result.modifiers)) c.in-Some.is c.in_ok-end.ensures.forced }) cut));
+          (uncut_answer (record { counted = c.in_ok-end.ensures.followed.counted; paired = c.in_ok-end.ensures.followed.paired; forced = subst (λ o. IfSome o (λ _. CountsForced c.search_in-search.result.game false (try_move ps) c.to.inside.state.state (stand_of c.to.inside.after) c.search_in-search.result.opened c.follow.new.search.opened (length ps) c.search_in-search.result.modifiers)) c.in-Some.is c.in_ok-end.ensures.followed.forced }) cut));
     }
 
 pub returns-in-None-clause-tries : goal.returns-in-None-clause-tries
@@ -62,7 +62,7 @@ returns-in-None-clause-tries x c =
     let new = c.follow.new.state.state in
     let ps : List (ℕ × ℕ) = c.as_slice.result.now in
     let there = c.to.view_is ∙ c.in_ok-to.ensures.copy in
-    let illegal = tried_as game place c.args.pairs.now ps new c.in_ok-end.end None c.as_slice.ensures.pairs c.in-None.is (at_place c.search_in-search.ensures.begun there (λ h p. IsTried h.game p ps new c.in_ok-end.end) c.in_ok-end.ensures.tried) in
+    let illegal = tried_as game place c.args.pairs.now ps new c.in_ok-end.end None c.as_slice.ensures.pairs c.in-None.is (at_place c.search_in-search.ensures.begun there (λ h p. IsTried h.game p ps new c.in_ok-end.end) c.in_ok-end.ensures.followed.tried) in
     record {
       legal = tt;
       only = tt;
@@ -78,11 +78,11 @@ pub returns-in-Some-clause-tallies : goal.returns-in-Some-clause-tallies
 returns-in-Some-clause-tallies x c =
     let ps : List (ℕ × ℕ) = c.as_slice.result.now in
     let there = c.to.view_is ∙ c.in_ok-to.ensures.copy in
-    let forced = subst (λ o. IfSome o (λ _. CountsForced c.search_in-search.result.game false (try_move ps) c.to.inside.state.state (stand_of c.to.inside.after) c.search_in-search.result.opened c.follow.new.search.opened (length ps) c.search_in-search.result.modifiers)) c.in-Some.is c.in_ok-end.ensures.forced in
+    let forced = subst (λ o. IfSome o (λ _. CountsForced c.search_in-search.result.game false (try_move ps) c.to.inside.state.state (stand_of c.to.inside.after) c.search_in-search.result.opened c.follow.new.search.opened (length ps) c.search_in-search.result.modifiers)) c.in-Some.is c.in_ok-end.ensures.followed.forced in
     tallies_one _
     (subst (λ (qs : List (ℕ × ℕ)). IsTallied c.args.game.now (try_move qs) c.args.place.now c.args.workspace.now.searches c.leave.new.workspace) c.as_slice.ensures.pairs
     (asked_tallies c.search_in-search.ensures.begun there (try_move ps) c.follow.new.search false (length ps) c.args.workspace.now.searches c.copy_of.new.self.searches c.leave.new.workspace (c.copy_of.ensures.tally ∙ c.search_in-search.ensures.tally) c.follow.ensures.kept
-    (record { counted = c.in_ok-end.ensures.counted; paired = c.in_ok-end.ensures.paired; forced = forced }) c.leave.ensures.openings c.leave.ensures.pairs))
+    (record { counted = c.in_ok-end.ensures.followed.counted; paired = c.in_ok-end.ensures.followed.paired; forced = forced }) c.leave.ensures.openings c.leave.ensures.pairs))
 
 pub returns-in-None-clause-tallies : goal.returns-in-None-clause-tallies
 returns-in-None-clause-tallies x c =
@@ -92,10 +92,10 @@ returns-in-None-clause-tallies x c =
     let here : AbstractPlace = record { state = c.to.inside.state.state; last = c.to.inside.after } in
     let there : here ≡ c.args.place.now = c.to.view_is ∙ c.in_ok-to.ensures.copy in
     let begun = c.search_in-search.ensures.begun in
-    let illegal = tried_as asked.game here ps ps c.follow.new.state.state c.in_ok-end.end None refl c.in-None.is c.in_ok-end.ensures.tried in
+    let illegal = tried_as asked.game here ps ps c.follow.new.state.state c.in_ok-end.end None refl c.in-None.is c.in_ok-end.ensures.followed.tried in
     tallies_one _
     (subst (λ (qs : List (ℕ × ℕ)). IsTallied game (try_move qs) c.args.place.now c.args.workspace.now.searches c.leave.new.workspace) c.as_slice.ensures.pairs
     (subst (λ (p : AbstractPlace). IsTallied game (try_move ps) p c.args.workspace.now.searches c.leave.new.workspace) there
-    (tallied game (try_move ps) here asked c.follow.new.search c.args.workspace.now.searches c.copy_of.new.self.searches c.leave.new.workspace (ap (λ (h : Searching). h.game) begun) (ap (λ (h : Searching). h.opened) begun) (ap (λ (h : Searching). h.taken) begun) (c.copy_of.ensures.tally ∙ c.search_in-search.ensures.tally) c.follow.ensures.kept c.in_ok-end.ensures.counted
-    (illegal_counts asked.game true here ps asked.opened c.follow.new.search.opened illegal (omega (arith, c.in_ok-end.ensures.counted.sum)))
-    c.in_ok-end.ensures.paired c.leave.ensures.openings c.leave.ensures.pairs)))
+    (tallied game (try_move ps) here asked c.follow.new.search c.args.workspace.now.searches c.copy_of.new.self.searches c.leave.new.workspace (ap (λ (h : Searching). h.game) begun) (ap (λ (h : Searching). h.opened) begun) (ap (λ (h : Searching). h.taken) begun) (c.copy_of.ensures.tally ∙ c.search_in-search.ensures.tally) c.follow.ensures.kept c.in_ok-end.ensures.followed.counted
+    (illegal_counts asked.game true here ps asked.opened c.follow.new.search.opened illegal (omega (arith, c.in_ok-end.ensures.followed.counted.sum)))
+    c.in_ok-end.ensures.followed.paired c.leave.ensures.openings c.leave.ensures.pairs)))
