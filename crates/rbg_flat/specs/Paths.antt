@@ -1,5 +1,5 @@
 -- The leaps of a game, and what flat parts need to know of its positions.
-use Rattle.std.specs.Prelude.{◌≡◌, ◌+◌, ℕ, List, [], ◌∷◌, length, slice_get, Some, IsTrue}
+use Rattle.std.specs.Prelude.{◌≡◌, ◌+◌, ℕ, List, [], ◌∷◌, length, slice_get, Some, IsTrue, Bool, true, false}
 use Rattle.rbg_base.specs.declared.relation.Relation.{Relation}
 use Rattle.rbg_rules.specs.Expression.{Expression, AbstractArithmetic, on, comparison}
 use Rattle.rbg_rules.specs.Positions.{HasAction, IsModifierAt, IsPatternAt, positions_of}
@@ -34,10 +34,21 @@ IsKind rules p Comparison = IsComparisonAt rules p
 IsKind rules p Plain =
     (¬ IsModifierAt rules p) × (¬ IsPatternAt rules p) × ((wanted : List ℕ) → ¬ HasAction rules p (on wanted)) × (¬ IsComparisonAt rules p)
 
+-- Whether it is the kind of an on of one piece.
+abbrev pub shows_alone : Kind → Bool
+shows_alone (On x) = true
+shows_alone Modifier = false
+shows_alone Pattern = false
+shows_alone (OnEither x y) = false
+shows_alone OnAny = false
+shows_alone Comparison = false
+shows_alone Plain = false
+
 -- What is told of the position is so.
 pub record AreFacts (game : AbstractGame) (p : ℕ) (told : Facts) : Type 0 where
   pub still : IsTrue told.still → IsStill game.rules p
   pub kind : IsKind game.rules p told.kind
+  pub alone : told.alone ≡ shows_alone told.kind
 
 -- The leaps are those of the game, and the facts of each of its positions are told.
 pub record ArePathsOf (game : AbstractGame) (paths : Paths) : Type 0 where

@@ -34,16 +34,19 @@ pub(crate) fn to_try(
     ensures { (b : ℕ) → b < 64 → (bit_at result b ≡ 1)
         ↔ IsToTry game.now state.now.state (column * 64 + b) position }
 {
-    // most of what is met are ons of one piece or of two, and modifiers; a fourth test here would become a jump table
-    let kind = paths.kind(game, position);
-    if let Kind::On(piece) = kind {
+    // most of what is met are ons of one piece; a fourth test of the kind would become a jump table
+    if let Some(piece) = paths.lone_piece(game, position) {
         return standing(state, piece, column);
     }
+    let kind = paths.kind(game, position);
     if let Kind::Modifier = kind {
         return 0;
     }
     if let Kind::OnEither(piece, other) = kind {
         return either_standing(state, piece, other, column);
+    }
+    if let Kind::Pattern = kind {
+        return full_word();
     }
     any_to_try(game, paths, state, position, column)
 }
@@ -91,7 +94,9 @@ fn comparison_to_try(game: &Game, state: &SemiState, position: Position) -> u64
     }
 }
 
-/// The bits of a column on whose vertices one of the pieces of the on at a position stands.
+/// The bits of a column on whose vertices one of the pieces of the on at a position stands. It isn't inlined, since what
+/// it needs of the stack would be taken for each comparison too.
+#[inline(never)]
 fn on_to_try(game: &Game, state: &SemiState, position: Position, column: usize) -> u64
     requires lawful { IsGame game.now }
     requires position { IsPositionIn game.now position }

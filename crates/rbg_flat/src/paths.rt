@@ -1,11 +1,12 @@
 //! The leaps of a game, and what flat parts need to know of each position.
-ghost use Rattle.std.specs.Prelude.{◌≡◌, ℕ, ◌+◌, ◌≤◌, ◌<◌, ◌↔◌, All, Some, length, take, slice_get, true, IfOk, IfSome, IfNone, IsTrue};
+ghost use Rattle.std.specs.Prelude.{◌≡◌, ℕ, ◌+◌, ◌≤◌, ◌<◌, ◌↔◌, All, Some, [], ◌∷◌, length, take, slice_get, true, IfOk, IfSome, IfNone, IsTrue};
 ghost use Rattle.rbg_rules.specs.Games.{IsGame};
-ghost use Rattle.rbg_rules.specs.Positions.{positions_of};
+ghost use Rattle.rbg_rules.specs.Expression.{on};
+ghost use Rattle.rbg_rules.specs.Positions.{HasAction, positions_of};
 ghost use Rattle.rbg_rules.specs.State.{AbstractGame};
 ghost use Rattle.rbg_leaps.specs.Leaps.{IsShiftAt};
 ghost use Rattle.rbg_leaps.specs.Limits.{IsTooLarge};
-ghost use Rattle.rbg_flat.specs.Paths.{AreFacts, ArePathsOf, IsKind, IsStill};
+ghost use Rattle.rbg_flat.specs.Paths.{AreFacts, ArePathsOf, IsKind, IsStill, shows_alone};
 ghost use Rattle.rbg_flat.specs.internal.Leading.{IsPositionIn};
 ghost use Rattle.rbg_flat.specs.internal.Shown.{ShowsKind, IsOnKind, shows_shift};
 
@@ -15,17 +16,17 @@ use rbg_leaps::{Leaps, Origin, Target, leaps};
 use rbg_rules::{Action, Game};
 use std::alloc::Global;
 
-/// What a flat part does with the action at a position.
+/// What a flat part does with the action at a position. What is tested where most words are met comes first.
 #[derive(Clone, Copy, Drop)]
 pub(crate) enum Kind {
+    /// An on of these two pieces: it is looked at where one of them stands.
+    OnEither(Piece, Piece),
     /// A modifier: it is found, and nothing is led on from it.
     Modifier,
     /// A pattern: it is asked at each vertex.
     Pattern,
     /// An on of this piece alone: it is looked at where the piece stands.
     On(Piece),
-    /// An on of these two pieces.
-    OnEither(Piece, Piece),
     /// An on of whichever pieces: the game is asked for them. The facts say so of an on of none, or of more than two.
     OnAny,
     /// A comparison: it is looked at everywhere, or nowhere where it doesn't hold.
@@ -39,6 +40,9 @@ pub(crate) enum Kind {
 pub(crate) struct Facts {
     /// Whether no shift comes next behind it.
     pub(crate) still: bool,
+    /// Whether it is an on of one piece. The kind says so too, but most of what is met are such ons, and a flag of its own
+    /// is tested before all kinds.
+    pub(crate) alone: bool,
     pub(crate) kind: Kind,
 }
 
@@ -82,13 +86,13 @@ impl Paths {
         }))
     }
 
-    /// The facts of a position.
+    /// The facts of a position. They are lent, since a copy would be read as one word, from which each field is cut.
     #[inline(always)]
-    fn facts(&self, position: Position) -> Facts
+    fn facts(&self, position: Position) -> &Facts
         requires { position < length self.now.facts.items }
-        ensures { slice_get self.now.facts.items position ≡ Some result }
+        ensures { slice_get self.now.facts.items position ≡ Some result.now }
     {
-        self.facts[position as usize]
+        &self.facts[position as usize]
     }
 
     /// Whether no shift comes next behind a position, as far as that is told.
@@ -107,6 +111,23 @@ impl Paths {
         match self.branches.get(position as usize) {
             Some(branches) => *branches,
             None => false,
+        }
+    }
+
+    /// The piece of the on at a position, where that is an on of one piece alone.
+    #[inline(always)]
+    pub(crate) fn lone_piece(&self, game: &Game, position: Position) -> Option<Piece>
+        requires paths { ArePathsOf game.now self.now }
+        requires there { position ≤ length (positions_of game.now.rules) }
+        ensures { IfSome result (λ x. HasAction game.now.rules position (on (x ∷ []))) }
+    {
+        let facts = self.facts(position);
+        if !facts.alone {
+            return None;
+        }
+        match facts.kind {
+            Kind::On(piece) => Some(piece),
+            _ => unreachable!(),
         }
     }
 
@@ -179,10 +200,28 @@ fn facts_at(game: &Game, position: Position, next: &[Position]) -> Facts
     requires within { All (IsPositionIn game.now) next.now }
     ensures still { IsTrue result.still → All (λ q. ¬ IsShiftAt game.now.rules q) next.now }
     ensures kind { IsKind game.now.rules position result.kind }
+    ensures alone { result.alone ≡ shows_alone result.kind }
 {
+    let kind = kind_at(game, position);
     Facts {
         still: no_shift(game, next),
-        kind: kind_at(game, position),
+        alone: is_alone(kind),
+        kind,
+    }
+}
+
+/// Whether it is the kind of an on of one piece.
+fn is_alone(kind: Kind) -> bool
+    ensures { result ≡ shows_alone kind }
+{
+    match kind {
+        Kind::On(_) => true,
+        Kind::Modifier
+        | Kind::Pattern
+        | Kind::OnEither(_, _)
+        | Kind::OnAny
+        | Kind::Comparison
+        | Kind::Plain => false,
     }
 }
 

@@ -12,12 +12,12 @@ ghost use Rattle.rbg_pairs.specs.Plain.{HasPlain};
 ghost use Rattle.rbg_pairs.specs.Start.{start_of, IsPositionOf};
 
 use crate::game_steps::GameSteps;
-use crate::origin::Origin;
 use crate::outcome::Outcome;
 use crate::queue::Queue;
 use rbg_auto::{Glance, Steps};
 use rbg_base::{Direction, Memory, Piece, Position, Vertex};
 use rbg_flat::is_shift;
+use rbg_leaps::Origin;
 use rbg_rules::Game;
 use rbg_state::{SemiState, Trial};
 use std::alloc::Global;

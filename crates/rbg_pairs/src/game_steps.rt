@@ -7,11 +7,11 @@ ghost use Rattle.rbg_auto.specs.Steps.{AreAllThatFollow, IsGlance};
 ghost use Rattle.rbg_flat.specs.Paths.{ArePathsOf};
 ghost use Rattle.rbg_pairs.specs.Start.{start_of, IsPositionOf};
 
-use crate::origin::Origin;
 use crate::tables::Tables;
 use rbg_auto::{Glance, Steps};
 use rbg_base::Position;
 use rbg_flat::Paths;
+use rbg_leaps::Origin;
 use rbg_rules::Game;
 use rbg_rules::limits::MAX_NESTED_PATTERNS;
 use std::marker::Model;

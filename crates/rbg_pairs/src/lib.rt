@@ -5,7 +5,6 @@
 mod flat;
 mod game_steps;
 mod marks;
-mod origin;
 mod outcome;
 mod queue;
 mod tables;
@@ -13,5 +12,5 @@ mod told;
 
 pub use flat::{Flat, one_more, tried};
 pub use game_steps::GameSteps;
-pub use origin::Origin;
 pub use outcome::Outcome;
+pub use rbg_leaps::Origin;

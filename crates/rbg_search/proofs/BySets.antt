@@ -64,10 +64,6 @@ pattern_holds game numbered s v p valid pattern decides = (
   (λ holds. decides.1 holds.applies),
 )
 
--- It is begun where one stands.
-pub begun_at : (game : AbstractGame) (s : AbstractState) (f f' : Start) (flat : Flat) → f' ≡ f → IsBegun game s f' (IsMarked flat.sets) (IsOpen flat.sets) flat.ends → IsBegunBySets game s f flat
-begun_at game s f f' flat same begun = record { begun = subst (λ (x : Start). IsBegun game s x (IsMarked flat.sets) (IsOpen flat.sets) flat.ends) same begun }
-
 -- Nothing was asked.
 pub asked_none : (game : AbstractGame) (flat : Flat) → ((v p : ℕ) → IsPatternAt game.rules p → ¬ IsDone flat.sets v p) → AreAsked game flat []
 asked_none game flat fresh = record {

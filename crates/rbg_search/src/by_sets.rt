@@ -3,7 +3,6 @@ ghost use Rattle.std.specs.Prelude.{◌≡◌, ◌<◌, length, IfOk, IfErr, IfS
 ghost use Rattle.rbg_rules.specs.Laws.{IsStart};
 ghost use Rattle.rbg_rules.specs.State.{IsStateOf};
 ghost use Rattle.rbg_rules.specs.Words.{Start};
-ghost use Rattle.rbg_leaps.specs.Origin.{start_of as leap_start_of};
 ghost use Rattle.rbg_flat.specs.Found.{HasCandidates};
 ghost use Rattle.rbg_flat.specs.Paths.{ArePathsOf};
 ghost use Rattle.rbg_flat.specs.internal.Leading.{AreSizedFor};
@@ -17,20 +16,8 @@ use crate::search::Search;
 use rbg_auto::Steps;
 use rbg_base::{Position, Vertex};
 use rbg_flat::{Flat as SetFlat, Modifiers, Paths};
-use rbg_leaps::Origin as LeapOrigin;
 use rbg_pairs::Origin;
 use rbg_state::SemiState;
-
-/// The same place in the rules, as leaps are asked for it.
-#[inline(always)]
-fn leap_origin(origin: Origin) -> LeapOrigin
-    ensures { leap_start_of result ≡ start_of origin }
-{
-    match origin {
-        Origin::Begin(expr) => LeapOrigin::Begin(expr),
-        Origin::After(position) => LeapOrigin::After(position),
-    }
-}
 
 impl<'a, S: Steps> Search<'a, S> {
     /// A flat part by sets that is not in use.
@@ -70,7 +57,7 @@ impl<'a, S: Steps> Search<'a, S> {
         ensures memory { IfErr result (λ over. over ≡ Over.Memory) }
     {
         let mut flat = self.unused_sets()?;
-        flat.begin(self.rules.game(), paths, state, leap_origin(origin));
+        flat.begin(self.rules.game(), paths, state, origin);
         Ok(flat)
     }
 

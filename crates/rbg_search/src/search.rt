@@ -473,6 +473,27 @@ impl<'a, S: Steps> Search<'a, S> {
         if let Some(paths) = self.rules.paths() {
             return self.sets_part(state, origin, nested, pairs, paths);
         }
+        self.pairs_part(state, origin, nested, pairs)
+    }
+
+    /// The same by pairs. It stands apart, since games with paths, as nearly all have, never come here.
+    #[cycle(search)]
+    #[inline(never)]
+    fn pairs_part(
+        &mut self,
+        state: &mut SemiState,
+        origin: Origin,
+        nested: u8,
+        pairs: &mut Modifiers,
+    ) -> Result<bool, Over>
+        requires fits { IsStateOf self.old.game state.old.state }
+        requires nested { NestsFrom self.old.game.rules nested (start_of origin) }
+        requires start { IsStart self.old.game.rules (start_of origin) }
+        ensures asked { IsAsked self.old self.new state.old state.new reach state.old.state
+            (start_of origin) self.old.modifiers result }
+        ensures found { IfOk result (λ ends. HasFound self.old self.new state.old state.new
+            (start_of origin) nested pairs.new ends) }
+    {
         self.enter(state)?;
         let mut flat = self.begun(origin, state.vertex())?;
         while let Some((vertex, position)) = self.advance(&mut flat, state)? {

@@ -1,7 +1,7 @@
 -- Chains of operations: a loop that takes one operation after another, and stops where there is no value.
-use Rattle.std.proofs.Common.{◌≡◌, ℕ, zero, suc, ◌+◌, ◌<◌, List, [], ◌∷◌, length, get_or, take, map, fold, Option, None, refl, sym, ap, ◌∙◌, ℤ}
+use Rattle.std.proofs.Common.{◌≡◌, ℕ, zero, suc, ◌+◌, ◌<◌, List, [], ◌∷◌, length, get_or, take, map, fold, Option, None, refl, sym, ap, ◌∙◌, ℤ, arith}
 use Rattle.std.proofs.lemmas.List.Sums.{fold_more}
-use Rattle.std.specs.Prelude.{Vec, Box}
+use Rattle.std.specs.Prelude.{Vec, Box, IfSome, Some}
 use Rattle.std.specs.Global.{Global}
 use Rattle.rbg_rules.specs.Expression.{AbstractArithmetic}
 use Rattle.rbg_rules.specs.Values.{on_values, value_of}
@@ -39,6 +39,13 @@ module _ (s : AbstractState) where
   unfolding value_after
   value_after_more x operations i o is_one at_i = fold_more after_one x operations i o is_one ∙ ap (after_one (fold after_one x (take i operations))) (sym at_i)
 
+  -- the value after one operation alone
+  pub value_after_one : (x : Option ℤ) (operations : List Operation) (o : Operation) → length operations ≡ 1 → o ≡ get_or operations 0 o → value_after s x operations ≡ on_values (result_of o.operator) x (value_of (arithmetic_of o.operand) s)
+  unfolding value_after
+  value_after_one x [] o one at_first = absurd (omega (arith, one))
+  value_after_one x (p ∷ []) o one at_first = ap (after_one x) (sym at_first)
+  value_after_one x (p ∷ q ∷ operations) o one at_first = absurd (omega (arith, one))
+
   -- the value of a chain is what its operations make of the first value
   value_of-operated : (operator : Operator) (e f : AbstractArithmetic) → value_of (operated operator e f) s ≡ on_values (result_of operator) (value_of e s) (value_of f s)
   value_of-operated Plus e f = refl
@@ -56,3 +63,12 @@ module _ (s : AbstractState) where
 
   pub value_of-Chain : (e : Arithmetic) (first : Box Arithmetic Global) (rest : Vec Operation Global) → e ≡ Chain first rest → value_of (arithmetic_of e) s ≡ value_after s (value_of (arithmetic_of first.value) s) rest.items
   value_of-Chain e first rest is = rw (is, arithmetic_of-Chain) (value_of-changed (arithmetic_of first.value) rest.items)
+
+-- What a value is, where there is one.
+pub some_value : (r o : Option ℤ) → o ≡ r → IfSome r (λ v. o ≡ Some v)
+some_value (Some v) o is = is
+some_value None o is = tt
+
+pub some_as : (r o o' : Option ℤ) → o ≡ o' → IfSome r (λ v. o' ≡ Some v) → IfSome r (λ v. o ≡ Some v)
+some_as (Some v) o o' same is = same ∙ is
+some_as None o o' same is = tt

@@ -171,7 +171,7 @@ impl SemiState {
             → Answers game (comparison (arithmetic_of left.now) relation (arithmetic_of right.now))
             self.now self.now result }
     {
-        match (self.evaluated(left), self.evaluated(right)) {
+        match (self.evaluated(left), self.joined(right)) {
             (Some(x), Some(y)) if relates(relation, x, y) => Applied::Valid,
             _ => Applied::Invalid,
         }

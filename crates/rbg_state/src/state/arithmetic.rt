@@ -38,6 +38,49 @@ impl SemiState {
         }
     }
 
+    /// As `evaluated`. One operation on numbers or variables alone, as `most + 1`, takes no call either.
+    #[inline(always)]
+    pub(super) fn joined(&self, expression: &Arithmetic) -> Option<i64>
+        requires { ReadsBelow (length self.now.state.values) (arithmetic_of expression.now) }
+        ensures { result ≡ value_of (arithmetic_of expression.now) self.now.state }
+    {
+        match self.plain_chain(expression) {
+            Some(value) => Some(value),
+            None => self.evaluated(expression),
+        }
+    }
+
+    /// The value of one operation on numbers or variables alone; none of any other expression.
+    #[inline(always)]
+    fn plain_chain(&self, expression: &Arithmetic) -> Option<i64>
+        requires { ReadsBelow (length self.now.state.values) (arithmetic_of expression.now) }
+        ensures { IfSome result (λ value.
+            value_of (arithmetic_of expression.now) self.now.state ≡ Some value) }
+    {
+        match expression {
+            Arithmetic::Chain { first, rest } => self.plain_step(self.plain_value(first)?, rest),
+            _ => None,
+        }
+    }
+
+    /// What an operation alone makes of a value, where its operand is a number or a variable alone; none of any other
+    /// operations.
+    #[inline(always)]
+    fn plain_step(&self, first: i64, operations: &[Operation]) -> Option<i64>
+        requires { All (λ o.
+            ReadsBelow (length self.now.state.values) (arithmetic_of o.operand)) operations.now }
+        ensures { IfSome result (λ value.
+            value_after self.now.state (Some first) operations.now ≡ Some value) }
+    {
+        match operations {
+            [operation] => {
+                let operand = self.plain_value(&operation.operand)?;
+                operate(operation.operator, first, operand)
+            }
+            _ => None,
+        }
+    }
+
     /// The value of a number or a variable alone; none of any other expression.
     #[inline(always)]
     #[tactic(auto, using(rbg_rules::proofs::Bridge::translation, crate::proofs::Fits::by_conversion))]

@@ -17,5 +17,6 @@ loop-index-preserved g c = record {
       (record {
         still = λ is. still_by c.args.game.now c.loop-index.index c.next.result.now (c.next.ensures c.args.game.now.rules c.requires) (c.facts_at.ensures.still is);
         kind = c.facts_at.ensures.kind;
+        alone = c.facts_at.ensures.alone;
       });
 }

@@ -92,49 +92,49 @@ ask-returns-clause-asked g t c =
 
 -- ---- a flat part by pairs
 
-pub flat_part-begun-requires : goal.flat_part-begun-requires
-flat_part-begun-requires g t c =
+pub pairs_part-begun-requires : goal.pairs_part-begun-requires
+pairs_part-begun-requires g t c =
     let fits : IsStateOf c.enter.new.self.game c.enter.new.state.state = onward IsStateOf c.args.self.now c.enter.new.self c.args.state.now c.enter.new.state c.enter.ensures.kept c.enter.ensures.given_back c.requires.fits in
     let under : c.enter.new.state.state.vertex < length c.enter.new.state.state.pieces = fits.vertex in
     let size : length c.enter.new.state.state.pieces ≡ length c.enter.new.self.game.board.first = fits.vertices in
     omega (arith, under, size, c.vertex.ensures)
 
-pub flat_part-returns-in_err-enter-clause-asked : goal.flat_part-returns-in_err-enter-clause-asked
-flat_part-returns-in_err-enter-clause-asked g t c =
+pub pairs_part-returns-in_err-enter-clause-asked : goal.pairs_part-returns-in_err-enter-clause-asked
+pairs_part-returns-in_err-enter-clause-asked g t c =
     not_entered c.args.self.now c.enter.new.self c.args.state.now c.enter.new.state (start_of c.args.origin) c.enter.result c.from_residual.result c.in_err-enter.field-0.0 c.in_err-enter.was c.from_residual.ensures.1 c.enter.ensures.kept c.enter.ensures.given_back c.enter.ensures.room
     (c.enter.ensures.counts c.args.state.now.state (start_of c.args.origin) c.requires.start) c.enter.ensures.grows c.enter.ensures.none_taken
 
-pub flat_part-returns-in_err-flat-clause-asked : goal.flat_part-returns-in_err-flat-clause-asked
-flat_part-returns-in_err-flat-clause-asked g t c =
+pub pairs_part-returns-in_err-flat-clause-asked : goal.pairs_part-returns-in_err-flat-clause-asked
+pairs_part-returns-in_err-flat-clause-asked g t c =
     finds_refused
     (finds_none c.args.self.now c.enter.new.self c.begun.new.self c.args.state.now c.enter.new.state (start_of c.args.origin) c.enter.ensures.lawful c.requires.start c.enter.ensures.kept c.begun.ensures.kept c.enter.ensures.given_back c.enter.ensures.room c.in_ok-enter.ensures.enough c.in_ok-enter.ensures.opened c.enter.ensures.none_taken c.enter.ensures.spent)
     c.begun.new.self refl refl c.from_residual-in_err-flat.result c.in_err-flat.field-0.0 c.from_residual-in_err-flat.ensures.1 c.in_err-flat.ensures.memory refl
 
-pub flat_part-loop-flat-init : goal.flat_part-loop-flat-init
-flat_part-loop-flat-init g t c =
+pub pairs_part-loop-flat-init : goal.pairs_part-loop-flat-init
+pairs_part-loop-flat-init g t c =
     let here : c.args.state.now.state.vertex ≡ c.vertex.result = sym (c.vertex.ensures ∙ ap (λ (h : History). h.state.vertex) c.enter.ensures.given_back) in
     pairs_begun c.in_ok-flat.flat.value
     (finds_none c.args.self.now c.enter.new.self c.begun.new.self c.args.state.now c.enter.new.state (start_of c.args.origin) c.enter.ensures.lawful c.requires.start c.enter.ensures.kept c.begun.ensures.kept c.enter.ensures.given_back c.enter.ensures.room c.in_ok-enter.ensures.enough c.in_ok-enter.ensures.opened c.enter.ensures.none_taken c.enter.ensures.spent)
     c.in_ok-flat.ensures.none_taken
     (rules_before (λ x. IsBegun x c.args.state.now.state (start_of c.args.origin) c.in_ok-flat.flat.value) c.args.self.now c.enter.new.self c.enter.ensures.kept (c.in_ok-flat.ensures.begun c.args.state.now.state here))
 
-pub flat_part-advance-requires-clause-fits : goal.flat_part-advance-requires-clause-fits
-flat_part-advance-requires-clause-fits g t c =
+pub pairs_part-advance-requires-clause-fits : goal.pairs_part-advance-requires-clause-fits
+pairs_part-advance-requires-clause-fits g t c =
     onward IsStateOf c.args.self.now c.loop-flat.self c.args.state.now c.loop-flat.state c.loop-flat.invariant.finds.kept c.loop-flat.invariant.finds.given_back c.requires.fits
 
-pub flat_part-advance-requires-clause-marks : goal.flat_part-advance-requires-clause-marks
-flat_part-advance-requires-clause-marks g t c =
+pub pairs_part-advance-requires-clause-marks : goal.pairs_part-advance-requires-clause-marks
+pairs_part-advance-requires-clause-marks g t c =
     onward_rules (λ x. HasMarksOf x c.loop-flat.flat.value.queue) c.args.self.now c.loop-flat.self c.loop-flat.invariant.finds.kept c.loop-flat.invariant.begun.marks
 
-pub flat_part-advance-requires-clause-within : goal.flat_part-advance-requires-clause-within
-flat_part-advance-requires-clause-within g t c = c.loop-flat.invariant.begun.within
+pub pairs_part-advance-requires-clause-within : goal.pairs_part-advance-requires-clause-within
+pairs_part-advance-requires-clause-within g t c = c.loop-flat.invariant.begun.within
 
-pub flat_part-returns-in_err-vertex-clause-asked : goal.flat_part-returns-in_err-vertex-clause-asked
-flat_part-returns-in_err-vertex-clause-asked g t c =
+pub pairs_part-returns-in_err-vertex-clause-asked : goal.pairs_part-returns-in_err-vertex-clause-asked
+pairs_part-returns-in_err-vertex-clause-asked g t c =
     finds_refused c.loop-flat.invariant.finds c.loop-flat.self refl refl c.from_residual-in_err-vertex.result Memory c.from_residual-in_err-vertex.ensures.1 refl refl
 
-pub flat_part-ask-requires : goal.flat_part-ask-requires
-flat_part-ask-requires g t c κs within =
+pub pairs_part-ask-requires : goal.pairs_part-ask-requires
+pairs_part-ask-requires g t c κs within =
     let h = c.args.self.now in
     let k = c.loop-flat.self in
     let s = c.args.state.now in
@@ -142,8 +142,8 @@ flat_part-ask-requires g t c κs within =
     let f : Start = start_of c.args.origin in
     let flat = c.advance.new.flat.value in
     let is : FindsByPairs h k s l f flat = pairs_on c.loop-flat.invariant flat (c.in_ok-vertex.ensures.begun f) c.in_ok-vertex.ensures.still_done c.in_ok-vertex.ensures.quiet in
-    let v : ℕ = c.in-Some-2.vertex in
-    let p : ℕ = c.in-Some-2.position in
+    let v : ℕ = c.in-Some.vertex in
+    let p : ℕ = c.in-Some.position in
     let next : (slice_get flat.queue.pairs flat.taken ≡ Some (v, p)) × (v < length k.game.board.first) × IsPatternAt k.game.rules p = search rules in
     let fits : IsStateOf k.game l.state = onward IsStateOf h k s l is.finds.kept is.finds.given_back c.requires.fits in
     let nests = some_nested h.game.rules c.args.nested p
@@ -155,8 +155,8 @@ flat_part-ask-requires g t c κs within =
     let under : v < length l.state.pieces = omega (arith, size, next.1) in
     (search rules, (within, (fits, (room, (under, (next.2, inner))))))
 
-pub flat_part-returns-in_err-valid-clause-asked : goal.flat_part-returns-in_err-valid-clause-asked
-flat_part-returns-in_err-valid-clause-asked g t c =
+pub pairs_part-returns-in_err-valid-clause-asked : goal.pairs_part-returns-in_err-valid-clause-asked
+pairs_part-returns-in_err-valid-clause-asked g t c =
     let h = c.args.self.now in
     let k = c.loop-flat.self in
     let s = c.args.state.now in
@@ -164,27 +164,27 @@ flat_part-returns-in_err-valid-clause-asked g t c =
     let f : Start = start_of c.args.origin in
     let flat = c.advance.new.flat.value in
     let is : FindsByPairs h k s l f flat = pairs_on c.loop-flat.invariant flat (c.in_ok-vertex.ensures.begun f) c.in_ok-vertex.ensures.still_done c.in_ok-vertex.ensures.quiet in
-    let v : ℕ = c.in-Some-2.vertex in
-    let p : ℕ = c.in-Some-2.position in
+    let v : ℕ = c.in-Some.vertex in
+    let p : ℕ = c.in-Some.position in
     let next : (slice_get flat.queue.pairs flat.taken ≡ Some (v, p)) × (v < length k.game.board.first) × IsPatternAt k.game.rules p = search rules in
     let fresh : ¬ Contains (take flat.taken flat.queue.pairs) (v, p) = search rules in
     pairs_failed is v p next.0 next.2 fresh c.ask.ensures.asked c.from_residual-in_err-valid.result c.in_err-valid.field-0.0 c.in_err-valid.was c.from_residual-in_err-valid.ensures.1
 
-pub flat_part-take-requires-clause-marks : goal.flat_part-take-requires-clause-marks
-flat_part-take-requires-clause-marks g t c = onward_rules (λ x. HasMarksOf x c.advance.new.flat.value.queue) c.loop-flat.self c.ask.new.self c.ask.ensures.asked.kept c.advance.ensures.marks
+pub pairs_part-take-requires-clause-marks : goal.pairs_part-take-requires-clause-marks
+pairs_part-take-requires-clause-marks g t c = onward_rules (λ x. HasMarksOf x c.advance.new.flat.value.queue) c.loop-flat.self c.ask.new.self c.ask.ensures.asked.kept c.advance.ensures.marks
 
-pub flat_part-take-requires-clause-vertex : goal.flat_part-take-requires-clause-vertex
-flat_part-take-requires-clause-vertex g t c =
-    let asked : (slice_get c.advance.new.flat.value.queue.pairs c.advance.new.flat.value.taken ≡ Some (c.in-Some-2.vertex, c.in-Some-2.position)) × (c.in-Some-2.vertex < length c.loop-flat.self.game.board.first) × IsPatternAt c.loop-flat.self.game.rules c.in-Some-2.position = search rules in
-    onward_rules (λ x. c.in-Some-2.vertex < length x.board.first) c.loop-flat.self c.ask.new.self c.ask.ensures.asked.kept asked.1
+pub pairs_part-take-requires-clause-vertex : goal.pairs_part-take-requires-clause-vertex
+pairs_part-take-requires-clause-vertex g t c =
+    let asked : (slice_get c.advance.new.flat.value.queue.pairs c.advance.new.flat.value.taken ≡ Some (c.in-Some.vertex, c.in-Some.position)) × (c.in-Some.vertex < length c.loop-flat.self.game.board.first) × IsPatternAt c.loop-flat.self.game.rules c.in-Some.position = search rules in
+    onward_rules (λ x. c.in-Some.vertex < length x.board.first) c.loop-flat.self c.ask.new.self c.ask.ensures.asked.kept asked.1
 
-pub flat_part-take-requires-clause-there : goal.flat_part-take-requires-clause-there
-flat_part-take-requires-clause-there g t c =
-    let asked : (slice_get c.advance.new.flat.value.queue.pairs c.advance.new.flat.value.taken ≡ Some (c.in-Some-2.vertex, c.in-Some-2.position)) × (c.in-Some-2.vertex < length c.loop-flat.self.game.board.first) × IsPatternAt c.loop-flat.self.game.rules c.in-Some-2.position = search rules in
-    onward_rules (λ x. IsPatternAt x.rules c.in-Some-2.position) c.loop-flat.self c.ask.new.self c.ask.ensures.asked.kept asked.2
+pub pairs_part-take-requires-clause-there : goal.pairs_part-take-requires-clause-there
+pairs_part-take-requires-clause-there g t c =
+    let asked : (slice_get c.advance.new.flat.value.queue.pairs c.advance.new.flat.value.taken ≡ Some (c.in-Some.vertex, c.in-Some.position)) × (c.in-Some.vertex < length c.loop-flat.self.game.board.first) × IsPatternAt c.loop-flat.self.game.rules c.in-Some.position = search rules in
+    onward_rules (λ x. IsPatternAt x.rules c.in-Some.position) c.loop-flat.self c.ask.new.self c.ask.ensures.asked.kept asked.2
 
-pub flat_part-returns-in_err-take-clause-asked : goal.flat_part-returns-in_err-take-clause-asked
-flat_part-returns-in_err-take-clause-asked g t c =
+pub pairs_part-returns-in_err-take-clause-asked : goal.pairs_part-returns-in_err-take-clause-asked
+pairs_part-returns-in_err-take-clause-asked g t c =
     let h = c.args.self.now in
     let k = c.loop-flat.self in
     let s = c.args.state.now in
@@ -192,14 +192,14 @@ flat_part-returns-in_err-take-clause-asked g t c =
     let f : Start = start_of c.args.origin in
     let flat = c.advance.new.flat.value in
     let is : FindsByPairs h k s l f flat = pairs_on c.loop-flat.invariant flat (c.in_ok-vertex.ensures.begun f) c.in_ok-vertex.ensures.still_done c.in_ok-vertex.ensures.quiet in
-    let v : ℕ = c.in-Some-2.vertex in
-    let p : ℕ = c.in-Some-2.position in
+    let v : ℕ = c.in-Some.vertex in
+    let p : ℕ = c.in-Some.position in
     let next : (slice_get flat.queue.pairs flat.taken ≡ Some (v, p)) × (v < length k.game.board.first) × IsPatternAt k.game.rules p = search rules in
     let fresh : ¬ Contains (take flat.taken flat.queue.pairs) (v, p) = search rules in
     finds_refused (pairs_asked is v p next.0 next.2 fresh c.ask.ensures.asked c.in_ok-valid.valid c.in_ok-valid.was c.in_ok-valid.ensures.forced) c.ask.new.self refl refl c.from_residual-in_err-take.result Memory c.from_residual-in_err-take.ensures.1 refl refl
 
-pub flat_part-loop-flat-preserved : goal.flat_part-loop-flat-preserved
-flat_part-loop-flat-preserved g t c =
+pub pairs_part-loop-flat-preserved : goal.pairs_part-loop-flat-preserved
+pairs_part-loop-flat-preserved g t c =
     let h = c.args.self.now in
     let k = c.loop-flat.self in
     let s = c.args.state.now in
@@ -207,24 +207,24 @@ flat_part-loop-flat-preserved g t c =
     let f : Start = start_of c.args.origin in
     let flat = c.advance.new.flat.value in
     let is : FindsByPairs h k s l f flat = pairs_on c.loop-flat.invariant flat (c.in_ok-vertex.ensures.begun f) c.in_ok-vertex.ensures.still_done c.in_ok-vertex.ensures.quiet in
-    let v : ℕ = c.in-Some-2.vertex in
-    let p : ℕ = c.in-Some-2.position in
+    let v : ℕ = c.in-Some.vertex in
+    let p : ℕ = c.in-Some.position in
     let next : (slice_get flat.queue.pairs flat.taken ≡ Some (v, p)) × (v < length k.game.board.first) × IsPatternAt k.game.rules p = search rules in
     let fresh : ¬ Contains (take flat.taken flat.queue.pairs) (v, p) = search rules in
     pairs_more is v p next.0 next.2 fresh c.ask.ensures.asked c.in_ok-valid.valid c.in_ok-valid.was c.in_ok-valid.ensures.forced c.take.new.flat.value c.in_ok-valid.valid c.in_ok-valid.ensures.valid c.in_ok-take.ensures.done (c.in_ok-take.ensures.begun l.state f)
 
-pub flat_part-loop-flat-smaller : goal.flat_part-loop-flat-smaller
-flat_part-loop-flat-smaller g t c =
+pub pairs_part-loop-flat-smaller : goal.pairs_part-loop-flat-smaller
+pairs_part-loop-flat-smaller g t c =
     further_on (2 ^ 64) c.loop-flat.flat.value.taken c.advance.new.flat.value.taken c.take.new.flat.value.taken c.in_ok-vertex.ensures.further c.in_ok-take.ensures.taken c.in_ok-take.ensures.small
 
-pub flat_part-finish-requires-clause-marks : goal.flat_part-finish-requires-clause-marks
-flat_part-finish-requires-clause-marks g t c = c.advance.ensures.marks
+pub pairs_part-finish-requires-clause-marks : goal.pairs_part-finish-requires-clause-marks
+pairs_part-finish-requires-clause-marks g t c = c.advance.ensures.marks
 
-pub flat_part-finish-requires-clause-one : goal.flat_part-finish-requires-clause-one
-flat_part-finish-requires-clause-one g t c = finds_room c.loop-flat.invariant.finds
+pub pairs_part-finish-requires-clause-one : goal.pairs_part-finish-requires-clause-one
+pairs_part-finish-requires-clause-one g t c = finds_room c.loop-flat.invariant.finds
 
-pub flat_part-returns-in_err-ends-clause-asked : goal.flat_part-returns-in_err-ends-clause-asked
-flat_part-returns-in_err-ends-clause-asked g t c =
+pub pairs_part-returns-in_err-ends-clause-asked : goal.pairs_part-returns-in_err-ends-clause-asked
+pairs_part-returns-in_err-ends-clause-asked g t c =
     let h = c.args.self.now in
     let k = c.loop-flat.self in
     let s = c.args.state.now in
@@ -240,8 +240,8 @@ flat_part-returns-in_err-ends-clause-asked g t c =
     (not_memory r c.in_err-ends.field-0.0 Wide c.from_residual-in_err-ends.ensures.1 c.in_err-ends.ensures.memory memory_not_wide)
     (pairs_own is (met f begun) c.finish.new.self c.finish.ensures.kept c.finish.ensures.opened _ c.finish.ensures.taken)
 
-pub flat_part-returns-clause-asked : goal.flat_part-returns-clause-asked
-flat_part-returns-clause-asked g t c =
+pub pairs_part-returns-clause-asked : goal.pairs_part-returns-clause-asked
+pairs_part-returns-clause-asked g t c =
     let h = c.args.self.now in
     let k = c.loop-flat.self in
     let s = c.args.state.now in
@@ -254,8 +254,8 @@ flat_part-returns-clause-asked g t c =
     finds_asked is.finds c.finish.new.self c.finish.ensures.kept c.finish.ensures.opened _ (ok_not_err c.in_ok-ends.ends Deep) (ok_not_err c.in_ok-ends.ends Wide)
     (pairs_own is (met f begun) c.finish.new.self c.finish.ensures.kept c.finish.ensures.opened _ c.finish.ensures.taken)
 
-pub flat_part-returns-clause-found : goal.flat_part-returns-clause-found
-flat_part-returns-clause-found g t c =
+pub pairs_part-returns-clause-found : goal.pairs_part-returns-clause-found
+pairs_part-returns-clause-found g t c =
     let h = c.args.self.now in
     let k = c.loop-flat.self in
     let s = c.args.state.now in

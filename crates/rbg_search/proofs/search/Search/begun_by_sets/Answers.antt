@@ -1,12 +1,11 @@
 use Rattle.std.proofs.Common.{◌≡◌, ap, sym, ◌∙◌, subst}
 use Rattle.rbg_rules.specs.Games.{IsGame}
 use Rattle.rbg_rules.specs.State.{AbstractGame}
-use Rattle.rbg_leaps.specs.Origin.{start_of as leap_start_of}
 use Rattle.rbg_flat.specs.declared.flat.Flat.{Flat}
 use Rattle.rbg_search.specs.Searching.{Searching}
 use Rattle.rbg_pairs.specs.Start.{start_of}
 use Rattle.rbg_search.specs.internal.BySets.{BeginsBySets}
-use Rattle.rbg_search.proofs.BySets.{asked_none, begun_at}
+use Rattle.rbg_search.proofs.BySets.{asked_none}
 use Rattle.rbg_search.proofs.search.Search.begun_by_sets.Goals as goal
 
 pub returns-clause-begins : goal.returns-clause-begins
@@ -19,7 +18,7 @@ returns-clause-begins g c =
     let there : BeginsBySets game s (start_of c.args.origin) flat = record {
       lawful = lawful;
       sets = record { sized = c.begin.ensures.sized; on = c.begin.ensures.on };
-      begun = begun_at game s (start_of c.args.origin) (leap_start_of c.leap_origin.result) flat c.leap_origin.ensures c.begin.ensures.begun;
+      begun = record { begun = c.begin.ensures.begun };
       asked = asked_none game flat c.begin.ensures.fresh;
     } in
     subst (λ (x : AbstractGame). BeginsBySets x s (start_of c.args.origin) flat) same there
