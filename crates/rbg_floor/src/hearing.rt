@@ -63,8 +63,7 @@ fn say_each<W: Log>(
     Ok(())
 }
 
-/// A table hears that a line joins it, or that a piece of a line that asked for it has come, and then the items that are
-/// complete.
+/// A table hears this, and then the items that a line has completed.
 fn hear_from<W: Log>(
     table: &mut KeptTable<W>,
     first: TableInput<'_>,

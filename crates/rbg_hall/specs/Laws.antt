@@ -67,7 +67,7 @@ pub record TakesLast (gathering : TableState) (line : ℕ) (seats : List (Option
   pub taken : seats ≡ slice_set gathering.seats index (Some line)
   pub full : AreTaken seats
 
--- what a line is told at an event of a table with these seats that isn't its own match's: that there is no seat for it
+-- what a line without a seat is told at an event of a table whose match has begun: that there is no seat for it
 abbrev pub late_refusal : (line : ℕ) → OwnEvent → List ℕ
 late_refusal line (clock at) = []
 late_refusal line (joins other at) = if other == line then spelling (refusal_message NoSeat) else []
@@ -75,9 +75,11 @@ late_refusal line (arrives other at) = []
 late_refusal line (says other at item) = []
 late_refusal line (leaves other at) = []
 
--- Where the match of a table began: what the table heard before, and after.
---   gathers: from a table where nobody sits these events led to one that waits for its last line.
---   takes: a line takes the last seat. The match begins at the moment of this event.
+-- Where the gathering at a table ended.
+--   whole: the table heard `before`, then a line asked for it at this moment, then the table heard `after`.
+--   gathers, waits: from a table where nobody sits `before` led to one that waits for its last line. Its lines were told
+--   `early`.
+--   takes: the line takes the last seat.
 pub record Beginning (game : AbstractGame) (text : List ℕ) (config : Config) (events : List OwnEvent)
     (seats : List (Option ℕ)) : Type 0 where
   pub before : List OwnEvent
@@ -94,8 +96,11 @@ pub record Beginning (game : AbstractGame) (text : List ℕ) (config : Config) (
 -- The match that has begun, and what these lines were told.
 --   hands, transcript: of what the table hears from then on the match is handed this. Where play stands, and what is
 --   said, is a transcript of it.
+--   of_game, of_config, begins, works: the match has this game and config, began at the moment of the beginning, and
+--   hasn't failed.
 --   on_seats: a line on a seat is told what the table told it before, and then what the transcript says to its seat.
---   elsewhere: a line that has no seat is told that there is none, each time it asks for one.
+--   elsewhere: a line that has no seat is told what the table told it before, and then that there is none, each time it
+--   asks for one.
 pub record HoldsTranscript (game : AbstractGame) (text : List ℕ) (config : Config) (events : List OwnEvent)
     (seats : List (Option ℕ)) (playing : MatchState) (told : List Telling) : Type 0 where
   pub beginning : Beginning game text config events seats

@@ -1,10 +1,11 @@
 //! A match goes on from the script of its log.
-ghost use Rattle.std.specs.Prelude.{◌≡◌, [], ℕ, List, length, IfOk, None};
+ghost use Rattle.std.specs.Prelude.{◌≡◌, [], length, IfOk, None};
 ghost use Rattle.rbg_game.specs.Loading.{Loads};
 ghost use Rattle.rbg_log.specs.Logs.{IsLog};
 ghost use Rattle.rbg_match.specs.Matches.{HasHistory};
 ghost use Rattle.rbg_match.specs.PlayingOn.{seats_of};
 ghost use Rattle.rbg_script.specs.Config.{ConfigHasSpelling};
+ghost use Rattle.rbg_script.specs.Scripts.{script_of, script_text};
 
 use crate::KeepingFault;
 use rbg_log::{Log, LoggedMatch};
@@ -14,7 +15,7 @@ use rbg_script::Script;
 use rbg_scripting::write_script;
 use std::alloc::Global;
 
-/// A match that goes on where a script leaves it. The script is written to a new log first.
+/// The match to which a script leads, with a log that holds the script.
 pub fn resume_match<W: Log>(
     alloc: Global,
     description: &[u8],
@@ -22,8 +23,8 @@ pub fn resume_match<W: Log>(
     log: W,
 ) -> Result<(LoggedMatch<W>, Outbox), KeepingFault>
     ensures resumes { IfOk result (λ made. ConfigHasSpelling script.now.config → W.told log [] →
-        (held : List ℕ) × W.told made.0.log held
-        × IsLog description.now held made.0.played made.1) }
+        W.told made.0.log (script_text (script_of script.now))
+        × IsLog description.now (script_text (script_of script.now)) made.0.played made.1) }
     ensures seats { IfOk result (λ made. length made.1 ≡ seats_of made.0.played.game) }
     ensures loads { IfOk result (λ made. Loads description.now made.0.played.game) }
     ensures until { IfOk result (λ made. made.0.until ≡ None) }

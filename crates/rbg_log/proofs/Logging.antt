@@ -208,11 +208,11 @@ unhandled_so told old new event before after (Err error) logs until stopped kept
     (kept, lacks_so told old new event (whole_part told old.log new.log (written old.played event) logs) until (timed_before old new event stopped))
 
 -- a match that opens, and whose log begins with its first line
-pub opened_so : {W : Type 0} (told : W → List ℕ → Type 0) (game : AbstractGame) (text : List ℕ) (config : Config) (now : ℕ) (state : MatchState) (outbox : List (List ℕ)) (old new : W) → Loads text game → now < 2 ^ 64 → Opens game text config now state outbox → Appends told old new (first_line config now) → told old [] → (held : List ℕ) × told new held × IsLog text held state outbox
+pub opened_so : {W : Type 0} (told : W → List ℕ → Type 0) (game : AbstractGame) (text : List ℕ) (config : Config) (now : ℕ) (state : MatchState) (outbox : List (List ℕ)) (old new : W) → Loads text game → now < 2 ^ 64 → Opens game text config now state outbox → Appends told old new (first_line config now) → told old [] → told new (first_line config now) × IsLog text (first_line config now) state outbox
 opened_so told game text config now state outbox old new loads fits opens appends empty =
-    (first_line config now, appends [] empty, log_begins game text config now state outbox loads fits opens)
+    (appends [] empty, log_begins game text config now state outbox loads fits opens)
 
 -- a match that goes on from a script, whose log has that script
-pub resumed_so : {W : Type 0} (told : W → List ℕ → Type 0) (text : List ℕ) (script : AbstractScript) (state : MatchState) (outbox : List (List ℕ)) (bytes : List ℕ) (old new : W) → IsMatchOf text (config_for script.config) script.config.now (map event_for script.events) state outbox → bytes ≡ script_text script → All EventHasSpelling script.events → Appends told old new bytes → ConfigHasSpelling script.config → told old [] → (held : List ℕ) × told new held × IsLog text held state outbox
+pub resumed_so : {W : Type 0} (told : W → List ℕ → Type 0) (text : List ℕ) (script : AbstractScript) (state : MatchState) (outbox : List (List ℕ)) (bytes : List ℕ) (old new : W) → IsMatchOf text (config_for script.config) script.config.now (map event_for script.events) state outbox → bytes ≡ script_text script → All EventHasSpelling script.events → Appends told old new bytes → ConfigHasSpelling script.config → told old [] → told new (script_text script) × IsLog text (script_text script) state outbox
 resumed_so told text script state outbox bytes old new played is spelled appends has empty =
-    (bytes, appends [] empty, subst (λ (one : List ℕ). IsLog text one state outbox) (sym is) (resumed_log text script state outbox played (record { config = has; events = spelled })))
+    (subst (told new) is (appends [] empty), resumed_log text script state outbox played (record { config = has; events = spelled }))

@@ -27,7 +27,7 @@ pub struct LoggedMatch<W: Log> {
 }
 
 impl<W: Log> LoggedMatch<W> {
-    /// A match with its log, whose time has no end. The line is a buffer.
+    /// A match with this log, whose time has no end. The line is a buffer: what it holds is lost.
     pub fn with_log(played: Match, log: W, line: Vec<u8>) -> LoggedMatch<W>
         ensures played { result.played ≡ played }
         ensures log { result.log ≡ log }

@@ -1,5 +1,5 @@
 //! A match begins, and its log with it.
-ghost use Rattle.std.specs.Prelude.{◌≡◌, ◌++◌, [], ℕ, List, length, IfOk, None, IsErrOf, OnErr, OnOk};
+ghost use Rattle.std.specs.Prelude.{◌≡◌, ◌++◌, [], length, IfOk, None, IsErrOf, OnErr, OnOk};
 ghost use Rattle.rbg_game.specs.Loading.{Loads};
 ghost use Rattle.rbg_match.specs.Matches.{HasHistory, Opens};
 ghost use Rattle.rbg_match.specs.PlayingOn.{seats_of};
@@ -86,7 +86,8 @@ impl<W: Log> LoggedMatch<W> {
     ) -> Result<(LoggedMatch<W>, Outbox), OpenError>
         requires { Loads text.now game }
         ensures begins { IfOk result (λ made. W.told log [] →
-            (held : List ℕ) × W.told made.0.log held × IsLog text.now held made.0.played made.1) }
+            W.told made.0.log (first_line config now)
+            × IsLog text.now (first_line config now) made.0.played made.1) }
         ensures game { IfOk result (λ made. made.0.played.game ≡ game) }
         ensures until { IfOk result (λ made. made.0.until ≡ None) }
         ensures stopped { IfOk result (λ made. made.0.stopped ≡ None) }

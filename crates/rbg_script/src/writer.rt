@@ -37,12 +37,15 @@ pub fn write_config(config: ScriptConfig, out: &mut Vec<u8>) -> Result<(), Memor
 
 /// Appends the line of an event. A piece is written in small hexadecimal digits. On an error the bytes are unchanged.
 pub fn write_event(event: &ScriptEvent, out: &mut Vec<u8>) -> Result<(), Memory>
-    ensures { AppendsAll out.old.items out.new.items
+    ensures written { AppendsAll out.old.items out.new.items
         (line_of (event_text (event_of event.now))) result }
+    ensures spelled { EventHasSpelling (event_of event.now) }
 {
-    let len = out.len();
-    let written = put_event(event, out);
-    all_or_nothing(written, len, out)
+    match event {
+        ScriptEvent::Piece { seat, at, bytes } => write_piece(*seat, *at, bytes.as_slice(), out),
+        ScriptEvent::Ended { seat, at } => write_end(*seat, *at, out),
+        ScriptEvent::Tick { at } => write_tick(*at, out),
+    }
 }
 
 /// Appends the line of a piece of a seat's stream, in small hexadecimal digits. On an error the bytes are unchanged.
@@ -146,25 +149,6 @@ fn put_config(config: ScriptConfig, out: &mut Vec<u8>) -> Result<(), Memory>
     out.extend_from_slice(b" ")?;
     write_number(config.now, out)?;
     out.extend_from_slice(b"\n")
-}
-
-fn put_event(event: &ScriptEvent, out: &mut Vec<u8>) -> Result<(), Memory>
-    ensures { Appends out.old.items out.new.items
-        (line_of (event_text (event_of event.now))) result }
-{
-    put_text(event, out)?;
-    out.extend_from_slice(b"\n")
-}
-
-#[tactic(auto, unfolding(crate::specs::Events::event_text))]
-fn put_text(event: &ScriptEvent, out: &mut Vec<u8>) -> Result<(), Memory>
-    ensures { Appends out.old.items out.new.items (event_text (event_of event.now)) result }
-{
-    match event {
-        ScriptEvent::Piece { seat, at, bytes } => put_piece(*seat, *at, bytes.as_slice(), out),
-        ScriptEvent::Ended { seat, at } => put_end(*seat, *at, out),
-        ScriptEvent::Tick { at } => put_tick(*at, out),
-    }
 }
 
 #[tactic(auto, unfolding(crate::specs::Events::fields_text))]

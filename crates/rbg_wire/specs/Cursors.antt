@@ -35,8 +35,9 @@ IsWithin bytes TooLong = Unit {0}
 
 -- What a cursor finds in the buffer.
 --   cursor: it is still one of this buffer
---   found, within: the first of the items that are complete, and the cursor is behind it
---   none: no item is complete, and what the unread bytes complete, and what is left of them, are as before
+--   found: it is the first item that is complete, and the cursor is behind it
+--   within: a message that is found lies in the buffer
+--   none: no item is complete, and the unread bytes are cut as before
 pub record FindsNext (limit : ℕ) (bytes : List ℕ) (old new : Cursor) (result : Option Found) : Type 0 where
   pub cursor : IsCursorOf new bytes
   pub found : IfSome result (λ one. unread limit old bytes ≡ after_items (found_item bytes one ∷ []) (unread limit new bytes))
