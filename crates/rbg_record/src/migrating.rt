@@ -1,5 +1,5 @@
 //! Making version 2 of a record of version 1.
-ghost use Rattle.std.specs.Prelude.{◌≡◌, ◌++◌, ◌↔◌, ℕ, take, codes, Err, IfOk, IfSome, IfNone, OnOk, IsTrue};
+ghost use Rattle.std.specs.Prelude.{◌≡◌, ◌++◌, ◌↔◌, ℕ, Err, IfOk, IfSome, IfNone, OnOk, IsTrue};
 ghost use Rattle.rbg_lines.specs.Entries.{timed_text};
 ghost use Rattle.rbg_wire.specs.Lines.{line_of, lines_of};
 ghost use Rattle.rbg_rules.specs.State.{AbstractGame};
