@@ -34,7 +34,7 @@ fn show_moves(
 ) -> Result<Report, AllocError> {
     match load_text(alloc, file, text)? {
         Read::Found(loaded) => {
-            let shown = show(alloc, &loaded, moves, only_last)?;
+            let shown = show(alloc, loaded, moves, only_last)?;
             Ok(Report {
                 text: shown.text,
                 status: if shown.is_whole {

@@ -7,7 +7,7 @@ ghost use Rattle.rbg_match.specs.Matches.{HasHistory};
 ghost use Rattle.rbg_wire.specs.Inboxes.{item_of};
 ghost use Rattle.rbg_wire.specs.Whole.{whole_item};
 ghost use Rattle.rbg_match.specs.Limits.{message_limit};
-ghost use Rattle.rbg_hall.specs.Tables.{AreTaken, HasNoSeat, HasSeat, SitsAt, arrives, clock, joins, leaves, new_table, says};
+ghost use Rattle.rbg_hall.specs.Tables.{AreTaken, HasNoSeat, HasSeat, SitsAt, joins, leaves, new_table, says};
 ghost use Rattle.rbg_hall.specs.Hearing.{HearsFor, input_of};
 ghost use Rattle.rbg_hall.specs.internal.Hearing.{BeginsFor, PlaysFor, IsFirstAt};
 ghost use Rattle.rbg_hall.specs.Undoing.{undone};
@@ -128,7 +128,7 @@ impl HallTable {
     }
 
     /// Hears an event of the clock, or of a line that asked for this table, and queues what it tells its lines. The marks
-    /// tell how long the queues were.
+    /// tell how long the queues were. A line that has a seat gets no other one, and one without a seat isn't heard.
     pub fn hear(
         &mut self,
         input: TableInput<'_>,
@@ -139,72 +139,23 @@ impl HallTable {
         ensures undone { undone out.new marks.new.items ≡ undone out.old marks.old.items }
     {
         match input {
-            TableInput::Clock { at } => self.tick(at, out, marks),
-            TableInput::Joins { line, at } => self.join(line, at, out, marks),
-            TableInput::Arrives { line, at } => self.arrive(line, at, out, marks),
-            TableInput::Says { line, at, took } => self.say(line, at, took, out, marks),
-            TableInput::Leaves { line, at } => self.leave(line, at, out, marks),
-        }
-    }
-
-    /// The clock is heard by a match that has begun.
-    fn tick(&mut self, at: u64, out: &mut HallOut, marks: &mut Vec<Mark>) -> Result<(), Memory>
-        ensures hears { OnOk result (HearsFor self.old (clock at) self.new out.old out.new) }
-        ensures undone { undone out.new marks.new.items ≡ undone out.old marks.old.items }
-    {
-        self.play(Event::Tick { at }, out, marks)
-    }
-
-    /// What comes from a line with a seat is a moment for a match that has begun.
-    fn arrive(
-        &mut self,
-        line: u64,
-        at: u64,
-        out: &mut HallOut,
-        marks: &mut Vec<Mark>,
-    ) -> Result<(), Memory>
-        ensures hears { OnOk result (HearsFor self.old (arrives line at) self.new out.old out.new) }
-        ensures undone { undone out.new marks.new.items ≡ undone out.old marks.old.items }
-    {
-        match self.seat_of(line) {
-            Some(_) => self.play(Event::Tick { at }, out, marks),
-            None => Ok(()),
-        }
-    }
-
-    /// A line with a seat is heard, another one isn't.
-    fn say(
-        &mut self,
-        line: u64,
-        at: u64,
-        took: Took<'_>,
-        out: &mut HallOut,
-        marks: &mut Vec<Mark>,
-    ) -> Result<(), Memory>
-        ensures hears { OnOk result (HearsFor self.old (says line at (item_of took.entry)) self.new
-            out.old out.new) }
-        ensures undone { undone out.new marks.new.items ≡ undone out.old marks.old.items }
-    {
-        match self.seat_of(line) {
-            Some(index) => self.hear_item(index, line, at, took, out, marks),
-            None => Ok(()),
-        }
-    }
-
-    /// The end of a line with a seat is heard, that of another one isn't.
-    fn leave(
-        &mut self,
-        line: u64,
-        at: u64,
-        out: &mut HallOut,
-        marks: &mut Vec<Mark>,
-    ) -> Result<(), Memory>
-        ensures hears { OnOk result (HearsFor self.old (leaves line at) self.new out.old out.new) }
-        ensures undone { undone out.new marks.new.items ≡ undone out.old marks.old.items }
-    {
-        match self.seat_of(line) {
-            Some(index) => self.leave_seat(index, line, at, out, marks),
-            None => Ok(()),
+            TableInput::Clock { at } => self.play(Event::Tick { at }, out, marks),
+            TableInput::Joins { line, at } => match self.seat_of(line) {
+                Some(_) => Ok(()),
+                None => self.seat(line, at, out, marks),
+            },
+            TableInput::Arrives { line, at } => match self.seat_of(line) {
+                Some(_) => self.play(Event::Tick { at }, out, marks),
+                None => Ok(()),
+            },
+            TableInput::Says { line, at, took } => match self.seat_of(line) {
+                Some(index) => self.hear_item(index, line, at, took, out, marks),
+                None => Ok(()),
+            },
+            TableInput::Leaves { line, at } => match self.seat_of(line) {
+                Some(index) => self.leave_seat(index, line, at, out, marks),
+                None => Ok(()),
+            },
         }
     }
 
@@ -242,23 +193,6 @@ impl HallTable {
             Phase::Begun(running) => running.step(event, &self.seats, out, marks),
             Phase::Waiting(_) => Ok(()),
             Phase::Failed => Ok(()),
-        }
-    }
-
-    /// A line asks for a seat. One that has a seat keeps it.
-    fn join(
-        &mut self,
-        line: u64,
-        at: u64,
-        out: &mut HallOut,
-        marks: &mut Vec<Mark>,
-    ) -> Result<(), Memory>
-        ensures hears { OnOk result (HearsFor self.old (joins line at) self.new out.old out.new) }
-        ensures undone { undone out.new marks.new.items ≡ undone out.old marks.old.items }
-    {
-        match self.seat_of(line) {
-            Some(_) => Ok(()),
-            None => self.seat(line, at, out, marks),
         }
     }
 

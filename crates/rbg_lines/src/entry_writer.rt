@@ -9,7 +9,7 @@ use rbg_base::{Memory, Move};
 use rbg_wire::{Outcome, all_or_nothing, write_number, write_outcome, write_pairs};
 
 /// Appends the line of a move, with its moment if there is one. On an error the bytes are unchanged.
-pub fn write_move(
+pub fn write_move_line(
     at: Option<u64>,
     player: u64,
     pairs: &Move,
@@ -24,7 +24,11 @@ pub fn write_move(
 }
 
 /// Appends the line of the end, with its moment if there is one. On an error the bytes are unchanged.
-pub fn write_end(at: Option<u64>, outcome: Option<Outcome>, out: &mut Vec<u8>) -> Result<(), Memory>
+pub fn write_end_line(
+    at: Option<u64>,
+    outcome: Option<Outcome>,
+    out: &mut Vec<u8>,
+) -> Result<(), Memory>
     ensures { AppendsAll out.old.items out.new.items
         (line_of (moment_text at ++ entry_text (EndEntry outcome))) result }
 {

@@ -14,7 +14,7 @@ pub mod laws;
 pub use cutting::next_line;
 pub use entry::{Entry, Timed};
 pub use entry_reader::{read_entry, read_timed};
-pub use entry_writer::{write_end, write_move};
+pub use entry_writer::{write_end_line, write_move_line};
 pub use heading::{Start, Version};
 pub use heading_reader::{read_players, read_start, read_version};
 pub use heading_writer::{begin_players, end_line, write_player, write_start, write_version};

@@ -2,11 +2,9 @@
 use Rattle.std.proofs.Common.{◌≡◌, ◌≢◌, ℕ, ◌+◌, Bool, true, false, List, [], ◌∷◌, ◌++◌, length, refl, sym, ap, ◌∙◌, subst, arith}
 use Rattle.std.specs.Prelude.{◌==◌}
 use Rattle.std.proofs.lemmas.Bool.{eqb-true, true≢false}
-use Rattle.std.proofs.lemmas.List.{length-append}
-use Rattle.rbg_wire.specs.Lines.{line_feed}
 use Rattle.rbg_lines.specs.Lines.{IsFirstLine}
 use Rattle.rbg_record.proofs.Deciding.{good_by_lines}
-use Rattle.rbg_record.proofs.SoFarLemmas.{read_none, begins_more, read_good}
+use Rattle.rbg_record.proofs.SoFarLemmas.{read_none, read_more, read_good}
 use Rattle.rbg_record.specs.ByLine.{IsReachedIn}
 use Rattle.rbg_record.specs.Judged.{BeginsWith}
 use Rattle.rbg_record.specs.Lines.{Reached, version_next, players_next, start_next, entry_next, nothing_next, Leads, LeadTo}
@@ -53,19 +51,8 @@ at_next game texts text from to place led (lines.entry {standing = standing} spe
 
 pub followed_next : (game : AbstractGame) (bytes : List ℕ) (reached to : Reached) (rest text later : List ℕ) (line : ℕ) (place new : AbstractPlace) → IsFollowed game bytes reached rest line place → IsFirstLine rest text later → Leads game reached text to → IsReachedIn game to → new ≡ place_in to place → IsFollowed game bytes to later (line + 1) new
 followed_next game bytes reached to rest text later line place new before first leads reached_in is =
-    let so_far = before.so_far in
-    let left = ap length first.parts ∙ length-append text (line_feed ∷ later) in
-    let old = so_far.shorter in
-    let number : line + 1 ≡ length (so_far.texts ++ text ∷ []) + 1 = omega (arith, so_far.number, length-append so_far.texts (text ∷ [])) in
     subst (IsFollowed game bytes to later (line + 1)) (sym is) (record {
-      so_far = record {
-        texts = so_far.texts ++ text ∷ [];
-        begins = begins_more bytes so_far.texts text rest later so_far.begins first;
-        number = number;
-        leads = lines.more so_far.leads leads;
-        in_game = reached_in;
-        shorter = omega arith;
-      };
+      so_far = read_more game bytes reached to rest text later line before.so_far first leads reached_in;
       in_game = in_game_next game to place reached_in before.in_game;
       at = at_next game before.so_far.texts text reached to place before.so_far.leads leads before.at;
     })
@@ -91,7 +78,7 @@ followed_whole game bytes reached rest line place followed over none =
       right = (good_by_lines game bytes).0 (read_good game bytes reached rest line followed.so_far over none);
       texts = ends.before;
       last = ends.last;
-      begins = subst (λ all. BeginsWith bytes all []) ends.parts (subst (λ left. BeginsWith bytes texts left) none followed.so_far.begins);
+      begins = subst (λ all. BeginsWith bytes all []) ends.parts (subst (λ left. BeginsWith bytes texts left) none followed.so_far.cut.begins);
       standing = ends.standing;
       leads = ends.leads;
       here = ends.here;

@@ -11,9 +11,3 @@ pub record AreWholeLines (text whole : List ℕ) : Type 0 where
   pub lines_end : All (LacksByte line_feed) lines
   pub parts : text ≡ whole ++ rest
   pub lacks : LacksByte line_feed rest
-
--- The lines before what is left of a text are whole.
-pub record WholeSoFar (text left : List ℕ) : Type 0 where
-  pub lines : List (List ℕ)
-  pub lines_end : All (LacksByte line_feed) lines
-  pub parts : text ≡ lines_of lines ++ left

@@ -10,27 +10,25 @@ use rbg_base::Pair;
 use rbg_moves::{Move, Over, Place, PlayedGame, Workspace};
 
 /// The pairs of a legal move at a place, which a message can tell, or None if play is finished. The workspace takes them
-/// back.
+/// back. The place is asked on, and given back.
 pub(crate) fn find_pairs(
     game: &PlayedGame,
-    place: &Place,
+    place: &mut Place,
     workspace: &mut Workspace,
 ) -> Result<Option<Vec<Pair>>, Over>
-    requires place { IsPlaceOf game.now place.now }
+    requires place { IsPlaceOf game.now place.old }
+    ensures kept { place.new ≡ place.old }
     ensures found { IfOk result (λ found.
-        IfSome found (λ pairs. IsLegal game.now place.now pairs.items)) }
+        IfSome found (λ pairs. IsLegal game.now place.old pairs.items)) }
     ensures spelled { IfOk result (λ found. IfSome found (λ pairs. ArePairs pairs.items)) }
     ensures length { IfOk result (λ found.
         IfSome found (λ pairs. IsMoveLength (length pairs.items))) }
-    ensures finished { IfOk result (λ found. IfNone found (Finished game.now place.now)) }
+    ensures finished { IfOk result (λ found. IfNone found (Finished game.now place.old)) }
     ensures heavy { IfErr result (λ over. (over ≡ Over.Deep) ⊎ (over ≡ Over.Wide)
-        → IsHeavyToFind game.now place.now) }
+        → IsHeavyToFind game.now place.old) }
 {
     let _game = game.as_game();
-    let mut lent = workspace.copy_of(place)?;
-    let found = game.find_move(&mut lent, workspace);
-    workspace.keep(lent);
-    found
+    game.find_move(place, workspace)
 }
 
 /// The place after the move of these pairs, or None if the move is not legal.

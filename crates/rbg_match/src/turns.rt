@@ -118,7 +118,7 @@ impl Referee {
             self.end(Outcome::Heavy)?;
             return Ok(Progress::Settled);
         }
-        match find_pairs(&self.game, &self.play.place, &mut self.play.workspace) {
+        match find_pairs(&self.game, &mut self.play.place, &mut self.play.workspace) {
             Ok(None) => {
                 self.end_finished()?;
                 Ok(Progress::Settled)

@@ -10,7 +10,7 @@ use Rattle.rbg_page.specs.declared.drawing.Spot.{Spot}
 use Rattle.rbg_page.specs.declared.head.TheConstants.{HEAD}
 use Rattle.rbg_page.specs.declared.tail.TheConstants.{TAIL}
 use Rattle.rbg_page.specs.Texts.{escaped, field_text, names_text, values_text}
-use Rattle.rbg_page.specs.Boards.{spot_text, mark_text, vertex_text, size_text, frame_text, widest, vertices_text, labels_text, square_text, hexagon_text, graph_text, drawing_text}
+use Rattle.rbg_page.specs.Boards.{spot_text, mark_text, vertex_text, size_text, frame_text, widest, vertices_text, labels_text, rows_text, graph_text, drawing_text}
 use Rattle.rbg_page.specs.Telling.{Told}
 use Rattle.rbg_page.specs.Pages.{values_part, names_part, place_part, lines_part, page_text}
 
@@ -23,11 +23,8 @@ vertex_is name spot marked piece = unfold vertex_text in refl
 pub frame_is : (kind : List ℕ) (width height : ℕ) (cell : List ℕ) → frame_text kind width height cell ≡ codes "<svg id='board' class='" ++ kind ++ size_text width height ++ codes "0'><defs>" ++ cell ++ codes "</defs>\n"
 frame_is kind width height cell = unfold frame_text in refl
 
-pub square_is : (pieces : List (List ℕ)) (lengths : List ℕ) (marked : List (ℕ × ℕ)) (standing : List ℕ) → square_text pieces lengths marked standing ≡ frame_text (codes "square") (widest lengths) (length lengths) (codes "<path id='cell' d='M-5-5h10v10h-10z'/>") ++ vertices_text pieces lengths marked standing
-square_is pieces lengths marked standing = unfold square_text in refl
-
-pub hexagon_is : (pieces : List (List ℕ)) (lengths : List ℕ) (marked : List (ℕ × ℕ)) (standing : List ℕ) → hexagon_text pieces lengths marked standing ≡ frame_text (codes "hexagon") (widest lengths) (length lengths) (codes "<path id='cell' d='M0-5.77 5-2.89 5 2.89 0 5.77-5 2.89-5-2.89z'/>") ++ vertices_text pieces lengths marked standing
-hexagon_is pieces lengths marked standing = unfold hexagon_text in refl
+pub rows_are : (kind cell : List ℕ) (pieces : List (List ℕ)) (lengths : List ℕ) (marked : List (ℕ × ℕ)) (standing : List ℕ) → rows_text kind cell pieces lengths marked standing ≡ frame_text kind (widest lengths) (length lengths) cell ++ vertices_text pieces lengths marked standing
+rows_are kind cell pieces lengths marked standing = unfold rows_text in refl
 
 pub graph_is : (pieces : List (List ℕ)) (names : List (Vec ℕ Global)) (marked : List (ℕ × ℕ)) (standing : List ℕ) → graph_text pieces names marked standing ≡ frame_text (codes "graph") (length names) (length names) (codes "<circle id='cell' r='5'/>") ++ vertices_text pieces (length names ∷ []) marked standing ++ labels_text (bytes_of names)
 graph_is pieces names marked standing = unfold graph_text in refl

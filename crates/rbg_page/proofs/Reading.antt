@@ -1,27 +1,20 @@
 -- What was read of a record, line by line, and what it tells.
-use Rattle.std.proofs.lemmas.Bool.{eqb-true}
-use Rattle.std.proofs.Common.{◌≡◌, ℕ, ◌+◌, Bool, true, List, [], ◌∷◌, ◌++◌, length, Option, refl, ap, sym, ◌∙◌, subst, arith}
+use Rattle.std.proofs.Common.{◌≡◌, ℕ, ◌+◌, List, [], ◌∷◌, ◌++◌, Option, refl, ap, sym, ◌∙◌, subst}
 use Rattle.rbg_rules.specs.State.{AbstractGame}
 use Rattle.rbg_rules.specs.Places.{IsPlaceOf}
 use Rattle.rbg_lines.specs.Lines.{IsFirstLine}
 use Rattle.rbg_record.specs.declared.fault.Fault.{Fault}
 use Rattle.rbg_record.specs.declared.fault.Fault.TheVariants.{Form, Bad, Over, Memory}
-use Rattle.rbg_rules.specs.Moves.{AbstractPlace}
-use Rattle.rbg_record.specs.Lines.{Reached, version_next, players_next, start_next, entry_next, nothing_next, Leads, LeadTo}
+use Rattle.rbg_record.specs.Lines.{Reached, version_next, nothing_next, Leads}
 use Rattle.rbg_record.proofs.Deciding.{good_by_lines}
 use Rattle.rbg_record.specs.Judged.{IsJudged}
 use Rattle.rbg_record.specs.ByLine.{IsReachedIn}
 use Rattle.rbg_record.specs.internal.Faults.{told_at}
 use Rattle.rbg_record.specs.internal.SoFar.{IsReadSoFar}
-use Rattle.rbg_record.proofs.SoFarLemmas.{begins_more}
+use Rattle.rbg_record.proofs.SoFarLemmas.{place_in_game, read_good, read_more, read_none}
 use Rattle.rbg_record.specs.Judged.{BeginsWith}
-use Rattle.rbg_record.specs.Lines as lines
-use Rattle.rbg_wire.specs.Bytes.{LacksByte}
-use Rattle.rbg_wire.specs.Lines.{line_feed}
-use Rattle.std.proofs.lemmas.List.{length-append}
-use Rattle.std.proofs.lemmas.List.Elements.{All-nil}
 use Rattle.rbg_page.specs.Pages.{IsRefused}
-use Rattle.rbg_page.specs.Telling.{Told, Tells, IsMoveIn, place_in, told_first, told_more}
+use Rattle.rbg_page.specs.Telling.{Told, Tells, IsMoveIn, told_first, told_more}
 use Rattle.rbg_page.specs.Telling as telling
 use Rattle.rbg_page.specs.internal.Reading.{refusal_at}
 use Rattle.rbg_page.specs.Telling.{IsByPlayer, IsPlayersMove, IsTelling}
@@ -30,7 +23,7 @@ use Rattle.rbg_lines.specs.declared.entry.Entry.{Entry}
 use Rattle.rbg_lines.specs.declared.entry.Timed.{Timed}
 use Rattle.rbg_lines.specs.declared.heading.Version.TheVariants.{One, Two}
 use Rattle.rbg_lines.specs.Entries.{SpellsEntry, SpellsTimed}
-use Rattle.std.specs.Prelude.{◌==◌, IfSome, IfNone, Some, None, unwrap_or}
+use Rattle.std.specs.Prelude.{IfSome, IfNone, Some, None, unwrap_or}
 
 -- The lines before the rest are right in turn, and this is what they tell.
 pub record IsToldSoFar (game : AbstractGame) (bytes : List ℕ) (reached : Reached) (rest : List ℕ) (line : ℕ) (told : Told) : Type 0 where
@@ -40,65 +33,28 @@ pub record IsToldSoFar (game : AbstractGame) (bytes : List ℕ) (reached : Reach
 
 pub told_none : (game : AbstractGame) (bytes : List ℕ) (told : Told) → told ≡ told_first game → IsPlaceOf game told.place → IsToldSoFar game bytes version_next bytes 1 told
 told_none game bytes told first in_game = record {
-  so_far = record {
-    texts = [];
-    begins = record { whole = All-nil (LacksByte line_feed); parts = refl };
-    number = refl;
-    leads = lines.none;
-    in_game = tt;
-    shorter = omega arith;
-  };
+  so_far = read_none game bytes;
   tells = subst (λ one. Tells game [] version_next one) (sym first) telling.nothing;
   in_game = in_game;
 }
 
--- the place to which a line leads is one of the game
-place_in_game : (game : AbstractGame) (to : Reached) (before : AbstractPlace) → IsReachedIn game to → IsPlaceOf game before → IsPlaceOf game (place_in to before)
-place_in_game game version_next before reached_in in_game = in_game
-place_in_game game players_next before reached_in in_game = in_game
-place_in_game game start_next before reached_in in_game = in_game
-place_in_game game (entry_next standing) before reached_in in_game = reached_in
-place_in_game game nothing_next before reached_in in_game = in_game
-
+-- one line more
 pub told_next : (game : AbstractGame) (bytes : List ℕ) (reached to : Reached) (rest text later : List ℕ) (line : ℕ) (told new : Told) (moved : Option (List (ℕ × ℕ))) → IsToldSoFar game bytes reached rest line told → IsFirstLine rest text later → Leads game reached text to → IsReachedIn game to → IsMoveIn reached text moved → new ≡ told_more told text to moved → IsToldSoFar game bytes to later (line + 1) new
 told_next game bytes reached to rest text later line told new moved before first leads reached_in is_move more =
-    let so_far = before.so_far in
-    let left = ap length first.parts ∙ length-append text (line_feed ∷ later) in
-    let old = so_far.shorter in
-    let number : line + 1 ≡ length (so_far.texts ++ text ∷ []) + 1 = omega (arith, so_far.number, length-append so_far.texts (text ∷ [])) in
     record {
-      so_far = record {
-        texts = so_far.texts ++ text ∷ [];
-        begins = begins_more bytes so_far.texts text rest later so_far.begins first;
-        number = number;
-        leads = lines.more so_far.leads leads;
-        in_game = reached_in;
-        shorter = omega arith;
-      };
-      tells = subst (λ one. Tells game (so_far.texts ++ text ∷ []) to one) (sym more) (telling.one_more moved before.tells leads is_move);
+      so_far = read_more game bytes reached to rest text later line before.so_far first leads reached_in;
+      tells = subst (λ one. Tells game (before.so_far.texts ++ text ∷ []) to one) (sym more) (telling.one_more moved before.tells leads is_move);
       in_game =
           subst (λ (one : Told). IsPlaceOf game one.place) (sym more)
           (place_in_game game to told.place reached_in before.in_game);
     }
 
--- nothing is left
-pub nothing_left : (rest : List ℕ) (answer : Bool) → answer ≡ (length rest == 0) → answer ≡ true → rest ≡ []
-nothing_left [] answer is holds = refl
-nothing_left (x ∷ rest) answer is holds =
-    let none : length (x ∷ rest) ≡ 0 = eqb-true (length (x ∷ rest)) 0 (sym is ∙ holds) in
-    absurd (omega (arith, none))
-
 -- no line is left, and the record has ended
 pub told_whole : (game : AbstractGame) (bytes : List ℕ) (reached : Reached) (rest : List ℕ) (line : ℕ) (told : Told) → IsToldSoFar game bytes reached rest line told → reached ≡ nothing_next → rest ≡ [] → IsTelling game bytes told
 told_whole game bytes reached rest line told so_far over none = record {
-  right =
-      (good_by_lines game bytes).0 (record {
-        texts = so_far.so_far.texts;
-        begins = subst (λ (left : List ℕ). BeginsWith bytes so_far.so_far.texts left) none so_far.so_far.begins;
-        leads = subst (λ (to : Reached). LeadTo game so_far.so_far.texts to) over so_far.so_far.leads;
-      });
+  right = (good_by_lines game bytes).0 (read_good game bytes reached rest line so_far.so_far over none);
   texts = so_far.so_far.texts;
-  begins = subst (λ (left : List ℕ). BeginsWith bytes so_far.so_far.texts left) none so_far.so_far.begins;
+  begins = subst (λ (left : List ℕ). BeginsWith bytes so_far.so_far.texts left) none so_far.so_far.cut.begins;
   tells = subst (λ (to : Reached). Tells game so_far.so_far.texts to told) over so_far.tells;
 }
 

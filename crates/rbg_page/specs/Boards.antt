@@ -85,18 +85,12 @@ frame_text kind width height cell =
     ++ cell
     ++ codes "</defs>\n"
 
--- the drawing of a rectangle, of a hexagon, and of a graph, whose vertices lie on a circle with their names
-unfoldable pub square_text : (pieces : List (List ℕ)) → (lengths : List ℕ) → (marked : List (ℕ × ℕ)) → List ℕ → List ℕ
-square_text pieces lengths marked standing =
-    frame_text (codes "square") (widest lengths) (length lengths) (codes "<path id='cell' d='M-5-5h10v10h-10z'/>")
-    ++ vertices_text pieces lengths marked standing
+-- the vertices in rows of these lengths, in a frame of this kind with this cell
+unfoldable pub rows_text : (kind cell : List ℕ) → (pieces : List (List ℕ)) → (lengths : List ℕ) → (marked : List (ℕ × ℕ)) → List ℕ → List ℕ
+rows_text kind cell pieces lengths marked standing =
+    frame_text kind (widest lengths) (length lengths) cell ++ vertices_text pieces lengths marked standing
 
-unfoldable pub hexagon_text : (pieces : List (List ℕ)) → (lengths : List ℕ) → (marked : List (ℕ × ℕ)) → List ℕ → List ℕ
-hexagon_text pieces lengths marked standing =
-    frame_text (codes "hexagon") (widest lengths) (length lengths)
-    (codes "<path id='cell' d='M0-5.77 5-2.89 5 2.89 0 5.77-5 2.89-5-2.89z'/>")
-    ++ vertices_text pieces lengths marked standing
-
+-- the drawing of a graph, whose vertices lie on a circle with their names
 unfoldable pub graph_text : (pieces : List (List ℕ)) → (names : List (Vec ℕ Global)) → (marked : List (ℕ × ℕ)) → List ℕ → List ℕ
 graph_text pieces names marked standing =
     frame_text (codes "graph") (length names) (length names) (codes "<circle id='cell' r='5'/>")
@@ -105,6 +99,9 @@ graph_text pieces names marked standing =
 
 -- The drawing of a board with these pieces on its vertices, some of them marked.
 abbrev pub drawing_text : Layout → (pieces : List (List ℕ)) → (marked : List (ℕ × ℕ)) → List ℕ → List ℕ
-drawing_text (Rectangle rows) pieces marked standing = square_text pieces rows.items marked standing
-drawing_text (Hexagon rows) pieces marked standing = hexagon_text pieces rows.items marked standing
+drawing_text (Rectangle rows) pieces marked standing =
+    rows_text (codes "square") (codes "<path id='cell' d='M-5-5h10v10h-10z'/>") pieces rows.items marked standing
+drawing_text (Hexagon rows) pieces marked standing =
+    rows_text (codes "hexagon") (codes "<path id='cell' d='M0-5.77 5-2.89 5 2.89 0 5.77-5 2.89-5-2.89z'/>")
+    pieces rows.items marked standing
 drawing_text (Graph names) pieces marked standing = graph_text pieces names.items marked standing

@@ -9,6 +9,7 @@ use Rattle.rbg_lines.specs.declared.entry.Timed.{Timed}
 use Rattle.rbg_lines.specs.declared.heading.Version.{Version}
 use Rattle.rbg_record.specs.Lines.{Reached, version_next, players_next, start_next, entry_next, nothing_next, SpellsIn, Leads}
 use Rattle.rbg_record.specs.Judged.{BeginsWith}
+use Rattle.rbg_record.specs.Reaching.{place_in}
 use Rattle.rbg_record.specs.Right.{IsRightRecord}
 use Rattle.rbg_page.specs.Texts.{escaped}
 use Rattle.rbg_page.specs.Places.{place_text, whole_text}
@@ -20,11 +21,6 @@ line_text text before version_next = line_of (escaped text)
 line_text text before players_next = line_of (escaped text)
 line_text text before start_next = line_of (escaped text)
 line_text text before nothing_next = line_of (escaped text)
-
--- the place to which a line leads, or else the one before it
-abbrev pub place_in : Reached → AbstractPlace → AbstractPlace
-place_in (entry_next standing) before = standing.place
-place_in _ before = before
 
 -- the entry is the move of these pairs, and a player's
 pub record IsByPlayer (entry : Entry) (pairs : List (ℕ × ℕ)) : Type 0 where

@@ -1,7 +1,7 @@
 //! How a board is drawn, and the calls that write the drawing at the end of a list of bytes.
 ghost use Rattle.std.specs.Prelude.{◌≡◌, ◌<◌, ◌++◌, OnOk, All, length};
 ghost use Rattle.rbg_numbering.specs.NameTables.{bytes_of};
-ghost use Rattle.rbg_page.specs.Boards.{drawing_text, frame_text, graph_text, hexagon_text, is_marked, label_text, labels_text, mark_text, size_text, spot_from, spot_text, square_text, vertex_text, vertices_text, widest};
+ghost use Rattle.rbg_page.specs.Boards.{drawing_text, frame_text, graph_text, is_marked, label_text, labels_text, mark_text, rows_text, size_text, spot_from, spot_text, vertex_text, vertices_text, widest};
 
 use crate::texts::{put_escaped, put_field};
 use rbg_base::{Memory, Pair, Piece};
@@ -79,13 +79,20 @@ pub(crate) fn put_drawing(
         ++ drawing_text layout.now game.now.pieces marked.now standing.now) }
 {
     match layout {
-        Layout::Rectangle { rows } => put_square(game, rows, marked, standing, out),
-        Layout::Hexagon { rows } => put_hexagon(game, rows, marked, standing, out),
+        Layout::Rectangle { rows } => {
+            put_rows(b"square", SQUARE, game, rows, marked, standing, out)
+        }
+        Layout::Hexagon { rows } => {
+            put_rows(b"hexagon", SIX_SIDES, game, rows, marked, standing, out)
+        }
         Layout::Graph { names } => put_graph(game, names, marked, standing, out),
     }
 }
 
-fn put_square(
+/// Appends a frame of this kind with this cell, and the vertices in their rows.
+fn put_rows(
+    kind: &[u8],
+    cell: &[u8],
     game: &Game,
     lengths: &[usize],
     marked: &[Pair],
@@ -94,27 +101,10 @@ fn put_square(
 ) -> Result<(), Memory>
     requires { All (λ piece. piece < length game.now.pieces) standing.now }
     ensures { OnOk result (out.new.items ≡ out.old.items
-        ++ square_text game.now.pieces lengths.now marked.now standing.now) }
+        ++ rows_text kind.now cell.now game.now.pieces lengths.now marked.now standing.now) }
 {
     let width = widest_of(lengths);
-    put_frame(b"square", width, lengths.len(), SQUARE, out)?;
-    put_vertices(game, lengths, marked, standing, out)?;
-    Ok(())
-}
-
-fn put_hexagon(
-    game: &Game,
-    lengths: &[usize],
-    marked: &[Pair],
-    standing: &[Piece],
-    out: &mut Vec<u8>,
-) -> Result<(), Memory>
-    requires { All (λ piece. piece < length game.now.pieces) standing.now }
-    ensures { OnOk result (out.new.items ≡ out.old.items
-        ++ hexagon_text game.now.pieces lengths.now marked.now standing.now) }
-{
-    let width = widest_of(lengths);
-    put_frame(b"hexagon", width, lengths.len(), SIX_SIDES, out)?;
+    put_frame(kind, width, lengths.len(), cell, out)?;
     put_vertices(game, lengths, marked, standing, out)?;
     Ok(())
 }

@@ -1,13 +1,12 @@
 //! What the lines of a record tell a page, and the reading of them.
-ghost use Rattle.std.specs.Prelude.{◌≡◌, ℕ, List, [], ◌++◌, ◌↔◌, IfErr, IfNone, IfOk, IfSome, IsTrue, OnOk, unwrap_or};
+ghost use Rattle.std.specs.Prelude.{◌≡◌, ℕ, List, [], ◌++◌, IfErr, IfNone, IfOk, IfSome, OnOk, unwrap_or};
 ghost use Rattle.rbg_rules.specs.Places.{IsPlaceOf};
 ghost use Rattle.rbg_record.specs.ByLine.{IsReachedIn, reached_of};
-ghost use Rattle.rbg_record.specs.Lines.{nothing_next};
 ghost use Rattle.rbg_page.specs.Pages.{IsRefused};
 ghost use Rattle.rbg_wire.specs.Lines.{line_of};
 ghost use Rattle.rbg_page.specs.Texts.{escaped};
 ghost use Rattle.rbg_page.specs.Places.{place_text, whole_text};
-ghost use Rattle.rbg_page.specs.Telling.{IsByPlayer, IsMoveIn, IsPlayersMove, IsTelling, line_text, place_in};
+ghost use Rattle.rbg_page.specs.Telling.{IsByPlayer, IsMoveIn, IsPlayersMove, IsTelling, line_text};
 ghost use Rattle.rbg_page.specs.internal.Reading.{refusal_at};
 
 use crate::error::PageError;
@@ -131,19 +130,6 @@ fn first_line(alloc: Global, game: &PlayedGame, place: &Place) -> Result<Vec<u8>
     Ok(line)
 }
 
-/// The place to which a line leads, or else the one before it.
-fn place_after(to: &Reached, before: Place) -> Result<Place, Memory>
-    ensures { IfOk result (λ place. place ≡ place_in (reached_of to.now) before) }
-{
-    match to {
-        Reached::Entry(standing) => standing.place.try_clone(),
-        Reached::Version => Ok(before),
-        Reached::Players => Ok(before),
-        Reached::Start => Ok(before),
-        Reached::Nothing => Ok(before),
-    }
-}
-
 /// The later one of two moves, of which the first one may be missing.
 fn later_of(moved: Option<Move>, before: Option<Move>) -> Option<Move>
     ensures { unwrap_or result [] ≡ unwrap_or moved (unwrap_or before []) }
@@ -173,12 +159,12 @@ pub fn tell(alloc: Global, game: &PlayedGame, bytes: &[u8]) -> Result<Telling, P
             Err(fault) => return Err(refusal(fault, line)),
         }
         put_line(alloc, game, text, &place, &reached, &mut lines)?;
-        place = place_after(&reached, place)?;
+        place = reached.place_or(place)?;
         last = later_of(moved, last);
         rest = later;
         line += 1;
     }
-    let over = is_over(&reached);
+    let over = reached.is_over();
     if over && rest.is_empty() {
         Ok(Telling {
             lines,
@@ -200,13 +186,6 @@ fn refusal(fault: Fault, line: usize) -> PageError
         Fault::Over => PageError::Over { line },
         Fault::Memory => PageError::Memory,
     }
-}
-
-/// Whether the end was read.
-fn is_over(reached: &Reached) -> bool
-    ensures { IsTrue result ↔ (reached_of reached.now ≡ nothing_next) }
-{
-    matches!(reached, Reached::Nothing)
 }
 
 /// The player's move that a line tells behind the lines so far.

@@ -1,5 +1,5 @@
 -- Entries that lead on, and why others don't.
-use Rattle.std.proofs.Common.{◌≡◌, ◌≢◌, ℕ, ◌<◌, ◌≤◌, List, length, take, Option, Some, None, Result, Ok, Err, refl, sym, ◌∙◌, subst, arith}
+use Rattle.std.proofs.Common.{◌≡◌, ◌≢◌, ℕ, ◌<◌, ◌≤◌, Bool, true, false, List, Option, Some, None, Result, Ok, Err, refl, sym, ◌∙◌, subst, arith}
 use Rattle.std.specs.Prelude.{IfErr, IfOk}
 use Rattle.rbg_wire.specs.declared.outcome.Outcome.{Outcome}
 use Rattle.rbg_wire.specs.declared.outcome.Outcome.TheVariants.{Finished, Time, Refusals, Gone, Heavy}
@@ -18,7 +18,7 @@ use Rattle.rbg_record.specs.Judged.{FitsUnasked}
 use Rattle.rbg_record.specs.Lines.{Standing, Reached, nothing_next, entry_next, IsMomentFor, SpellsIn, EntryLeads, Leads, play_at}
 use Rattle.rbg_record.specs.Lines as lines
 use Rattle.rbg_record.specs.ByLine.{RefusesEntry, Refuses, reached_of}
-use Rattle.rbg_record.specs.internal.Reading.{SomeIsLegal, LeavesTurn}
+use Rattle.rbg_record.specs.internal.Reading.{EndsSo, SomeIsLegal}
 use Rattle.rbg_record.specs.declared.reached.Reached.{Reached as CodeReached}
 use Rattle.rbg_record.proofs.Deciding.{one_told}
 
@@ -73,48 +73,44 @@ legal_move game standing at player pairs to fits counted legal = lines.move fits
 has_turn : (game : AbstractGame) (place : AbstractPlace) → place.state.player ≢ 0 → SomeIsLegal game place → HasTurn game place
 has_turn game place player some = record { player = player; pairs = some.0; to = some.1.0; legal = some.1.1 }
 
--- an end in a turn
-fits_turn : (game : AbstractGame) (standing : Standing) (at : ℕ) (outcome : Option Outcome) → LeavesTurn outcome → FitsUnasked game standing at (End outcome) → SomeIsLegal game standing.place → FitsOutcome game (turn_config standing.turn_ms) (play_at standing outcome) standing.last at outcome
-fits_turn game standing at None leaves fits some = ((has_turn game standing.place fits.0 some, refl), fits.1)
-fits_turn game standing at (Some (Finished scores)) leaves fits some = absurd leaves
-fits_turn game standing at (Some (Time player)) leaves fits some = ((has_turn game standing.place (λ (keeper : standing.place.state.player ≡ 0). fits.1 (fits.0 ∙ keeper)) some, refl), fits.0, fits.2)
-fits_turn game standing at (Some (Refusals player)) leaves fits some = ((has_turn game standing.place fits.0.0 some, refl), fits.0.1, fits.1, fits.2)
-fits_turn game standing at (Some (Gone player)) leaves fits some = ((has_turn game standing.place fits.0.0 some, refl), fits.0.1, fits.1, fits.2)
-fits_turn game standing at (Some Heavy) leaves fits some = absurd leaves
+-- an end that could be, where a question has told whether play is finished
+fits_end : (game : AbstractGame) (standing : Standing) (at : ℕ) (finished : Bool) (outcome : Option Outcome) → (finished ≡ true → moves.Finished game standing.place) → (finished ≡ false → SomeIsLegal game standing.place) → FitsUnasked game standing at (End outcome) → EndsSo game standing.place finished outcome → FitsOutcome game (turn_config standing.turn_ms) (play_at standing outcome) standing.last at outcome
+fits_end game standing at finished None over going fits ends = ((has_turn game standing.place fits.0 (going ends), refl), fits.1)
+fits_end game standing at finished (Some (Finished scores)) over going fits ends = (over ends.0, ends.1, fits)
+fits_end game standing at finished (Some (Time player)) over going fits ends = ((has_turn game standing.place (λ (keeper : standing.place.state.player ≡ 0). fits.1 (fits.0 ∙ keeper)) (going ends), refl), fits.0, fits.2)
+fits_end game standing at finished (Some (Refusals player)) over going fits ends = ((has_turn game standing.place fits.0.0 (going ends), refl), fits.0.1, fits.1, fits.2)
+fits_end game standing at finished (Some (Gone player)) over going fits ends = ((has_turn game standing.place fits.0.0 (going ends), refl), fits.0.1, fits.1, fits.2)
+fits_end game standing at finished (Some Heavy) over going fits ends = fits
 
-pub turn_left : (game : AbstractGame) (standing : Standing) (at : ℕ) (outcome : Option Outcome) → LeavesTurn outcome → FitsUnasked game standing at (End outcome) → at ≤ latest_moment → SomeIsLegal game standing.place → EntryLeads game standing (record { at = at; entry = End outcome }) nothing_next
-turn_left game standing at outcome leaves fits counted some = lines.end (fits_turn game standing at outcome leaves fits some) counted
+pub right_end : (game : AbstractGame) (standing : Standing) (at : ℕ) (finished : Bool) (outcome : Option Outcome) → (finished ≡ true → moves.Finished game standing.place) → (finished ≡ false → SomeIsLegal game standing.place) → FitsUnasked game standing at (End outcome) → at ≤ latest_moment → EndsSo game standing.place finished outcome → EntryLeads game standing (record { at = at; entry = End outcome }) nothing_next
+right_end game standing at finished outcome over going fits counted ends = lines.end (fits_end game standing at finished outcome over going fits ends) counted
 
-some_legal : (game : AbstractGame) (standing : Standing) (at : ℕ) (outcome : Option Outcome) → LeavesTurn outcome → HasRight game standing at (End outcome) → SomeIsLegal game standing.place
-some_legal game standing at None leaves right = (right.0.0.0.pairs, (right.0.0.0.to, right.0.0.0.legal))
-some_legal game standing at (Some (Finished scores)) leaves right = absurd leaves
-some_legal game standing at (Some (Time player)) leaves right = (right.0.0.0.pairs, (right.0.0.0.to, right.0.0.0.legal))
-some_legal game standing at (Some (Refusals player)) leaves right = (right.0.0.0.pairs, (right.0.0.0.to, right.0.0.0.legal))
-some_legal game standing at (Some (Gone player)) leaves right = (right.0.0.0.pairs, (right.0.0.0.to, right.0.0.0.legal))
-some_legal game standing at (Some Heavy) leaves right = absurd leaves
+-- one that could not
+is_going : (game : AbstractGame) (place : AbstractPlace) (finished : Bool) → (finished ≡ true → moves.Finished game place) → HasTurn game place → finished ≡ false
+is_going game place false over turn = refl
+is_going game place true over turn = absurd ((over refl).no_move turn.pairs turn.to turn.legal)
 
-pub no_turn_left : (game : AbstractGame) (standing : Standing) (at : ℕ) (outcome : Option Outcome) → LeavesTurn outcome → moves.Finished game standing.place → (to : Reached) → EntryLeads game standing (record { at = at; entry = End outcome }) to → ⊥
-no_turn_left game standing at outcome leaves over to leads =
-    let some = some_legal game standing at outcome leaves (has_right game standing (record { at = at; entry = End outcome }) to leads) in
-    over.no_move some.0 some.1.0 some.1.1
+is_over : (game : AbstractGame) (place : AbstractPlace) (finished : Bool) → (finished ≡ false → SomeIsLegal game place) → moves.Finished game place → finished ≡ true
+is_over game place true going over = refl
+is_over game place false going over = let some = going refl in absurd (over.no_move some.0 some.1.0 some.1.1)
 
--- the end of play that is finished
-pub finished_end : (game : AbstractGame) (standing : Standing) (at : ℕ) (scores : List ℕ) → at ≡ standing.last → at ≤ latest_moment → moves.Finished game standing.place → scores ≡ take (length game.players) standing.place.state.values → EntryLeads game standing (record { at = at; entry = End (Some (Finished scores)) }) nothing_next
-finished_end game standing at scores moment counted over values = lines.end (over, values, moment) counted
+ends_so : (game : AbstractGame) (standing : Standing) (at : ℕ) (finished : Bool) (outcome : Option Outcome) → (finished ≡ true → moves.Finished game standing.place) → (finished ≡ false → SomeIsLegal game standing.place) → HasRight game standing at (End outcome) → EndsSo game standing.place finished outcome
+ends_so game standing at finished None over going right = is_going game standing.place finished over right.0.0.0
+ends_so game standing at finished (Some (Finished scores)) over going right = (is_over game standing.place finished going right.0.0, right.0.1)
+ends_so game standing at finished (Some (Time player)) over going right = is_going game standing.place finished over right.0.0.0
+ends_so game standing at finished (Some (Refusals player)) over going right = is_going game standing.place finished over right.0.0.0
+ends_so game standing at finished (Some (Gone player)) over going right = is_going game standing.place finished over right.0.0.0
+ends_so game standing at finished (Some Heavy) over going right = tt
 
-pub other_scores : (game : AbstractGame) (standing : Standing) (at : ℕ) (scores : List ℕ) → (scores ≡ take (length game.players) standing.place.state.values → ⊥) → (to : Reached) → EntryLeads game standing (record { at = at; entry = End (Some (Finished scores)) }) to → ⊥
-other_scores game standing at scores other to leads = other ((has_right game standing (record { at = at; entry = End (Some (Finished scores)) }) to leads).0.1)
-
-pub going_on : (game : AbstractGame) (standing : Standing) (at : ℕ) (scores : List ℕ) → SomeIsLegal game standing.place → (to : Reached) → EntryLeads game standing (record { at = at; entry = End (Some (Finished scores)) }) to → ⊥
-going_on game standing at scores some to leads =
-    let over = (has_right game standing (record { at = at; entry = End (Some (Finished scores)) }) to leads).0.0 in
-    over.no_move some.0 some.1.0 some.1.1
+pub wrong_end : (game : AbstractGame) (standing : Standing) (at : ℕ) (finished : Bool) (outcome : Option Outcome) → (finished ≡ true → moves.Finished game standing.place) → (finished ≡ false → SomeIsLegal game standing.place) → ¬ EndsSo game standing.place finished outcome → (to : Reached) → ¬ EntryLeads game standing (record { at = at; entry = End outcome }) to
+wrong_end game standing at finished outcome over going wrong to leads =
+    wrong (ends_so game standing at finished outcome over going (has_right game standing (record { at = at; entry = End outcome }) to leads))
 
 -- an end above the limits
-pub heavy_end : (game : AbstractGame) (standing : Standing) (at : ℕ) (outcome : Outcome) → outcome ≡ Heavy → FitsUnasked game standing at (End (Some outcome)) → at ≤ latest_moment → EntryLeads game standing (record { at = at; entry = End (Some outcome) }) nothing_next
+pub heavy_end : (game : AbstractGame) (standing : Standing) (at : ℕ) (outcome : Option Outcome) → outcome ≡ Some Heavy → FitsUnasked game standing at (End outcome) → at ≤ latest_moment → EntryLeads game standing (record { at = at; entry = End outcome }) nothing_next
 heavy_end game standing at outcome is fits counted =
-    subst (λ (end : Outcome). EntryLeads game standing (record { at = at; entry = End (Some end) }) nothing_next) (sym is)
-    (lines.end (subst (λ (end : Outcome). FitsUnasked game standing at (End (Some end))) is fits) counted)
+    subst (λ end. EntryLeads game standing (record { at = at; entry = End end }) nothing_next) (sym is)
+    (lines.end (subst (λ end. FitsUnasked game standing at (End end)) is fits) counted)
 
 -- the same of a line
 entry_behind : (game : AbstractGame) (standing : Standing) (text : List ℕ) (told : Timed) (to : Reached) → SpellsIn standing.version text told → Leads game (entry_next standing) text to → EntryLeads game standing told to

@@ -1,9 +1,8 @@
 -- Version 2 of a record of version 1, line by line.
-use Rattle.std.proofs.Common.{◌≡◌, ℕ, ◌+◌, List, [], ◌∷◌, ◌++◌, length, map, Option, refl, sym, ap, ◌∙◌, subst, arith, append-nil, append_assoc, All, Bool, true, Result, Err}
-use Rattle.std.specs.Prelude.{◌↔◌, ◌==◌}
-use Rattle.std.proofs.lemmas.Bool.{eqb-true}
+use Rattle.std.proofs.Common.{◌≡◌, ℕ, ◌+◌, List, [], ◌∷◌, ◌++◌, map, Option, refl, sym, ap, ◌∙◌, subst, arith, append-nil, append_assoc, All, Result, Err}
+use Rattle.std.specs.Prelude.{◌↔◌}
 use Rattle.std.proofs.lemmas.Grind.{flat_map-append}
-use Rattle.std.proofs.lemmas.List.{map-append, length-append}
+use Rattle.std.proofs.lemmas.List.{map-append}
 use Rattle.std.proofs.lemmas.List.Elements.{All-nil, All-cons, All-head, All-tail, All-push}
 use Rattle.rbg_wire.specs.Bytes.{LacksByte}
 use Rattle.rbg_wire.specs.declared.outcome.Outcome.{Outcome}
@@ -26,15 +25,15 @@ use Rattle.rbg_record.specs.declared.error.RecordError.TheVariants.{Form}
 use Rattle.rbg_record.specs.Records.{PlainMove, PlainRecord, plain, timed, plain_entry, made_entry, texts_of}
 use Rattle.rbg_record.specs.Right.{made_at, turn_config, told_play, IsRight, IsRightPlain, IsRightTimed}
 use Rattle.rbg_record.specs.Lines.{with_moment, unwritten_moment}
-use Rattle.rbg_record.specs.Judged.{BeginsWith, GoesOn}
+use Rattle.rbg_record.specs.Judged.{GoesOn}
 use Rattle.rbg_record.specs.Migration.{PlainPart, before_version, among_moves, behind_end, HasPlainForm, IsPlainSoFar, IsPlainFault, IsMigrated, migrated}
 use Rattle.rbg_record.specs.Migration as migration
-use Rattle.rbg_record.specs.internal.Migrating.{Migrates, IsMigratedSoFar, TellsMoves, TellsAll, IsTold, part_behind, head_texts, moves_texts, timed_texts}
+use Rattle.rbg_record.specs.internal.Migrating.{Migrates, IsMigratedSoFar, TellsAll, IsTold, part_behind, head_texts, timed_texts}
 use Rattle.rbg_record.specs.internal.Migrating as migrating
 use Rattle.rbg_record.proofs.Fitting.{fits_place, fits_unwritten}
 use Rattle.rbg_record.proofs.Leading.{unwritten_counted, all_first, all_last}
 use Rattle.rbg_record.proofs.OneEnd.{ends_early, not_formed}
-use Rattle.rbg_record.proofs.SoFarLemmas.{begins_more}
+use Rattle.rbg_record.proofs.SoFarLemmas.{cut_none, cut_more}
 use Rattle.rbg_record.proofs.Telling.{in_turn_more}
 
 -- one line
@@ -91,35 +90,27 @@ formed_more game texts text from to old new tells so_far (migrating.end spells t
 pub migrated_none : (game : AbstractGame) (bytes out : List ℕ) → out ≡ [] → IsMigratedSoFar game bytes before_version bytes 1 out
 migrated_none game bytes out none = record {
   texts = [];
-  begins = record { whole = All-nil (LacksByte line_feed); parts = refl };
-  number = refl;
+  cut = cut_none bytes;
   so_far = migration.none;
   told = (refl, none);
-  shorter = omega arith;
 }
 
 -- one more line
 pub migrated_more : (game : AbstractGame) (bytes : List ℕ) (from to : PlainPart) (rest text later : List ℕ) (line : ℕ) (old new : List ℕ) → IsMigratedSoFar game bytes from rest line old → IsFirstLine rest text later → Migrates game from text to old new → IsMigratedSoFar game bytes to later (line + 1) new
-migrated_more game bytes from to rest text later line old new so_far first migrates =
-    let left = ap length first.parts ∙ length-append text (line_feed ∷ later) in
-    let before = so_far.shorter in
-    let number : line + 1 ≡ length (so_far.texts ++ text ∷ []) + 1 = omega (arith, so_far.number, length-append so_far.texts (text ∷ [])) in
-    record {
-      texts = so_far.texts ++ text ∷ [];
-      begins = begins_more bytes so_far.texts text rest later so_far.begins first;
-      number = number;
-      so_far = formed_more game so_far.texts text from to old new so_far.told so_far.so_far migrates;
-      told = told_more game so_far.texts text from to old new so_far.told migrates;
-      shorter = omega arith;
-    }
+migrated_more game bytes from to rest text later line old new so_far first migrates = record {
+  texts = so_far.texts ++ text ∷ [];
+  cut = cut_more bytes so_far.texts text rest later line so_far.cut first;
+  so_far = formed_more game so_far.texts text from to old new so_far.told so_far.so_far migrates;
+  told = told_more game so_far.texts text from to old new so_far.told migrates;
+}
 
 -- the lines so far, where what is left is not of the form
 plain_fault : (game : AbstractGame) (bytes : List ℕ) (part : PlainPart) (rest : List ℕ) (line : ℕ) (out : List ℕ) → IsMigratedSoFar game bytes part rest line out → ¬ GoesOn (part ≡ behind_end) (HasPlainForm part) rest → IsPlainFault bytes line
 plain_fault game bytes part rest line out so_far stops = record {
   texts = so_far.texts;
   rest = rest;
-  begins = so_far.begins;
-  number = so_far.number;
+  begins = so_far.cut.begins;
+  number = so_far.cut.number;
   part = part;
   so_far = so_far.so_far;
   stops = stops;
@@ -200,7 +191,7 @@ migrated_whole game bytes part rest line out named so_far over none =
       told = record_told;
       before = record {
         has = All-push EntryHasSpelling (map plain_entry tells.moves) (End tells.outcome) tells.has tells.ends;
-        is = so_far.begins.parts ∙ ((λ i. lines_of (plain_texts i) ++ none i) ∙ append-nil (lines_of (texts_of (plain record_told))));
+        is = so_far.cut.begins.parts ∙ ((λ i. lines_of (plain_texts i) ++ none i) ∙ append-nil (lines_of (texts_of (plain record_told))));
       };
       after = record {
         has = (named, (omega arith, omega arith), All-push TimedHasSpelling (map made_entry (map (made_at 0) tells.moves)) end (moved_spelled tells.moves tells.has) (small_moment tells.outcome tells.ends));
@@ -212,7 +203,3 @@ migrated_whole game bytes part rest line out named so_far over none =
 -- the line that an error names
 pub form_line : {A : Type 0} (bytes : List ℕ) (m n : ℕ) → ◌≡◌ {A = Result A RecordError} (Err (Form m)) (Err (Form n)) → IsPlainFault bytes m → IsPlainFault bytes n
 form_line bytes m n same fault = let numbers : m ≡ n = cc in subst (λ (line : ℕ). IsPlainFault bytes line) numbers fault
-
-pub empty_rest : (rest : List ℕ) (empty : Bool) → empty ≡ (length rest == 0) → empty ≡ true → rest ≡ []
-empty_rest [] empty is holds = refl
-empty_rest (byte ∷ rest) empty is holds = let none : length (byte ∷ rest) ≡ 0 = eqb-true (length (byte ∷ rest)) 0 (sym is ∙ holds) in absurd (omega arith)

@@ -5,30 +5,33 @@ use Rattle.std.proofs.lemmas.Bool.{true≢false}
 use Rattle.std.proofs.lemmas.List.{length-append}
 use Rattle.std.proofs.lemmas.List.Elements.{All-nil, All-push}
 use Rattle.rbg_wire.specs.Bytes.{LacksByte}
+use Rattle.rbg_rules.specs.Moves.{AbstractPlace}
+use Rattle.rbg_rules.specs.Places.{IsPlaceOf}
 use Rattle.rbg_rules.specs.State.{AbstractGame}
 use Rattle.rbg_lines.specs.Lines.{IsFirstLine}
 use Rattle.rbg_wire.specs.Lines.{line_feed, lines_of}
 use Rattle.rbg_record.specs.declared.fault.Fault.{Fault}
 use Rattle.rbg_record.specs.declared.fault.Fault.TheVariants.{Form, Bad, Over, Memory}
-use Rattle.rbg_record.specs.Lines.{Reached, version_next, nothing_next, entry_next, HasForm, Leads, LeadTo}
+use Rattle.rbg_record.specs.Lines.{Reached, version_next, players_next, start_next, entry_next, nothing_next, HasForm, Leads, LeadTo}
 use Rattle.rbg_record.specs.Lines as lines
 use Rattle.rbg_record.specs.Judged.{BeginsWith, GoesOn, IsGoodByLines, IsFormFault, IsJudged}
 use Rattle.rbg_record.specs.internal.Faults.{told_at}
 use Rattle.rbg_record.specs.ByLine.{IsReachedIn, Refuses}
-use Rattle.rbg_record.specs.internal.SoFar.{IsReadSoFar}
+use Rattle.rbg_record.specs.Reaching.{place_in}
+use Rattle.rbg_record.specs.internal.SoFar.{IsCutSoFar, IsReadSoFar}
 use Rattle.rbg_record.proofs.Deciding.{last_line}
 use Rattle.rbg_record.proofs.OneEnd.{ends_early, not_formed}
 
 -- no line yet
-pub read_none : (game : AbstractGame) (bytes : List ℕ) → IsReadSoFar game bytes version_next bytes 1
-read_none game bytes = record {
-  texts = [];
+pub cut_none : (bytes : List ℕ) → IsCutSoFar bytes [] bytes 1
+cut_none bytes = record {
   begins = record { whole = All-nil (LacksByte line_feed); parts = refl };
   number = refl;
-  leads = lines.none;
-  in_game = tt;
   shorter = omega arith;
 }
+
+abbrev pub read_none : (game : AbstractGame) (bytes : List ℕ) → IsReadSoFar game bytes version_next bytes 1
+read_none game bytes = record { texts = []; cut = cut_none bytes; leads = lines.none; in_game = tt }
 
 -- one more line
 pub begins_more : (bytes : List ℕ) (texts : List (List ℕ)) (text rest later : List ℕ) → BeginsWith bytes texts rest → IsFirstLine rest text later → BeginsWith bytes (texts ++ text ∷ []) later
@@ -37,27 +40,40 @@ begins_more bytes texts text rest later begins first = record {
   parts = begins.parts ∙ (ap (λ more. lines_of texts ++ more) first.parts ∙ sym (last_line texts text later));
 }
 
-pub read_more : (game : AbstractGame) (bytes : List ℕ) (reached to : Reached) (rest text later : List ℕ) (line : ℕ) → IsReadSoFar game bytes reached rest line → IsFirstLine rest text later → Leads game reached text to → IsReachedIn game to → IsReadSoFar game bytes to later (line + 1)
-read_more game bytes reached to rest text later line so_far first leads in_game =
+pub cut_more : (bytes : List ℕ) (texts : List (List ℕ)) (text rest later : List ℕ) (line : ℕ) → IsCutSoFar bytes texts rest line → IsFirstLine rest text later → IsCutSoFar bytes (texts ++ text ∷ []) later (line + 1)
+cut_more bytes texts text rest later line cut first =
     let left = ap length first.parts ∙ length-append text (line_feed ∷ later) in
-    let old = so_far.shorter in
-    let number : line + 1 ≡ length (so_far.texts ++ text ∷ []) + 1 = omega (arith, so_far.number, length-append so_far.texts (text ∷ [])) in
+    let old = cut.shorter in
+    let number : line + 1 ≡ length (texts ++ text ∷ []) + 1 = omega (arith, cut.number, length-append texts (text ∷ [])) in
     record {
-      texts = so_far.texts ++ text ∷ [];
-      begins = begins_more bytes so_far.texts text rest later so_far.begins first;
+      begins = begins_more bytes texts text rest later cut.begins first;
       number = number;
-      leads = lines.more so_far.leads leads;
-      in_game = in_game;
       shorter = omega arith;
     }
+
+abbrev pub read_more : (game : AbstractGame) (bytes : List ℕ) (reached to : Reached) (rest text later : List ℕ) (line : ℕ) → IsReadSoFar game bytes reached rest line → IsFirstLine rest text later → Leads game reached text to → IsReachedIn game to → IsReadSoFar game bytes to later (line + 1)
+read_more game bytes reached to rest text later line so_far first leads in_game = record {
+  texts = so_far.texts ++ text ∷ [];
+  cut = cut_more bytes so_far.texts text rest later line so_far.cut first;
+  leads = lines.more so_far.leads leads;
+  in_game = in_game;
+}
+
+-- the place that is reached is one of the game
+pub place_in_game : (game : AbstractGame) (to : Reached) (before : AbstractPlace) → IsReachedIn game to → IsPlaceOf game before → IsPlaceOf game (place_in to before)
+place_in_game game version_next before reached_in in_game = in_game
+place_in_game game players_next before reached_in in_game = in_game
+place_in_game game start_next before reached_in in_game = in_game
+place_in_game game (entry_next standing) before reached_in in_game = reached_in
+place_in_game game nothing_next before reached_in in_game = in_game
 
 -- the lines so far, where what is left is not of the form
 form_fault : (game : AbstractGame) (bytes : List ℕ) (reached : Reached) (rest : List ℕ) (line : ℕ) → IsReadSoFar game bytes reached rest line → ¬ GoesOn (reached ≡ nothing_next) (HasForm reached) rest → IsFormFault game bytes line
 form_fault game bytes reached rest line so_far stops = record {
   texts = so_far.texts;
   rest = rest;
-  begins = so_far.begins;
-  number = so_far.number;
+  begins = so_far.cut.begins;
+  number = so_far.cut.number;
   reached = reached;
   leads = so_far.leads;
   stops = stops;
@@ -70,8 +86,8 @@ read_fault game bytes reached rest text later line Bad so_far first refuses = re
   texts = so_far.texts;
   text = text;
   rest = later;
-  begins = begins_more bytes so_far.texts text rest later so_far.begins first;
-  number = so_far.number;
+  begins = begins_more bytes so_far.texts text rest later so_far.cut.begins first;
+  number = so_far.cut.number;
   reached = reached;
   leads = so_far.leads;
   form = refuses.0;
@@ -81,8 +97,8 @@ read_fault game bytes reached rest text later line Over so_far first refuses = r
   texts = so_far.texts;
   text = text;
   rest = later;
-  begins = begins_more bytes so_far.texts text rest later so_far.begins first;
-  number = so_far.number;
+  begins = begins_more bytes so_far.texts text rest later so_far.cut.begins first;
+  number = so_far.cut.number;
   standing = refuses.standing;
   leads = subst (λ (to : Reached). LeadTo game so_far.texts to) refuses.here so_far.leads;
   told = refuses.told;
@@ -97,7 +113,7 @@ read_fault game bytes reached rest text later line Memory so_far first refuses =
 pub read_good : (game : AbstractGame) (bytes : List ℕ) (reached : Reached) (rest : List ℕ) (line : ℕ) → IsReadSoFar game bytes reached rest line → reached ≡ nothing_next → rest ≡ [] → IsGoodByLines game bytes
 read_good game bytes reached rest line so_far over none = record {
   texts = so_far.texts;
-  begins = subst (λ (left : List ℕ). BeginsWith bytes so_far.texts left) none so_far.begins;
+  begins = subst (λ (left : List ℕ). BeginsWith bytes so_far.texts left) none so_far.cut.begins;
   leads = subst (λ (to : Reached). LeadTo game so_far.texts to) over so_far.leads;
 }
 

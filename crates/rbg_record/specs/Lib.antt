@@ -4,6 +4,7 @@ pub mod Right
 pub mod Lines
 pub mod Judged
 pub mod ByLine
+pub mod Reaching
 pub mod Migration
 pub mod OfMatch
 pub mod Laws

@@ -3,7 +3,7 @@ ghost use Rattle.std.specs.Prelude.{◌≡◌, ◌↔◌, ℕ, IfOk, Err, Ok};
 ghost use Rattle.rbg_record.specs.Judged.{IsBadLine, IsFormFault, IsHeavyLine, IsJudged};
 ghost use Rattle.rbg_record.specs.Right.{IsRightRecord};
 
-use crate::reached::{Reached, is_over};
+use crate::reached::Reached;
 use crate::reading::read_line;
 use crate::{Checked, RecordError};
 use rbg_lines::next_line;
@@ -42,7 +42,7 @@ fn judge_lines(game: &PlayedGame, bytes: &[u8]) -> Result<Checked, RecordError>
         rest = later;
         line += 1;
     }
-    let over = is_over(&reached);
+    let over = reached.is_over();
     if over && rest.is_empty() {
         Ok(Checked::Good)
     } else {

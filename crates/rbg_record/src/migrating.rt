@@ -1,5 +1,5 @@
 //! Making version 2 of a record of version 1.
-ghost use Rattle.std.specs.Prelude.{◌≡◌, ◌++◌, ◌↔◌, ℕ, take, codes, Err, IfOk, IfSome, IfNone, OnOk, IsTrue};
+ghost use Rattle.std.specs.Prelude.{◌≡◌, ◌++◌, ◌↔◌, ℕ, Err, IfOk, IfSome, IfNone, OnOk, IsTrue};
 ghost use Rattle.rbg_lines.specs.Entries.{timed_text};
 ghost use Rattle.rbg_wire.specs.Lines.{line_of, lines_of};
 ghost use Rattle.rbg_rules.specs.State.{AbstractGame};
@@ -13,8 +13,8 @@ use crate::moments::unwritten;
 use crate::players::write_players;
 use rbg_base::Memory;
 use rbg_lines::{
-    Entry, Start, Version, next_line, read_entry, read_version, write_end, write_move, write_start,
-    write_version,
+    Entry, Start, Version, next_line, read_entry, read_version, write_end_line, write_move_line,
+    write_start, write_version,
 };
 use rbg_rules::Game;
 use std::alloc::Global;
@@ -132,11 +132,11 @@ fn write_entry(entry: &Entry, out: &mut Vec<u8>) -> Result<Part, Memory>
 {
     match entry {
         Entry::Move { player, pairs } => {
-            write_move(Some(0), *player, pairs, out)?;
+            write_move_line(Some(0), *player, pairs, out)?;
             Ok(Part::Moves)
         }
         Entry::End { outcome } => {
-            write_end(Some(unwritten(entry)), *outcome, out)?;
+            write_end_line(Some(unwritten(entry)), *outcome, out)?;
             Ok(Part::Nothing)
         }
     }

@@ -1,9 +1,10 @@
 //! What the lines of a record so far lead to.
-
-ghost use Rattle.std.specs.Prelude.{◌≡◌, ◌↔◌, IsTrue};
+ghost use Rattle.std.specs.Prelude.{◌≡◌, ◌↔◌, IfOk, IsTrue};
 ghost use Rattle.rbg_record.specs.Lines.{nothing_next};
 ghost use Rattle.rbg_record.specs.ByLine.{reached_of};
+ghost use Rattle.rbg_record.specs.Reaching.{place_in};
 
+use rbg_base::Memory;
 use rbg_lines::Version;
 use rbg_moves::Place;
 
@@ -34,9 +35,24 @@ pub enum Reached {
     Nothing,
 }
 
-/// Whether the end was read.
-pub(crate) fn is_over(reached: &Reached) -> bool
-    ensures { IsTrue result ↔ (reached_of reached.now ≡ nothing_next) }
-{
-    matches!(reached, Reached::Nothing)
+impl Reached {
+    /// Whether the end was read.
+    pub fn is_over(&self) -> bool
+        ensures { IsTrue result ↔ (reached_of self.now ≡ nothing_next) }
+    {
+        matches!(self, Reached::Nothing)
+    }
+
+    /// A copy of the place to which the last line leads, or else the one before it.
+    pub fn place_or(&self, before: Place) -> Result<Place, Memory>
+        ensures { IfOk result (λ place. place ≡ place_in (reached_of self.now) before) }
+    {
+        match self {
+            Reached::Entry(standing) => standing.place.try_clone(),
+            Reached::Version => Ok(before),
+            Reached::Players => Ok(before),
+            Reached::Start => Ok(before),
+            Reached::Nothing => Ok(before),
+        }
+    }
 }

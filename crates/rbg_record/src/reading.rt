@@ -1,9 +1,9 @@
 //! The lines of a record in turn: each is read, and then judged behind those before it.
-ghost use Rattle.std.specs.Prelude.{◌≡◌, ◌≤◌, Some, IfErr, IfOk, IfSome, IfNone};
+ghost use Rattle.std.specs.Prelude.{◌≡◌, ◌↔◌, ◌≤◌, Some, IfErr, IfOk, IfSome, IfNone, IsTrue};
 ghost use Rattle.rbg_rules.specs.Places.{IsPlaceOf};
 ghost use Rattle.rbg_lines.specs.declared.entry.Timed.{Timed as AnyTimed};
 ghost use Rattle.rbg_lines.specs.declared.entry.Entry.TheVariants.{End as EndEntry, Move as MoveEntry};
-ghost use Rattle.rbg_wire.specs.declared.outcome.Outcome.TheVariants.{Finished};
+ghost use Rattle.rbg_wire.specs.declared.outcome.Outcome.TheVariants.{Heavy};
 ghost use Rattle.rbg_match.specs.Limits.{latest_moment};
 ghost use Rattle.rbg_record.specs.Judged.{FitsUnasked};
 ghost use Rattle.rbg_record.specs.Lines.{
@@ -16,7 +16,7 @@ ghost use Rattle.rbg_record.specs.Lines.{
   entry_next,
 };
 ghost use Rattle.rbg_record.specs.ByLine.{IsReachedIn, Refuses, RefusesEntry, reached_of, standing_of};
-ghost use Rattle.rbg_record.specs.internal.Reading.{LeavesTurn};
+ghost use Rattle.rbg_record.specs.internal.Reading.{EndsSo};
 
 use crate::asking::{are_players, are_scores, is_finished, try_move};
 use crate::fault::Fault;
@@ -26,8 +26,8 @@ use rbg_lines::{
     Entry, Timed, Version, read_entry, read_players, read_start, read_timed, read_version,
 };
 use rbg_match::LATEST_MOMENT;
-use rbg_moves::{Move, PlayedGame};
-use rbg_wire::{Outcome, Scores};
+use rbg_moves::{Move, Place, PlayedGame};
+use rbg_wire::Outcome;
 
 /// What a line leads to behind the lines so far, of which the first is read behind `Reached::Version`. Whoever reads a
 /// record line by line by this call takes the same ones as `check_record`.
@@ -177,7 +177,7 @@ fn make_move(
     }
 }
 
-/// Nothing comes next, if the outcome fits the place.
+/// Nothing comes next, if the match could end so.
 fn end(
     game: &PlayedGame,
     standing: &Standing,
@@ -193,76 +193,35 @@ fn end(
     ensures refused { IfErr result (RefusesEntry game.now (standing_of standing.now)
         (record { at = at; entry = EndEntry outcome })) }
 {
-    match outcome {
-        None => leave(game, standing, at, None),
-        Some(outcome) => end_with(game, standing, at, outcome),
+    if is_heavy(&outcome) {
+        return Ok(Reached::Nothing);
     }
-}
-
-/// Nothing comes next, if the match could end so.
-fn end_with(
-    game: &PlayedGame,
-    standing: &Standing,
-    at: u64,
-    outcome: Outcome,
-) -> Result<Reached, Fault>
-    requires place { IsPlaceOf game.now standing.now.place }
-    requires counted { at ≤ latest_moment }
-    requires fits { FitsUnasked game.now (standing_of standing.now) at (EndEntry (Some outcome)) }
-    ensures leads { IfOk result (λ to. EntryLeads game.now (standing_of standing.now)
-        (record { at = at; entry = EndEntry (Some outcome) }) (reached_of to)) }
-    ensures in_game { IfOk result (λ to. IsReachedIn game.now (reached_of to)) }
-    ensures refused { IfErr result (RefusesEntry game.now (standing_of standing.now)
-        (record { at = at; entry = EndEntry (Some outcome) })) }
-{
-    match outcome {
-        Outcome::Finished { scores } => finish(game, standing, at, scores),
-        Outcome::Time { .. } => leave(game, standing, at, Some(outcome)),
-        Outcome::Refusals { .. } => leave(game, standing, at, Some(outcome)),
-        Outcome::Gone { .. } => leave(game, standing, at, Some(outcome)),
-        Outcome::Heavy => Ok(Reached::Nothing),
-    }
-}
-
-/// Nothing comes next, if play is finished with these scores.
-fn finish(game: &PlayedGame, standing: &Standing, at: u64, scores: Scores) -> Result<Reached, Fault>
-    requires place { IsPlaceOf game.now standing.now.place }
-    requires counted { at ≤ latest_moment }
-    requires fits { at ≡ standing.now.last }
-    ensures leads { IfOk result (λ to. EntryLeads game.now (standing_of standing.now)
-        (record { at = at; entry = EndEntry (Some (Finished scores)) }) (reached_of to)) }
-    ensures in_game { IfOk result (λ to. IsReachedIn game.now (reached_of to)) }
-    ensures refused { IfErr result (RefusesEntry game.now (standing_of standing.now)
-        (record { at = at; entry = EndEntry (Some (Finished scores)) })) }
-{
     let finished = is_finished(game, &standing.place)?;
-    if finished && are_scores(game, &standing.place, &scores) {
+    if ends_so(game, &standing.place, finished, &outcome) {
         Ok(Reached::Nothing)
     } else {
         Err(Fault::Bad)
     }
 }
 
-/// Nothing comes next, if a player that is to move has a legal move.
-fn leave(
-    game: &PlayedGame,
-    standing: &Standing,
-    at: u64,
-    outcome: Option<Outcome>,
-) -> Result<Reached, Fault>
-    requires place { IsPlaceOf game.now standing.now.place }
-    requires counted { at ≤ latest_moment }
-    requires fits { FitsUnasked game.now (standing_of standing.now) at (EndEntry outcome) }
-    requires turn { LeavesTurn outcome }
-    ensures leads { IfOk result (λ to. EntryLeads game.now (standing_of standing.now)
-        (record { at = at; entry = EndEntry outcome }) (reached_of to)) }
-    ensures in_game { IfOk result (λ to. IsReachedIn game.now (reached_of to)) }
-    ensures refused { IfErr result (RefusesEntry game.now (standing_of standing.now)
-        (record { at = at; entry = EndEntry outcome })) }
+/// Whether a question was too heavy to be answered.
+fn is_heavy(outcome: &Option<Outcome>) -> bool
+    ensures { IsTrue result ↔ (outcome.now ≡ Some Heavy) }
 {
-    if is_finished(game, &standing.place)? {
-        Err(Fault::Bad)
-    } else {
-        Ok(Reached::Nothing)
+    matches!(outcome, Some(Outcome::Heavy))
+}
+
+/// Whether the match could end so at a place, given whether play is finished there.
+fn ends_so(game: &PlayedGame, place: &Place, finished: bool, outcome: &Option<Outcome>) -> bool
+    requires { IsPlaceOf game.now place.now }
+    ensures { IsTrue result ↔ EndsSo game.now place.now finished outcome.now }
+{
+    match outcome {
+        Some(Outcome::Finished { scores }) => finished && are_scores(game, place, scores),
+        Some(Outcome::Heavy) => true,
+        Some(Outcome::Time { .. }) => !finished,
+        Some(Outcome::Refusals { .. }) => !finished,
+        Some(Outcome::Gone { .. }) => !finished,
+        None => !finished,
     }
 }

@@ -1,5 +1,5 @@
 //! Writing the record of a match.
-ghost use Rattle.std.specs.Prelude.{◌≡◌, ◌++◌, IfOk, OnOk, codes};
+ghost use Rattle.std.specs.Prelude.{◌≡◌, ◌++◌, IfOk, OnOk};
 ghost use Rattle.std.specs.List.{flat_map};
 ghost use Rattle.rbg_match.specs.Matches.{HasHistory};
 ghost use Rattle.rbg_wire.specs.Lines.{line_of};
@@ -10,7 +10,7 @@ ghost use Rattle.rbg_record.specs.internal.Written.{entries_bytes, made_text, to
 
 use crate::players::write_players;
 use rbg_base::Memory;
-use rbg_lines::{Start, Version, write_end, write_move, write_start, write_version};
+use rbg_lines::{Start, Version, write_end_line, write_move_line, write_start, write_version};
 use rbg_match::{Made, Match};
 use std::alloc::Global;
 
@@ -53,7 +53,7 @@ fn write_entries(version: Version, played: &Match, out: &mut Vec<u8>) -> Result<
     ensures { OnOk result (out.new.items ≡ out.old.items ++ entries_bytes version played.now) }
 {
     write_moves(version, played.made(), out)?;
-    write_end(moment_in(version, played.moment()), played.outcome(), out)
+    write_end_line(moment_in(version, played.moment()), played.outcome(), out)
 }
 
 fn write_moves(version: Version, moves: &[Made], out: &mut Vec<u8>) -> Result<(), Memory>
@@ -62,7 +62,7 @@ fn write_moves(version: Version, moves: &[Made], out: &mut Vec<u8>) -> Result<()
         ++ flat_map (λ made. line_of (made_text version made)) moves.now) }
 {
     for made in moves {
-        write_move(
+        write_move_line(
             moment_in(version, made.at),
             u64::from(made.player),
             &made.pairs,

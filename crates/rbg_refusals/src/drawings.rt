@@ -36,7 +36,7 @@ fn shown(alloc: Global) -> Result<Shown, Stop> {
     match tokens(alloc, GAME) {
         Ok(tokens) => {
             let loaded = load_with_layout(alloc, &tokens)?;
-            Ok(show(alloc, &loaded, SCRIPT, false)?)
+            Ok(show(alloc, loaded, SCRIPT, false)?)
         }
         Err(error) => Err(Stop::from(LoadError::Text(error))),
     }

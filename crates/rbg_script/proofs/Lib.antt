@@ -6,3 +6,4 @@ pub mod LineLemmas
 pub mod Marks
 pub mod Parts
 pub mod ScriptLemmas
+pub mod WholeLines

@@ -1,16 +1,15 @@
 -- Inputs that are cut at the line `%%`.
-use Rattle.std.proofs.Common.{◌≡◌, ◌≢◌, ℕ, ◌+◌, ◌-◌, ◌≤◌, inl, inr, List, [], ◌∷◌, ◌++◌, length, take, ap, sym, ◌∙◌, refl, subst, append_assoc, arith}
+use Rattle.std.proofs.Common.{◌≡◌, ◌≢◌, ℕ, ◌+◌, ◌-◌, inl, inr, List, [], ◌∷◌, ◌++◌, length, take, ap, sym, ◌∙◌, refl, subst, append_assoc, arith}
 use Rattle.std.specs.Prelude.{All}
-use Rattle.std.proofs.lemmas.List.{length-append}
 use Rattle.std.proofs.lemmas.List.Elements.{All-nil, All-cons, All-append, All-head, All-tail}
-use Rattle.std.proofs.Math.Seq.{take-append_seam}
 use Rattle.rbg_wire.specs.Bytes.{LacksByte}
 use Rattle.rbg_wire.specs.Lines.{line_of, lines_of}
 use Rattle.rbg_wire.proofs.ByteLemmas.{no_cut, same_cut}
 use Rattle.rbg_script.specs.Inputs.{IsInput, mark}
 use Rattle.rbg_script.specs.Laws.{InputsAreApart}
 use Rattle.rbg_script.specs.internal.Reading.{Unmarked}
-use Rattle.rbg_script.proofs.LineLemmas.{first_shape, more_lines, same_lines}
+use Rattle.rbg_script.proofs.LineLemmas.{first_shape, same_lines}
+use Rattle.rbg_script.proofs.WholeLines.{before_left, whole_at_first, whole_more}
 
 mark_lacks : LacksByte 10 mark
 mark_lacks =
@@ -70,55 +69,43 @@ inputs_apart input d e s t h k = elim h.parts [
 
 -- The loop over the lines of an input.
 pub nothing_passed : (input : List ℕ) → Unmarked input input
-nothing_passed input = record {
-  lines = [];
-  parts = refl;
-  whole = All-nil (LacksByte 10);
-  unmarked = All-nil (λ line. line ≢ mark);
-}
+nothing_passed input = record { far = whole_at_first input; unmarked = All-nil (λ line. line ≢ mark) }
 
 pub passed_more : (input left line rest : List ℕ) → Unmarked input left → left ≡ line ++ 10 ∷ rest → LacksByte 10 line → (line ≡ mark → ⊥) → Unmarked input rest
-passed_more input left line rest far is lacks other = record {
-  lines = far.lines ++ line ∷ [];
-  parts = far.parts ∙ (ap (λ l. lines_of far.lines ++ l) is ∙ sym (more_lines far.lines line rest));
-  whole = All-append (LacksByte 10) far.lines (line ∷ []) far.whole (All-cons (LacksByte 10) line [] lacks (All-nil (LacksByte 10)));
-  unmarked = All-append (λ l. l ≢ mark) far.lines (line ∷ []) far.unmarked (All-cons (λ l. l ≢ mark) line [] other (All-nil (λ l. l ≢ mark)));
+passed_more input left line rest passed is lacks other = record {
+  far = whole_more input left line rest passed.far is lacks;
+  unmarked = All-append (λ l. l ≢ mark) passed.far.lines (line ∷ []) passed.unmarked (All-cons (λ l. l ≢ mark) line [] other (All-nil (λ l. l ≢ mark)));
 }
-
-pub left_within : (input left : List ℕ) → Unmarked input left → length left ≤ length input
-left_within input left far =
-    let whole : length input ≡ length (lines_of far.lines) + length left = ap length far.parts ∙ length-append (lines_of far.lines) left in
-    omega (arith, whole)
-
-before_left : (input left : List ℕ) → (far : Unmarked input left) → take (length input - length left) input ≡ lines_of far.lines
-before_left input left far =
-    let whole : length input ≡ length (lines_of far.lines) + length left = ap length far.parts ∙ length-append (lines_of far.lines) left in
-    let count : length input - length left ≡ length (lines_of far.lines) = omega (arith, whole) in
-    ap (λ n. take n input) count ∙ (ap (take (length (lines_of far.lines))) far.parts ∙ take-append_seam (lines_of far.lines) left)
 
 pub found_mark : (input left line rest description script : List ℕ) → Unmarked input left → left ≡ line ++ 10 ∷ rest → line ≡ mark → description ≡ take (length input - length left) input → script ≡ rest → IsInput input description script
-found_mark input left line rest description script far is marked described follows = record {
-  lines = far.lines;
-  described = described ∙ before_left input left far;
-  whole = far.whole;
-  unmarked = far.unmarked;
-  parts = inl (
-      far.parts ∙ (ap (λ l. lines_of far.lines ++ l) is ∙ (ap (λ l. lines_of far.lines ++ (l ++ 10 ∷ rest)) marked
-      ∙ (ap (λ r. lines_of far.lines ++ (mark ++ 10 ∷ r)) (sym follows) ∙ (ap (λ d. d ++ (mark ++ 10 ∷ script)) (sym (described ∙ before_left input left far)) ∙ sym (marked_shape description script)))))
-      );
-}
+found_mark input left line rest description script passed is marked described follows =
+    let far = passed.far in
+    let told = described ∙ before_left input left far in
+    record {
+      lines = far.lines;
+      described = told;
+      whole = far.whole;
+      unmarked = passed.unmarked;
+      parts = inl (
+          far.parts ∙ (ap (λ l. lines_of far.lines ++ l) is ∙ (ap (λ l. lines_of far.lines ++ (l ++ 10 ∷ rest)) marked
+          ∙ (ap (λ r. lines_of far.lines ++ (mark ++ 10 ∷ r)) (sym follows) ∙ (ap (λ d. d ++ (mark ++ 10 ∷ script)) (sym told) ∙ sym (marked_shape description script)))))
+          );
+    }
 
 pub found_last : (input left description script : List ℕ) → Unmarked input left → left ≡ mark → description ≡ take (length input - length left) input → script ≡ [] → IsInput input description script
-found_last input left description script far marked described empty = record {
-  lines = far.lines;
-  described = described ∙ before_left input left far;
-  whole = far.whole;
-  unmarked = far.unmarked;
-  parts = inr (far.parts ∙ (ap (λ l. lines_of far.lines ++ l) marked ∙ ap (λ d. d ++ mark) (sym (described ∙ before_left input left far))), empty);
-}
+found_last input left description script passed marked described empty =
+    let far = passed.far in
+    let told = described ∙ before_left input left far in
+    record {
+      lines = far.lines;
+      described = told;
+      whole = far.whole;
+      unmarked = passed.unmarked;
+      parts = inr (far.parts ∙ (ap (λ l. lines_of far.lines ++ l) marked ∙ ap (λ d. d ++ mark) (sym told)), empty);
+    }
 
 pub not_marked : (input left : List ℕ) → Unmarked input left → LacksByte 10 left → (left ≡ mark → ⊥) → (description script : List ℕ) → IsInput input description script → ⊥
-not_marked input left far lacks other description script h = elim h.parts [
-  | inl more ↦ no_mark far.lines h.lines left script far.whole far.unmarked lacks h.whole (sym far.parts ∙ with_feed input description script h.lines h.described more)
-  | inr ending ↦ other (same_lines far.lines h.lines left mark far.whole h.whole lacks mark_lacks (sym far.parts ∙ at_end input description h.lines h.described ending.0)).1
+not_marked input left passed lacks other description script h = elim h.parts [
+  | inl more ↦ no_mark passed.far.lines h.lines left script passed.far.whole passed.unmarked lacks h.whole (sym passed.far.parts ∙ with_feed input description script h.lines h.described more)
+  | inr ending ↦ other (same_lines passed.far.lines h.lines left mark passed.far.whole h.whole lacks mark_lacks (sym passed.far.parts ∙ at_end input description h.lines h.described ending.0)).1
 ]

@@ -1,7 +1,6 @@
 -- Scripts as lists of lines, and the lines that are not of their form.
 use Rattle.std.proofs.Common.{◌≡◌, ℕ, ◌+◌, ◌⊎◌, inl, inr, Bool, true, false, Result, Ok, Err, IfOk, List, [], ◌∷◌, ◌++◌, length, ap, sym, ◌∙◌, refl, subst, append_assoc, append-nil, arith}
 use Rattle.std.specs.Prelude.{IfErr, IsErrAnd, MatchResult, ◌==◌}
-use Rattle.std.proofs.lemmas.Bool.{eqb-true}
 use Rattle.std.specs.List.{AllZip}
 use Rattle.rbg_base.proofs.CallerLemmas.{AllZip-push_one}
 use Rattle.rbg_script.specs.declared.config.ScriptConfig.{ScriptConfig}
@@ -214,7 +213,3 @@ not_empty rest empty is fails none =
     let holds : (length rest == 0) ≡ true = ap (λ (left : List ℕ). length left == 0) none in
     let apart : true ≡ false = sym holds ∙ (sym is ∙ fails) in
     cc
-
-pub empty_rest : (rest : List ℕ) (empty : Bool) → empty ≡ (length rest == 0) → empty ≡ true → rest ≡ []
-empty_rest [] empty is holds = refl
-empty_rest (byte ∷ rest) empty is holds = let none : length (byte ∷ rest) ≡ 0 = eqb-true (length (byte ∷ rest)) 0 (sym is ∙ holds) in absurd (omega arith)

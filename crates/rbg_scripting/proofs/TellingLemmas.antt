@@ -1,14 +1,12 @@
 -- A record is told line by line.
-use Rattle.std.proofs.Common.{◌≡◌, ℕ, ◌+◌, List, [], ◌∷◌, ◌++◌, length, Option, Some, None, Result, Err, refl, sym, ap, ◌∙◌, subst, arith, append-nil, append_assoc}
+use Rattle.std.proofs.Common.{◌≡◌, ℕ, ◌+◌, List, [], ◌∷◌, ◌++◌, Option, Some, None, Result, Err, refl, sym, ap, ◌∙◌, subst, arith, append-nil, append_assoc}
 use Rattle.std.specs.Prelude.{IfSome}
 use Rattle.std.specs.List.{flat_map}
 use Rattle.std.proofs.lemmas.Grind.{flat_map-append}
-use Rattle.std.proofs.lemmas.List.{length-append}
 use Rattle.std.proofs.lemmas.List.Elements.{All-nil, All-cons, All-push}
 use Rattle.rbg_base.proofs.CallerLemmas.{AllZip-push_one}
 use Rattle.rbg_wire.specs.Bytes.{LacksByte}
 use Rattle.rbg_wire.specs.Lines.{line_feed, line_of, lines_of}
-use Rattle.rbg_wire.proofs.ByteLemmas.{no_cut}
 use Rattle.rbg_lines.specs.declared.entry.Entry.{Entry}
 use Rattle.rbg_lines.specs.declared.entry.Entry.TheVariants.{Move, End}
 use Rattle.rbg_lines.specs.declared.entry.Timed.{Timed}
@@ -18,11 +16,10 @@ use Rattle.rbg_lines.specs.declared.heading.Version.TheVariants.{One, Two}
 use Rattle.rbg_lines.specs.Heading.{version_text, SpellsPlayers, SpellsStart}
 use Rattle.rbg_lines.specs.Lines.{IsFirstLine}
 use Rattle.rbg_match.specs.Config.{IsWithinLimits}
-use Rattle.rbg_record.specs.Judged.{BeginsWith, GoesOn}
-use Rattle.rbg_record.specs.Judged as judged
+use Rattle.rbg_record.specs.Judged.{GoesOn}
 use Rattle.rbg_record.specs.Lines.{SpellsIn}
-use Rattle.rbg_record.proofs.OneEnd.{one_first, no_line}
-use Rattle.rbg_record.proofs.SoFarLemmas.{begins_more}
+use Rattle.rbg_record.proofs.OneEnd.{ends_early, not_formed}
+use Rattle.rbg_record.proofs.SoFarLemmas.{cut_none, cut_more}
 use Rattle.rbg_script.specs.declared.config.ScriptConfig.{ScriptConfig}
 use Rattle.rbg_script.specs.Config.{ConfigHasSpelling, config_text}
 use Rattle.rbg_script.specs.Scripts.{SpellsScript}
@@ -33,7 +30,7 @@ use Rattle.rbg_scripting.specs.declared.error.ScriptingError.{ScriptingError}
 use Rattle.rbg_scripting.specs.declared.error.ScriptingError.TheVariants.{Form}
 use Rattle.rbg_scripting.specs.declared.part.Part.{Part}
 use Rattle.rbg_scripting.specs.declared.part.Part.TheVariants as parts
-use Rattle.rbg_scripting.specs.Scripting.{HasForm, IsHead, head_1, head_2, IsMove, IsNoRecord, IsScriptOfRecord, LeadsOn, LeadThere, config_at, events_in, turns_of}
+use Rattle.rbg_scripting.specs.Scripting.{HasForm, head_1, head_2, IsMove, IsNoRecord, IsScriptOfRecord, LeadsOn, config_at, events_in, turns_of}
 use Rattle.rbg_scripting.specs.Scripting as scripting
 use Rattle.rbg_scripting.specs.internal.Telling.{IsTold, IsToldSoFar, TellsEntries, TellsEvents, TellsNext, TellsWhole, part_behind}
 use Rattle.rbg_scripting.proofs.EventLines.{tells_nothing, tells_both}
@@ -141,35 +138,27 @@ entry_told version text told to old new spells events is =
 pub told_none : (bytes out : List ℕ) → out ≡ [] → IsToldSoFar bytes parts.Version bytes 1 out
 told_none bytes out none = record {
   texts = [];
-  begins = record { whole = All-nil (LacksByte line_feed); parts = refl };
-  number = refl;
+  cut = cut_none bytes;
   leads = scripting.none;
   told = (refl, none);
-  shorter = omega arith;
 }
 
 -- one line more
 pub told_more : (bytes : List ℕ) (from to : Part) (rest text later : List ℕ) (line : ℕ) (old new : List ℕ) → IsToldSoFar bytes from rest line old → IsFirstLine rest text later → TellsNext from text to old new → IsToldSoFar bytes to later (line + 1) new
-told_more bytes from to rest text later line old new so_far first next =
-    let left = ap length first.parts ∙ length-append text (line_feed ∷ later) in
-    let before = so_far.shorter in
-    let number : line + 1 ≡ length (so_far.texts ++ text ∷ []) + 1 = omega (arith, so_far.number, length-append so_far.texts (text ∷ [])) in
-    record {
-      texts = so_far.texts ++ text ∷ [];
-      begins = begins_more bytes so_far.texts text rest later so_far.begins first;
-      number = number;
-      leads = scripting.more so_far.leads next.leads;
-      told = next.told so_far.texts so_far.told;
-      shorter = omega arith;
-    }
+told_more bytes from to rest text later line old new so_far first next = record {
+  texts = so_far.texts ++ text ∷ [];
+  cut = cut_more bytes so_far.texts text rest later line so_far.cut first;
+  leads = scripting.more so_far.leads next.leads;
+  told = next.told so_far.texts so_far.told;
+}
 
 -- what follows the lines so far is not of the form
 no_more : (bytes : List ℕ) (part : Part) (rest : List ℕ) (line : ℕ) (out : List ℕ) → IsToldSoFar bytes part rest line out → (GoesOn (part ≡ parts.Nothing) (HasForm part) rest → ⊥) → IsNoRecord bytes line
 no_more bytes part rest line out so_far stops = record {
   texts = so_far.texts;
   rest = rest;
-  begins = so_far.begins;
-  number = so_far.number;
+  begins = so_far.cut.begins;
+  number = so_far.cut.number;
   part = part;
   leads = so_far.leads;
   stops = stops;
@@ -177,19 +166,11 @@ no_more bytes part rest line out so_far stops = record {
 
 -- a line that is not of the form
 pub told_fault : (bytes : List ℕ) (part : Part) (rest text later : List ℕ) (line : ℕ) (out : List ℕ) → IsToldSoFar bytes part rest line out → IsFirstLine rest text later → (HasForm part text → ⊥) → IsNoRecord bytes line
-told_fault bytes part rest text later line out so_far first wrong = no_more bytes part rest line out so_far stops
-  where
-    stops : GoesOn (part ≡ parts.Nothing) (HasForm part) rest → ⊥
-    stops (judged.nothing_left over none) = no_line text later (sym first.parts ∙ none)
-    stops (judged.one_more text' later' first' form) = wrong (subst (HasForm part) (one_first rest text' text later' later first' first).0 form)
+told_fault bytes part rest text later line out so_far first wrong = no_more bytes part rest line out so_far (not_formed (part ≡ parts.Nothing) (HasForm part) rest text later first wrong)
 
 -- no line is left, but the record has not ended, or some bytes are left
 pub told_short : (bytes : List ℕ) (part : Part) (rest : List ℕ) (line : ℕ) (out : List ℕ) → IsToldSoFar bytes part rest line out → LacksByte line_feed rest → (part ≡ parts.Nothing → rest ≡ [] → ⊥) → IsNoRecord bytes line
-told_short bytes part rest line out so_far lacks going = no_more bytes part rest line out so_far stops
-  where
-    stops : GoesOn (part ≡ parts.Nothing) (HasForm part) rest → ⊥
-    stops (judged.nothing_left over none) = going over none
-    stops (judged.one_more text later first form) = no_cut line_feed text later (subst (LacksByte line_feed) first.parts lacks)
+told_short bytes part rest line out so_far lacks going = no_more bytes part rest line out so_far (ends_early (part ≡ parts.Nothing) (HasForm part) rest lacks going)
 
 -- all lines
 script_is : (config : ScriptConfig) (has : ConfigHasSpelling config) (events : List AbstractEvent) (out : List ℕ) → TellsEvents events (line_of (config_text config)) out → SpellsScript out (record { config = config; events = events })
@@ -220,7 +201,7 @@ whole_told bytes texts out is tells = record {
 pub told_whole : (bytes : List ℕ) (part : Part) (rest : List ℕ) (line : ℕ) (out : List ℕ) → IsToldSoFar bytes part rest line out → part ≡ parts.Nothing → rest ≡ [] → IsScriptOfRecord bytes out
 told_whole bytes part rest line out so_far over none =
     let tells : TellsWhole so_far.texts out = subst (λ (one : Part). IsTold one so_far.texts out) over so_far.told in
-    whole_told bytes so_far.texts out (so_far.begins.parts ∙ ap (λ (left : List ℕ). lines_of so_far.texts ++ left) none ∙ append-nil (lines_of so_far.texts)) tells
+    whole_told bytes so_far.texts out (so_far.cut.begins.parts ∙ ap (λ (left : List ℕ). lines_of so_far.texts ++ left) none ∙ append-nil (lines_of so_far.texts)) tells
 
 -- what comes behind the players
 pub players_so : (part : Part) (result : Option Part) (text out : List ℕ) → part ≡ parts.Players → IfSome result (λ next. (old : List ℕ) → TellsNext parts.Players text next old old) → IfSome result (λ next. TellsNext part text next out out)

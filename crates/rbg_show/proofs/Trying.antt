@@ -1,10 +1,11 @@
 -- What comes of moves that are tried.
-use Rattle.std.proofs.Common.{◌≡◌, ◌≢◌, ◌<◌, ◌≤◌, ◌+◌, ◌⊎◌, ℕ, List, [], ◌∷◌, ◌++◌, length, take, drop, get_or, Bool, true, false, IfSome, Contains, Result, Ok, Err, inl, inr, subst, sym, refl, ap, ◌∙◌, arith}
+use Rattle.std.proofs.Common.{◌≡◌, ◌≢◌, ◌<◌, ◌≤◌, ◌+◌, ◌⊎◌, ℕ, List, [], ◌∷◌, ◌++◌, length, take, drop, get_or, Bool, true, false, IfSome, Contains, Option, Some, None, Result, Ok, Err, inl, inr, subst, sym, refl, ap, ◌∙◌, arith}
 use Rattle.std.proofs.lemmas.List.{take-append-drop, drop_more, length-append, take_all}
 use Rattle.std.proofs.lemmas.List.Elements.{All-more, All-same, Contains-get_or}
+use Rattle.std.specs.Prelude.{IfNone, is_some}
 use Rattle.std.specs.Result.{IsErrAnd}
 use Rattle.std.proofs.lemmas.Bool.{false≢true}
-use Rattle.rbg_rules.specs.Moves.{Finished}
+use Rattle.rbg_rules.specs.Moves.{Finished, IsLegal}
 use Rattle.rbg_rules.specs.Heavy.{IsHeavyToFind}
 use Rattle.rbg_moves.specs.declared.unsettled.Unsettled.{Unsettled}
 use Rattle.rbg_moves.specs.Limits.{most_keeper_moves}
@@ -119,3 +120,20 @@ pub settled_keeper : (from to : Playing) (made : Bool) → TellsOne [] from to m
 settled_keeper from to made told keeper =
     let rests = rests_without from to made told in
     record { makes = rests; going = λ yes. absurd (false≢true yes); over = λ _. finished_of to keeper rests.rests }
+
+-- where a player is to move at last, a move was looked for
+settles_found : {X : Type 0} (from to : Playing) (made : Bool) (found : Option X) (pairs_of : X → List (ℕ × ℕ)) → TellsOne [] from to made → IfSome found (λ x. IsLegal to.game to.place (pairs_of x)) → IfNone found (Finished to.game to.place) → Settles from to (is_some found)
+settles_found from to made None pairs_of told legal over = record {
+  makes = rests_without from to made told;
+  going = λ yes. absurd (false≢true yes);
+  over = λ _. over;
+}
+settles_found from to made (Some x) pairs_of told legal over = record {
+  makes = rests_without from to made told;
+  going = λ _. (pairs_of x, legal);
+  over = λ no. absurd (false≢true (sym no));
+}
+
+pub settled_player : {X : Type 0} (from to new : Playing) (made goes_on : Bool) (found : Option X) (pairs_of : X → List (ℕ × ℕ)) → TellsOne [] from to made → new ≡ to → goes_on ≡ is_some found → IfSome found (λ x. IsLegal to.game to.place (pairs_of x)) → IfNone found (Finished to.game to.place) → Settles from new goes_on
+settled_player from to new made goes_on found pairs_of told kept is legal over =
+    subst (λ (p : Playing). Settles from p goes_on) (sym kept) (subst (λ one. Settles from to one) (sym is) (settles_found from to made found pairs_of told legal over))

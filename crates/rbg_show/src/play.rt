@@ -6,12 +6,12 @@ ghost use Rattle.rbg_rules.specs.Moves.{AbstractPlace, Legal, IsLegal, Finished}
 ghost use Rattle.rbg_moves.specs.Limits.{most_keeper_moves};
 ghost use Rattle.rbg_show.specs.Endings.{mover_text};
 ghost use Rattle.rbg_show.specs.Moving.{Moves, moved_to};
+ghost use Rattle.rbg_rules.specs.Games.{IsGame};
 ghost use Rattle.rbg_rules.specs.Places.{IsPlaceOf};
 
-use rbg_auto::{Compact, Steps, compact};
-use rbg_base::{Memory, Piece, Player, Variable, Vertex};
-use rbg_game::Game;
-use rbg_moves::{MAX_KEEPER_MOVES, Move, Over, Place, find_move, make_move, try_move};
+use rbg_base::{Memory, Pair, Piece, Player, Variable, Vertex};
+use rbg_moves::{MAX_KEEPER_MOVES, Move, Over, Place, PlayedGame, Workspace};
+use rbg_rules::Game;
 use std::alloc::Global;
 use std::marker::Model;
 
@@ -20,11 +20,12 @@ use std::marker::Model;
 #[derive(Drop)]
 pub(crate) struct Play<'a> {
     alloc: Global,
-    game: &'a Game,
-    steps: Compact,
+    game: &'a PlayedGame,
     place: Place,
     /// How many moves of the keeper were made in a row, at most `MAX_KEEPER_MOVES`.
     in_a_row: u32,
+    /// What the questions leave to later ones. Contracts don't see it.
+    workspace: Workspace,
 }
 
 impl<'a> Model for Play<'a> {
@@ -38,37 +39,34 @@ impl<'a> Model for Play<'a> {
 
     ghost use Rattle.std.specs.Prelude.{◌≤◌};
     ghost use Rattle.rbg_rules.specs.Places.{IsPlaceOf};
-    ghost use Rattle.rbg_rules.specs.Games.{IsGame};
 
-    ghost invariant = { λ p. IsGame p.game.now × IsPlaceOf p.game.now p.place
-        × ⟦<Compact as Steps>⟧.of_rules p.steps p.game.now.rules × (p.in_a_row ≤ 1000) };
+    ghost invariant = { λ p. IsPlaceOf p.game.now p.place × (p.in_a_row ≤ 1000) };
 }
 
 impl<'a> Play<'a> {
     /// The beginning of play.
-    pub(crate) fn start(alloc: Global, game: &'a Game) -> Result<Play<'a>, Memory>
+    pub(crate) fn start(alloc: Global, game: &'a PlayedGame) -> Result<Play<'a>, Memory>
         ensures game { IfOk result (λ play. play.game ≡ game.now) }
         ensures place { IfOk result (λ play.
             play.place ≡ record { state = start_of game.now; last = None }) }
         ensures in_a_row { IfOk result (λ play. play.in_a_row ≡ 0) }
     {
-        let _positions = game.positions();
-        let steps = compact(alloc, game)?;
-        let place = Place::start(alloc, game)?;
+        let place = game.start()?;
         Ok(Play {
             alloc,
             game,
-            steps,
             place,
             in_a_row: 0,
+            workspace: Workspace::new(alloc),
         })
     }
 
     /// The game.
     pub(crate) fn game(&self) -> &'a Game
-        ensures { result.now ≡ self.now.game }
+        ensures game { result.now ≡ self.now.game }
+        ensures lawful { IsGame result.now }
     {
-        self.game
+        self.game.as_game()
     }
 
     /// The player to move; 0 is the keeper.
@@ -94,7 +92,7 @@ impl<'a> Play<'a> {
         if player == 0 {
             "the keeper"
         } else {
-            self.game.player_name(player)
+            self.game().player_name(player)
         }
     }
 
@@ -108,7 +106,7 @@ impl<'a> Play<'a> {
             → IsHeavyToTry self.old.game self.old.place pairs.now }
         ensures failed { OnErr result (self.new ≡ self.old) }
     {
-        match try_move(self.alloc, self.game, &self.steps, &self.place, pairs)? {
+        match self.game.try_move(&self.place, pairs, &mut self.workspace)? {
             Some(place) => {
                 self.go_to(place);
                 Ok(true)
@@ -118,22 +116,25 @@ impl<'a> Play<'a> {
     }
 
     /// A legal move, the one that the referee would make for the keeper. None where play is finished.
-    pub(crate) fn find(&self) -> Result<Option<Move>, Over>
-        ensures found { IfOk result (λ found. IfSome found (IsLegal self.now.game self.now.place)) }
+    pub(crate) fn find(&mut self) -> Result<Option<Vec<Pair>>, Over>
+        ensures found { IfOk result (λ found.
+            IfSome found (λ pairs. IsLegal self.old.game self.old.place pairs.items)) }
         ensures finished { IfOk result (λ found.
-            IfNone found (Finished self.now.game self.now.place)) }
+            IfNone found (Finished self.old.game self.old.place)) }
         ensures heavy { (result ≡ Err Over.Deep) ⊎ (result ≡ Err Over.Wide)
-            → IsHeavyToFind self.now.game self.now.place }
+            → IsHeavyToFind self.old.game self.old.place }
+        ensures kept { self.new ≡ self.old }
     {
-        find_move(self.alloc, self.game, &self.steps, &self.place)
+        self.game.find_move(&mut self.place, &mut self.workspace)
     }
 
     /// Makes a legal move.
-    pub(crate) fn make(&mut self, pairs: &Move) -> Result<(), Memory>
+    pub(crate) fn make(&mut self, pairs: &[Pair]) -> Result<(), Memory>
         requires { IsLegal self.old.game self.old.place pairs.now }
         ensures { OnOk result (Moves self.old pairs.now self.new) }
     {
-        let place = make_move(self.game, &self.place, pairs)?;
+        let mut place = self.place.try_clone()?;
+        self.game.make_move(&mut place, pairs)?;
         self.go_to(place);
         Ok(())
     }
@@ -157,7 +158,7 @@ impl<'a> Play<'a> {
         ensures { IfOk result (λ pieces. pieces.items ≡ self.now.place.state.pieces) }
     {
         let mut pieces = Vec::new(self.alloc);
-        for vertex in 0..self.game.board().len() {
+        for vertex in 0..self.game().board().len() {
             pieces.push(self.place.state.piece(vertex as Vertex))?;
         }
         Ok(pieces)
@@ -166,9 +167,9 @@ impl<'a> Play<'a> {
     /// Writes what each variable holds, in a line.
     pub(crate) fn push_values(&self, output: &mut Vec<u8>) -> Result<(), Memory> {
         let mut lead = "";
-        for index in 0..self.game.variables() {
+        for index in 0..self.game().variables() {
             let variable = index as Variable;
-            let name = self.game.variable_name(variable);
+            let name = self.game().variable_name(variable);
             let value = self.place.state.value(variable);
             let text = format!(in self.alloc; "{lead}{name} {value}")?;
             output.extend_from_slice(text.as_bytes())?;

@@ -14,7 +14,7 @@ use crate::play::Play;
 use crate::reading::Reading;
 use crate::sheet::Sheet;
 use crate::stop::Stop;
-use rbg_base::{Memory, Move, Player};
+use rbg_base::{Memory, Move, Pair, Player};
 use rbg_moves::Unsettled;
 use rbg_wire::Outcome;
 
@@ -124,7 +124,7 @@ impl Scene<'_> {
     }
 
     /// Makes a legal move of the keeper.
-    fn make_found(&mut self, pairs: &Move) -> Result<(), Memory>
+    fn make_found(&mut self, pairs: &[Pair]) -> Result<(), Memory>
         requires { IsLegal self.old.play.game self.old.play.place pairs.now }
         ensures { OnOk result (Moves self.old.play pairs.now self.new.play) }
     {

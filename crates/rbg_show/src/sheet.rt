@@ -9,7 +9,7 @@ use crate::play::Play;
 use crate::signs::Signs;
 use crate::stop::Stop;
 use rbg_base::{Piece, Player};
-use rbg_game::LoadedGame;
+use rbg_game::{Game, Layout};
 use rbg_wire::{Outcome, write_number};
 use std::alloc::{AllocError, Global};
 
@@ -32,10 +32,11 @@ impl<'a> Sheet<'a> {
     /// The text begins with the signs of the pieces.
     pub(crate) fn new(
         alloc: Global,
-        loaded: &'a LoadedGame,
+        game: &'a Game,
+        layout: &'a Layout,
         only_last: bool,
     ) -> Result<Sheet<'a>, AllocError> {
-        let signs = Signs::of(alloc, &loaded.game)?;
+        let signs = Signs::of(alloc, game)?;
         let mut text = Vec::new(alloc);
         signs.push_legend(&mut text)?;
         let kept = text.len();
@@ -43,7 +44,7 @@ impl<'a> Sheet<'a> {
             alloc,
             drawing: Drawing {
                 alloc,
-                layout: &loaded.layout,
+                layout,
                 signs,
             },
             text,

@@ -14,7 +14,7 @@ use crate::scene::Scene;
 use crate::sheet::Sheet;
 use crate::stop::Stop;
 use rbg_game::LoadedGame;
-use rbg_moves::Unsettled;
+use rbg_moves::{PlayedGame, Unsettled};
 use rbg_wire::{Outcome, cut_at};
 use std::alloc::{AllocError, Global};
 
@@ -41,14 +41,16 @@ pub struct Shown {
 /// is looked at.
 pub fn show(
     alloc: Global,
-    loaded: &LoadedGame,
+    loaded: LoadedGame,
     moves: &[u8],
     only_last: bool,
 ) -> Result<Shown, AllocError>
-    ensures { IfOk result (IsShown loaded.now.game moves.now) }
+    ensures { IfOk result (IsShown loaded.game moves.now) }
 {
-    let sheet = Sheet::new(alloc, loaded, only_last)?;
-    let play = Play::start(alloc, &loaded.game)?;
+    let LoadedGame { game, layout } = loaded;
+    let game = PlayedGame::new(alloc, game)?;
+    let sheet = Sheet::new(alloc, game.as_game(), &layout, only_last)?;
+    let play = Play::start(alloc, &game)?;
     let mut showing = Showing {
         alloc,
         scene: Scene { play, sheet },

@@ -1,5 +1,5 @@
 //! What each line of a hall has after a list of events, whether they are heard at once or in turn.
-use crate::cases::{CASES, Told};
+use crate::cases::{CASES, Heard, Told};
 use crate::tables::{CONFIG, EIGHT, TWO, sent, tables};
 use rbg_floor::{Hall, HallEvent, whole_hall};
 use rbg_hall::{HallOut, LINES};
@@ -8,17 +8,21 @@ use std::alloc::Global;
 use std::test::Fail;
 
 /// The queues of a hall of that many tables for two, which hears the events at once.
-fn at_once(alloc: Global, count: usize, events: &[HallEvent<'_>]) -> Result<HallOut, Fail> {
+fn at_once(alloc: Global, count: usize, heard: &[Heard]) -> Result<HallOut, Fail> {
     let configs = vec![in alloc; CONFIG; count]?;
-    Ok(whole_hall(alloc, tables(alloc, TWO, &configs)?, events)?)
+    let mut events = Vec::new(alloc);
+    for one in heard {
+        events.push(one.event())?;
+    }
+    Ok(whole_hall(alloc, tables(alloc, TWO, &configs)?, &events)?)
 }
 
 /// The queues of a hall of that many tables for two, which hears the events in turn.
-fn in_turn(alloc: Global, count: usize, events: &[HallEvent<'_>]) -> Result<HallOut, Fail> {
+fn in_turn(alloc: Global, count: usize, heard: &[Heard]) -> Result<HallOut, Fail> {
     let configs = vec![in alloc; CONFIG; count]?;
     let (mut hall, mut out) = Hall::<MemoryLog>::new(alloc, tables(alloc, TWO, &configs)?)?;
-    for event in events {
-        hall.step(*event, &mut out)?;
+    for one in heard {
+        hall.step(one.event(), &mut out)?;
     }
     Ok(out)
 }

@@ -1,5 +1,5 @@
 -- What was migrated of a record.
-use Rattle.std.specs.Prelude.{◌≡◌, ℕ, ◌+◌, ◌≤◌, List, [], ◌∷◌, ◌++◌, length, map, All, Option}
+use Rattle.std.specs.Prelude.{◌≡◌, ℕ, ◌+◌, List, [], ◌∷◌, ◌++◌, map, All, Option}
 use Rattle.rbg_wire.specs.declared.outcome.Outcome.{Outcome}
 use Rattle.rbg_rules.specs.State.{AbstractGame}
 use Rattle.rbg_lines.specs.declared.entry.Entry.{Entry}
@@ -10,10 +10,10 @@ use Rattle.rbg_lines.specs.Heading.{version_text, players_text, start_text}
 use Rattle.rbg_wire.specs.Lines.{line_of, lines_of}
 use Rattle.rbg_record.specs.declared.migrating.Part.{Part}
 use Rattle.rbg_record.specs.declared.migrating.Part.TheVariants.{Version, Moves, Nothing}
-use Rattle.rbg_record.specs.Judged.{BeginsWith}
 use Rattle.rbg_record.specs.Lines.{with_moment}
 use Rattle.rbg_record.specs.Migration.{PlainPart, before_version, among_moves, behind_end, IsPlainSoFar}
 use Rattle.rbg_record.specs.Records.{PlainMove, plain_entry}
+use Rattle.rbg_record.specs.internal.SoFar.{IsCutSoFar}
 
 -- where the code's value says that one is
 abbrev pub part_of : Part → PlainPart
@@ -78,8 +78,6 @@ IsTold game behind_end texts out = TellsAll game texts out
 pub record IsMigratedSoFar (game : AbstractGame) (bytes : List ℕ) (part : PlainPart)
     (rest : List ℕ) (line : ℕ) (out : List ℕ) : Type 0 where
   pub texts : List (List ℕ)
-  pub begins : BeginsWith bytes texts rest
-  pub number : line ≡ length texts + 1
+  pub cut : IsCutSoFar bytes texts rest line
   pub so_far : IsPlainSoFar texts part
   pub told : IsTold game part texts out
-  pub shorter : line + length rest ≤ length bytes + 1

@@ -1,5 +1,5 @@
 -- What else the reading of one line speaks of.
-use Rattle.std.specs.Prelude.{ℕ, List, Option, Some, None}
+use Rattle.std.specs.Prelude.{◌≡◌, ℕ, Bool, true, false, List, length, take, Option, Some, None}
 use Rattle.rbg_wire.specs.declared.outcome.Outcome.{Outcome}
 use Rattle.rbg_wire.specs.declared.outcome.Outcome.TheVariants.{Finished, Time, Refusals, Gone, Heavy}
 use Rattle.rbg_rules.specs.State.{AbstractGame}
@@ -9,11 +9,13 @@ use Rattle.rbg_rules.specs.Moves.{AbstractPlace, IsLegal}
 abbrev pub SomeIsLegal : AbstractGame → AbstractPlace → Type 0
 SomeIsLegal game place = (pairs : List (ℕ × ℕ)) × IsLegal game place pairs
 
--- the record ends in a turn, in which a player has a legal move
-abbrev pub LeavesTurn : Option Outcome → Type 0
-LeavesTurn None = Unit {0}
-LeavesTurn (Some (Finished scores)) = ⊥
-LeavesTurn (Some (Time player)) = Unit {0}
-LeavesTurn (Some (Refusals player)) = Unit {0}
-LeavesTurn (Some (Gone player)) = Unit {0}
-LeavesTurn (Some Heavy) = ⊥
+-- The match could end so at the place, where play is finished or is not. Of a question that was too heavy to be answered
+-- nothing is said.
+abbrev pub EndsSo : AbstractGame → AbstractPlace → (finished : Bool) → Option Outcome → Type 0
+EndsSo game place finished None = finished ≡ false
+EndsSo game place finished (Some (Finished scores)) =
+    (finished ≡ true) × (scores ≡ take (length game.players) place.state.values)
+EndsSo game place finished (Some (Time player)) = finished ≡ false
+EndsSo game place finished (Some (Refusals player)) = finished ≡ false
+EndsSo game place finished (Some (Gone player)) = finished ≡ false
+EndsSo game place finished (Some Heavy) = Unit {0}

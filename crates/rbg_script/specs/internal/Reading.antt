@@ -2,13 +2,14 @@
 use Rattle.std.specs.Prelude.{◌≡◌, ◌≢◌, ℕ, ◌+◌, Bool, true, false, List, [], ◌∷◌, ◌++◌, length, All}
 use Rattle.std.specs.List.{AllZip}
 use Rattle.rbg_wire.specs.Bytes.{LacksByte}
-use Rattle.rbg_wire.specs.Lines.{line_feed, lines_of}
+use Rattle.rbg_wire.specs.Lines.{line_feed}
 use Rattle.rbg_script.specs.declared.error.ScriptError.{ScriptError}
 use Rattle.rbg_script.specs.declared.error.ScriptError.TheVariants.{Line, Memory}
 use Rattle.rbg_script.specs.Events.{AbstractEvent, SpellsEvent}
 use Rattle.rbg_script.specs.Inputs.{mark}
 use Rattle.rbg_script.specs.Lines.{HasLines}
 use Rattle.rbg_script.specs.Scripts.{IsNoEvent}
+use Rattle.rbg_script.specs.internal.Whole.{WholeSoFar}
 
 -- the text begins with the line, and the rest is behind it
 pub data BeginsWith (text line rest : List ℕ) : Type 0 where
@@ -43,7 +44,5 @@ pub data IsEventReason (text : List ℕ) : ScriptError → Type 0 where
 
 -- what is left of an input behind whole lines that are not the mark
 pub record Unmarked (input left : List ℕ) : Type 0 where
-  pub lines : List (List ℕ)
-  pub parts : input ≡ lines_of lines ++ left
-  pub whole : All (LacksByte line_feed) lines
-  pub unmarked : All (λ line. line ≢ mark) lines
+  pub far : WholeSoFar input left
+  pub unmarked : All (λ line. line ≢ mark) far.lines

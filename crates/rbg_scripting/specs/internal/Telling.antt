@@ -1,5 +1,5 @@
 -- What was told of a record in its script so far.
-use Rattle.std.specs.Prelude.{◌≡◌, ◌≤◌, ◌+◌, length, ℕ, List, [], ◌∷◌, ◌++◌, All, Option}
+use Rattle.std.specs.Prelude.{◌≡◌, ◌+◌, ℕ, List, [], ◌∷◌, ◌++◌, All, Option}
 use Rattle.std.specs.List.{flat_map, AllZip}
 use Rattle.rbg_wire.specs.declared.outcome.Outcome.{Outcome}
 use Rattle.rbg_wire.specs.Bytes.{LacksByte}
@@ -10,8 +10,8 @@ use Rattle.rbg_lines.specs.declared.entry.Timed.{Timed}
 use Rattle.rbg_lines.specs.declared.heading.Version.{Version}
 use Rattle.rbg_lines.specs.declared.heading.Version.TheVariants.{Two}
 use Rattle.rbg_lines.specs.Heading.{version_text, SpellsPlayers}
-use Rattle.rbg_record.specs.Judged.{BeginsWith}
 use Rattle.rbg_record.specs.Lines.{SpellsIn}
+use Rattle.rbg_record.specs.internal.SoFar.{IsCutSoFar}
 use Rattle.rbg_script.specs.declared.config.ScriptConfig.{ScriptConfig}
 use Rattle.rbg_script.specs.Config.{ConfigHasSpelling, config_text}
 use Rattle.rbg_script.specs.Events.{AbstractEvent, SpellsEvent}
@@ -78,8 +78,6 @@ pub record TellsNext (from : Part) (text : List ℕ) (to : Part) (old new : List
 -- The lines before the rest are told, and the next line has this number.
 pub record IsToldSoFar (bytes : List ℕ) (part : Part) (rest : List ℕ) (line : ℕ) (out : List ℕ) : Type 0 where
   pub texts : List (List ℕ)
-  pub begins : BeginsWith bytes texts rest
-  pub number : line ≡ length texts + 1
+  pub cut : IsCutSoFar bytes texts rest line
   pub leads : LeadThere texts part
   pub told : IsTold part texts out
-  pub shorter : line + length rest ≤ length bytes + 1

@@ -1,5 +1,5 @@
 -- One line more is whole.
-use Rattle.rbg_log.proofs.CuttingLemmas.{whole_more}
+use Rattle.rbg_script.proofs.WholeLines.{whole_more}
 use Rattle.rbg_log.proofs.cutting.whole_lines.Goals as goal
 
 pub loop-rest-preserved : goal.loop-rest-preserved

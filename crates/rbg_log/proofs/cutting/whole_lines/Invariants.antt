@@ -1,6 +1,6 @@
 -- The lines before what is left are whole.
 use Rattle.std.proofs.Common.{length}
-use Rattle.rbg_log.specs.Cutting.{WholeSoFar}
+use Rattle.rbg_script.specs.internal.Whole.{WholeSoFar}
 use Rattle.rbg_log.proofs.cutting.whole_lines.Given as goal
 
 abbrev pub invariant-loop-rest : goal.invariant-loop-rest

@@ -1,7 +1,8 @@
 -- Each line is read and told behind those before it.
-use Rattle.std.proofs.Common.{ap, sym, ◌∙◌, subst, []}
+use Rattle.std.proofs.Common.{ap, length, sym, ◌∙◌, subst, []}
 use Rattle.std.specs.Prelude.{unwrap_or}
-use Rattle.std.proofs.lemmas.Bool.{true≢false}
+use Rattle.std.proofs.lemmas.Bool.{eqb-true, true≢false}
+use Rattle.std.proofs.lemmas.List.{nil_from_length}
 use Rattle.rbg_record.specs.ByLine.{reached_of}
 use Rattle.rbg_record.proofs.SoFarLemmas.{read_fault, read_short, not_empty}
 use Rattle.rbg_rules.specs.Moves.{AbstractPlace}
@@ -9,7 +10,7 @@ use Rattle.rbg_wire.specs.Lines.{line_of}
 use Rattle.rbg_page.specs.Places.{whole_text}
 use Rattle.rbg_page.specs.Pages.{IsRefused}
 use Rattle.rbg_page.specs.declared.error.PageError.{PageError}
-use Rattle.rbg_page.proofs.Reading.{nothing_left, told_none, told_next, told_whole, refused_at}
+use Rattle.rbg_page.proofs.Reading.{told_none, told_next, told_whole, refused_at}
 use Rattle.rbg_page.proofs.telling.tell.Goals as goal
 use Rattle.rbg_page.proofs.telling.tell.Goals.{else-over-via-then-over+else-is_empty, else-over-via-else-over}
 
@@ -44,4 +45,4 @@ pub returns-then-is_empty-clause-told : goal.returns-then-is_empty-clause-told
 returns-then-is_empty-clause-told c =
     told_whole c.args.game.now c.args.bytes.now (reached_of c.loop-text.reached) c.loop-text.rest.now c.loop-text.line
     (record { lines = c.loop-text.lines.items; place = c.loop-text.place; marked = unwrap_or c.loop-text.last [] })
-    c.loop-text.invariant (c.is_over-over.ensures.0 c.if-over.true) (nothing_left c.loop-text.rest.now c.is_empty.result c.is_empty.ensures c.if-is_empty.true)
+    c.loop-text.invariant (c.is_over-over.ensures.0 c.if-over.true) (nil_from_length c.loop-text.rest.now (eqb-true (length c.loop-text.rest.now) 0 (sym c.is_empty.ensures ∙ c.if-is_empty.true)))

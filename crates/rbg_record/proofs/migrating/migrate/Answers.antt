@@ -1,8 +1,9 @@
-use Rattle.std.proofs.Common.{sym, ◌∙◌}
-use Rattle.std.proofs.lemmas.Bool.{true≢false}
+use Rattle.std.proofs.Common.{length, sym, ◌∙◌}
+use Rattle.std.proofs.lemmas.Bool.{eqb-true, true≢false}
+use Rattle.std.proofs.lemmas.List.{nil_from_length}
 use Rattle.rbg_record.specs.internal.Migrating.{part_of}
 use Rattle.rbg_record.proofs.MatchSpelled.{players_named}
-use Rattle.rbg_record.proofs.MigratingLemmas.{migrated_none, migrated_more, migrated_fault, migrated_short, migrated_whole, form_line, empty_rest}
+use Rattle.rbg_record.proofs.MigratingLemmas.{migrated_none, migrated_more, migrated_fault, migrated_short, migrated_whole, form_line}
 use Rattle.rbg_record.proofs.OneRecordLemmas.{migrated_right}
 use Rattle.rbg_record.proofs.SoFarLemmas.{not_empty}
 use Rattle.rbg_record.proofs.migrating.migrate.Goals as goal
@@ -22,7 +23,7 @@ loop-text-preserved c =
 
 pub returns-then-is_empty-clause-migrated : goal.returns-then-is_empty-clause-migrated
 returns-then-is_empty-clause-migrated c =
-    migrated_whole c.args.game.now c.args.bytes.now (part_of c.loop-text.part) c.loop-text.rest.now c.loop-text.line c.loop-text.out.items (players_named c.args.game.now c.positions-positions.ensures.lawful) c.loop-text.invariant (c.is_over.ensures.0 c.if-is_over.true) (empty_rest c.loop-text.rest.now c.is_empty.result c.is_empty.ensures c.if-is_empty.true)
+    migrated_whole c.args.game.now c.args.bytes.now (part_of c.loop-text.part) c.loop-text.rest.now c.loop-text.line c.loop-text.out.items (players_named c.args.game.now c.positions-positions.ensures.lawful) c.loop-text.invariant (c.is_over.ensures.0 c.if-is_over.true) (nil_from_length c.loop-text.rest.now (eqb-true (length c.loop-text.rest.now) 0 (sym c.is_empty.ensures ∙ c.if-is_empty.true)))
 
 pub returns-else-is_over-clause-form : goal.returns-else-is_over-clause-form
 returns-else-is_over-clause-form c = λ line same.

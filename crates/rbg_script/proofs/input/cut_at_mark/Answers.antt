@@ -1,7 +1,10 @@
 -- The first line that is the mark ends the description.
 use Rattle.rbg_wire.proofs.ByteLemmas.{same_bytes, other_bytes}
-use Rattle.rbg_script.proofs.Marks.{found_mark, found_last, not_marked, passed_more}
+use Rattle.rbg_script.proofs.Marks.{found_mark, found_last, not_marked, nothing_passed, passed_more}
 use Rattle.rbg_script.proofs.input.cut_at_mark.Goals as goal
+
+pub loop-line-init : goal.loop-line-init
+loop-line-init c = nothing_passed _
 
 pub returns-then-eq-clause-found : goal.returns-then-eq-clause-found
 returns-then-eq-clause-found c =

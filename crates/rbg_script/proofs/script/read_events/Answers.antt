@@ -1,10 +1,11 @@
 -- The lines so far spell the events so far, and the next line spells one more or none.
 use Rattle.std.proofs.Common.{rules, ◌≡◌, ◌∙◌, sym, true, false, length}
-use Rattle.std.proofs.lemmas.List.{length-map}
+use Rattle.std.proofs.lemmas.Bool.{eqb-true}
+use Rattle.std.proofs.lemmas.List.{length-map, nil_from_length}
 use Rattle.rbg_script.specs.declared.error.ScriptError.TheVariants.{Memory as OutOfMemory}
 use Rattle.rbg_script.specs.Events.{event_of}
 use Rattle.rbg_script.specs.internal.Reading.{out_of_memory}
-use Rattle.rbg_script.proofs.ScriptLemmas.{all_read, passed_on, empty_rest, not_empty, read_more, stopped}
+use Rattle.rbg_script.proofs.ScriptLemmas.{all_read, passed_on, not_empty, read_more, stopped}
 use Rattle.rbg_script.proofs.script.read_events.Goals as goal
 
 pub returns-in_err-take_line-clause-line : goal.returns-in_err-take_line-clause-line
@@ -27,4 +28,4 @@ loop-left-preserved c =
 pub returns-clause-found : goal.returns-clause-found
 returns-clause-found c =
     let none : c.is_empty.result ≡ true = search rules in
-    all_read _ _ _ c.loop-left.invariant (empty_rest _ _ c.is_empty.ensures none)
+    all_read _ _ _ c.loop-left.invariant (nil_from_length _ (eqb-true _ 0 (sym c.is_empty.ensures ∙ none)))

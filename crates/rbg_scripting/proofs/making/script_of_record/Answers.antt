@@ -1,6 +1,6 @@
-use Rattle.std.proofs.Common.{sym, ◌∙◌}
-use Rattle.std.proofs.lemmas.Bool.{true≢false}
-use Rattle.rbg_record.proofs.MigratingLemmas.{empty_rest}
+use Rattle.std.proofs.Common.{length, sym, ◌∙◌}
+use Rattle.std.proofs.lemmas.Bool.{eqb-true, true≢false}
+use Rattle.std.proofs.lemmas.List.{nil_from_length}
 use Rattle.rbg_record.proofs.SoFarLemmas.{not_empty}
 use Rattle.rbg_scripting.proofs.TellingLemmas.{told_none, told_more, told_fault, told_short, told_whole, form_line}
 use Rattle.rbg_scripting.proofs.making.script_of_record.Goals as goal
@@ -20,7 +20,7 @@ loop-text-preserved c =
 
 pub returns-then-is_empty-clause-made : goal.returns-then-is_empty-clause-made
 returns-then-is_empty-clause-made c =
-    told_whole c.args.bytes.now c.loop-text.part c.loop-text.rest.now c.loop-text.line c.loop-text.out.items c.loop-text.invariant (c.is_over.ensures.0 c.if-is_over.true) (empty_rest c.loop-text.rest.now c.is_empty.result c.is_empty.ensures c.if-is_empty.true)
+    told_whole c.args.bytes.now c.loop-text.part c.loop-text.rest.now c.loop-text.line c.loop-text.out.items c.loop-text.invariant (c.is_over.ensures.0 c.if-is_over.true) (nil_from_length c.loop-text.rest.now (eqb-true (length c.loop-text.rest.now) 0 (sym c.is_empty.ensures ∙ c.if-is_empty.true)))
 
 pub returns-else-is_over-clause-form : goal.returns-else-is_over-clause-form
 returns-else-is_over-clause-form c = λ line same.

@@ -14,6 +14,6 @@ starts game play g p n = λ i. record { playing = record { game = g i; place = p
 
 pub returns : goal.returns
 returns c =
-    list_shown c.args.loaded.now.game c.args.moves.now (standing_first c.in_ok-play.play) c.show_list.new.self.scene c.shown.result
-    (starts c.args.loaded.now.game c.in_ok-play.play c.in_ok-play.ensures.game c.in_ok-play.ensures.place c.in_ok-play.ensures.in_a_row)
+    list_shown c.args.loaded.game c.args.moves.now (standing_first c.in_ok-play.play) c.show_list.new.self.scene c.shown.result
+    (starts c.args.loaded.game c.in_ok-play.play (rw c.in_ok-game.ensures at c.in_ok-play.ensures.game) (rw c.in_ok-game.ensures at c.in_ok-play.ensures.place) c.in_ok-play.ensures.in_a_row)
     c.in_ok-is_whole.is_whole c.in_ok-is_whole.ensures c.shown.ensures.whole c.shown.ensures.text

@@ -8,4 +8,4 @@ returns-in-None-clause-illegal c _ =
     rw (← c.self.view_is)
     (subst
     (λ place. IfNone place ((to : AbstractPlace) → Legal c.self.inside.game.now c.self.inside.place c.args.pairs.now to → ⊥))
-    c.in-None.is c.in_ok-place.ensures.illegal)
+    c.in-None.is c.in_ok-place.ensures.tries.illegal)

@@ -1,9 +1,0 @@
--- The parts of the text, one after the other.
-use Rattle.std.proofs.Common.{length, codes}
-use Rattle.rbg_page.specs.Boards.{frame_text, vertices_text, widest}
-use Rattle.rbg_page.proofs.Parts.{square_is}
-use Rattle.rbg_page.proofs.Writing.{joined2}
-use Rattle.rbg_page.proofs.drawing.put_square.Goals as goal
-
-pub returns : goal.returns
-returns c = rw (square_is c.args.game.now.pieces c.args.lengths.now c.args.marked.now c.args.standing.now) (joined2 c.args.out.now.items _ _ (frame_text (codes "square") (widest c.args.lengths.now) (length c.args.lengths.now) (codes "<path id='cell' d='M-5-5h10v10h-10z'/>")) (vertices_text c.args.game.now.pieces c.args.lengths.now c.args.marked.now c.args.standing.now) (rw c.widest_of-width.ensures at c.in_ok-put_frame.ensures) c.in_ok-put_vertices.ensures)
