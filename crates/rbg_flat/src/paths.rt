@@ -52,7 +52,7 @@ pub struct Paths {
     pub(crate) facts: Vec<Facts>,
     /// Whether a pattern stands at each position, from 0 on, whose inside begins with leaps to several positions, to one
     /// vertex at each, as far as was looked. It only tells where to look for a dead end: nothing rests on it. It is kept
-    /// apart, since a third field would make each read of the facts slower.
+    /// apart, so that the facts of a position stay one word.
     branches: Vec<bool>,
 }
 
