@@ -71,12 +71,12 @@ returns-clause-board c =
     cells_numbered c.args.pieces.now c.in_ok-directions.directions c.in_ok-names.names vertices (written_of c.in_ok-cells.cells.items) c.in_ok-first.first.items c.deref.result.now c.in_ok-names.ensures.differ c.in_ok-names.ensures.names c.deref.ensures.value c.in_ok-first.ensures.numbers c.in_ok-cells.ensures.cells in
     IfOk-weaker c.named.result _ (λ (b : NamedBoard). MakesBoard c.args.pieces.now (graph vertices) b.directions b.board)
     (λ b it.
-        let lawful = subst (λ (r : Result Graph BoardError). OnOk r (MakesGraph (written_of c.deref-2.result.now))) it.is c.graph.ensures.lawful in
-        let makes = subst (λ (cs : List Cell). MakesGraph (written_of cs)) c.deref-2.ensures.value lawful in
-        let is = subst (λ (cs : List Cell). IsWritten (written_of cs) b.board) c.deref-2.ensures.value (of_ok (IsWritten (written_of c.deref-2.result.now)) it.is c.graph.ensures.board) in
-        let wide = subst (λ (cs : List Cell). HasWidth (width_of (directions_of (written_of cs))) b.board) c.deref-2.ensures.value (of_ok (HasWidth (width_of (directions_of (written_of c.deref-2.result.now)))) it.is c.graph.ensures.width) in
-        rw it.directions
-        (graph_made c.args.pieces.now c.in_ok-directions.directions vertices (written_of c.in_ok-cells.cells.items) differ cells b.board c.in_ok-directions.ensures.order it.names (omega (arith, c.if-len-gt-MAX_DIRECTIONS.false, c.len.ensures.count)) it.vertices makes is wide))
+    let lawful = subst (λ (r : Result Graph BoardError). OnOk r (MakesGraph (written_of c.deref-2.result.now))) it.is c.graph.ensures.lawful in
+    let makes = subst (λ (cs : List Cell). MakesGraph (written_of cs)) c.deref-2.ensures.value lawful in
+    let is = subst (λ (cs : List Cell). IsWritten (written_of cs) b.board) c.deref-2.ensures.value (of_ok (IsWritten (written_of c.deref-2.result.now)) it.is c.graph.ensures.board) in
+    let wide = subst (λ (cs : List Cell). HasWidth (width_of (directions_of (written_of cs))) b.board) c.deref-2.ensures.value (of_ok (HasWidth (width_of (directions_of (written_of c.deref-2.result.now)))) it.is c.graph.ensures.width) in
+    rw it.directions
+    (graph_made c.args.pieces.now c.in_ok-directions.directions vertices (written_of c.in_ok-cells.cells.items) differ cells b.board c.in_ok-directions.ensures.order it.names (omega (arith, c.if-len-gt-MAX_DIRECTIONS.false, c.len.ensures.count)) it.vertices makes is wide))
     c.named.ensures.board
 
 pub returns-clause-fault : goal.returns-clause-fault
@@ -86,6 +86,6 @@ returns-clause-fault c =
     cells_numbered c.args.pieces.now c.in_ok-directions.directions c.in_ok-names.names vertices (written_of c.in_ok-cells.cells.items) c.in_ok-first.first.items c.deref.result.now c.in_ok-names.ensures.differ c.in_ok-names.ensures.names c.deref.ensures.value c.in_ok-first.ensures.numbers c.in_ok-cells.ensures.cells in
     IfErr-weaker c.named.result _ (HasBoardFault c.args.pieces.now (graph vertices))
     (λ e it.
-        let refused = subst (λ (cs : List Cell). GraphRefusal (written_of cs) it.cause) c.deref-2.ensures.value (of_err (GraphRefusal (written_of c.deref-2.result.now)) it.is c.graph.ensures.refusal) in
-        rw it.refusal (by_refusal c.args.pieces.now (graph vertices) it.cause (λ is_fault. no_graph (graph_fault c.args.pieces.now c.in_ok-directions.directions vertices (written_of c.in_ok-cells.cells.items) differ cells it.cause refused is_fault))))
+    let refused = subst (λ (cs : List Cell). GraphRefusal (written_of cs) it.cause) c.deref-2.ensures.value (of_err (GraphRefusal (written_of c.deref-2.result.now)) it.is c.graph.ensures.refusal) in
+    rw it.refusal (by_refusal c.args.pieces.now (graph vertices) it.cause (λ is_fault. no_graph (graph_fault c.args.pieces.now c.in_ok-directions.directions vertices (written_of c.in_ok-cells.cells.items) differ cells it.cause refused is_fault))))
     c.named.ensures.refusal
