@@ -1,30 +1,11 @@
 //! A first-choice player at its end of a stream.
 
-use crate::News;
-use crate::network::is_nothing_yet;
-use rbg_player::{FirstChooser, Heard, Player, PlayerError};
+use rbg_network::{ClientError, News, is_nothing_yet};
+use rbg_player::{FirstChooser, Heard, Player};
 use rbg_wire::{Message, cut_at, read_message};
 use std::alloc::{AllocError, Global};
 use std::io::{Read, Write};
 use std::str;
-use thiserror::Error;
-
-/// Why a player at its end of a stream can't go on.
-#[derive(Clone, Copy, Debug, PartialEq, Eq, Error)]
-pub enum ClientError {
-    /// The stream failed, or ended before the match.
-    #[error("the connection failed, or ended before the match")]
-    Device,
-    /// The player gives up.
-    #[error("{0}")]
-    Player(#[from] PlayerError),
-}
-
-impl From<AllocError> for ClientError {
-    fn from(_error: AllocError) -> ClientError {
-        ClientError::Player(PlayerError::Memory)
-    }
-}
 
 /// The most bytes that are read at once.
 const PIECE: usize = 4_096;
