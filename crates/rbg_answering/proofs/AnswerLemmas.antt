@@ -15,8 +15,8 @@ use Rattle.rbg_refereeing.specs.declared.error.RefereeingError.TheVariants.{Load
 use Rattle.rbg_rules.specs.State.{AbstractGame}
 use Rattle.rbg_tokens.specs.Limits.{longest_text}
 use Rattle.rbg_tokens.specs.declared.error.TextError.TheVariants.{TooLong, Memory as TextMemory}
-use Rattle.rbg_answering.specs.declared.task.Command.{Command}
-use Rattle.rbg_answering.specs.declared.task.Command.TheVariants.{Referee}
+use Rattle.rbg_tasks.specs.declared.task.Command.{Command}
+use Rattle.rbg_tasks.specs.declared.task.Command.TheVariants.{Referee}
 use Rattle.rbg_answering.specs.Answers.{IsGamesAnswer, IsTaskAnswer, form_line}
 use Rattle.rbg_answering.specs.Answers.IsGamesAnswer.{played, misfit}
 use Rattle.rbg_answering.specs.Answers.IsTaskAnswer.{of_game, refused, long_script, long_record}

@@ -15,8 +15,8 @@ use Rattle.rbg_refereeing.specs.Answers.{script_line}
 use Rattle.rbg_rules.specs.Positions.{IsNumbered}
 use Rattle.rbg_rules.specs.State.{AbstractGame}
 use Rattle.rbg_script.specs.Laws.{ScriptsAreApart}
-use Rattle.rbg_answering.specs.declared.task.Command.{Command}
-use Rattle.rbg_answering.specs.declared.task.Command.TheVariants.{Check, Referee, Replay, Migrate, Moves}
+use Rattle.rbg_tasks.specs.declared.task.Command.{Command}
+use Rattle.rbg_tasks.specs.declared.task.Command.TheVariants.{Check, Referee, Replay, Migrate, Moves}
 use Rattle.rbg_answering.specs.Answers.{IsGamesAnswer, NamesFault, IsLong, good_line, bad_line, form_line, over_line}
 use Rattle.rbg_answering.specs.Answers.IsGamesAnswer.{counted, played, misfit, good, wrong, migrated, not_plain, goes_on, no_moves}
 use Rattle.rbg_answering.specs.Answers.NamesFault.{bad, not_of_form, over}

@@ -3,5 +3,6 @@ pub mod AnswerLemmas
 mod JudgingLemmas
 mod LawLemmas
 mod ReadingLemmas
+mod RecordRunLemmas
 mod RecordedLemmas
 mod RunLemmas

@@ -8,7 +8,7 @@ use Rattle.rbg_refereeing.specs.Runs.{IsRunOf, device_line}
 use Rattle.rbg_refereeing.specs.Runs.IsRunOf.{answered as is_answered, no_memory as has_no_memory}
 use Rattle.rbg_answering.specs.Runs.{IsTaskRun}
 use Rattle.rbg_answering.specs.Runs.IsTaskRun.{answered, unreadable, no_memory}
-use Rattle.rbg_answering.specs.Tasks.{NamedTask}
+use Rattle.rbg_tasks.specs.Tasks.{NamedTask}
 use Rattle.rbg_answering.specs.internal.Parts.{IsFilesAnswer}
 use Rattle.rbg_answering.specs.internal.Parts.IsFilesAnswer.{of_task, unreadable as not_read}
 

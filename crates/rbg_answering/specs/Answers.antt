@@ -14,8 +14,8 @@ use Rattle.rbg_refereeing.specs.Answers.{refused_line, script_line}
 use Rattle.rbg_refereeing.specs.Matches.{IsScriptsMatch}
 use Rattle.rbg_rules.specs.State.{AbstractGame}
 use Rattle.rbg_script.specs.Scripts.{HasMisfit}
-use Rattle.rbg_answering.specs.declared.task.Command.{Command}
-use Rattle.rbg_answering.specs.declared.task.Command.TheVariants.{Check, Referee, Replay, Migrate, Moves}
+use Rattle.rbg_tasks.specs.declared.task.Command.{Command}
+use Rattle.rbg_tasks.specs.declared.task.Command.TheVariants.{Check, Referee, Replay, Migrate, Moves}
 use Rattle.rbg_answering.specs.Tasks.{AbstractTask}
 
 -- the lines of a right record, and of one of which a line is not right, not of the form, or above the limits

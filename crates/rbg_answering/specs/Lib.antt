@@ -1,5 +1,6 @@
 pub mod Answers
 pub mod Laws
+pub mod RecordRuns
 pub mod Recorded
 pub mod Runs
 pub mod Tasks

@@ -1,27 +1,13 @@
--- Tasks: commands with the names of their files, and with the bytes that they are about.
+-- Tasks with the bytes that they are about.
 use Rattle.std.specs.Global.{Global}
 use Rattle.std.specs.Prelude.{◌≡◌, ℕ, ◌<◌, ◌≤◌, List, [], length, Option, Some, None, Vec}
 use Rattle.rbg_console.specs.Files.{KnownFiles, MayBe}
 use Rattle.rbg_console.specs.Inputs.{most_input, IsAll, IsAbove}
 use Rattle.rbg_tokens.specs.Limits.{longest_text}
-use Rattle.rbg_answering.specs.declared.task.Command.{Command}
-use Rattle.rbg_answering.specs.declared.task.Command.TheVariants.{Check, Referee, Replay, Migrate, Moves}
-use Rattle.rbg_answering.specs.declared.task.FileTask.{FileTask}
-use Rattle.rbg_answering.specs.declared.task.FileTask.TheVariants as files
+use Rattle.rbg_tasks.specs.Tasks.{NamedTask}
+use Rattle.rbg_tasks.specs.declared.task.Command.{Command}
+use Rattle.rbg_tasks.specs.declared.task.Command.TheVariants.{Check, Referee, Replay, Migrate, Moves}
 use Rattle.rbg_answering.specs.declared.task.Task.{Task}
-
--- A command with the names of the files of its description and its record, the latter empty where it asks for none.
-pub record NamedTask : Type 0 where
-  pub command : Command
-  pub file : List ℕ
-  pub record_file : List ℕ
-
-abbrev pub file_task : FileTask → NamedTask
-file_task (files.Check file) = record { command = Check; file = file.now; record_file = [] }
-file_task (files.Referee file) = record { command = Referee; file = file.now; record_file = [] }
-file_task (files.Replay file other) = record { command = Replay; file = file.now; record_file = other.now }
-file_task (files.Migrate file other) = record { command = Migrate; file = file.now; record_file = other.now }
-file_task (files.Moves file other) = record { command = Moves; file = file.now; record_file = other.now }
 
 -- A command with its description and what is told of a match of it: a script or a record, and nothing for `check`.
 pub record AbstractTask : Type 0 where

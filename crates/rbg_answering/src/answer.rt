@@ -12,10 +12,11 @@ ghost use Rattle.rbg_answering.specs.internal.Parts.{
 use crate::judging::judge_game;
 use crate::lines::answer_form;
 use crate::loading::{answer_unloaded, load_read};
-use crate::{Command, Task};
+use crate::Task;
 use rbg_console::Status;
 use rbg_game::LoadError;
 use rbg_refereeing::{Answer, answer_fault, answer_refused, answer_script, referee_texts};
+use rbg_tasks::Command;
 use rbg_tokens::TextError;
 use std::alloc::{AllocError, Global};
 

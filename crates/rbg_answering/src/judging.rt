@@ -1,11 +1,9 @@
 //! The answers of the commands on a game and a record.
-ghost use Rattle.std.specs.Prelude.{◌≡◌, ◌≢◌, ◌++◌, ℕ, List, IfOk, codes};
-ghost use Rattle.rbg_console.specs.Counts.{counts_of};
+ghost use Rattle.std.specs.Prelude.{◌≢◌, ℕ, List, IfOk};
 ghost use Rattle.rbg_answering.specs.Answers.{IsGamesAnswer};
 ghost use Rattle.rbg_record.specs.internal.Faults.{told_at};
 ghost use Rattle.rbg_answering.specs.internal.Parts.{SaysChecked};
 
-use crate::Command;
 use crate::lines::{answer_bad, answer_form, answer_good, answer_over, answer_record_fault};
 use rbg_console::{Status, count_line};
 use rbg_game::Game;
@@ -13,6 +11,7 @@ use rbg_listing::{Misfit, moves_behind};
 use rbg_moves::PlayedGame;
 use rbg_record::{Checked, Fault, RecordError, check_record, migrate};
 use rbg_refereeing::Answer;
+use rbg_tasks::Command;
 use std::alloc::{AllocError, Global};
 
 /// What a command says of a game and a record. `referee` is answered from its texts.

@@ -1,5 +1,5 @@
-//! The answers of the commands `check`, `referee` with a file, `replay`, `migrate`, and `moves` with a record: from the
-//! bytes of files and of standard input to the bytes that are printed.
+//! The answers of the commands `check`, `referee` with a file or with a record, `replay`, `migrate`, and `moves` with a
+//! record: from the bytes of files and of standard input to the bytes that are printed, and to those of a new record.
 #![tactic(auto)]
 
 mod answer;
@@ -8,12 +8,14 @@ pub mod laws;
 mod lines;
 mod loading;
 mod reading;
+mod record_run;
 mod recording;
 mod run;
 mod task;
 
 pub use answer::answer_task;
 pub use lines::answer_form;
+pub use record_run::run_recorded;
 pub use recording::{Recorded, referee_recorded};
 pub use run::run_task;
-pub use task::{Command, FileTask, Task};
+pub use task::Task;

@@ -3,11 +3,13 @@ ghost use Rattle.std.specs.Prelude.{◌≡◌, [], IfOk};
 ghost use Rattle.rbg_console.specs.Files.{KeepsFiles};
 ghost use Rattle.rbg_console.specs.Inputs.{most_input};
 ghost use Rattle.rbg_tokens.specs.Limits.{longest_text};
-ghost use Rattle.rbg_answering.specs.Tasks.{IsReadOf, file_task};
+ghost use Rattle.rbg_tasks.specs.Tasks.{file_task};
+ghost use Rattle.rbg_answering.specs.Tasks.{IsReadOf};
 ghost use Rattle.rbg_answering.specs.internal.Parts.{Gives, IsReadFor, IsReadIn, IsReadInput};
 
-use crate::{Command, FileTask, Task};
+use crate::Task;
 use rbg_console::{Files, Input, MAX_INPUT, read_input, read_record};
+use rbg_tasks::{Command, FileTask};
 use rbg_tokens::MAX_TEXT;
 use std::alloc::{AllocError, Global};
 use std::io::Read;
@@ -66,7 +68,7 @@ fn read_check<F: Files>(alloc: Global, files: &mut F, file: &str) -> Result<Task
 }
 
 /// Reads a description, and a script from standard input.
-fn read_match<F: Files, R: Read>(
+pub(crate) fn read_match<F: Files, R: Read>(
     alloc: Global,
     files: &mut F,
     file: &str,
@@ -77,6 +79,7 @@ fn read_match<F: Files, R: Read>(
         IsReadIn longest_text (F.told files.old file.now) read.description) }
     ensures told { IfOk result (λ read.
         IsReadInput (R.remaining input.old) (R.remaining input.new) read.told) }
+    ensures kept { KeepsFiles (F.told files.old) (F.told files.new) }
 {
     let description = read_within(alloc, files, file, MAX_TEXT)?;
     let told = read_script(alloc, input)?;

@@ -1,14 +1,14 @@
 //! A run of a task: what it asks for is read, judged and answered.
 ghost use Rattle.std.specs.Prelude.{IfOk};
 ghost use Rattle.rbg_answering.specs.Runs.{IsTaskRun};
-ghost use Rattle.rbg_answering.specs.Tasks.{file_task};
+ghost use Rattle.rbg_tasks.specs.Tasks.{file_task};
 ghost use Rattle.rbg_answering.specs.internal.Parts.{IsFilesAnswer};
 
-use crate::FileTask;
 use crate::answer::answer_task;
 use crate::reading::{Unread, read_task};
 use rbg_console::{Files, Status};
 use rbg_refereeing::{Answer, answer_device, write_answer};
+use rbg_tasks::FileTask;
 use std::alloc::{AllocError, Global};
 use std::io::{Read, Write};
 

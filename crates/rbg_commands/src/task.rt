@@ -2,13 +2,12 @@
 
 use crate::commands::rbg_command;
 use clap::ArgMatches;
-use rbg_answering::FileTask;
 use rbg_console::{WordsError, match_words};
 use rbg_hosting::HallService;
 use rbg_keeping::{Keeping, Serving};
 use rbg_match::Config;
 use rbg_network::Hosting;
-use rbg_recording::RecordTask;
+use rbg_tasks::{FileTask, RecordTask};
 use std::alloc::{AllocError, Global};
 
 /// The defaults of the options.

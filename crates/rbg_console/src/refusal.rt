@@ -1,7 +1,7 @@
 //! A refused description as it is printed: the layer, the number and the name of the refusal, and its place or thing.
 
 ghost use Rattle.std.specs.Fmt.{DisplaysOnOk};
-ghost use Rattle.std.specs.Prelude.{◌≡◌, Some};
+ghost use Rattle.std.specs.Prelude.{Some};
 ghost use Rattle.rbg_console.specs.Refusals.{
   board_refusal,
   game_refusal,

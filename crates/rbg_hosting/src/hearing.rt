@@ -1,6 +1,5 @@
 //! A hall that hears a script, from the bytes of its descriptions and of the script to the printed lines.
-ghost use Rattle.std.specs.Prelude.{◌≡◌, ℕ, List, map, IfErr, IfOk, MatchResult};
-ghost use Rattle.rbg_floor.specs.Wholes.{IsOfHall};
+ghost use Rattle.std.specs.Prelude.{ℕ, List, IfErr, IfOk};
 ghost use Rattle.rbg_hosting.specs.Halls.{IsHeardHall, IsNoHall, IsPrintedScript, IsScriptsHall, MayBeDescriptions};
 ghost use Rattle.rbg_hosting.specs.Tables.{texts_of};
 ghost use Rattle.rbg_script.specs.Scripts.{IsReason, SpellsScript, script_of as abstract_script};

@@ -31,9 +31,9 @@ pub fn resume_match<W: Log>(
     ensures stopped { IfOk result (λ made. made.0.stopped ≡ None) }
     ensures history { IfOk result (λ made. HasHistory made.0.played) }
 {
-    let (played, outbox) = play_script(alloc, description, script)?;
     let mut line = Vec::new(alloc);
     write_script(script, &mut line)?;
+    let (played, outbox) = play_script(alloc, description, script)?;
     let mut log = log;
     log.append(line.as_slice())?;
     Ok((LoggedMatch::with_log(played, log, line), outbox))

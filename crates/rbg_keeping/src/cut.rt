@@ -1,12 +1,13 @@
 //! The command `referee` with an input whose last line may not be whole, as the log of a match that was stopped.
-ghost use Rattle.std.specs.Prelude.{◌≡◌, ℕ, List, Option, option_map};
+ghost use Rattle.std.specs.Prelude.{ℕ, List, Option, option_map};
 ghost use Rattle.rbg_console.specs.Inputs.{IsReading, most_input};
 ghost use Rattle.rbg_keeping.specs.Runs.{IsCutRun, IsRefereeRun};
 
-use rbg_answering::{FileTask, run_task};
+use rbg_answering::run_task;
 use rbg_console::{Files, Input, MAX_INPUT, Status, read_input, write_text};
 use rbg_log::whole_lines;
 use rbg_refereeing::run_referee;
+use rbg_tasks::FileTask;
 use std::alloc::Global;
 use std::io::{Read, Write};
 

@@ -1,8 +1,8 @@
 //! Matches over connections: the network as the programs see it, the system's own, the lines of a match over streams,
-//! how its players are waited for, what its organiser is told, and a player at the other end of a stream.
+//! how its players are waited for, and what its organiser is told.
 #![tactic(auto)]
 
-mod client;
+mod client_error;
 mod gathering;
 pub mod laws;
 mod network;
@@ -12,10 +12,10 @@ mod stream_line;
 mod system_log;
 mod system_network;
 
-pub use client::{Client, ClientError};
-pub use gathering::{GatherError, Hosting, connect_players, gather, tell_who_gave_up};
-pub use network::Network;
+pub use client_error::ClientError;
+pub use gathering::{GatherError, Hosting, gather};
+pub use network::{Network, is_nothing_yet};
 pub use news::News;
-pub use stream_line::{PlayedLine, StreamLine};
+pub use stream_line::StreamLine;
 pub use system_log::SystemLog;
 pub use system_network::{SystemClock, SystemNetwork};

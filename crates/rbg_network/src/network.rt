@@ -53,7 +53,7 @@ pub trait Network {
 }
 
 /// Whether a stream or a listener only says that it has nothing now, or takes nothing now.
-pub(crate) fn is_nothing_yet(error: &io::Error) -> bool {
+pub fn is_nothing_yet(error: &io::Error) -> bool {
     matches!(
         error.kind(),
         ErrorKind::WouldBlock | ErrorKind::TimedOut | ErrorKind::Interrupted

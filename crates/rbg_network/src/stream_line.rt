@@ -1,9 +1,8 @@
-//! Lines over streams: one to a player elsewhere, and one with its player in this process.
+//! A line over a stream.
 ghost use Rattle.std.specs.Prelude.{◌≡◌, ◌≤◌, ◌+◌, length, take, true, false};
 ghost use Rattle.rbg_serving.specs.Answers.{FitsPoll};
 ghost use Rattle.rbg_network.specs.Passing.{Gives, passed, begun_after};
 
-use crate::client::{Client, ClientError};
 use crate::network::is_nothing_yet;
 use crate::passing::Passing;
 use rbg_serving::{Line, Polled, Put};
@@ -125,62 +124,5 @@ impl<S: Read + Write + Drop> Line for StreamLine<S> {
 
     fn failures(&self) -> u64 {
         self.failures
-    }
-}
-
-/// A line whose player is in this process too. Before each poll the player has a turn.
-#[derive(Drop)]
-pub struct PlayedLine<S: Read + Write + Drop> {
-    line: StreamLine<S>,
-    /// The player, until it gives up. Then its end of the connection is closed.
-    client: Option<Client<S>>,
-    /// Why the player gave up.
-    fault: Option<ClientError>,
-}
-
-impl<S: Read + Write + Drop> PlayedLine<S> {
-    /// The line, whose player is this client.
-    pub fn new(line: StreamLine<S>, client: Client<S>) -> PlayedLine<S> {
-        PlayedLine {
-            line,
-            client: Some(client),
-            fault: None,
-        }
-    }
-
-    /// Why the player gave up, if it did.
-    pub fn fault(&self) -> Option<ClientError> {
-        self.fault
-    }
-
-    /// Lets the player hear and say what it can now.
-    fn play(&mut self)
-        ensures { self.new.line ≡ self.old.line }
-    {
-        if let Some(client) = &mut self.client {
-            if let Err(error) = client.turn() {
-                self.client = None;
-                self.fault = Some(error);
-            }
-        }
-    }
-}
-
-impl<S: Read + Write + Drop> Line for PlayedLine<S> {
-    ghost told = { λ _ _. Unit {0} };
-
-    ghost failure_count = { λ line. line.line.failures };
-
-    fn poll(&mut self, buffer: &mut [u8]) -> Polled {
-        self.play();
-        self.line.poll(buffer)
-    }
-
-    fn put(&mut self, bytes: &[u8]) -> Put {
-        self.line.put(bytes)
-    }
-
-    fn failures(&self) -> u64 {
-        self.line.failures()
     }
 }

@@ -1,7 +1,7 @@
 -- Lemmas on what the words ask for.
 use Rattle.std.proofs.Common.{◌≡◌, ap, unwrap_or}
 use Rattle.std.specs.Prelude.{Some}
-use Rattle.rbg_program.specs.Words.{Wish}
+use Rattle.rbg_tasks.specs.Words.{Wish}
 
 -- what is found is what is asked for
 pub wish_found : (known wish : Wish) → Some known ≡ Some wish → known ≡ wish

@@ -3,7 +3,6 @@
 #![tactic(auto)]
 
 mod program;
-mod words;
 
 pub use program::run;
 pub use rbg_console::{Files, Input, Note, Status};

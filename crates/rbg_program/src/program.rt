@@ -2,17 +2,16 @@
 //! fault.
 ghost use Rattle.std.specs.Prelude.{map, string_bytes};
 ghost use Rattle.rbg_program.specs.Runs.{IsRunFor};
-ghost use Rattle.rbg_program.specs.Words.{Asks, Wish};
+ghost use Rattle.rbg_tasks.specs.Words.{Asks, Wish};
 
-use crate::words::{Asked, asked_by};
-use rbg_answering::run_task;
+use rbg_answering::{run_recorded, run_task};
 use rbg_commands::run_command;
 use rbg_console::{Files, Status};
 use rbg_keeping::{run_cut, run_script};
 use rbg_listing::run_moves;
 use rbg_network::Network;
-use rbg_recording::run_recorded;
 use rbg_refereeing::run_referee;
+use rbg_tasks::{Asked, asked_by};
 use std::alloc::Global;
 use std::io::{Read, Write};
 

@@ -1,5 +1,5 @@
 //! The printed lines of a match: for each seat in order, each of its messages.
-ghost use Rattle.std.specs.Prelude.{◌≡◌, ◌++◌, List, ℕ, IfOk, OnOk, codes, decimal, string_bytes};
+ghost use Rattle.std.specs.Prelude.{◌≡◌, ◌++◌, List, ℕ, IfOk, OnOk};
 ghost use Rattle.rbg_refereeing.specs.Printed.{AreMessages, IsPrinted, message_line, printed_message, seat_lines};
 
 use rbg_match::Outbox;

@@ -12,7 +12,7 @@ use Rattle.rbg_serving.specs.declared.served.Served.{Served}
 use Rattle.rbg_serving.specs.declared.served.ServeError.{ServeError}
 use Rattle.rbg_serving.specs.declared.served.ServeError.TheVariants.{Rounds, Memory}
 use Rattle.rbg_serving.specs.internal.InCall.{Start, InCall, Passed, LacksMemoryInCall, WithMoments}
-use Rattle.rbg_serving.specs.Heard.{Heard, IsLive, IsTimed, IsOfLiveLines}
+use Rattle.rbg_serving.specs.Heard.{Heard, IsTimed, IsOfLiveLines}
 use Rattle.rbg_serving.specs.Passing.{Behaviour, Intake, no_intake, intake_at, queued_at, AllHandled}
 use Rattle.rbg_serving.specs.Passing as passing
 use Rattle.rbg_serving.specs.Serving.{IsServed, TookAll, IsWhole, IsOver, EndsServing, ServesOver}

@@ -16,11 +16,12 @@ use Rattle.rbg_record.specs.declared.error.RecordError.TheVariants.{Form, Over, 
 use Rattle.rbg_refereeing.specs.Answers.{refused_line}
 use Rattle.rbg_refereeing.specs.Runs.{device_line}
 use Rattle.rbg_tokens.specs.Limits.{longest_text}
-use Rattle.rbg_answering.specs.declared.task.Command.{Command}
-use Rattle.rbg_answering.specs.declared.task.Command.TheVariants.{Referee}
+use Rattle.rbg_tasks.specs.declared.task.Command.{Command}
+use Rattle.rbg_tasks.specs.declared.task.Command.TheVariants.{Referee}
 use Rattle.rbg_answering.specs.declared.task.Task.{Task}
 use Rattle.rbg_answering.specs.Answers.{IsTaskAnswer, good_line, bad_line, form_line, over_line}
-use Rattle.rbg_answering.specs.Tasks.{NamedTask, AbstractTask, AsksFor, IsInputOf, IsReadOf, IsTaskOf}
+use Rattle.rbg_tasks.specs.Tasks.{NamedTask}
+use Rattle.rbg_answering.specs.Tasks.{AbstractTask, AsksFor, IsInputOf, IsReadOf, IsTaskOf}
 
 -- the task of these parts
 abbrev pub task_of : Command → (description told : List ℕ) → AbstractTask

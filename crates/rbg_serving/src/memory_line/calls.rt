@@ -1,5 +1,5 @@
 //! The calls of lines over memory.
-ghost use Rattle.std.specs.Prelude.{◌≡◌, ℕ, drop, length, min, take};
+ghost use Rattle.std.specs.Prelude.{◌≡◌, drop, length, min, take};
 ghost use Rattle.rbg_serving.specs.Answers.{FitsPoll, FitsPut, after_poll, after_put};
 ghost use Rattle.rbg_serving.specs.MemoryLines.{MemoryTells, IsPolled, IsPut};
 ghost use Rattle.rbg_serving.specs.Told.{Told, Tells};

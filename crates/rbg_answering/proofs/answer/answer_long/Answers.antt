@@ -3,7 +3,7 @@ use Rattle.std.proofs.Common.{◌≡◌, subst, sym}
 use Rattle.std.specs.Prelude.{IfOk}
 use Rattle.rbg_console.specs.declared.status.Status.TheVariants.{BadInput}
 use Rattle.rbg_refereeing.specs.Answers.{script_line}
-use Rattle.rbg_answering.specs.declared.task.Command.TheVariants.{Referee}
+use Rattle.rbg_tasks.specs.declared.task.Command.TheVariants.{Referee}
 use Rattle.rbg_answering.specs.internal.Parts.{AnswersLong}
 use Rattle.rbg_answering.proofs.AnswerLemmas.{long_script_answers}
 use Rattle.rbg_refereeing.proofs.CallerLemmas.{both}

@@ -6,7 +6,7 @@ use Rattle.rbg_refereeing.specs.Answers.{refused_line}
 use Rattle.rbg_tokens.specs.Limits.{longest_text}
 use Rattle.rbg_tokens.specs.declared.error.TextError.TheVariants.{TooLong}
 use Rattle.rbg_answering.specs.Tasks.{IsReadOf}
-use Rattle.rbg_answering.specs.declared.task.Command.TheVariants.{Referee}
+use Rattle.rbg_tasks.specs.declared.task.Command.TheVariants.{Referee}
 use Rattle.rbg_answering.specs.internal.Parts.{AnswersWhole}
 use Rattle.rbg_answering.proofs.AnswerLemmas.{long_known, refusal_answers}
 use Rattle.rbg_refereeing.proofs.CallerLemmas.{both, long_refused}

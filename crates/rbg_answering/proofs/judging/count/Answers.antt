@@ -2,7 +2,7 @@
 use Rattle.std.proofs.Common.{rules, ◌≡◌, ◌++◌, codes, refl}
 use Rattle.rbg_console.specs.Counts.{counts_of}
 use Rattle.rbg_console.specs.declared.status.Status.TheVariants.{Success}
-use Rattle.rbg_answering.specs.declared.task.Command.TheVariants.{Check}
+use Rattle.rbg_tasks.specs.declared.task.Command.TheVariants.{Check}
 use Rattle.rbg_answering.specs.Answers.IsGamesAnswer.{counted}
 use Rattle.rbg_answering.proofs.JudgingLemmas.{games_answer_is}
 use Rattle.rbg_answering.proofs.judging.count.Goals as goal

@@ -1,7 +1,7 @@
 -- What is told of the record is true.
 use Rattle.std.proofs.Common.{ℕ, List}
 use Rattle.std.proofs.lemmas.Result.{IfOk-weaker}
-use Rattle.rbg_answering.specs.declared.task.Command.TheVariants.{Replay}
+use Rattle.rbg_tasks.specs.declared.task.Command.TheVariants.{Replay}
 use Rattle.rbg_answering.specs.Answers.{IsGamesAnswer}
 use Rattle.rbg_answering.specs.internal.Parts.{SaysChecked}
 use Rattle.rbg_answering.proofs.JudgingLemmas.{checked_answer}

@@ -2,7 +2,7 @@
 use Rattle.std.proofs.Common.{ℕ, List, sym, subst}
 use Rattle.std.proofs.lemmas.Result.{IfOk-weaker}
 use Rattle.rbg_answering.specs.Answers.{IsGamesAnswer}
-use Rattle.rbg_answering.specs.declared.task.Command.TheVariants.{Check}
+use Rattle.rbg_tasks.specs.declared.task.Command.TheVariants.{Check}
 use Rattle.rbg_answering.proofs.judging.judge_game.Goals as goal
 
 pub returns-in-Check : goal.returns-in-Check

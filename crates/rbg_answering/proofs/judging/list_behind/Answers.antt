@@ -2,7 +2,7 @@
 use Rattle.std.proofs.Common.{ℕ, List}
 use Rattle.std.proofs.lemmas.Result.{IfOk-weaker}
 use Rattle.rbg_record.specs.internal.Faults.{told_at}
-use Rattle.rbg_answering.specs.declared.task.Command.TheVariants.{Moves}
+use Rattle.rbg_tasks.specs.declared.task.Command.TheVariants.{Moves}
 use Rattle.rbg_answering.specs.Answers.{IsGamesAnswer}
 use Rattle.rbg_answering.specs.Answers.IsGamesAnswer.{goes_on}
 use Rattle.rbg_answering.specs.internal.Parts.{SaysChecked}

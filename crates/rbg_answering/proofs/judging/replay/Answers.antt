@@ -2,7 +2,7 @@
 use Rattle.std.proofs.Common.{ℕ, List, subst}
 use Rattle.std.specs.Prelude.{IfOk}
 use Rattle.rbg_answering.specs.Answers.{IsGamesAnswer}
-use Rattle.rbg_answering.specs.declared.task.Command.TheVariants.{Replay}
+use Rattle.rbg_tasks.specs.declared.task.Command.TheVariants.{Replay}
 use Rattle.rbg_answering.proofs.judging.replay.Goals as goal
 
 pub returns-in-Ok : goal.returns-in-Ok

@@ -2,7 +2,7 @@
 use Rattle.std.proofs.Common.{ℕ, List, ap}
 use Rattle.std.specs.Prelude.{Err}
 use Rattle.std.proofs.lemmas.Result.{IfOk-weaker}
-use Rattle.rbg_answering.specs.declared.task.Command.TheVariants.{Migrate}
+use Rattle.rbg_tasks.specs.declared.task.Command.TheVariants.{Migrate}
 use Rattle.rbg_answering.specs.Answers.{IsGamesAnswer}
 use Rattle.rbg_answering.specs.Answers.IsGamesAnswer.{migrated}
 use Rattle.rbg_answering.specs.internal.Parts.{SaysFault}

@@ -3,8 +3,9 @@ use Rattle.std.proofs.Common.{◌≡◌, [], subst, sym}
 use Rattle.std.specs.Prelude.{IfOk}
 use Rattle.rbg_console.specs.Inputs.{most_input}
 use Rattle.rbg_tokens.specs.Limits.{longest_text}
-use Rattle.rbg_answering.specs.Tasks.{IsReadOf, file_task}
-use Rattle.rbg_answering.specs.declared.task.Command.TheVariants.{Check, Referee, Replay, Migrate, Moves}
+use Rattle.rbg_tasks.specs.Tasks.{file_task}
+use Rattle.rbg_answering.specs.Tasks.{IsReadOf}
+use Rattle.rbg_tasks.specs.declared.task.Command.TheVariants.{Check, Referee, Replay, Migrate, Moves}
 use Rattle.rbg_answering.specs.internal.Parts.{IsReadFor, IsReadIn, IsReadInput}
 use Rattle.rbg_refereeing.proofs.CallerLemmas.{all_three}
 use Rattle.rbg_answering.proofs.ReadingLemmas.{check_read, match_read, replay_read, migrate_read, moves_read}

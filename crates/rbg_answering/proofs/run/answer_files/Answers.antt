@@ -1,7 +1,8 @@
 -- What was read is answered.
 use Rattle.std.proofs.lemmas.Result.{IfOk-weaker}
 use Rattle.rbg_answering.specs.Answers.{IsTaskAnswer}
-use Rattle.rbg_answering.specs.Tasks.{AbstractTask, IsTaskOf, file_task}
+use Rattle.rbg_tasks.specs.Tasks.{file_task}
+use Rattle.rbg_answering.specs.Tasks.{AbstractTask, IsTaskOf}
 use Rattle.rbg_answering.specs.internal.Parts.{IsFilesAnswer}
 use Rattle.rbg_answering.specs.internal.Parts.IsFilesAnswer.{of_task}
 use Rattle.rbg_answering.proofs.run.answer_files.Goals as goal

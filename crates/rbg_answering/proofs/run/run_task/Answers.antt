@@ -1,5 +1,5 @@
 -- The answer is written.
-use Rattle.rbg_answering.specs.Tasks.{file_task}
+use Rattle.rbg_tasks.specs.Tasks.{file_task}
 use Rattle.rbg_answering.specs.internal.Parts.{IsFilesAnswer}
 use Rattle.rbg_answering.proofs.RunLemmas.{task_run}
 use Rattle.rbg_refereeing.proofs.CallerLemmas.{run_of}

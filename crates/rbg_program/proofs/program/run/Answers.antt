@@ -1,10 +1,10 @@
 -- What is run is what the words ask for.
 use Rattle.std.proofs.Common.{subst}
 use Rattle.std.specs.Prelude.{option_map}
-use Rattle.rbg_answering.specs.Tasks.{file_task}
-use Rattle.rbg_recording.specs.Tasks.{record_task}
+use Rattle.rbg_tasks.specs.Tasks.{file_task}
+use Rattle.rbg_tasks.specs.Tasks.{record_task}
 use Rattle.rbg_program.specs.Runs.{IsRunFor}
-use Rattle.rbg_program.specs.Words.{match_of_input, on_files, recorded_match, cut_match, moves_of, script_of}
+use Rattle.rbg_tasks.specs.Words.{match_of_input, on_files, recorded_match, cut_match, moves_of, script_of}
 use Rattle.rbg_program.proofs.WishLemmas.{wish_found}
 use Rattle.rbg_program.proofs.program.run.Goals as goal
 

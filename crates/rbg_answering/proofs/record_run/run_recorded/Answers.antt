@@ -1,0 +1,13 @@
+-- The answer is written.
+use Rattle.rbg_answering.specs.RecordRuns.{IsRecordedAnswer}
+use Rattle.rbg_tasks.specs.Tasks.{record_task}
+use Rattle.rbg_refereeing.proofs.CallerLemmas.{run_of}
+use Rattle.rbg_answering.proofs.record_run.run_recorded.Goals as goal
+
+pub returns : goal.returns
+returns g c =
+    let known = g.F.Files.told c.args.files.now in
+    let after = g.F.Files.told c.answer_recorded-answered.new.files in
+    let unread = g.R.Read.remaining c.args.input.now in
+    let left = g.R.Read.remaining c.answer_recorded-answered.new.input in
+    run_of (IsRecordedAnswer g.F.Files.tells_new known after unread left (record_task c.args.task)) _ _ c.answer_recorded-answered.result c.write_answer.result c.answer_recorded-answered.ensures c.write_answer.ensures

@@ -1,0 +1,51 @@
+//! A run of `referee` with a record.
+ghost use Rattle.std.specs.Prelude.{IfOk};
+ghost use Rattle.rbg_answering.specs.RecordRuns.{IsRecordedAnswer, IsRecordedRun};
+ghost use Rattle.rbg_tasks.specs.Tasks.{record_task};
+
+use self::described::record_file;
+use self::marked::record_input;
+use rbg_console::{Files, Status};
+use rbg_refereeing::{Answer, write_answer};
+use rbg_tasks::RecordTask;
+use std::alloc::{AllocError, Global};
+use std::io::{Read, Write};
+
+mod described;
+mod filing;
+mod marked;
+
+/// Reads a description and a script, referees their match, writes its record to a new file, and then what is printed.
+/// Nothing is written before all is read. The file is created before the match is refereed. Where there is no match, the
+/// file stays empty.
+pub fn run_recorded<F: Files, R: Read, W: Write>(
+    alloc: Global,
+    task: RecordTask<'_>,
+    files: &mut F,
+    input: &mut R,
+    output: &mut W,
+) -> Status
+    ensures { IsRecordedRun F.tells_new (F.told files.old) (F.told files.new)
+        (R.remaining input.old) (R.remaining input.new) (record_task task.entry)
+        (W.contents output.old) (W.contents output.new) result }
+{
+    let answered = answer_recorded(alloc, task, files, input);
+    write_answer(output, answered)
+}
+
+/// The answer to what the files and standard input have.
+fn answer_recorded<F: Files, R: Read>(
+    alloc: Global,
+    task: RecordTask<'_>,
+    files: &mut F,
+    input: &mut R,
+) -> Result<Answer, AllocError>
+    ensures { IfOk result (λ answer. IsRecordedAnswer F.tells_new (F.told files.old) (F.told files.new)
+        (R.remaining input.old) (R.remaining input.new) (record_task task.entry)
+        answer.text.items answer.status) }
+{
+    match task.description {
+        Some(file) => record_file(alloc, file, task.target, files, input),
+        None => record_input(alloc, task.target, files, input),
+    }
+}

@@ -1,0 +1,3 @@
+pub mod Asked
+pub mod Tasks
+pub mod Words
