@@ -9,10 +9,10 @@ ghost use Rattle.rbg_answering.specs.internal.Parts.{
   AnswersWhole,
 };
 
+use crate::Task;
 use crate::judging::judge_game;
 use crate::lines::answer_form;
 use crate::loading::{answer_unloaded, load_read};
-use crate::Task;
 use rbg_console::Status;
 use rbg_game::LoadError;
 use rbg_refereeing::{Answer, answer_fault, answer_refused, answer_script, referee_texts};

@@ -42,12 +42,18 @@ fn record_task<F: Files>(
 ) -> Result<Answer, AllocError>
     ensures { IfOk result (λ answer. (whole : AbstractTask) → IsTaskOf task.now whole
         → RecordsTask F.tells_new (F.told files.old target.now) (F.told files.new target.now) whole
-            answer.text.items answer.status) }
+        answer.text.items answer.status) }
 {
     match &task.description {
         Some(description) => match &task.told {
             Some(script) => {
-                record_texts(alloc, target, files, description.as_slice(), script.as_slice())
+                record_texts(
+                    alloc,
+                    target,
+                    files,
+                    description.as_slice(),
+                    script.as_slice(),
+                )
             }
             None => answer_task(alloc, task),
         },
