@@ -16,7 +16,7 @@ use rbg_leaps::{Leaps, Origin, Target, leaps};
 use rbg_rules::{Action, Game};
 use std::alloc::Global;
 
-/// What a flat part does with the action at a position. What is tested where most words are met comes first.
+/// What a flat part does with the action at a position. The kinds that are told apart first stand first.
 #[derive(Clone, Copy, Drop)]
 pub(crate) enum Kind {
     /// An on of these two pieces: it is looked at where one of them stands.

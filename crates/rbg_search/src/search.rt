@@ -476,7 +476,7 @@ impl<'a, S: Steps> Search<'a, S> {
         self.pairs_part(state, origin, nested, pairs)
     }
 
-    /// The same by pairs. It stands apart, since games with paths, as nearly all have, never come here.
+    /// The same by pairs. It stands apart, since a search with paths never comes here, and nearly all games have them.
     #[cycle(search)]
     #[inline(never)]
     fn pairs_part(

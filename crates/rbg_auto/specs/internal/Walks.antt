@@ -41,10 +41,11 @@ pub record SetsNode (old new : Table) (p : ℕ) (node : Node) (inside : Opening)
   pub there : p < length old.nodes.items → laid_in new p ≡ laid_of old.entries.items node inside
   pub others : (q : ℕ) → ¬ (q ≡ p) → laid_in new q ≡ laid_in old q
 
--- The list of what comes after was added, and then the node with it and the opening were laid.
+-- The node with this list, of whose action nothing is told.
 abbrev pub node_of : Span → Bool → Node
 node_of s end = record { next = s; may_end = end; glance = Unknown }
 
+-- The list of what comes after was added, unless it was there, and then the node with it and the opening were laid.
 pub record LaysAt (old new : Table) (p : ℕ) (inside : Opening) (rest : Rest) : Type 0 where
   pub middle : Table
   pub next : Span

@@ -39,7 +39,8 @@ abbrev pub question_of : (max : ℕ) → Question
 question_of zero = find_move
 question_of (suc n) = list_moves
 
--- Whether the answer to that question is cut where the walk ends early: some move is all that is asked for.
+-- Whether the answer to that question is cut: a list is where the walk ended early; some move never is, since no more is
+-- asked for.
 abbrev pub is_cut : (ended : Bool) → (max : ℕ) → Bool
 is_cut false max = false
 is_cut true zero = false

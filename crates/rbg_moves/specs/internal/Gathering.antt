@@ -84,7 +84,8 @@ pub record LeavesOthers (rules : Expression) (old new : List (ℕ × ℕ)) : Typ
   pub switching : All (λ q. IsSwitchAt rules q.1) switches
   pub plain : All (λ q. ¬ IsSwitchAt rules q.1) new
 
--- A walk from a place gathered its moves behind these first pairs, and counted what its question takes up.
+-- A walk from a place gathered its moves behind these first pairs, which are fewer than a move may have, and counted what
+-- its question takes up.
 pub record IsWalked
     (old new : Searching) (place : AbstractPlace) (front : List (ℕ × ℕ)) (max : ℕ)
     (had has : List (List (ℕ × ℕ))) (first : List (ℕ × ℕ)) (ended : Bool)

@@ -50,7 +50,7 @@ impl SemiState {
         }
     }
 
-    /// The value of one operation on numbers or variables alone; none of any other expression.
+    /// The value of one operation on numbers or variables alone; none of any other expression, or where it has no value.
     #[inline(always)]
     fn plain_chain(&self, expression: &Arithmetic) -> Option<i64>
         requires { ReadsBelow (length self.now.state.values) (arithmetic_of expression.now) }
@@ -64,7 +64,7 @@ impl SemiState {
     }
 
     /// What an operation alone makes of a value, where its operand is a number or a variable alone; none of any other
-    /// operations.
+    /// operations, or where it has no value.
     #[inline(always)]
     fn plain_step(&self, first: i64, operations: &[Operation]) -> Option<i64>
         requires { All (λ o.
