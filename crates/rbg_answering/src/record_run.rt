@@ -17,7 +17,7 @@ mod marked;
 
 /// Reads a description and a script, referees their match, writes its record to a new file, and then what is printed.
 /// Nothing is written before all is read. The file is created before the match is refereed. Where there is no match, the
-/// file stays empty.
+/// file stays empty, or isn't created if a text is too long or there is no mark.
 pub fn run_recorded<F: Files, R: Read, W: Write>(
     alloc: Global,
     task: RecordTask<'_>,

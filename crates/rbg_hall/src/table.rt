@@ -128,7 +128,8 @@ impl HallTable {
     }
 
     /// Hears an event of the clock, or of a line that asked for this table, and queues what it tells its lines. The marks
-    /// tell how long the queues were. A line that has a seat gets no other one, and one without a seat isn't heard.
+    /// tell how long the queues were. A line that has a seat gets no other one; one without a seat is heard only
+    /// when it asks for one.
     pub fn hear(
         &mut self,
         input: TableInput<'_>,

@@ -15,7 +15,7 @@ use rbg_script::Script;
 use rbg_scripting::write_script;
 use std::alloc::Global;
 
-/// The match to which a script leads, with a log that holds the script.
+/// The match to which a script leads. Its log, empty before, holds the script.
 pub fn resume_match<W: Log>(
     alloc: Global,
     description: &[u8],

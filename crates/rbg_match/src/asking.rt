@@ -10,7 +10,7 @@ use rbg_base::Pair;
 use rbg_moves::{Move, Over, Place, PlayedGame, Workspace};
 
 /// The pairs of a legal move at a place, which a message can tell, or None if play is finished. The workspace takes them
-/// back. The place is asked on, and given back.
+/// back. The question is asked on the place itself, which is given back as it was, also after an error.
 pub(crate) fn find_pairs(
     game: &PlayedGame,
     place: &mut Place,

@@ -1,4 +1,4 @@
-//! Why a player at its end of a stream can't go on.
+//! Why a player at its end of a stream can't go on. It is told as news, so it stands here.
 
 use rbg_player::PlayerError;
 use std::alloc::AllocError;

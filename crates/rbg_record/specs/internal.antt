@@ -1,4 +1,4 @@
--- What only this crate's own proofs use.
+-- Definitions that private contracts and proofs use, here and in crates above.
 pub mod Faults
 pub mod Reading
 pub mod Written

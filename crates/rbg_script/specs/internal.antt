@@ -1,3 +1,3 @@
--- Definitions that only this crate's proofs use.
+-- Definitions that private contracts and proofs use, here and in crates above.
 pub mod Whole
 pub mod Reading

@@ -1,7 +1,6 @@
 -- What the program takes words to ask for.
 use Rattle.std.specs.Prelude.{Option, Some, None, option_map}
-use Rattle.rbg_tasks.specs.Tasks.{file_task}
-use Rattle.rbg_tasks.specs.Tasks.{record_task}
+use Rattle.rbg_tasks.specs.Tasks.{file_task, record_task}
 use Rattle.rbg_tasks.specs.declared.words.Asked.{Asked}
 use Rattle.rbg_tasks.specs.declared.words.Asked.TheVariants.{Input, Files, Recorded, Cut, Moves, Script, Other}
 use Rattle.rbg_tasks.specs.Words.{Wish, match_of_input, on_files, recorded_match, cut_match, moves_of, script_of}

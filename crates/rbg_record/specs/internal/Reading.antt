@@ -9,8 +9,8 @@ use Rattle.rbg_rules.specs.Moves.{AbstractPlace, IsLegal}
 abbrev pub SomeIsLegal : AbstractGame → AbstractPlace → Type 0
 SomeIsLegal game place = (pairs : List (ℕ × ℕ)) × IsLegal game place pairs
 
--- The match could end so at the place, where play is finished or is not. Of a question that was too heavy to be answered
--- nothing is said.
+-- The match could end so at the place, where play is finished or is not. After a question that was too heavy to be
+-- answered it could at any place.
 abbrev pub EndsSo : AbstractGame → AbstractPlace → (finished : Bool) → Option Outcome → Type 0
 EndsSo game place finished None = finished ≡ false
 EndsSo game place finished (Some (Finished scores)) =
