@@ -19,7 +19,7 @@ use Rattle.rbg_auto.specs.Steps.{AreStepsOf, IsGlance}
 use Rattle.rbg_auto.specs.internal.Laying.{Laid, nothing, IsLawful, first_at, empty_at, IsWhole}
 use Rattle.rbg_auto.specs.internal.Tables.{listed, laid_of, told_at, no_node, no_inside}
 use Rattle.rbg_auto.specs.internal.Compacts.{IsCompactOf, MayBeLent}
-use Rattle.rbg_auto.specs.internal.Walks.{laid_in, told_in, LaysLevel, Tells}
+use Rattle.rbg_auto.specs.internal.Building.{laid_in, told_in, LaysLevel, Tells}
 use Rattle.rbg_auto.proofs.WholeLemmas.{numbered_ascends, whole_steps}
 
 get_or-replicate : {X : Type 0} (x : X) (n q : ℕ) → get_or (replicate n x) q x ≡ x

@@ -8,8 +8,8 @@ pub mod WholeLemmas
 pub mod LayLemmas
 pub mod TreeLemmas
 pub mod LayTreeLemmas
-pub mod WalkLemmas
+pub mod BuildingLemmas
 pub mod CompactLemmas
 pub mod PreparedLemmas
 pub mod UnionLemmas
-pub mod PlaceLemmas
+pub mod PlainNodeLemmas

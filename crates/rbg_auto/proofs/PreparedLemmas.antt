@@ -6,15 +6,15 @@ use Rattle.rbg_rules.specs.Expression.{Expression}
 use Rattle.rbg_rules.specs.Words.{after, Ends}
 use Rattle.rbg_auto.specs.declared.span.Node.{Node}
 use Rattle.rbg_auto.specs.declared.arrays.Compact.{Compact}
-use Rattle.rbg_auto.specs.declared.lent.Step.{Step}
+use Rattle.rbg_auto.specs.declared.lent_steps.Step.{Step}
 use Rattle.rbg_auto.specs.declared.steps.Glance.{Glance}
 use Rattle.rbg_auto.specs.declared.steps.Glance.TheVariants.{Unknown}
 use Rattle.rbg_auto.specs.Steps.{AreNext, IsGlance}
-use Rattle.rbg_auto.specs.Lent.{step_at, list_of}
+use Rattle.rbg_auto.specs.LentSteps.{step_at, list_of}
 use Rattle.rbg_auto.specs.internal.Tables.{listed, no_node, IsNextWithin}
 use Rattle.rbg_auto.specs.internal.Compacts.{IsCompactOf, MayBeLent}
 use Rattle.rbg_auto.specs.internal.Prepared.{step_of_node}
-use Rattle.rbg_auto.proofs.WalkLemmas.{next_within}
+use Rattle.rbg_auto.proofs.BuildingLemmas.{next_within}
 
 -- The step at a position is that of the node there.
 step_of_each : (nodes : List Node) (p : ℕ) → step_at (map step_of_node nodes) p ≡ step_of_node (get_or nodes p no_node)

@@ -2,5 +2,5 @@
 pub mod Steps
 pub mod OfTree
 pub mod Laws
-pub mod Lent
+pub mod LentSteps
 pub mod internal

@@ -4,7 +4,7 @@ pub mod Firsts
 pub mod Laying
 pub mod Trees
 pub mod Tables
-pub mod Walks
+pub mod Building
 pub mod Prepared
 pub mod Compacts
-pub mod Places
+pub mod PlainNodes

@@ -2,7 +2,7 @@
 ghost use Rattle.std.specs.Prelude.{◌≡◌, length};
 ghost use Rattle.rbg_auto.specs.internal.Tables.{IsSpan};
 
-use crate::lent::{Lent, Step};
+use crate::lent_steps::{LentSteps, Step};
 use crate::span::Opening;
 use crate::steps::{Expr, Glance, Steps};
 use crate::table::Table;
@@ -64,9 +64,9 @@ impl Steps for Compact {
         self.table.node(position).glance
     }
 
-    fn lend(&self) -> Option<Lent<'_>> {
+    fn lend(&self) -> Option<LentSteps<'_>> {
         match &self.prepared {
-            Some(steps) => Some(Lent {
+            Some(steps) => Some(LentSteps {
                 steps: steps.as_slice(),
                 entries: self.table.entries.as_slice(),
             }),

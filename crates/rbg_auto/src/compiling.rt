@@ -1,9 +1,9 @@
 //! The plain automaton of a game.
 ghost use Rattle.std.specs.Prelude.{◌<◌, ◌^◌, IfOk};
 ghost use Rattle.rbg_auto.specs.OfTree.{HoldsOfTree};
-ghost use Rattle.rbg_auto.specs.internal.Places.{SetsPlace, FillsTree, FillsSequence, FillsSum, AreBlank};
+ghost use Rattle.rbg_auto.specs.internal.PlainNodes.{SetsPlainNode, FillsTree, FillsSequence, FillsSum, AreBlank};
 
-use crate::plain::{Automaton, Place};
+use crate::plain::{Automaton, PlainNode};
 use crate::rest::{Rest, again, before};
 use crate::steps::Steps;
 use crate::tree::push_first;
@@ -11,47 +11,47 @@ use rbg_base::{Memory, Position};
 use rbg_rules::{Game, Rule};
 use std::alloc::Global;
 
-/// That many places with nothing laid.
-fn blank(alloc: Global, count: usize) -> Result<Vec<Place>, Memory>
-    ensures { IfOk result (λ places. AreBlank places.items count) }
+/// That many nodes with nothing laid.
+fn blank(alloc: Global, count: usize) -> Result<Vec<PlainNode>, Memory>
+    ensures { IfOk result (λ nodes. AreBlank nodes.items count) }
 {
-    let mut places = Vec::new(alloc);
+    let mut nodes = Vec::new(alloc);
     for _ in 0..count {
-        places.push(Place {
+        nodes.push(PlainNode {
             next: Vec::new(alloc),
             may_end: false,
             first: Vec::new(alloc),
             may_be_empty: false,
         })?;
     }
-    Ok(places)
+    Ok(nodes)
 }
 
-/// Sets what is laid at a position, if there is a place for it.
-fn set(places: &mut [Place], position: Position, place: Place)
-    ensures { SetsPlace places.old places.new position place }
+/// Sets what is laid at a position, if there is a node for it.
+fn set(nodes: &mut [PlainNode], position: Position, node: PlainNode)
+    ensures { SetsPlainNode nodes.old nodes.new position node }
 {
     let index = position as usize;
-    if index < places.len() {
-        places[index] = place;
+    if index < nodes.len() {
+        nodes[index] = node;
     }
 }
 
 /// Lays a part of the rules, after which the rest comes.
 #[cycle(filling)]
-fn fill(alloc: Global, places: &mut [Place], rule: &Rule, rest: &Rest) -> Result<(), Memory>
+fn fill(alloc: Global, nodes: &mut [PlainNode], rule: &Rule, rest: &Rest) -> Result<(), Memory>
     ensures { IfOk result (λ _.
-        FillsTree places.old places.new rule.now rest.now.positions.items rest.now.may_end) }
+        FillsTree nodes.old nodes.new rule.now rest.now.positions.items rest.now.may_end) }
 {
     match rule {
         Rule::Act(position) => {
-            let place = Place {
+            let node = PlainNode {
                 next: rest.positions.clone()?,
                 may_end: rest.may_end,
                 first: Vec::new(alloc),
                 may_be_empty: false,
             };
-            set(places, *position, place);
+            set(nodes, *position, node);
             Ok(())
         }
         Rule::Pattern { position, inside } => {
@@ -59,21 +59,21 @@ fn fill(alloc: Global, places: &mut [Place], rule: &Rule, rest: &Rest) -> Result
                 positions: Vec::new(alloc),
                 may_end: true,
             };
-            fill(alloc, places, inside, &nothing)?;
+            fill(alloc, nodes, inside, &nothing)?;
             let mut first = Vec::new(alloc);
             let may_be_empty = push_first(inside, &mut first)?;
-            let place = Place {
+            let node = PlainNode {
                 next: rest.positions.clone()?,
                 may_end: rest.may_end,
                 first,
                 may_be_empty,
             };
-            set(places, *position, place);
+            set(nodes, *position, node);
             Ok(())
         }
-        Rule::Then(parts) => fill_sequence(alloc, places, parts.as_slice(), rest),
-        Rule::Or(parts) => fill_sum(alloc, places, parts.as_slice(), rest),
-        Rule::Star(part) => fill(alloc, places, part, &again(alloc, part, rest)?),
+        Rule::Then(parts) => fill_sequence(alloc, nodes, parts.as_slice(), rest),
+        Rule::Or(parts) => fill_sum(alloc, nodes, parts.as_slice(), rest),
+        Rule::Star(part) => fill(alloc, nodes, part, &again(alloc, part, rest)?),
     }
 }
 
@@ -81,12 +81,12 @@ fn fill(alloc: Global, places: &mut [Place], rule: &Rule, rest: &Rest) -> Result
 #[cycle(filling)]
 fn fill_sequence(
     alloc: Global,
-    places: &mut [Place],
+    nodes: &mut [PlainNode],
     parts: &[Rule],
     rest: &Rest,
 ) -> Result<(), Memory>
     ensures { IfOk result (λ _.
-        FillsSequence places.old places.new parts.now rest.now.positions.items rest.now.may_end) }
+        FillsSequence nodes.old nodes.new parts.now rest.now.positions.items rest.now.may_end) }
 {
     let mut later = Rest {
         positions: rest.positions.clone()?,
@@ -96,7 +96,7 @@ fn fill_sequence(
     while left > 0 {
         left -= 1;
         let part = &parts[left];
-        fill(alloc, places, part, &later)?;
+        fill(alloc, nodes, part, &later)?;
         later = before(alloc, part, &later)?;
     }
     Ok(())
@@ -104,12 +104,17 @@ fn fill_sequence(
 
 /// Lays the parts of a sum, all with the same rest.
 #[cycle(filling)]
-fn fill_sum(alloc: Global, places: &mut [Place], parts: &[Rule], rest: &Rest) -> Result<(), Memory>
+fn fill_sum(
+    alloc: Global,
+    nodes: &mut [PlainNode],
+    parts: &[Rule],
+    rest: &Rest,
+) -> Result<(), Memory>
     ensures { IfOk result (λ _.
-        FillsSum places.old places.new parts.now rest.now.positions.items rest.now.may_end) }
+        FillsSum nodes.old nodes.new parts.now rest.now.positions.items rest.now.may_end) }
 {
     for part in parts {
-        fill(alloc, places, part, rest)?;
+        fill(alloc, nodes, part, rest)?;
     }
     Ok(())
 }
@@ -121,16 +126,16 @@ pub fn compile_tree(alloc: Global, tree: &Rule, positions: usize) -> Result<Auto
     ensures { IfOk result (λ automaton.
         HoldsOfTree (⟦<Automaton as Steps>⟧.of_rules automaton) tree.now positions) }
 {
-    let mut places = blank(alloc, positions + 1)?;
+    let mut nodes = blank(alloc, positions + 1)?;
     let nothing = Rest {
         positions: Vec::new(alloc),
         may_end: true,
     };
-    fill(alloc, places.as_mut_slice(), tree, &nothing)?;
+    fill(alloc, nodes.as_mut_slice(), tree, &nothing)?;
     let mut first = Vec::new(alloc);
     let may_be_empty = push_first(tree, &mut first)?;
     Ok(Automaton {
-        places,
+        nodes,
         first,
         may_be_empty,
     })

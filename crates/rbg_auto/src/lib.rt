@@ -2,24 +2,26 @@
 #![tactic(auto)]
 
 mod arrays;
+mod at_position;
 mod compiling;
 pub mod laws;
-mod lent;
+mod lent_steps;
 mod packing;
 mod plain;
 mod prepare;
 mod rest;
-mod shelf;
 mod span;
+mod span_index;
 pub mod steps;
 mod table;
+mod table_builder;
 mod tree;
 mod union;
-mod walk;
 
 pub use arrays::Compact;
+pub use at_position::at_or;
 pub use compiling::{compile, compile_tree};
-pub use lent::Lent;
+pub use lent_steps::LentSteps;
 pub use packing::{compact, compact_tree};
 pub use plain::Automaton;
 pub use steps::{Expr, Glance, Steps};

@@ -9,7 +9,7 @@ ghost use Rattle.rbg_auto.specs.Steps.{IsGlance};
 use crate::arrays::Compact;
 use crate::prepare::prepare;
 use crate::steps::{Glance, Steps};
-use crate::walk::Walk;
+use crate::table_builder::TableBuilder;
 use rbg_base::{Memory, Piece, Position};
 use rbg_rules::{Action, Game, Rule};
 use std::alloc::Global;
@@ -21,10 +21,10 @@ pub fn compact_tree(alloc: Global, tree: &Rule, positions: usize) -> Result<Comp
     ensures { IfOk result (λ automaton.
         HoldsOfTree (⟦<Compact as Steps>⟧.of_rules automaton) tree.now positions) }
 {
-    let mut walk = Walk::new(alloc, positions + 1)?;
-    let rules = walk.lay_level(tree)?;
+    let mut builder = TableBuilder::new(alloc, positions + 1)?;
+    let rules = builder.lay_level(tree)?;
     Ok(Compact {
-        table: walk.table,
+        table: builder.table,
         rules,
         prepared: None,
     })

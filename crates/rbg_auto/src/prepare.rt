@@ -2,7 +2,7 @@
 ghost use Rattle.std.specs.Prelude.{◌≡◌, ◌≤◌, map, IfOk};
 ghost use Rattle.rbg_auto.specs.internal.Prepared.{step_of_node};
 
-use crate::lent::Step;
+use crate::lent_steps::Step;
 use crate::span::Node;
 use crate::steps::Glance;
 use crate::table::Table;

@@ -2,10 +2,10 @@
 ghost use Rattle.std.specs.Prelude.{[], IsTrue, ◌↔◌, IfSome};
 ghost use Rattle.rbg_rules.specs.Expression.{Expression};
 ghost use Rattle.rbg_rules.specs.Words.{beginning, after, Ends};
-ghost use Rattle.rbg_auto.specs.Lent.{IsLentOf};
+ghost use Rattle.rbg_auto.specs.LentSteps.{IsLentOf};
 ghost use Rattle.rbg_auto.specs.Steps.{level_of, AreFirst, AreNext, IsGlance};
 
-use crate::lent::Lent;
+use crate::lent_steps::LentSteps;
 use rbg_base::{Direction, Piece, Position};
 
 /// An expression whose words are asked for: the rules, or the inside of the pattern at a position.
@@ -63,7 +63,7 @@ pub trait Steps {
 
     /// The answers by position as slices, where they were prepared so. What is lent tells nothing of an action where
     /// words may end, whatever `glance` tells.
-    fn lend(&self) -> Option<Lent<'_>>
+    fn lend(&self) -> Option<LentSteps<'_>>
         ensures { (rules : Expression) → of_rules self.now rules → IfSome result (IsLentOf rules) };
 
     /// Whether the empty list is a word of the expression.

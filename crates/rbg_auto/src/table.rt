@@ -3,6 +3,7 @@ ghost use Rattle.std.specs.Prelude.{◌≡◌, All, length, IfOk, IsTrue, slice_
 ghost use Rattle.rbg_auto.specs.declared.steps.Glance.TheVariants.{Unknown};
 ghost use Rattle.rbg_auto.specs.internal.Tables.{IsNextWithin, IsFirstWithin};
 
+use crate::at_position::at_or;
 use crate::span::{Node, Opening, Span};
 use crate::steps::Glance;
 use rbg_base::{Memory, Position};
@@ -30,23 +31,10 @@ impl Drop for Table {
     }
 }
 
-/// What stands at a position, or what stands for none.
-#[inline(always)]
-fn at_or<T: Copy>(items: &[T], position: Position, none: T) -> T
-    ensures { result ≡ slice_index_or items.now position none }
-{
-    let index = position as usize;
-    if index < items.len() {
-        items[index]
-    } else {
-        none
-    }
-}
-
 impl Table {
     ghost use Rattle.std.specs.Prelude.{[], replicate};
     ghost use Rattle.rbg_auto.specs.internal.Tables.{Keeps, IsSpan, IsNextWithin, IsFirstWithin, listed, no_node, no_inside};
-    ghost use Rattle.rbg_auto.specs.internal.Walks.{AddsList, SetsNode, Tells};
+    ghost use Rattle.rbg_auto.specs.internal.Building.{AddsList, SetsNode, Tells};
 
     /// A table of that many nodes, with nothing laid.
     pub(crate) fn new(alloc: Global, nodes: usize) -> Result<Table, Memory>

@@ -11,7 +11,7 @@ use Rattle.rbg_leaps.specs.declared.target.Target.{Target}
 use Rattle.rbg_leaps.specs.Entries.{end_of, IsWithin}
 use Rattle.rbg_leaps.specs.Leaps.{IsShiftAt}
 use Rattle.rbg_leaps.specs.Made.{no_entry}
-use Rattle.rbg_leaps.specs.internal.Shelves.{list_at, may_end_at}
+use Rattle.rbg_leaps.specs.internal.Interned.{list_at, may_end_at}
 use Rattle.rbg_leaps.specs.internal.Steps.{Comes, EndsBy, IsOnly}
 use Rattle.rbg_leaps.specs.internal.Tables.{entry_at, Tells, IsSoundTable, IsSoundEntry, IsGathered, IsUnder, IsToldBy, IsToldFrom, IsWhole, IsWholeFrom, IsClosed, Keeps, Grows, Shares, KeepsTold, AddsAll, LeadsBack, LeadsForth, LeadsOneWay, Fills, FillsOne, FillsUpTo, FillsDownTo, FillsRightly, IsMarked, LeadsToMarked, AreFilled}
 use Rattle.rbg_leaps.proofs.Places.{below_or_not, same_or_not, one_place, same_item, LastPlace, before, last, last_place}
@@ -45,11 +45,11 @@ pub all_told_on : (game : AbstractGame) (lists : Lists) (old new : Table) (from 
 all_told_on game lists old new from to from_new to_new one two v list step all = λ k d below. step (get_or list k d) (k, below, same_item list k (get_or list k d) below ∙ sym (same_item list k d below)) (all k d below)
 
 -- Where nothing was missing, nothing is missing once other entries were filled.
-pub closed_on : (game : AbstractGame) (lists : Lists) (old new : Table) (n v : ℕ) → new.vertices ≡ old.vertices → Keeps (length old.targets.items) old.targets.items new.targets.items → entry_at new n v ≡ entry_at old n v → ((p w : ℕ) → Contains (list_at lists.shelf n) p → IsShiftAt game.rules p → Comes game v p w → w < old.vertices → entry_at new (get_or lists.afters.items p 0) w ≡ entry_at old (get_or lists.afters.items p 0) w) → IsClosed game lists old n v → IsClosed game lists new n v
+pub closed_on : (game : AbstractGame) (lists : Lists) (old new : Table) (n v : ℕ) → new.vertices ≡ old.vertices → Keeps (length old.targets.items) old.targets.items new.targets.items → entry_at new n v ≡ entry_at old n v → ((p w : ℕ) → Contains (list_at lists.interner n) p → IsShiftAt game.rules p → Comes game v p w → w < old.vertices → entry_at new (get_or lists.afters.items p 0) w ≡ entry_at old (get_or lists.afters.items p 0) w) → IsClosed game lists old n v → IsClosed game lists new n v
 closed_on game lists old new n v vertices targets here same is =
     subst (λ (e : Entry). IsWhole game lists new n v e.start (end_of e) e.ends) (sym here) (record {
       ends = is.ends;
-      told = all_told_on game lists old new e.start (end_of e) e.start (end_of e) e.ends e.ends v (list_at lists.shelf n)
+      told = all_told_on game lists old new e.start (end_of e) e.start (end_of e) e.ends e.ends v (list_at lists.interner n)
           (λ p there. told_on game lists (length old.targets.items) old new e.start (end_of e) e.start (end_of e) e.ends e.ends v p old.within vertices targets
           (tells_kept (length old.targets.items) old.targets.items new.targets.items e.start (end_of e) targets (within_at old n v).ends) (λ t. t) (λ w s comes small. inl (same p w there s comes small))) is.told;
     })
@@ -57,7 +57,7 @@ closed_on game lists old new n v vertices targets here same is =
     e : Entry
     e = entry_at old n v
 
-pub closed_beside : (game : AbstractGame) (lists : Lists) (old new : Table) (m n v : ℕ) → Fills old new m → n ≢ m → v < old.vertices → ((p : ℕ) → Contains (list_at lists.shelf n) p → IsShiftAt game.rules p → get_or lists.afters.items p 0 ≢ m) → IsClosed game lists old n v → IsClosed game lists new n v
+pub closed_beside : (game : AbstractGame) (lists : Lists) (old new : Table) (m n v : ℕ) → Fills old new m → n ≢ m → v < old.vertices → ((p : ℕ) → Contains (list_at lists.interner n) p → IsShiftAt game.rules p → get_or lists.afters.items p 0 ≢ m) → IsClosed game lists old n v → IsClosed game lists new n v
 closed_beside game lists old new m n v fills differ below apart is =
     closed_on game lists old new n v fills.vertices fills.targets (fills.others n v differ below) (λ p w there s comes small. fills.others (get_or lists.afters.items p 0) w (apart p there s) small) is
 
@@ -78,12 +78,12 @@ pub no_vertex : (game : AbstractGame) (lists : Lists) (t : Table) (n : ℕ) → 
 no_vertex game lists t n sound = record { sound = sound; fills = fills_none t n; closed = λ back v below. absurd (omega (arith, below)) }
 
 -- A vertex that was filled stays so where another one of its node is filled, if no shift leads there.
-closed_still : (game : AbstractGame) (lists : Lists) (b c : Table) (n v u : ℕ) → FillsOne game lists b c n u → v ≢ u → v < b.vertices → ((p w : ℕ) → Contains (list_at lists.shelf n) p → IsShiftAt game.rules p → get_or lists.afters.items p 0 ≡ n → Comes game v p w → w ≢ u) → IsClosed game lists b n v → IsClosed game lists c n v
+closed_still : (game : AbstractGame) (lists : Lists) (b c : Table) (n v u : ℕ) → FillsOne game lists b c n u → v ≢ u → v < b.vertices → ((p w : ℕ) → Contains (list_at lists.interner n) p → IsShiftAt game.rules p → get_or lists.afters.items p 0 ≡ n → Comes game v p w → w ≢ u) → IsClosed game lists b n v → IsClosed game lists c n v
 closed_still game lists b c n v u now differ small elsewhere was =
     closed_on game lists b c n v now.fills.vertices now.fills.targets (now.beside v differ small)
     (λ p w there s comes below. same p w there s comes below (same_or_not (get_or lists.afters.items p 0) n)) was
   where
-    same : (p w : ℕ) → Contains (list_at lists.shelf n) p → IsShiftAt game.rules p → Comes game v p w → w < b.vertices → (get_or lists.afters.items p 0 ≡ n) ⊎ (get_or lists.afters.items p 0 ≢ n) → entry_at c (get_or lists.afters.items p 0) w ≡ entry_at b (get_or lists.afters.items p 0) w
+    same : (p w : ℕ) → Contains (list_at lists.interner n) p → IsShiftAt game.rules p → Comes game v p w → w < b.vertices → (get_or lists.afters.items p 0 ≡ n) ⊎ (get_or lists.afters.items p 0 ≢ n) → entry_at c (get_or lists.afters.items p 0) w ≡ entry_at b (get_or lists.afters.items p 0) w
     same p w there s comes below (inl e) = subst (λ (k : ℕ). entry_at c k w ≡ entry_at b k w) (sym e) (now.beside w (elsewhere p w there s e comes) below)
     same p w there s comes below (inr other) = now.fills.others (get_or lists.afters.items p 0) w other below
 
@@ -192,7 +192,7 @@ added_under start old new e within adds = record {
 }
 
 -- The entry of a node and a vertex was put in its place, behind a table that grew.
-pub one_put : (game : AbstractGame) (lists : Lists) (old middle new : Table) (n v : ℕ) (e : Entry) → v < old.vertices → Grows (length old.targets.items) old middle → Shares middle new n v e → IsSoundTable game lists middle → IsSoundEntry game (list_at lists.shelf n) (may_end_at lists.shelf n) v middle e → IsWhole game lists middle n v e.start (end_of e) e.ends → FillsOne game lists old new n v
+pub one_put : (game : AbstractGame) (lists : Lists) (old middle new : Table) (n v : ℕ) (e : Entry) → v < old.vertices → Grows (length old.targets.items) old middle → Shares middle new n v e → IsSoundTable game lists middle → IsSoundEntry game (list_at lists.interner n) (may_end_at lists.interner n) v middle e → IsWhole game lists middle n v e.start (end_of e) e.ends → FillsOne game lists old new n v
 one_put game lists old middle new n v e below grows shares sound right whole = record {
   sound = table_shared game lists middle new n v e (inside v below) sound shares right;
   fills = record {
@@ -204,7 +204,7 @@ one_put game lists old middle new n v e below grows shares sound right whole = r
   closed =
       subst (λ (x : Entry). IsWhole game lists new n v x.start (end_of x) x.ends) (sym shares.here) (record {
         ends = whole.ends;
-        told = all_told_on game lists middle new e.start (end_of e) e.start (end_of e) e.ends e.ends v (list_at lists.shelf n)
+        told = all_told_on game lists middle new e.start (end_of e) e.start (end_of e) e.ends e.ends v (list_at lists.interner n)
             (λ p there. told_on game lists (length middle.targets.items) middle new e.start (end_of e) e.start (end_of e) e.ends e.ends v p middle.within shares.vertices (keeps_same (length middle.targets.items) middle.targets.items new.targets.items shares.are_targets)
             (λ j u told. subst (λ (ts : List Target). Tells ts e.start (end_of e) j u) (sym shares.are_targets) told) (λ t. t)
             (λ w s comes small. either (get_or lists.afters.items p 0) w (same_or_not (get_or lists.afters.items p 0 * middle.vertices + w) (n * middle.vertices + v)))) whole.told;
@@ -236,7 +236,7 @@ pub whole_put : (game : AbstractGame) (lists : Lists) (t : Table) (start n v : �
 whole_put game lists t start n v ends inside whole = subst (λ (to : ℕ). IsWhole game lists t n v start to ends) (sym (whole_end start (length t.targets.items) inside)) whole
 
 -- An entry was put in its place with all that was gathered behind the targets that were there.
-pub one_filled : (game : AbstractGame) (lists : Lists) (old middle new : Table) (start n v : ℕ) (ends : Bool) → start ≡ length old.targets.items → v < length game.board.first → IsSoundTable game lists old → Grows start old middle → Shares middle new n v (record { start = start; many = length middle.targets.items - start; ends = ends }) → IsGathered game lists middle start n v → (IsTrue ends → EndsBy game (list_at lists.shelf n) (may_end_at lists.shelf n) v) → IsWholeFrom game lists middle start n v ends → FillsOne game lists old new n v
+pub one_filled : (game : AbstractGame) (lists : Lists) (old middle new : Table) (start n v : ℕ) (ends : Bool) → start ≡ length old.targets.items → v < length game.board.first → IsSoundTable game lists old → Grows start old middle → Shares middle new n v (record { start = start; many = length middle.targets.items - start; ends = ends }) → IsGathered game lists middle start n v → (IsTrue ends → EndsBy game (list_at lists.interner n) (may_end_at lists.interner n) v) → IsWholeFrom game lists middle start n v ends → FillsOne game lists old new n v
 one_filled game lists old middle new start n v ends at_end below sound grows shares gathered end whole =
     one_put game lists old middle new n v e (subst (λ (k : ℕ). v < k) (sym sound.laid_out.vertices) below)
     (subst (λ (k : ℕ). Grows k old middle) at_end grows) shares
@@ -251,10 +251,10 @@ one_filled game lists old middle new start n v ends at_end below sound grows sha
     e = record { start = start; many = length middle.targets.items - start; ends = ends }
 
 -- What is told of the only position of a list is all that is told.
-pub whole_of_one : (game : AbstractGame) (lists : Lists) (t : Table) (n v p from to : ℕ) (ends : Bool) → IsOnly (list_at lists.shelf n) p → (IsTrue (may_end_at lists.shelf n) → IsTrue ends) → IsToldBy game lists t from to ends v p → IsWhole game lists t n v from to ends
+pub whole_of_one : (game : AbstractGame) (lists : Lists) (t : Table) (n v p from to : ℕ) (ends : Bool) → IsOnly (list_at lists.interner n) p → (IsTrue (may_end_at lists.interner n) → IsTrue ends) → IsToldBy game lists t from to ends v p → IsWhole game lists t n v from to ends
 whole_of_one game lists t n v p from to ends only end told = record {
   ends = end;
-  told = λ k d there. subst (IsToldBy game lists t from to ends v) (sym (only_item (list_at lists.shelf n) p only.one only.listed k d there)) told;
+  told = λ k d there. subst (IsToldBy game lists t from to ends v) (sym (only_item (list_at lists.interner n) p only.one only.listed k d there)) told;
 }
 
 -- The only position of a list is listed.
@@ -274,7 +274,7 @@ filled_on game lists old new marks m unmarked right are = record {
     other : (n : ℕ) → IsMarked marks n → n ≢ m
     other n marked e = unmarked (subst (IsMarked marks) e marked)
 
-    apart : (n p : ℕ) → IsMarked marks n → Contains (list_at lists.shelf n) p → IsShiftAt game.rules p → (get_or lists.afters.items p 0 ≡ n) ⊎ (get_or lists.afters.items p 0 ≢ n) → get_or lists.afters.items p 0 ≢ m
+    apart : (n p : ℕ) → IsMarked marks n → Contains (list_at lists.interner n) p → IsShiftAt game.rules p → (get_or lists.afters.items p 0 ≡ n) ⊎ (get_or lists.afters.items p 0 ≢ n) → get_or lists.afters.items p 0 ≢ m
     apart n p marked there s (inl e) is = other n marked (sym e ∙ is)
     apart n p marked there s (inr differ) is = other (get_or lists.afters.items p 0) (are.next n marked p there s differ) is
 
@@ -299,7 +299,7 @@ one_marked game lists old new marks m there unmarked leads right closed are = re
     still : (n : ℕ) → IsMarked marks n → IsMarked (set marks m true) n
     still n marked = still_by n (same_or_not n m) marked
 
-    next_by : (n p : ℕ) → (n ≡ m) ⊎ (n ≢ m) → IsMarked (set marks m true) n → Contains (list_at lists.shelf n) p → IsShiftAt game.rules p → get_or lists.afters.items p 0 ≢ n → IsMarked marks (get_or lists.afters.items p 0)
+    next_by : (n p : ℕ) → (n ≡ m) ⊎ (n ≢ m) → IsMarked (set marks m true) n → Contains (list_at lists.interner n) p → IsShiftAt game.rules p → get_or lists.afters.items p 0 ≢ n → IsMarked marks (get_or lists.afters.items p 0)
     next_by n p (inl e) marked listed s differ = subst (λ (k : ℕ). LeadsToMarked game lists marks k) (sym e) leads p listed s differ
     next_by n p (inr other) marked listed s differ = are.next n (before_it n other marked) p listed s differ
 

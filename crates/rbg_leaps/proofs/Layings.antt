@@ -21,10 +21,10 @@ use Rattle.rbg_leaps.specs.declared.target.Target.{Target}
 use Rattle.rbg_leaps.specs.Entries.{IsWithin}
 use Rattle.rbg_leaps.specs.Made.{no_entry, entry_in, entry_of, IsEntry, AreLeapsOf}
 use Rattle.rbg_leaps.specs.Origin.{start_of}
-use Rattle.rbg_leaps.specs.internal.Shelves.{IsNodeOf, AreListsOf, origin_node}
+use Rattle.rbg_leaps.specs.internal.Interned.{IsNodeOf, AreListsOf, origin_node}
 use Rattle.rbg_leaps.specs.internal.Tables.{AreLaid, IsFilled}
 use Rattle.rbg_leaps.proofs.Places.{part_item, same_item, LastPlace, before, last, last_place}
-use Rattle.rbg_leaps.proofs.Shelving.{node_there}
+use Rattle.rbg_leaps.proofs.Interning.{node_there}
 use Rattle.rbg_leaps.proofs.ShiftLemmas.{action_within}
 use Rattle.rbg_leaps.proofs.Tabling.{place_there, filled_entry}
 
@@ -103,7 +103,7 @@ are_leaps game numbered lists are table filled leaps vertices first insides are_
         ap (λ (m : ℕ). entry_in leaps.afters.items m p v) vertices
         ∙ laid.each p v (let size = are.nodes.afters_size in omega (arith, size, small)) (subst (λ (k : ℕ). v < k) (sym on_board) below)
 
-    of_node : (f : Start) (n v : ℕ) → IsNodeOf game.rules lists.shelf f n → v < length game.board.first → IsEntry game f v leaps.targets.items (here n v)
+    of_node : (f : Start) (n v : ℕ) → IsNodeOf game.rules lists.interner f n → v < length game.board.first → IsEntry game f v leaps.targets.items (here n v)
     of_node f n v node below =
         subst (λ (ts : List Target). IsEntry game f v ts (here n v)) (sym are_targets)
         (subst (λ (es : List Entry). IsEntry game f v table.targets.items (entry_in es table.vertices n v)) (sym are_entries)
@@ -115,17 +115,17 @@ row_there vertices entries nodes n size there =
     let rows : (n + 1) * vertices ≤ nodes * vertices = mul-le-mul_right vertices (omega (arith, there)) in
     omega (arith, size, rows)
 
-rows_there_by : (rules : Expression) (lists : Lists) (vertices : ℕ) (entries : List Entry) → length entries ≡ length lists.shelf.nodes.items * vertices → (ns : List ℕ) (F : ℕ → Start) → ((p : ℕ) → p < length ns → IsNodeOf rules lists.shelf (F p) (get_or ns p 0)) → All (λ n. n * vertices + vertices ≤ length entries) ns
+rows_there_by : (rules : Expression) (lists : Lists) (vertices : ℕ) (entries : List Entry) → length entries ≡ length lists.interner.nodes.items * vertices → (ns : List ℕ) (F : ℕ → Start) → ((p : ℕ) → p < length ns → IsNodeOf rules lists.interner (F p) (get_or ns p 0)) → All (λ n. n * vertices + vertices ≤ length entries) ns
 rows_there_by rules lists vertices entries size ns F each = λ i d below.
     let there = (each i below).there in
-    subst (λ (n : ℕ). n * vertices + vertices ≤ length entries) (sym (same_item ns i d below)) (row_there vertices entries (length lists.shelf.nodes.items) (get_or ns i 0) size there)
+    subst (λ (n : ℕ). n * vertices + vertices ≤ length entries) (sym (same_item ns i d below)) (row_there vertices entries (length lists.interner.nodes.items) (get_or ns i 0) size there)
 
 -- Those of the nodes after each position, and of those at the beginning of the rules and of what is inside a position.
 module _ (game : AbstractGame) (lists : Lists) (table : Table) (are : AreListsOf game.rules lists) (filled : IsFilled game lists table) where
   abbrev entries : List Entry
   entries = table.entries.items
 
-  size : length entries ≡ length lists.shelf.nodes.items * table.vertices
+  size : length entries ≡ length lists.interner.nodes.items * table.vertices
   size = filled.sound.laid_out.size
 
   pub after_rows : All (λ n. n * table.vertices + table.vertices ≤ length table.entries.items) lists.afters.items
@@ -140,5 +140,5 @@ module _ (game : AbstractGame) (lists : Lists) (table : Table) (are : AreListsOf
 
   pub first_row : lists.rules * table.vertices ≤ length table.entries.items
   first_row =
-      let row = row_there table.vertices entries (length lists.shelf.nodes.items) lists.rules size are.nodes.begins.there in
+      let row = row_there table.vertices entries (length lists.interner.nodes.items) lists.rules size are.nodes.begins.there in
       omega (arith, row)

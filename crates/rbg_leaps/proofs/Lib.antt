@@ -5,7 +5,7 @@ pub mod Layings
 pub mod Places
 pub mod ShiftLemmas
 pub mod Sharing
-pub mod Shelving
+pub mod Interning
 pub mod Steppings
 pub mod Tabling
 pub mod Targets

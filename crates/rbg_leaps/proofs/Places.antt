@@ -5,7 +5,7 @@ use Rattle.std.proofs.lemmas.Bool.Decides.{Decides-eqb}
 use Rattle.std.proofs.lemmas.Nat.{div-mul-add, mod-mul-add}
 use Rattle.std.proofs.lemmas.List.{append-nil, length-append, length-take-le, length-drop, get_or-drop, get_or-take, get_or_append_left, take-append-le}
 use Rattle.std.proofs.lemmas.Slice.{between_is}
-use Rattle.rbg_leaps.specs.internal.Shelves.{Extends}
+use Rattle.rbg_leaps.specs.internal.Interned.{Extends}
 
 true_not_false : true ≡ false → ⊥
 true_not_false e = cc

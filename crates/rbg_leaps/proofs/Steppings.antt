@@ -10,7 +10,7 @@ use Rattle.rbg_leaps.specs.declared.lists.Lists.{Lists}
 use Rattle.rbg_leaps.specs.declared.table.Table.{Table}
 use Rattle.rbg_leaps.specs.Leaps.{IsShiftAt, Leads, stay, go}
 use Rattle.rbg_leaps.specs.internal.Tables.{entry_at, TellsAt, IsToldAt, AreAllClosed}
-use Rattle.rbg_leaps.specs.internal.Shelves.{list_at, IsNodeOf, AreListsOf}
+use Rattle.rbg_leaps.specs.internal.Interned.{list_at, IsNodeOf, AreListsOf}
 use Rattle.rbg_leaps.specs.internal.Steps.{Comes, by_shift, by_other, IsAnswerAt, IsLeapBy, EndsBy}
 use Rattle.rbg_leaps.proofs.ShiftLemmas.{follower_within}
 
@@ -59,13 +59,13 @@ module _ (game : AbstractGame) (numbered : IsNumbered game.rules) (lists : Lists
   on_board : (w : ℕ) → w < table.vertices → w < length game.board.first
   on_board w below = subst (λ (n : ℕ). w < n) same below
 
-  told : (f : Start) (n v : ℕ) → IsNodeOf game.rules lists.shelf f n → v < length game.board.first → (p : ℕ) → Follows game.rules f (p ∷ []) → IsToldAt game lists table (entry_at table n v) v p
-  told f n v node below p follows = All-contains (IsToldAt game lists table (entry_at table n v) v) (list_at lists.shelf n) p (closed n v node.there below).told ((node.answer.follow.exact p).1 follows)
+  told : (f : Start) (n v : ℕ) → IsNodeOf game.rules lists.interner f n → v < length game.board.first → (p : ℕ) → Follows game.rules f (p ∷ []) → IsToldAt game lists table (entry_at table n v) v p
+  told f n v node below p follows = All-contains (IsToldAt game lists table (entry_at table n v) v) (list_at lists.interner n) p (closed n v node.there below).told ((node.answer.follow.exact p).1 follows)
 
-  next_node : (f : Start) (p : ℕ) → Follows game.rules f (p ∷ []) → IsNodeOf game.rules lists.shelf (after p) (get_or lists.afters.items p 0)
+  next_node : (f : Start) (p : ℕ) → Follows game.rules f (p ∷ []) → IsNodeOf game.rules lists.interner (after p) (get_or lists.afters.items p 0)
   next_node f p follows = let small = follower_within game.rules numbered f p follows in are.nodes.after_each p (omega (arith, small))
 
-  pub all_told : (f : Start) (n v : ℕ) → IsNodeOf game.rules lists.shelf f n → v < length game.board.first → {u j : ℕ} (m : List ℕ) → Leads game v m u → Follows game.rules f (m ++ j ∷ []) → ¬ IsShiftAt game.rules j → TellsAt table (entry_at table n v) j u
+  pub all_told : (f : Start) (n v : ℕ) → IsNodeOf game.rules lists.interner f n → v < length game.board.first → {u j : ℕ} (m : List ℕ) → Leads game v m u → Follows game.rules f (m ++ j ∷ []) → ¬ IsShiftAt game.rules j → TellsAt table (entry_at table n v) j u
   all_told f n v node below {j = j} [] stay follows plain = (told f n v node below j follows).plain plain
   all_told f n v node below {j = j} (s ∷ m) (go {w = w} d here step rest) follows plain =
       let cut = (locality_law game.rules numbered f [] s (m ++ j ∷ [])).0.0 follows in
@@ -74,7 +74,7 @@ module _ (game : AbstractGame) (numbered : IsNumbered game.rules) (lists : Lists
       let comes : Comes game v s w = by_shift d here step in
       (at.shift w is comes).tells j _ (all_told (after s) (get_or lists.afters.items s 0) w (next_node f s cut.0) (on_board w (at.is_vertex w is comes)) m rest cut.1 plain)
 
-  pub all_ends_told : (f : Start) (n v : ℕ) → IsNodeOf game.rules lists.shelf f n → v < length game.board.first → {u : ℕ} (m : List ℕ) → Leads game v m u → Ends game.rules f m → IsTrue (entry_at table n v).ends
+  pub all_ends_told : (f : Start) (n v : ℕ) → IsNodeOf game.rules lists.interner f n → v < length game.board.first → {u : ℕ} (m : List ℕ) → Leads game v m u → Ends game.rules f m → IsTrue (entry_at table n v).ends
   all_ends_told f n v node below [] stay ends = (closed n v node.there below).ends (node.answer.ends.1 ends)
   all_ends_told f n v node below (s ∷ m) (go {w = w} d here step rest) ends =
       let cut = (locality_law game.rules numbered f [] s m).1.0 ends in

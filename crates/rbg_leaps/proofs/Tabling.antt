@@ -16,7 +16,7 @@ use Rattle.rbg_leaps.specs.Leaps.{IsShiftAt, IsLeap}
 use Rattle.rbg_leaps.specs.Entries.{end_of, IsWithin}
 use Rattle.rbg_leaps.specs.Limits.{row_words}
 use Rattle.rbg_leaps.specs.Made.{no_entry, IsEntry}
-use Rattle.rbg_leaps.specs.internal.Shelves.{list_at, may_end_at, IsNodeOf, AreListsOf}
+use Rattle.rbg_leaps.specs.internal.Interned.{list_at, may_end_at, IsNodeOf, AreListsOf}
 use Rattle.rbg_leaps.specs.internal.Steps.{Comes, IsLeapBy, EndsBy}
 use Rattle.rbg_leaps.specs.internal.Tables.{entry_at, no_target, target_at, Tells, IsTargetOf, IsTargetBy, AreSound, AreSoundBy, TellsAt, IsSoundEntry, IsSoundTable, Keeps, Grows, IsGathered, Shares, IsFilled, IsClosed, StaysClosed, AreClosedFrom}
 use Rattle.rbg_leaps.proofs.Places.{any_default, below_or_not, same_or_not, one_place, part_item, part_long, part_short}
@@ -65,11 +65,11 @@ pub table_grown : (game : AbstractGame) (lists : Lists) (place : ℕ) (old new :
 table_grown game lists place old new inside grows is = record {
   laid_out = record {
     vertices = grows.vertices ∙ is.laid_out.vertices;
-    size = ap length grows.are_entries ∙ is.laid_out.size ∙ ap (λ (k : ℕ). length lists.shelf.nodes.items * k) (sym grows.vertices);
+    size = ap length grows.are_entries ∙ is.laid_out.size ∙ ap (λ (k : ℕ). length lists.interner.nodes.items * k) (sym grows.vertices);
   };
   sound = λ n v there below.
-      subst (IsSoundEntry game (list_at lists.shelf n) (may_end_at lists.shelf n) v new) (sym (entry_same place old new grows n v))
-      (entry_grown game (list_at lists.shelf n) (may_end_at lists.shelf n) v place old new grows.targets (entry_at old n v) (entry_within place old inside n v)
+      subst (IsSoundEntry game (list_at lists.interner n) (may_end_at lists.interner n) v new) (sym (entry_same place old new grows n v))
+      (entry_grown game (list_at lists.interner n) (may_end_at lists.interner n) v place old new grows.targets (entry_at old n v) (entry_within place old inside n v)
       (is.sound n v there (subst (λ (k : ℕ). v < k) grows.vertices below)));
 }
 
@@ -85,11 +85,11 @@ pub whole_end : (start size : ℕ) → start ≤ size → start + (size - start)
 whole_end start size inside = omega (arith, inside)
 
 -- A table is right where a right entry is put into it.
-pub table_shared : (game : AbstractGame) (lists : Lists) (old new : Table) (n v : ℕ) (e : Entry) → v < old.vertices → IsSoundTable game lists old → Shares old new n v e → IsSoundEntry game (list_at lists.shelf n) (may_end_at lists.shelf n) v old e → IsSoundTable game lists new
+pub table_shared : (game : AbstractGame) (lists : Lists) (old new : Table) (n v : ℕ) (e : Entry) → v < old.vertices → IsSoundTable game lists old → Shares old new n v e → IsSoundEntry game (list_at lists.interner n) (may_end_at lists.interner n) v old e → IsSoundTable game lists new
 table_shared game lists old new n v e below is shares sound_here = record {
   laid_out = record {
     vertices = shares.vertices ∙ is.laid_out.vertices;
-    size = shares.size ∙ is.laid_out.size ∙ ap (λ (k : ℕ). length lists.shelf.nodes.items * k) (sym shares.vertices);
+    size = shares.size ∙ is.laid_out.size ∙ ap (λ (k : ℕ). length lists.interner.nodes.items * k) (sym shares.vertices);
   };
   sound = λ m w there small. at m w there (subst (λ (k : ℕ). w < k) shares.vertices small) (same_or_not (m * old.vertices + w) (n * old.vertices + v));
 }
@@ -98,37 +98,37 @@ table_shared game lists old new n v e below is shares sound_here = record {
     grown list may_end u x right =
         entry_grown game list may_end u (end_of x) old new (keeps_same (end_of x) old.targets.items new.targets.items shares.are_targets) x (record { ends = omega arith }) right
 
-    at : (m w : ℕ) → m < length lists.shelf.nodes.items → w < old.vertices → (m * old.vertices + w ≡ n * old.vertices + v) ⊎ (m * old.vertices + w ≢ n * old.vertices + v) → IsSoundEntry game (list_at lists.shelf m) (may_end_at lists.shelf m) w new (entry_at new m w)
+    at : (m w : ℕ) → m < length lists.interner.nodes.items → w < old.vertices → (m * old.vertices + w ≡ n * old.vertices + v) ⊎ (m * old.vertices + w ≢ n * old.vertices + v) → IsSoundEntry game (list_at lists.interner m) (may_end_at lists.interner m) w new (entry_at new m w)
     at m w there small (inl same) =
         let both = one_place old.vertices w v m n small below same in
-        subst (λ (k : ℕ). IsSoundEntry game (list_at lists.shelf k) (may_end_at lists.shelf k) w new (entry_at new k w)) (sym both.0)
-        (subst (λ (u : ℕ). IsSoundEntry game (list_at lists.shelf n) (may_end_at lists.shelf n) u new (entry_at new n u)) (sym both.1)
-        (subst (IsSoundEntry game (list_at lists.shelf n) (may_end_at lists.shelf n) v new) (sym shares.here)
-        (grown (list_at lists.shelf n) (may_end_at lists.shelf n) v e sound_here)))
+        subst (λ (k : ℕ). IsSoundEntry game (list_at lists.interner k) (may_end_at lists.interner k) w new (entry_at new k w)) (sym both.0)
+        (subst (λ (u : ℕ). IsSoundEntry game (list_at lists.interner n) (may_end_at lists.interner n) u new (entry_at new n u)) (sym both.1)
+        (subst (IsSoundEntry game (list_at lists.interner n) (may_end_at lists.interner n) v new) (sym shares.here)
+        (grown (list_at lists.interner n) (may_end_at lists.interner n) v e sound_here)))
     at m w there small (inr differ) =
         let same : entry_at new m w ≡ entry_at old m w =
         ap (λ (k : ℕ). get_or new.entries.items (m * k + w) no_entry) shares.vertices ∙ shares.others (m * old.vertices + w) differ in
-        subst (IsSoundEntry game (list_at lists.shelf m) (may_end_at lists.shelf m) w new) (sym same)
-        (grown (list_at lists.shelf m) (may_end_at lists.shelf m) w (entry_at old m w) (is.sound m w there small))
+        subst (IsSoundEntry game (list_at lists.interner m) (may_end_at lists.interner m) w new) (sym same)
+        (grown (list_at lists.interner m) (may_end_at lists.interner m) w (entry_at old m w) (is.sound m w there small))
 
 -- What was gathered from a place on is a sound entry.
-pub entry_gathered : (game : AbstractGame) (lists : Lists) (t : Table) (start n v : ℕ) (ends : Bool) → start ≤ length t.targets.items → IsGathered game lists t start n v → (IsTrue ends → EndsBy game (list_at lists.shelf n) (may_end_at lists.shelf n) v) → IsSoundEntry game (list_at lists.shelf n) (may_end_at lists.shelf n) v t (record { start = start; many = length t.targets.items - start; ends = ends })
+pub entry_gathered : (game : AbstractGame) (lists : Lists) (t : Table) (start n v : ℕ) (ends : Bool) → start ≤ length t.targets.items → IsGathered game lists t start n v → (IsTrue ends → EndsBy game (list_at lists.interner n) (may_end_at lists.interner n) v) → IsSoundEntry game (list_at lists.interner n) (may_end_at lists.interner n) v t (record { start = start; many = length t.targets.items - start; ends = ends })
 entry_gathered game lists t start n v ends inside gathered end = record {
   within = record { ends = omega (arith, inside) };
-  targets = subst (AreSoundBy game (list_at lists.shelf n) (may_end_at lists.shelf n) v t.targets.items start) (sym (whole_end start (length t.targets.items) inside)) gathered;
+  targets = subst (AreSoundBy game (list_at lists.interner n) (may_end_at lists.interner n) v t.targets.items start) (sym (whole_end start (length t.targets.items) inside)) gathered;
   ends = end;
 }
 
 -- A table with nothing told.
-pub blank_table : (game : AbstractGame) (lists : Lists) (t : Table) (places : ℕ) → t.vertices ≡ length game.board.first → places ≡ length lists.shelf.nodes.items * t.vertices → t.entries.items ≡ replicate places no_entry → IsSoundTable game lists t
+pub blank_table : (game : AbstractGame) (lists : Lists) (t : Table) (places : ℕ) → t.vertices ≡ length game.board.first → places ≡ length lists.interner.nodes.items * t.vertices → t.entries.items ≡ replicate places no_entry → IsSoundTable game lists t
 blank_table game lists t places vertices many entries = record {
   laid_out = record {
     vertices = vertices;
     size = ap length entries ∙ length-replicate places no_entry ∙ many;
   };
-  sound = λ n v there below. subst (IsSoundEntry game (list_at lists.shelf n) (may_end_at lists.shelf n) v t) (sym (none n v)) (record {
+  sound = λ n v there below. subst (IsSoundEntry game (list_at lists.interner n) (may_end_at lists.interner n) v t) (sym (none n v)) (record {
     within = record { ends = omega arith };
-    targets = sound_none (IsLeapBy game (list_at lists.shelf n) (may_end_at lists.shelf n) v) (row_words game) t.targets.items 0 0 (omega arith);
+    targets = sound_none (IsLeapBy game (list_at lists.interner n) (may_end_at lists.interner n) v) (row_words game) t.targets.items 0 0 (omega arith);
     ends = λ is. absurd (false_not_true is);
   });
 }
@@ -159,36 +159,36 @@ unit_sound game list may_end v p t below there plain has position vertex column 
 }
 
 -- What an entry behind a shift tells is right before the shift.
-pub sound_on : (game : AbstractGame) → IsNumbered game.rules → (lists : Lists) (table : Table) (n v p w m : ℕ) (e : Entry) → Contains (list_at lists.shelf n) p → IsShiftAt game.rules p → Comes game v p w → IsNodeOf game.rules lists.shelf (after p) m → IsSoundEntry game (list_at lists.shelf m) (may_end_at lists.shelf m) w table e → AreSoundBy game (list_at lists.shelf n) (may_end_at lists.shelf n) v table.targets.items e.start (end_of e)
+pub sound_on : (game : AbstractGame) → IsNumbered game.rules → (lists : Lists) (table : Table) (n v p w m : ℕ) (e : Entry) → Contains (list_at lists.interner n) p → IsShiftAt game.rules p → Comes game v p w → IsNodeOf game.rules lists.interner (after p) m → IsSoundEntry game (list_at lists.interner m) (may_end_at lists.interner m) w table e → AreSoundBy game (list_at lists.interner n) (may_end_at lists.interner n) v table.targets.items e.start (end_of e)
 sound_on game numbered lists table n v p w m e there is comes node sound = record {
   each = λ i behind short. let at = sound.targets.each i behind short in record {
-    only = λ q u has. leap_on game numbered (list_at lists.shelf n) (may_end_at lists.shelf n) v p w q u there is comes (list_at lists.shelf m) (may_end_at lists.shelf m) node.answer (at.only q u has);
+    only = λ q u has. leap_on game numbered (list_at lists.interner n) (may_end_at lists.interner n) v p w q u there is comes (list_at lists.interner m) (may_end_at lists.interner m) node.answer (at.only q u has);
     some = at.some;
     column = at.column;
   };
 }
 
-pub sound_ends_on : (game : AbstractGame) → IsNumbered game.rules → (lists : Lists) (table : Table) (n v p w m : ℕ) (e : Entry) → Contains (list_at lists.shelf n) p → IsShiftAt game.rules p → Comes game v p w → IsNodeOf game.rules lists.shelf (after p) m → IsSoundEntry game (list_at lists.shelf m) (may_end_at lists.shelf m) w table e → IsTrue e.ends → EndsBy game (list_at lists.shelf n) (may_end_at lists.shelf n) v
-sound_ends_on game numbered lists table n v p w m e there is comes node sound ends = ends_on game numbered (list_at lists.shelf n) (may_end_at lists.shelf n) v p w there is comes (list_at lists.shelf m) (may_end_at lists.shelf m) node.answer (sound.ends ends)
+pub sound_ends_on : (game : AbstractGame) → IsNumbered game.rules → (lists : Lists) (table : Table) (n v p w m : ℕ) (e : Entry) → Contains (list_at lists.interner n) p → IsShiftAt game.rules p → Comes game v p w → IsNodeOf game.rules lists.interner (after p) m → IsSoundEntry game (list_at lists.interner m) (may_end_at lists.interner m) w table e → IsTrue e.ends → EndsBy game (list_at lists.interner n) (may_end_at lists.interner n) v
+sound_ends_on game numbered lists table n v p w m e there is comes node sound ends = ends_on game numbered (list_at lists.interner n) (may_end_at lists.interner n) v p w there is comes (list_at lists.interner m) (may_end_at lists.interner m) node.answer (sound.ends ends)
 
 -- The entry behind a shift, as the entry before it.
-pub entry_on : (game : AbstractGame) → IsNumbered game.rules → (lists : Lists) (table : Table) (n v p w m : ℕ) (e : Entry) → Contains (list_at lists.shelf n) p → IsShiftAt game.rules p → Comes game v p w → IsNodeOf game.rules lists.shelf (after p) m → IsSoundEntry game (list_at lists.shelf m) (may_end_at lists.shelf m) w table e → (ends : Bool) → (IsTrue ends → IsTrue e.ends ⊎ IsTrue (may_end_at lists.shelf n)) → IsSoundEntry game (list_at lists.shelf n) (may_end_at lists.shelf n) v table (record { start = e.start; many = e.many; ends = ends })
+pub entry_on : (game : AbstractGame) → IsNumbered game.rules → (lists : Lists) (table : Table) (n v p w m : ℕ) (e : Entry) → Contains (list_at lists.interner n) p → IsShiftAt game.rules p → Comes game v p w → IsNodeOf game.rules lists.interner (after p) m → IsSoundEntry game (list_at lists.interner m) (may_end_at lists.interner m) w table e → (ends : Bool) → (IsTrue ends → IsTrue e.ends ⊎ IsTrue (may_end_at lists.interner n)) → IsSoundEntry game (list_at lists.interner n) (may_end_at lists.interner n) v table (record { start = e.start; many = e.many; ends = ends })
 entry_on game numbered lists table n v p w m e there is comes node sound ends either = record {
   within = record { ends = sound.within.ends };
   targets = sound_on game numbered lists table n v p w m e there is comes node sound;
   ends = λ t. by (either t);
 }
   where
-    by : IsTrue e.ends ⊎ IsTrue (may_end_at lists.shelf n) → EndsBy game (list_at lists.shelf n) (may_end_at lists.shelf n) v
+    by : IsTrue e.ends ⊎ IsTrue (may_end_at lists.interner n) → EndsBy game (list_at lists.interner n) (may_end_at lists.interner n) v
     by (inl t) = sound_ends_on game numbered lists table n v p w m e there is comes node sound t
-    by (inr t) = ends_here game (list_at lists.shelf n) (may_end_at lists.shelf n) v t
+    by (inr t) = ends_here game (list_at lists.interner n) (may_end_at lists.interner n) v t
 
 -- An entry without targets.
-pub entry_of_none : (game : AbstractGame) (lists : Lists) (table : Table) (n v : ℕ) (ends : Bool) → (IsTrue ends → IsTrue (may_end_at lists.shelf n)) → IsSoundEntry game (list_at lists.shelf n) (may_end_at lists.shelf n) v table (record { start = 0; many = 0; ends = ends })
+pub entry_of_none : (game : AbstractGame) (lists : Lists) (table : Table) (n v : ℕ) (ends : Bool) → (IsTrue ends → IsTrue (may_end_at lists.interner n)) → IsSoundEntry game (list_at lists.interner n) (may_end_at lists.interner n) v table (record { start = 0; many = 0; ends = ends })
 entry_of_none game lists table n v ends only = record {
   within = record { ends = omega arith };
-  targets = sound_none (IsLeapBy game (list_at lists.shelf n) (may_end_at lists.shelf n) v) (row_words game) table.targets.items 0 0 (omega arith);
-  ends = λ t. ends_here game (list_at lists.shelf n) (may_end_at lists.shelf n) v (only t);
+  targets = sound_none (IsLeapBy game (list_at lists.interner n) (may_end_at lists.interner n) v) (row_words game) table.targets.items 0 0 (omega arith);
+  ends = λ t. ends_here game (list_at lists.interner n) (may_end_at lists.interner n) v (only t);
 }
 
 -- Sound targets between two places that tell of all leaps are what is asked for.
@@ -220,11 +220,11 @@ asked_between game f v targets from to inside are all = record {
         )
 
 -- Where nothing is missing, sound targets are exactly those of the leaps.
-module _ (game : AbstractGame) (numbered : IsNumbered game.rules) (lists : Lists) (are : AreListsOf game.rules lists) (table : Table) (filled : IsFilled game lists table) (f : Start) (n v : ℕ) (node : IsNodeOf game.rules lists.shelf f n) (below : v < length game.board.first) where
+module _ (game : AbstractGame) (numbered : IsNumbered game.rules) (lists : Lists) (are : AreListsOf game.rules lists) (table : Table) (filled : IsFilled game lists table) (f : Start) (n v : ℕ) (node : IsNodeOf game.rules lists.interner f n) (below : v < length game.board.first) where
   abbrev pub own : Entry
   own = entry_at table n v
 
-  sound : IsSoundEntry game (list_at lists.shelf n) (may_end_at lists.shelf n) v table own
+  sound : IsSoundEntry game (list_at lists.interner n) (may_end_at lists.interner n) v table own
   sound = filled.sound.sound n v node.there (subst (λ (k : ℕ). v < k) (sym filled.sound.laid_out.vertices) below)
 
   tells : (j u : ℕ) → IsLeap game f v j u → TellsAt table own j u
@@ -245,14 +245,14 @@ module _ (game : AbstractGame) (numbered : IsNumbered game.rules) (lists : Lists
   }
 
 -- One node more at which nothing is missing.
-pub one_more_node : (game : AbstractGame) (lists : Lists) (old new : Table) (many n : ℕ) → n + 1 + many ≡ length lists.shelf.nodes.items → AreClosedFrom game lists old many → StaysClosed game lists old new n → AreClosedFrom game lists new (many + 1)
+pub one_more_node : (game : AbstractGame) (lists : Lists) (old new : Table) (many n : ℕ) → n + 1 + many ≡ length lists.interner.nodes.items → AreClosedFrom game lists old many → StaysClosed game lists old new n → AreClosedFrom game lists new (many + 1)
 one_more_node game lists old new many n size so_far now = λ m v far there below. at m v far there below (same_or_not m n)
   where
-    at : (m v : ℕ) → length lists.shelf.nodes.items ≤ m + (many + 1) → m < length lists.shelf.nodes.items → v < length game.board.first → (m ≡ n) ⊎ (m ≢ n) → IsClosed game lists new m v
+    at : (m v : ℕ) → length lists.interner.nodes.items ≤ m + (many + 1) → m < length lists.interner.nodes.items → v < length game.board.first → (m ≡ n) ⊎ (m ≢ n) → IsClosed game lists new m v
     at m v far there below (inl e) = subst (λ (k : ℕ). IsClosed game lists new k v) (sym e) (now.closed v below)
     at m v far there below (inr differ) = subst (λ (t : Table). IsClosed game lists t m v) (sym now.same) (so_far m v (later m far differ) there below)
       where
-        later : (m : ℕ) → length lists.shelf.nodes.items ≤ m + (many + 1) → m ≢ n → length lists.shelf.nodes.items ≤ m + many
+        later : (m : ℕ) → length lists.interner.nodes.items ≤ m + (many + 1) → m ≢ n → length lists.interner.nodes.items ≤ m + many
         later m far differ = elim (below_or_not n m) [
           | inl more ↦ omega (arith, more, size)
           | inr less ↦ absurd (differ (omega (arith, less, far, size)))

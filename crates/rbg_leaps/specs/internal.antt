@@ -2,5 +2,5 @@
 pub mod Spans
 pub mod Steps
 pub mod Branches
-pub mod Shelves
+pub mod Interned
 pub mod Tables

@@ -3,11 +3,10 @@ ghost use Rattle.std.specs.Prelude.{◌*◌, ◌<◌, ◌≤◌, ◌^◌, All, l
 ghost use Rattle.rbg_leaps.specs.Entries.{IsWithin};
 
 use crate::entries::find_entry;
-use crate::lists::node_at;
 use crate::origin::Origin;
 use crate::table::Entry;
 use crate::target::Target;
-use rbg_auto::Expr;
+use rbg_auto::{Expr, at_or};
 use rbg_base::{Position, Vertex};
 
 /// The leaps of a game: where shifts alone lead from each place in the rules and each vertex. `leaps` makes them once;
@@ -60,7 +59,7 @@ impl Leaps {
     {
         match expr {
             Expr::Rules => self.rules,
-            Expr::Inside(position) => node_at(&self.insides, position),
+            Expr::Inside(position) => at_or(&self.insides, position, 0),
         }
     }
 

@@ -3,7 +3,7 @@ ghost use Rattle.std.specs.Prelude.{IfOk};
 ghost use Rattle.rbg_leaps.specs.internal.Branches.{AreBranches};
 
 use crate::ground::Ground;
-use crate::lists::node_at;
+use rbg_auto::at_or;
 use rbg_base::{Direction, Memory, Position};
 use std::alloc::Global;
 
@@ -29,7 +29,7 @@ pub(crate) fn branches_of(
         branches.push(Branch {
             position: *position,
             direction: ground.direction(*position),
-            after: node_at(afters, *position),
+            after: at_or(afters, *position, 0),
         })?;
     }
     Ok(branches)

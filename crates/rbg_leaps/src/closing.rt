@@ -135,10 +135,10 @@ pub(crate) fn is_closed(table: &Table, lists: &Lists, ground: &Ground<'_>, node:
     requires laid_out { IsLaidOut ground.now lists.now table.now }
     ensures { IsTrue result → AreClosedAt ground.now lists.now table.now node }
 {
-    if lists.shelf.may_end(node) && !all_end(table, ground, node) {
+    if lists.interner.may_end(node) && !all_end(table, ground, node) {
         return false;
     }
-    for listed in lists.shelf.list(node) {
+    for listed in lists.interner.list(node) {
         if !is_told_everywhere(table, lists, ground, node, *listed) {
             return false;
         }

@@ -2,7 +2,7 @@
 ghost use Rattle.std.specs.Prelude.{◌≡◌, ◌≢◌, ℕ, ◌<◌, ◌≤◌, length, true, false, Contains, Some, IfOk, OnOk, IfSome, IsTrue, slice_index_or};
 ghost use Rattle.rbg_leaps.specs.Entries.{IsWithin};
 ghost use Rattle.rbg_leaps.specs.Leaps.{IsShiftAt};
-ghost use Rattle.rbg_leaps.specs.internal.Shelves.{AreListsOf, branches_at, list_at, may_end_at};
+ghost use Rattle.rbg_leaps.specs.internal.Interned.{AreListsOf, branches_at, list_at, may_end_at};
 ghost use Rattle.rbg_leaps.specs.internal.Branches.{IsBranch};
 ghost use Rattle.rbg_leaps.specs.internal.Steps.{Comes, IsOnly};
 ghost use Rattle.rbg_leaps.specs.internal.Tables.{IsSoundEntry, IsRightAt, IsRightSoFar, IsToldAt, FillsOne, FillsUpTo, FillsRightly, FillsDownTo, StepsBack, StepsForth, LeadsAway, LeadsBack, LeadsForth, LeadsOneWay, LeadsToMarked, IsMarked, AreClosedAt, AreFilled, AreFilledSoFar};
@@ -32,7 +32,7 @@ fn fill_one(
 ) -> Filled
     requires at { IsRightAt ground.now lists.now table.old node }
     requires list { list.now ≡ branches_at lists.now node }
-    requires may_end { may_end ≡ may_end_at lists.now.shelf node }
+    requires may_end { may_end ≡ may_end_at lists.now.interner node }
     requires vertex { vertex < length ground.now.board.first }
     ensures { OnOk result (FillsOne ground.now lists.now table.old table.new node vertex) }
 {
@@ -58,13 +58,13 @@ fn entry_behind(
     requires right { IsRightSoFar ground.now lists.now table.now }
     requires branch { IsBranch ground.now.rules lists.now.afters.items branch.now.position branch.now }
     requires direction { branch.now.direction ≡ Some direction }
-    requires may_end { may_end ≡ may_end_at lists.now.shelf node }
+    requires may_end { may_end ≡ may_end_at lists.now.interner node }
     requires vertex { vertex < length ground.now.board.first }
-    requires listed { Contains (list_at lists.now.shelf node) branch.now.position }
+    requires listed { Contains (list_at lists.now.interner node) branch.now.position }
     ensures within { IsWithin (length table.now.targets.items) result }
-    ensures sound { IsSoundEntry ground.now (list_at lists.now.shelf node) (may_end_at lists.now.shelf node) vertex table.now result }
+    ensures sound { IsSoundEntry ground.now (list_at lists.now.interner node) (may_end_at lists.now.interner node) vertex table.now result }
     ensures told { IsToldAt ground.now lists.now table.now result vertex branch.now.position }
-    ensures ends { IsTrue (may_end_at lists.now.shelf node) → IsTrue result.ends }
+    ensures ends { IsTrue (may_end_at lists.now.interner node) → IsTrue result.ends }
 {
     let Some(to) = ground.step(vertex, direction) else {
         return Entry {
@@ -85,8 +85,8 @@ fn entry_behind(
 /// The branch that a node's list has alone.
 fn only_of(lists: &Lists, ground: &Ground<'_>, node: usize) -> Option<Branch>
     requires lists { AreListsOf ground.now.rules lists.now }
-    requires node { node < length lists.now.shelf.nodes.items }
-    ensures only { IfSome result (λ b. IsOnly (list_at lists.now.shelf node) b.position) }
+    requires node { node < length lists.now.interner.nodes.items }
+    ensures only { IfSome result (λ b. IsOnly (list_at lists.now.interner node) b.position) }
     ensures branch { IfSome result (λ b. IsBranch ground.now.rules lists.now.afters.items b.position b) }
 {
     let list = lists.branches(node);
@@ -103,12 +103,12 @@ fn share_node(
     direction: Direction,
 )
     requires at { IsRightAt ground.now lists.now table.old node }
-    requires only { IsOnly (list_at lists.now.shelf node) branch.now.position }
+    requires only { IsOnly (list_at lists.now.interner node) branch.now.position }
     requires branch { IsBranch ground.now.rules lists.now.afters.items branch.now.position branch.now }
     requires direction { branch.now.direction ≡ Some direction }
     ensures { FillsUpTo ground.now lists.now table.old table.new node (length ground.now.board.first) }
 {
-    let may_end = lists.shelf.may_end(node);
+    let may_end = lists.interner.may_end(node);
     for index in 0..ground.vertices() {
         let vertex = index as Vertex;
         let entry = entry_behind(
@@ -131,9 +131,9 @@ fn place_one(
 ) -> Filled
     requires at { IsRightAt ground.now lists.now table.old node }
     requires vertex { vertex < length ground.now.board.first }
-    requires only { IsOnly (list_at lists.now.shelf node) position }
+    requires only { IsOnly (list_at lists.now.interner node) position }
     requires plain { ¬ IsShiftAt ground.now.rules position }
-    requires may_end { may_end ≡ may_end_at lists.now.shelf node }
+    requires may_end { may_end ≡ may_end_at lists.now.interner node }
     ensures { OnOk result (FillsOne ground.now lists.now table.old table.new node vertex) }
 {
     let start = table.targets.len();
@@ -151,11 +151,11 @@ fn place_node(
     position: Position,
 ) -> Filled
     requires at { IsRightAt ground.now lists.now table.old node }
-    requires only { IsOnly (list_at lists.now.shelf node) position }
+    requires only { IsOnly (list_at lists.now.interner node) position }
     requires plain { ¬ IsShiftAt ground.now.rules position }
     ensures { OnOk result (FillsUpTo ground.now lists.now table.old table.new node (length ground.now.board.first)) }
 {
-    let may_end = lists.shelf.may_end(node);
+    let may_end = lists.interner.may_end(node);
     for vertex in 0..ground.vertices() {
         place_one(
             table,
@@ -176,7 +176,7 @@ fn fill_forwards(table: &mut Table, lists: &Lists, ground: &Ground<'_>, node: us
     ensures { OnOk result (FillsUpTo ground.now lists.now table.old table.new node (length ground.now.board.first)) }
 {
     let list = lists.branches(node);
-    let may_end = lists.shelf.may_end(node);
+    let may_end = lists.interner.may_end(node);
     for vertex in 0..ground.vertices() {
         fill_one(table, lists, ground, node, vertex as Vertex, list, may_end)?;
     }
@@ -190,7 +190,7 @@ fn fill_backwards(table: &mut Table, lists: &Lists, ground: &Ground<'_>, node: u
     ensures { OnOk result (FillsDownTo ground.now lists.now table.old table.new node (length ground.now.board.first)) }
 {
     let list = lists.branches(node);
-    let may_end = lists.shelf.may_end(node);
+    let may_end = lists.interner.may_end(node);
     let vertices = ground.vertices();
     for index in 0..vertices {
         let vertex = (vertices - 1 - index) as Vertex;
@@ -267,7 +267,7 @@ pub(crate) fn repeats(lists: &Lists, ground: &Ground<'_>, node: usize, later: bo
     ensures forth { later ≡ false → result ≡ false → LeadsForth ground.now lists.now node }
     ensures none { later ≡ false → LeadsForth ground.now lists.now node → result ≡ false }
 {
-    for listed in lists.shelf.list(node) {
+    for listed in lists.interner.list(node) {
         if repeats_by(lists, ground, node, *listed, later) {
             return true;
         }
@@ -309,7 +309,7 @@ pub(crate) fn is_marked(marks: &[bool], node: usize) -> bool
 fn leads_away(lists: &Lists, ground: &Ground<'_>, node: usize) -> bool
     ensures { IsTrue result → LeadsAway ground.now lists.now node }
 {
-    for listed in lists.shelf.list(node) {
+    for listed in lists.interner.list(node) {
         if ground.is_shift(*listed) && lists.after(*listed) == node {
             return false;
         }
@@ -328,7 +328,7 @@ fn is_marked_or(marks: &[bool], node: usize, other: usize) -> bool
 fn is_ready(lists: &Lists, ground: &Ground<'_>, filled: &[bool], node: usize) -> bool
     ensures { IsTrue result → LeadsToMarked ground.now lists.now filled.now node }
 {
-    for listed in lists.shelf.list(node) {
+    for listed in lists.interner.list(node) {
         if ground.is_shift(*listed) && !is_marked_or(filled, lists.after(*listed), node) {
             return false;
         }
@@ -359,7 +359,7 @@ fn fill_next(
     node: usize,
 ) -> Result<bool, Memory>
     requires so_far { AreFilledSoFar ground.now lists.now table.old filled.old }
-    requires node { node < length lists.now.shelf.nodes.items }
+    requires node { node < length lists.now.interner.nodes.items }
     requires there { node < length filled.old }
     ensures size { length filled.new ≡ length filled.old }
     ensures filled { OnOk result (AreFilled ground.now lists.now table.new filled.new) }
@@ -380,11 +380,11 @@ fn fill_ready(
     filled: &mut [bool],
 ) -> Result<bool, Memory>
     requires so_far { AreFilledSoFar ground.now lists.now table.old filled.old }
-    requires size { length filled.old ≡ length lists.now.shelf.nodes.items }
+    requires size { length filled.old ≡ length lists.now.interner.nodes.items }
     ensures size { length filled.new ≡ length filled.old }
     ensures filled { OnOk result (AreFilled ground.now lists.now table.new filled.new) }
 {
-    let nodes = lists.shelf.nodes.len();
+    let nodes = lists.interner.nodes.len();
     let mut some = false;
     for done in 0..nodes {
         let more = fill_next(table, lists, ground, filled, nodes - 1 - done)?;
@@ -403,7 +403,7 @@ pub(crate) fn fill_in_order(
     requires right { IsRightSoFar ground.now lists.now table.old }
     ensures { IfOk result (λ filled. AreFilled ground.now lists.now table.new filled.items) }
 {
-    let nodes = lists.shelf.nodes.len();
+    let nodes = lists.interner.nodes.len();
     let mut filled = vec![in alloc; false; nodes]?;
     for _ in 0..nodes {
         if !fill_ready(table, lists, ground, &mut filled)? {

@@ -1,7 +1,7 @@
 //! What one step leads to from a node and a vertex, gathered from the entries that are there.
 ghost use Rattle.std.specs.Prelude.{◌≡◌, ℕ, ◌<◌, ◌≤◌, length, All, Contains, IfOk, OnOk, IsTrue};
 ghost use Rattle.rbg_leaps.specs.Entries.{IsWithin};
-ghost use Rattle.rbg_leaps.specs.internal.Shelves.{branches_at, list_at, may_end_at};
+ghost use Rattle.rbg_leaps.specs.internal.Interned.{branches_at, list_at, may_end_at};
 ghost use Rattle.rbg_leaps.specs.internal.Branches.{IsBranch};
 ghost use Rattle.rbg_leaps.specs.internal.Steps.{EndsBy};
 ghost use Rattle.rbg_leaps.specs.internal.Tables.{IsRightSoFar, IsGathered, IsToldFrom, IsWholeFrom, KeepsTold, Grows};
@@ -29,11 +29,11 @@ fn gather_one(
     requires within { All (IsWithin start) table.old.entries.items }
     requires vertex { vertex < length ground.now.board.first }
     requires branch { IsBranch ground.now.rules lists.now.afters.items branch.now.position branch.now }
-    requires listed { Contains (list_at lists.now.shelf node) branch.now.position }
+    requires listed { Contains (list_at lists.now.interner node) branch.now.position }
     requires gathered { IsGathered ground.now lists.now table.old start node vertex }
     ensures grows { OnOk result (Grows start table.old table.new) }
     ensures gathered { OnOk result (IsGathered ground.now lists.now table.new start node vertex) }
-    ensures ends { IfOk result (λ ends. IsTrue ends → EndsBy ground.now (list_at lists.now.shelf node) (may_end_at lists.now.shelf node) vertex) }
+    ensures ends { IfOk result (λ ends. IsTrue ends → EndsBy ground.now (list_at lists.now.interner node) (may_end_at lists.now.interner node) vertex) }
     ensures keeps { OnOk result (KeepsTold start table.old table.new) }
     ensures told { IfOk result (λ ends. IsToldFrom ground.now lists.now table.new start ends vertex branch.now.position) }
 {
@@ -67,13 +67,13 @@ pub(crate) fn gather(
 ) -> Result<bool, Memory>
     requires right { IsRightSoFar ground.now lists.now table.old }
     requires start { start ≡ length table.old.targets.items }
-    requires node { node < length lists.now.shelf.nodes.items }
+    requires node { node < length lists.now.interner.nodes.items }
     requires list { list.now ≡ branches_at lists.now node }
-    requires may_end { may_end ≡ may_end_at lists.now.shelf node }
+    requires may_end { may_end ≡ may_end_at lists.now.interner node }
     requires vertex { vertex < length ground.now.board.first }
     ensures grows { OnOk result (Grows start table.old table.new) }
     ensures gathered { OnOk result (IsGathered ground.now lists.now table.new start node vertex) }
-    ensures ends { IfOk result (λ ends. IsTrue ends → EndsBy ground.now (list_at lists.now.shelf node) (may_end_at lists.now.shelf node) vertex) }
+    ensures ends { IfOk result (λ ends. IsTrue ends → EndsBy ground.now (list_at lists.now.interner node) (may_end_at lists.now.interner node) vertex) }
     ensures whole { IfOk result (λ ends. IsWholeFrom ground.now lists.now table.new start node vertex ends) }
 {
     let mut ends = may_end;

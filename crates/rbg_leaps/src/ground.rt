@@ -1,11 +1,12 @@
 //! A game, and what is looked up of it at each step of a shift.
-ghost use Rattle.std.specs.Prelude.{◌≡◌, ℕ, ◌<◌, ◌≤◌, ◌↔◌, length, Some, None, IfSome, IfNone, IsTrue, slice_index_or};
+ghost use Rattle.std.specs.Prelude.{◌≡◌, ℕ, ◌<◌, ◌≤◌, ◌↔◌, length, Some, IfSome, IfNone, IsTrue};
 ghost use Rattle.rbg_rules.specs.Expression.{shift};
 ghost use Rattle.rbg_rules.specs.Positions.{HasAction};
 ghost use Rattle.rbg_rules.specs.Games.{IsGame};
 ghost use Rattle.rbg_leaps.specs.Leaps.{IsShiftAt};
 ghost use Rattle.rbg_leaps.specs.internal.Steps.{AreDirections, Comes};
 
+use rbg_auto::at_or;
 use rbg_base::{Direction, Position, Vertex};
 use rbg_board::LentBoard;
 use rbg_rules::Game;
@@ -38,19 +39,6 @@ impl<'a> Model for Ground<'a> {
         × IsGame g.game.now };
 }
 
-/// The direction of a position, if it has one.
-#[inline(always)]
-fn direction_at(directions: &[Option<Direction>], position: Position) -> Option<Direction>
-    ensures { result ≡ slice_index_or directions.now position None }
-{
-    let index = position as usize;
-    if index < directions.len() {
-        directions[index]
-    } else {
-        None
-    }
-}
-
 impl<'a> Ground<'a> {
     /// The ground of a game, whose shifts have these directions.
     pub(crate) fn new(game: &'a Game, directions: &'a [Option<Direction>]) -> Ground<'a>
@@ -78,7 +66,7 @@ impl<'a> Ground<'a> {
     pub(crate) fn is_shift(&self, position: Position) -> bool
         ensures { IsTrue result ↔ IsShiftAt self.now.rules position }
     {
-        direction_at(self.directions, position).is_some()
+        at_or(self.directions, position, None).is_some()
     }
 
     /// The direction of the shift at a position, if one stands there.
@@ -87,7 +75,7 @@ impl<'a> Ground<'a> {
         ensures some { IfSome result (λ d. HasAction self.now.rules position (shift d)) }
         ensures none { IfNone result (¬ IsShiftAt self.now.rules position) }
     {
-        direction_at(self.directions, position)
+        at_or(self.directions, position, None)
     }
 
     /// Where a shift in a direction leads from a vertex, if it leads anywhere.
@@ -107,7 +95,7 @@ impl<'a> Ground<'a> {
         ensures comes { (u : ℕ) → (result ≡ Some u) ↔ Comes self.now vertex position u }
         ensures is_vertex { IfSome result (λ to. to < length self.now.board.first) }
     {
-        match direction_at(self.directions, position) {
+        match at_or(self.directions, position, None) {
             Some(direction) => self.board.step(vertex, direction),
             None => Some(vertex),
         }

@@ -2,7 +2,7 @@
 ghost use Rattle.std.specs.Prelude.{◌+◌, ◌*◌, ◌<◌, ◌≤◌, length, All, IfOk};
 ghost use Rattle.rbg_rules.specs.Games.{IsGame};
 ghost use Rattle.rbg_leaps.specs.Made.{AreLeapsOf};
-ghost use Rattle.rbg_leaps.specs.internal.Shelves.{AreListsOf};
+ghost use Rattle.rbg_leaps.specs.internal.Interned.{AreListsOf};
 ghost use Rattle.rbg_leaps.specs.internal.Tables.{AreLaid, IsFilled};
 
 use crate::asking::Leaps;

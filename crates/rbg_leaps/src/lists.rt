@@ -1,11 +1,11 @@
 //! What comes next at each place in the rules, as nodes: places with one list have one node.
 ghost use Rattle.std.specs.Prelude.{◌≡◌, IfOk, length, slice_index_or};
-ghost use Rattle.rbg_leaps.specs.internal.Shelves.{AreListsOf, branches_at};
+ghost use Rattle.rbg_leaps.specs.internal.Interned.{AreListsOf, branches_at};
 
 use crate::branches::{Branch, branches_of};
 use crate::ground::Ground;
-use crate::shelf::{Node, Shelf};
-use rbg_auto::{Expr, Steps};
+use crate::interner::{Interner, Node};
+use rbg_auto::{Expr, Steps, at_or};
 use rbg_base::{Memory, Position};
 use rbg_rules::Game;
 use std::alloc::Global;
@@ -13,24 +13,15 @@ use std::alloc::Global;
 /// The nodes of a game's rules, by place.
 #[derive(Drop)]
 pub(crate) struct Lists {
-    pub(crate) shelf: Shelf,
+    pub(crate) interner: Interner,
     /// The node at the beginning of the rules.
     pub(crate) rules: usize,
     /// The node after each position, from 0 on.
     pub(crate) afters: Vec<usize>,
     /// The node at the beginning of what is inside each position.
     pub(crate) insides: Vec<usize>,
-    /// The branches of all lists, one for each of the positions of the shelf.
+    /// The branches of all lists, one for each of the positions of the interner.
     pub(crate) branches: Vec<Branch>,
-}
-
-/// The node of a position, or the first one where there is none.
-#[inline(always)]
-pub(crate) fn node_at(nodes: &[usize], position: Position) -> usize
-    ensures { result ≡ slice_index_or nodes.now position 0 }
-{
-    let index = position as usize;
-    if index < nodes.len() { nodes[index] } else { 0 }
 }
 
 impl Lists {
@@ -39,15 +30,15 @@ impl Lists {
     pub(crate) fn after(&self, position: Position) -> usize
         ensures { result ≡ slice_index_or self.now.afters.items position 0 }
     {
-        node_at(&self.afters, position)
+        at_or(&self.afters, position, 0)
     }
 
     /// The branches of a node.
     pub(crate) fn branches(&self, node: usize) -> &[Branch]
-        requires { length self.now.branches.items ≡ length self.now.shelf.positions.items }
+        requires { length self.now.branches.items ≡ length self.now.interner.positions.items }
         ensures { result.now ≡ branches_at self.now node }
     {
-        let Node { start, end, .. } = self.shelf.node(node);
+        let Node { start, end, .. } = self.interner.node(node);
         &self.branches[start..end]
     }
 }
@@ -64,23 +55,23 @@ pub(crate) fn lists_of<S: Steps>(
     ensures { IfOk result (AreListsOf game.now.rules) }
 {
     let positions = game.positions();
-    let mut shelf = Shelf::new(alloc);
-    let rules = shelf.keep(steps.first(Expr::Rules), steps.may_be_empty(Expr::Rules))?;
+    let mut interner = Interner::new(alloc);
+    let rules = interner.keep(steps.first(Expr::Rules), steps.may_be_empty(Expr::Rules))?;
     let mut afters = Vec::with_capacity(alloc, positions + 1)?;
     let mut insides = Vec::with_capacity(alloc, positions + 1)?;
     // (most positions have nothing inside, so their node is that of the one before)
     let mut inside = rules;
     for index in 0..positions + 1 {
         let position = index as Position;
-        let after = shelf.keep(steps.next(position), steps.may_end(position))?;
+        let after = interner.keep(steps.next(position), steps.may_end(position))?;
         afters.push(after)?;
         let expr = Expr::Inside(position);
-        inside = shelf.keep_as(inside, steps.first(expr), steps.may_be_empty(expr))?;
+        inside = interner.keep_as(inside, steps.first(expr), steps.may_be_empty(expr))?;
         insides.push(inside)?;
     }
-    let branches = branches_of(alloc, ground, &shelf.positions, &afters)?;
+    let branches = branches_of(alloc, ground, &interner.positions, &afters)?;
     Ok(Lists {
-        shelf,
+        interner,
         rules,
         afters,
         insides,

@@ -1,7 +1,7 @@
 //! Rounds over all nodes and vertices, until nothing is missing.
 ghost use Rattle.std.specs.Prelude.{◌≡◌, ◌<◌, length, false, IfOk, OnOk, IsTrue};
 ghost use Rattle.rbg_rules.specs.Games.{IsGame};
-ghost use Rattle.rbg_leaps.specs.internal.Shelves.{AreListsOf};
+ghost use Rattle.rbg_leaps.specs.internal.Interned.{AreListsOf};
 ghost use Rattle.rbg_leaps.specs.internal.Tables.{IsSoundTable, IsRightAt, IsRightSoFar, StaysClosed, AreClosedAt, AreAllClosed, LeadsOneWay, IsFilled, FillsRightly, AreFilled, AreFilledSoFar};
 
 use crate::closing::is_closed;
@@ -32,7 +32,7 @@ fn round(table: &mut Table, lists: &Lists, ground: &Ground<'_>) -> Result<bool, 
     ensures sound { OnOk result (IsSoundTable ground.now lists.now table.new) }
     ensures closed { IfOk result (λ missing. missing ≡ false → AreAllClosed ground.now lists.now table.new) }
 {
-    let nodes = lists.shelf.nodes.len();
+    let nodes = lists.interner.nodes.len();
     let mut missing = false;
     for done in 0..nodes {
         if mend(table, lists, ground, nodes - 1 - done)? {
@@ -51,7 +51,7 @@ fn mend_other(
     node: usize,
 ) -> Result<bool, Memory>
     requires so_far { AreFilledSoFar ground.now lists.now table.old filled.now }
-    requires node { node < length lists.now.shelf.nodes.items }
+    requires node { node < length lists.now.interner.nodes.items }
     ensures { OnOk result (AreFilled ground.now lists.now table.new filled.now) }
 {
     if is_marked(filled, node) {
@@ -71,7 +71,7 @@ fn mend_others(
     requires { AreFilledSoFar ground.now lists.now table.old filled.now }
     ensures { OnOk result (AreFilled ground.now lists.now table.new filled.now) }
 {
-    let nodes = lists.shelf.nodes.len();
+    let nodes = lists.interner.nodes.len();
     let mut missing = false;
     for done in 0..nodes {
         let more = mend_other(table, lists, ground, filled, nodes - 1 - done)?;
@@ -120,7 +120,7 @@ fn are_done(table: &Table, lists: &Lists, ground: &Ground<'_>, filled: &[bool]) 
     requires filled { AreFilled ground.now lists.now table.now filled.now }
     ensures { IsTrue result → AreAllClosed ground.now lists.now table.now }
 {
-    for node in 0..lists.shelf.nodes.len() {
+    for node in 0..lists.interner.nodes.len() {
         if !is_done(table, lists, ground, filled, node) {
             return false;
         }
@@ -133,7 +133,7 @@ fn blank(alloc: Global, lists: &Lists, ground: &Ground<'_>) -> Result<Table, Mem
     ensures { IfOk result (IsSoundTable ground.now lists.now) }
 {
     let vertices = ground.vertices();
-    let nodes = lists.shelf.nodes.len();
+    let nodes = lists.interner.nodes.len();
     let Some(places) = nodes.checked_mul(vertices) else {
         return Err(AllocError);
     };

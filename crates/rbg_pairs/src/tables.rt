@@ -3,12 +3,12 @@ ghost use Rattle.std.specs.Prelude.{◌≡◌, ◌<◌, [], length, All, IfSome}
 ghost use Rattle.rbg_board.specs.Graph.{next};
 ghost use Rattle.rbg_rules.specs.Games.{IsGame};
 ghost use Rattle.rbg_rules.specs.Words.{after, Ends};
-ghost use Rattle.rbg_auto.specs.Lent.{IsLentOf};
+ghost use Rattle.rbg_auto.specs.LentSteps.{IsLentOf};
 ghost use Rattle.rbg_auto.specs.Steps.{AreNext, IsGlance};
 ghost use Rattle.rbg_auto.specs.declared.steps.Glance.TheVariants.{Unknown};
 ghost use Rattle.rbg_pairs.specs.Start.{IsPositionOf};
 
-use rbg_auto::{Glance, Lent};
+use rbg_auto::{Glance, LentSteps};
 use rbg_base::{Direction, Position, Vertex};
 use rbg_board::LentBoard;
 use rbg_rules::Game;
@@ -19,7 +19,7 @@ use std::marker::Model;
 pub(crate) struct Tables<'a> {
     game: &'a Game,
     board: LentBoard<'a>,
-    lent: Lent<'a>,
+    lent: LentSteps<'a>,
 }
 
 impl<'a> Model for Tables<'a> {
@@ -36,7 +36,7 @@ impl<'a> Model for Tables<'a> {
     ghost use Rattle.std.specs.Prelude.{◌≡◌, ◌≤◌, ℕ, length};
     ghost use Rattle.rbg_board.specs.Graph.{HasWidth};
     ghost use Rattle.rbg_rules.specs.Games.{IsGame};
-    ghost use Rattle.rbg_auto.specs.Lent.{IsLentOf};
+    ghost use Rattle.rbg_auto.specs.LentSteps.{IsLentOf};
 
     ghost invariant = { λ t. (t.board ≡ t.game.now.board) × IsLentOf t.game.now.rules t.lent × IsGame t.game.now
         × ((width : ℕ) → HasWidth width t.board → length t.game.now.directions ≤ width) };
@@ -45,7 +45,7 @@ impl<'a> Model for Tables<'a> {
 impl<'a> Tables<'a> {
     /// The tables of a game, with what its automaton lends; none where the board has no entry for some direction.
     #[inline(always)]
-    pub(crate) fn new(game: &'a Game, lent: Lent<'a>) -> Option<Tables<'a>>
+    pub(crate) fn new(game: &'a Game, lent: LentSteps<'a>) -> Option<Tables<'a>>
         requires lent { IsLentOf game.now.rules lent }
         requires lawful { IsGame game.now }
         ensures { IfSome result (λ tables. tables ≡ game.now) }

@@ -1,8 +1,8 @@
 //! Both forms of the automaton give the same answers.
-ghost use Rattle.rbg_auto.specs.Lent.{HasAnswer};
+ghost use Rattle.rbg_auto.specs.LentSteps.{HasAnswer};
 
 use crate::generated::Generator;
-use rbg_auto::{Expr, Glance, Lent, Steps, compact, compact_tree, compile, compile_tree};
+use rbg_auto::{Expr, Glance, LentSteps, Steps, compact, compact_tree, compile, compile_tree};
 use rbg_base::Position;
 use rbg_game::load;
 use rbg_rules::Game;
@@ -47,7 +47,7 @@ fn both_forms_agree_on_generated_rules(rt: HostRuntime) -> Result<(), Fail> {
 }
 
 /// Whether what is lent at a position is as the automaton answers there, with nothing told where words end.
-fn lends_at<S: Steps>(automaton: &S, lent: &Lent<'_>, position: Position) -> bool
+fn lends_at<S: Steps>(automaton: &S, lent: &LentSteps<'_>, position: Position) -> bool
     requires { HasAnswer lent.now position }
 {
     let told = if automaton.may_end(position) {

@@ -4,17 +4,17 @@ use Rattle.std.specs.Global.{Global}
 use Rattle.rbg_rules.specs.Expression.{Expression}
 use Rattle.rbg_rules.specs.Positions.{positions_of}
 use Rattle.rbg_auto.specs.declared.arrays.Compact.{Compact}
-use Rattle.rbg_auto.specs.declared.lent.Lent.{Lent}
-use Rattle.rbg_auto.specs.declared.lent.Step.{Step}
-use Rattle.rbg_auto.specs.Lent.{IsLentOf}
+use Rattle.rbg_auto.specs.declared.lent_steps.LentSteps.{LentSteps}
+use Rattle.rbg_auto.specs.declared.lent_steps.Step.{Step}
+use Rattle.rbg_auto.specs.LentSteps.{IsLentOf}
 use Rattle.rbg_auto.specs.Steps.{AreStepsOf, IsGlance}
 use Rattle.rbg_auto.specs.internal.Laying.{first_at, empty_at}
 use Rattle.rbg_auto.specs.internal.Tables.{listed}
-use Rattle.rbg_auto.specs.internal.Walks.{laid_in, told_in}
+use Rattle.rbg_auto.specs.internal.Building.{laid_in, told_in}
 
 -- These steps and entries are right to lend.
 pub record MayBeLent (rules : Expression) (steps : List Step) (entries : List ℕ) : Type 0 where
-  pub right : (lent : Lent) → lent.steps.now ≡ steps → lent.entries.now ≡ entries → IsLentOf rules lent
+  pub right : (lent : LentSteps) → lent.steps.now ≡ steps → lent.entries.now ≡ entries → IsLentOf rules lent
 
 -- The lists of the automaton are the steps of the rules, what it tells of actions is right, it has a node for each
 -- position, and what was prepared of them, if it was, is right to lend.

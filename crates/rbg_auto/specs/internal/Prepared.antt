@@ -1,6 +1,6 @@
 -- What is lent of the nodes of a table.
 use Rattle.std.specs.Prelude.{◌-◌, if◌then◌else◌}
-use Rattle.rbg_auto.specs.declared.lent.Step.{Step}
+use Rattle.rbg_auto.specs.declared.lent_steps.Step.{Step}
 use Rattle.rbg_auto.specs.declared.span.Node.{Node}
 use Rattle.rbg_auto.specs.declared.steps.Glance.TheVariants.{Unknown}
 

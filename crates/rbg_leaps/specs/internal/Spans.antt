@@ -1,6 +1,6 @@
 -- Where the list of a node stands.
 use Rattle.std.specs.Prelude.{ℕ, ◌≤◌, false}
-use Rattle.rbg_leaps.specs.declared.shelf.Node.{Node}
+use Rattle.rbg_leaps.specs.declared.interner.Node.{Node}
 
 -- The node is of an array of that many positions.
 pub record IsNodeWithin (size : ℕ) (n : Node) : Type 0 where

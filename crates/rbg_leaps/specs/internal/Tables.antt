@@ -11,7 +11,7 @@ use Rattle.rbg_leaps.specs.Entries.{end_of, IsWithin}
 use Rattle.rbg_leaps.specs.Leaps.{IsShiftAt}
 use Rattle.rbg_leaps.specs.Limits.{row_words}
 use Rattle.rbg_leaps.specs.Made.{entry_in, no_entry}
-use Rattle.rbg_leaps.specs.internal.Shelves.{list_at, may_end_at, AreListsOf}
+use Rattle.rbg_leaps.specs.internal.Interned.{list_at, may_end_at, AreListsOf}
 use Rattle.rbg_leaps.specs.internal.Steps.{Comes, IsLeapBy, EndsBy}
 
 abbrev pub no_target : Target
@@ -62,14 +62,14 @@ pub record IsSoundEntry (game : AbstractGame) (list : List ℕ) (may_end : Bool)
 -- The table is of the game's board and of the nodes.
 pub record IsLaidOut (game : AbstractGame) (lists : Lists) (table : Table) : Type 0 where
   pub vertices : table.vertices ≡ length game.board.first
-  pub size : length table.entries.items ≡ length lists.shelf.nodes.items * table.vertices
+  pub size : length table.entries.items ≡ length lists.interner.nodes.items * table.vertices
 
 -- The table tells of nothing but leaps.
 pub record IsSoundTable (game : AbstractGame) (lists : Lists) (table : Table) : Type 0 where
   pub laid_out : IsLaidOut game lists table
   pub sound :
-      (n v : ℕ) → n < length lists.shelf.nodes.items → v < table.vertices →
-      IsSoundEntry game (list_at lists.shelf n) (may_end_at lists.shelf n) v table (entry_at table n v)
+      (n v : ℕ) → n < length lists.interner.nodes.items → v < table.vertices →
+      IsSoundEntry game (list_at lists.interner n) (may_end_at lists.interner n) v table (entry_at table n v)
 
 -- What is asked wherever the table of a game is filled: the nodes are those of its rules, and nothing wrong is told.
 abbrev pub IsRightSoFar : AbstractGame → Lists → Table → Type 0
@@ -82,7 +82,7 @@ IsRightSoFar game lists table = record {
 -- .. and this is one of the nodes.
 pub record IsRightAt (game : AbstractGame) (lists : Lists) (table : Table) (n : ℕ) : Type 0 where
   pub right : IsRightSoFar game lists table
-  pub node : n < length lists.shelf.nodes.items
+  pub node : n < length lists.interner.nodes.items
 
 -- What an entry tells, the targets between two places tell, and also whether a word may end.
 pub record IsUnder (table : Table) (one : Entry) (from to : ℕ) (may_end : Bool) : Type 0 where
@@ -114,8 +114,8 @@ pub record IsWhole
     (game : AbstractGame) (lists : Lists) (table : Table) (n v from to : ℕ) (may_end : Bool)
     : Type 0
   where
-    pub ends : IsTrue (may_end_at lists.shelf n) → IsTrue may_end
-    pub told : All (IsToldBy game lists table from to may_end v) (list_at lists.shelf n)
+    pub ends : IsTrue (may_end_at lists.interner n) → IsTrue may_end
+    pub told : All (IsToldBy game lists table from to may_end v) (list_at lists.interner n)
 
 -- .. in all targets from a place on.
 abbrev pub IsWholeFrom : AbstractGame → Lists → Table → (start n v : ℕ) → Bool → Type 0
@@ -140,7 +140,7 @@ pub record Grows (place : ℕ) (old new : Table) : Type 0 where
 -- What is gathered at a node and a vertex: targets from a place on that tell of nothing but leaps.
 abbrev pub IsGathered : AbstractGame → Lists → Table → (start n v : ℕ) → Type 0
 IsGathered game lists table start n v =
-    AreSoundBy game (list_at lists.shelf n) (may_end_at lists.shelf n) v table.targets.items start (length table.targets.items)
+    AreSoundBy game (list_at lists.interner n) (may_end_at lists.interner n) v table.targets.items start (length table.targets.items)
 
 -- An entry of a node and a vertex was put in its place, and nothing else changed.
 pub record Shares (old new : Table) (n v : ℕ) (e : Entry) : Type 0 where
@@ -187,7 +187,7 @@ AddsAll start old new from to = AddsUpTo start old new from to to
 -- No shift of the node's list leads to the node again.
 abbrev pub LeadsAway : AbstractGame → Lists → (n : ℕ) → Type 0
 LeadsAway game lists n =
-    (p : ℕ) → Contains (list_at lists.shelf n) p → IsShiftAt game.rules p → slice_index_or lists.afters.items p 0 ≢ n
+    (p : ℕ) → Contains (list_at lists.interner n) p → IsShiftAt game.rules p → slice_index_or lists.afters.items p 0 ≢ n
 
 -- By position p one comes from no vertex to a later one.
 abbrev pub StepsBack : AbstractGame → (p : ℕ) → Type 0
@@ -200,13 +200,13 @@ StepsForth game p = (v w : ℕ) → v < length game.board.first → Comes game v
 -- Where a shift of the node's list leads to the node again, it leads to no later vertex.
 abbrev pub LeadsBack : AbstractGame → Lists → (n : ℕ) → Type 0
 LeadsBack game lists n =
-    (p : ℕ) → Contains (list_at lists.shelf n) p → IsShiftAt game.rules p →
+    (p : ℕ) → Contains (list_at lists.interner n) p → IsShiftAt game.rules p →
     slice_index_or lists.afters.items p 0 ≡ n → StepsBack game p
 
 -- Where a shift of the node's list leads to the node again, it leads to no earlier vertex.
 abbrev pub LeadsForth : AbstractGame → Lists → (n : ℕ) → Type 0
 LeadsForth game lists n =
-    (p : ℕ) → Contains (list_at lists.shelf n) p → IsShiftAt game.rules p →
+    (p : ℕ) → Contains (list_at lists.interner n) p → IsShiftAt game.rules p →
     slice_index_or lists.afters.items p 0 ≡ n → StepsForth game p
 
 -- Shifts lead from the node to no later vertex of its own, or to no earlier one: one pass over the vertices is enough.
@@ -252,7 +252,7 @@ IsMarked marks n = slice_index_or marks n false ≡ true
 -- The shifts of a node's list lead to marked nodes, or to the node again.
 abbrev pub LeadsToMarked : AbstractGame → Lists → List Bool → (n : ℕ) → Type 0
 LeadsToMarked game lists marks n =
-    (p : ℕ) → Contains (list_at lists.shelf n) p → IsShiftAt game.rules p →
+    (p : ℕ) → Contains (list_at lists.interner n) p → IsShiftAt game.rules p →
     slice_index_or lists.afters.items p 0 ≢ n → IsMarked marks (slice_index_or lists.afters.items p 0)
 
 -- From marked nodes shifts lead to marked ones, and nothing is missing in those for which one pass is enough.
@@ -286,7 +286,7 @@ pub record StaysClosed (game : AbstractGame) (lists : Lists) (old new : Table) (
 -- Nothing is missing in the entries of the last nodes, of which there are so many.
 abbrev pub AreClosedFrom : AbstractGame → Lists → Table → (many : ℕ) → Type 0
 AreClosedFrom game lists table many =
-    (n v : ℕ) → length lists.shelf.nodes.items ≤ n + many → n < length lists.shelf.nodes.items →
+    (n v : ℕ) → length lists.interner.nodes.items ≤ n + many → n < length lists.interner.nodes.items →
     v < length game.board.first → IsClosed game lists table n v
 
 -- Entries of nodes, side by side, out of those of all nodes.
@@ -300,7 +300,7 @@ pub record AreLaid (vertices : ℕ) (all : List Entry) (nodes : List ℕ) (entri
 -- Nothing is missing at all.
 abbrev pub AreAllClosed : AbstractGame → Lists → Table → Type 0
 AreAllClosed game lists table =
-    (n v : ℕ) → n < length lists.shelf.nodes.items → v < length game.board.first → IsClosed game lists table n v
+    (n v : ℕ) → n < length lists.interner.nodes.items → v < length game.board.first → IsClosed game lists table n v
 
 -- The table is right, and nothing is missing.
 pub record IsFilled (game : AbstractGame) (lists : Lists) (table : Table) : Type 0 where

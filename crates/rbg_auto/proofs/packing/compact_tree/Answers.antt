@@ -7,9 +7,9 @@ use Rattle.rbg_auto.proofs.packing.compact_tree.Goals as goal
 
 pub returns : goal.returns
 returns c = λ actions numbered none count.
-    let old = c.in_ok-walk.walk.table in
+    let old = c.in_ok-builder.builder.table in
     let new = c.lay_level.new.self.table in
-    let blank : IsBlank old (c.args.positions + 1) = record { nodes = c.in_ok-walk.ensures.nodes; insides = c.in_ok-walk.ensures.insides; entries = c.in_ok-walk.ensures.entries } in
+    let blank : IsBlank old (c.args.positions + 1) = record { nodes = c.in_ok-builder.ensures.nodes; insides = c.in_ok-builder.ensures.insides; entries = c.in_ok-builder.ensures.entries } in
     record {
       steps = compact_steps actions c.args.tree.now c.args.positions numbered none count old new c.in_ok-rules.rules blank c.in_ok-rules.ensures;
       told = untold (expression_of actions c.args.tree.now) c.args.tree.now old new c.in_ok-rules.rules (c.args.positions + 1) blank c.in_ok-rules.ensures;

@@ -2,7 +2,7 @@ use Rattle.std.proofs.Common.{ℕ, List, get_or, take, sym, subst}
 use Rattle.std.specs.Prelude.{All, IsTrue}
 use Rattle.std.proofs.lemmas.List.{take_more, take_all}
 use Rattle.std.proofs.lemmas.List.Elements.{All-push}
-use Rattle.rbg_leaps.specs.internal.Shelves.{list_at}
+use Rattle.rbg_leaps.specs.internal.Interned.{list_at}
 use Rattle.rbg_leaps.specs.internal.Tables.{IsToldEverywhere}
 use Rattle.rbg_leaps.proofs.Cases.{not_both}
 use Rattle.rbg_leaps.proofs.closing.is_closed.Goals as goal
@@ -21,7 +21,7 @@ returns c = λ t v below.
     let lists = c.args.lists.now in
     let table = c.args.table.now in
     let xs : List ℕ = c.list-listed-items.result.now in
-    let all : All (IsToldEverywhere game lists table c.args.node) (list_at lists.shelf c.args.node) =
+    let all : All (IsToldEverywhere game lists table c.args.node) (list_at lists.interner c.args.node) =
     subst (λ (ys : List ℕ). All (IsToldEverywhere game lists table c.args.node) ys) c.list-listed-items.ensures
     (subst (λ (ys : List ℕ). All (IsToldEverywhere game lists table c.args.node) ys) (take_all c.loop-listed.listed-index xs c.loop-listed-test.false) c.loop-listed.invariant) in
     record {

@@ -9,6 +9,6 @@ pub loop-init : goal.loop-init
 loop-init c =
     let is : c.in_ok-filled.filled.items ≡ replicate c.len-nodes.result false = search rules in
     record {
-      size = ap length is ∙ length-replicate c.len-nodes.result false ∙ c.len-nodes.ensures ∙ c.args.lists.now.shelf.nodes.ok.0;
+      size = ap length is ∙ length-replicate c.len-nodes.result false ∙ c.len-nodes.ensures ∙ c.args.lists.now.interner.nodes.ok.0;
       filled = subst (AreFilled c.args.ground.now c.args.lists.now c.args.table.now) (sym is) (none_marked c.args.ground.now c.args.lists.now c.args.table.now c.len-nodes.result c.requires.right.sound);
     }

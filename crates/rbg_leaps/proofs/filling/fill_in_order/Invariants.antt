@@ -5,6 +5,6 @@ use Rattle.rbg_leaps.proofs.filling.fill_in_order.Given as goal
 
 abbrev pub invariant-loop : goal.invariant-loop
 invariant-loop l = record {
-  size : length l.filled.items ≡ length l.lists.shelf.nodes.items;
+  size : length l.filled.items ≡ length l.lists.interner.nodes.items;
   filled : AreFilled l.ground l.lists l.table l.filled.items;
 }

@@ -5,6 +5,6 @@ use Rattle.rbg_leaps.proofs.filling.fill_ready.Given as goal
 
 abbrev pub invariant-loop-done : goal.invariant-loop-done
 invariant-loop-done l = record {
-  size : length l.filled ≡ length l.lists.shelf.nodes.items;
+  size : length l.filled ≡ length l.lists.interner.nodes.items;
   filled : AreFilled l.ground l.lists l.table l.filled;
 }

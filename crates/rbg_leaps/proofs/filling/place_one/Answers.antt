@@ -1,7 +1,7 @@
 use Rattle.std.proofs.Common.{◌≡◌, ◌∙◌, ℕ, List, Bool, length, sym, subst, arith}
 use Rattle.std.specs.Prelude.{IsTrue}
 use Rattle.rbg_leaps.specs.Limits.{row_words}
-use Rattle.rbg_leaps.specs.internal.Shelves.{list_at, may_end_at}
+use Rattle.rbg_leaps.specs.internal.Interned.{list_at, may_end_at}
 use Rattle.rbg_leaps.specs.internal.Steps.{IsLeapBy}
 use Rattle.rbg_leaps.proofs.Fillings.{one_filled, only_listed, told_plain, whole_of_one}
 use Rattle.rbg_leaps.proofs.Steppings.{ends_here}
@@ -15,8 +15,8 @@ returns c =
     let lists = c.args.lists.now in
     let old = c.args.table.now in
     let middle = c.add.new.self in
-    let list : List ℕ = list_at lists.shelf c.args.node in
-    let may_end : Bool = may_end_at lists.shelf c.args.node in
+    let list : List ℕ = list_at lists.interner c.args.node in
+    let may_end : Bool = may_end_at lists.interner c.args.node in
     let start : ℕ = c.len-start.result in
     let at_end : start ≡ length old.targets.items = c.len-start.ensures ∙ old.targets.ok.0 in
     let unit = c.unit.ensures in

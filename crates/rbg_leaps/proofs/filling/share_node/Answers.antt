@@ -14,7 +14,7 @@ share-requires-clause-there c =
     let many : ℕ = c.loop-index.table.vertices in
     let below : c.loop-index.index < length c.args.ground.now.board.first = omega (arith, count, c.loop-index-test.true) in
     let inside : c.loop-index.index < many = subst (λ (n : ℕ). c.loop-index.index < n) (sym laid_out.vertices) below in
-    subst (λ (n : ℕ). c.args.node * many + c.loop-index.index < n) (sym laid_out.size) (place_there (length c.args.lists.now.shelf.nodes.items) c.args.node many c.loop-index.index c.requires.at.node inside)
+    subst (λ (n : ℕ). c.args.node * many + c.loop-index.index < n) (sym laid_out.size) (place_there (length c.args.lists.now.interner.nodes.items) c.args.node many c.loop-index.index c.requires.at.node inside)
 
 pub loop-index-preserved : goal.loop-index-preserved
 loop-index-preserved c =

@@ -4,13 +4,13 @@ use Rattle.rbg_leaps.specs.declared.branches.Branch.{Branch}
 use Rattle.rbg_leaps.specs.Entries.{IsWithin}
 use Rattle.rbg_leaps.specs.Limits.{row_words}
 use Rattle.rbg_leaps.specs.internal.Branches.{no_branch}
-use Rattle.rbg_leaps.specs.internal.Shelves.{branches_at, list_at, may_end_at}
+use Rattle.rbg_leaps.specs.internal.Interned.{branches_at, list_at, may_end_at}
 use Rattle.rbg_leaps.specs.internal.Steps.{IsLeapBy}
 use Rattle.rbg_leaps.specs.internal.Tables.{IsToldFrom}
 use Rattle.rbg_leaps.proofs.Cases.{not_both}
 use Rattle.rbg_leaps.proofs.Fillings.{is_listed, told_grown, raise_end}
 use Rattle.rbg_leaps.proofs.Places.{same_item, before, last, last_place}
-use Rattle.rbg_leaps.proofs.Shelving.{branch_at, branch_listed, branch_there}
+use Rattle.rbg_leaps.proofs.Interning.{branch_at, branch_listed, branch_there}
 use Rattle.rbg_leaps.proofs.Steppings.{ends_here}
 use Rattle.rbg_leaps.proofs.Tabling.{grows_none, grows_more, table_grown}
 use Rattle.rbg_leaps.proofs.Targets.{sound_none}
@@ -19,16 +19,16 @@ use Rattle.rbg_leaps.proofs.gathering.gather.Goals.{then-ends, else-ends}
 
 pub loop-branch-init : goal.loop-branch-init
 loop-branch-init c =
-    let shelf = c.args.lists.now.shelf in
+    let interner = c.args.lists.now.interner in
     let game = c.args.ground.now in
     let start = c.requires.start in
     record {
       sound = c.requires.right.sound;
       grows = grows_none c.args.start c.args.table.now;
-      gathered = sound_none (IsLeapBy game (list_at shelf c.args.node) (may_end_at shelf c.args.node) c.args.vertex) (row_words game) c.args.table.now.targets.items c.args.start (length c.args.table.now.targets.items) (omega (arith, start));
+      gathered = sound_none (IsLeapBy game (list_at interner c.args.node) (may_end_at interner c.args.node) c.args.vertex) (row_words game) c.args.table.now.targets.items c.args.start (length c.args.table.now.targets.items) (omega (arith, start));
       ends_told = λ is. subst IsTrue (sym c.requires.may_end) is;
       told = λ i below. absurd (omega (arith, below));
-      ends = λ is. ends_here game (list_at shelf c.args.node) (may_end_at shelf c.args.node) c.args.vertex (subst IsTrue c.requires.may_end is);
+      ends = λ is. ends_here game (list_at interner c.args.node) (may_end_at interner c.args.node) c.args.vertex (subst IsTrue c.requires.may_end is);
     }
 
 pub gather_one-requires-clause-listed : goal.gather_one-requires-clause-listed
@@ -38,7 +38,7 @@ gather_one-requires-clause-listed c =
     let k : ℕ = c.loop-branch.branch-index in
     let nodes = c.requires.right.nodes.branches in
     let there : k < length (branches_at lists n) = subst (λ (bs : List Branch). k < length bs) c.requires.list c.loop-branch-test.true in
-    let xs : List ℕ = list_at lists.shelf n in
+    let xs : List ℕ = list_at lists.interner n in
     subst (Contains xs)
     (sym (branch_at c.args.ground.now.rules lists nodes n k c.requires.node there no_branch).position ∙ ap (λ (bs : List Branch). (get_or bs k no_branch).position) (sym c.requires.list))
     (is_listed xs k (branch_listed c.args.ground.now.rules lists nodes n k c.requires.node there))
@@ -52,7 +52,7 @@ loop-branch-preserved c =
     let old = c.loop-branch.table in
     let new = c.gather_one.new.table in
     let start : ℕ = c.args.start in
-    let shelf = lists.shelf in
+    let interner = lists.interner in
     let k : ℕ = c.loop-branch.branch-index in
     let v : ℕ = c.args.vertex in
     let inside : All (IsWithin start) old.entries.items =
@@ -60,7 +60,7 @@ loop-branch-preserved c =
     (subst (λ (size : ℕ). All (IsWithin size) c.args.table.now.entries.items) (sym c.requires.start) c.args.table.now.within) in
     let n : ℕ = c.args.node in
     let there : k < length (branches_at lists n) = subst (λ (bs : List Branch). k < length bs) c.requires.list c.loop-branch-test.true in
-    let position : (get_or c.args.list.now k no_branch).position ≡ get_or (list_at shelf n) k 0 =
+    let position : (get_or c.args.list.now k no_branch).position ≡ get_or (list_at interner n) k 0 =
     ap (λ (bs : List Branch). (get_or bs k no_branch).position) c.requires.list ∙ (branch_at game.rules lists c.requires.right.nodes.branches n k c.requires.node there no_branch).position in
     let up : IsTrue c.loop-branch.ends → IsTrue c.if-ends.ends = elim c.if-ends.branch [
       | then-ends w ↦ λ is. let first = w.ends-is in let second = w.if-ends.true in cc
@@ -76,10 +76,10 @@ loop-branch-preserved c =
       gathered = c.in_ok-then.ensures.gathered;
       ends_told = λ is. up (inv.ends_told is);
       told = λ i below. elim (last_place k i below) [
-        | before e ↦ told_grown game lists start old new c.loop-branch.ends c.if-ends.ends v (get_or (list_at shelf n) i 0) inside more c.in_ok-then.ensures.keeps up (inv.told i e)
+        | before e ↦ told_grown game lists start old new c.loop-branch.ends c.if-ends.ends v (get_or (list_at interner n) i 0) inside more c.in_ok-then.ensures.keeps up (inv.told i e)
         | last e ↦
-            raise_end game lists new start (length new.targets.items) c.in_ok-then.then c.if-ends.ends v (get_or (list_at shelf n) i 0) over
-            (subst (IsToldFrom game lists new start c.in_ok-then.then v) (position ∙ ap (λ (m : ℕ). get_or (list_at shelf n) m 0) (sym e)) c.in_ok-then.ensures.told)
+            raise_end game lists new start (length new.targets.items) c.in_ok-then.then c.if-ends.ends v (get_or (list_at interner n) i 0) over
+            (subst (IsToldFrom game lists new start c.in_ok-then.then v) (position ∙ ap (λ (m : ℕ). get_or (list_at interner n) m 0) (sym e)) c.in_ok-then.ensures.told)
       ];
       ends = elim c.if-ends.branch [
         | then-ends w ↦ λ is. inv.ends w.if-ends.true
@@ -93,7 +93,7 @@ returns-clause-whole c =
     record {
       ends = c.loop-branch.invariant.ends_told;
       told = λ k d there.
-          subst (IsToldFrom c.args.ground.now lists c.loop-branch.table c.args.start c.loop-branch.ends c.args.vertex) (sym (same_item (list_at lists.shelf c.args.node) k d there))
+          subst (IsToldFrom c.args.ground.now lists c.loop-branch.table c.args.start c.loop-branch.ends c.args.vertex) (sym (same_item (list_at lists.interner c.args.node) k d there))
           (c.loop-branch.invariant.told k
           (let below = branch_there c.args.ground.now.rules lists c.requires.right.nodes.branches c.args.node k c.requires.node there in
           let all = ap length c.requires.list in

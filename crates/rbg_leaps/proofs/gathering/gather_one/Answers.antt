@@ -3,7 +3,7 @@ use Rattle.std.specs.Prelude.{Bool}
 use Rattle.rbg_leaps.specs.declared.table.Entry.{Entry}
 use Rattle.rbg_leaps.specs.Leaps.{IsShiftAt}
 use Rattle.rbg_leaps.specs.internal.Tables.{entry_at, IsUnder}
-use Rattle.rbg_leaps.specs.internal.Shelves.{list_at, may_end_at}
+use Rattle.rbg_leaps.specs.internal.Interned.{list_at, may_end_at}
 use Rattle.rbg_leaps.specs.internal.Steps.{Comes}
 use Rattle.rbg_leaps.proofs.Cases.{some_same}
 use Rattle.rbg_leaps.proofs.Fillings.{told_plain, told_behind, added_under}
@@ -13,8 +13,8 @@ use Rattle.rbg_leaps.proofs.gathering.gather_one.Goals as goal
 
 pub returns-in_default-clause-gathered : goal.returns-in_default-clause-gathered
 returns-in_default-clause-gathered c =
-    let list : List ℕ = list_at c.args.lists.now.shelf c.args.node in
-    let may_end : Bool = may_end_at c.args.lists.now.shelf c.args.node in
+    let list : List ℕ = list_at c.args.lists.now.interner c.args.node in
+    let may_end : Bool = may_end_at c.args.lists.now.interner c.args.node in
     let unit = c.unit.ensures in
     c.in_ok-add.ensures.adds.sound c.args.ground.now list may_end c.args.vertex c.requires.gathered
     (unit_sound c.args.ground.now list may_end c.args.vertex c.args.branch.now.position c.unit.result c.requires.vertex c.requires.listed (c.requires.branch.plain c.in_default.is) unit.has unit.position unit.vertex unit.column)
@@ -46,8 +46,8 @@ behind c =
 
 pub returns-clause-gathered : goal.returns-clause-gathered
 returns-clause-gathered c =
-    let shelf = c.args.lists.now.shelf in
-    c.in_ok-add_all.ensures.adds.sound c.args.ground.now (list_at shelf c.args.node) (may_end_at shelf c.args.node) c.args.vertex c.requires.gathered
+    let interner = c.args.lists.now.interner in
+    c.in_ok-add_all.ensures.adds.sound c.args.ground.now (list_at interner c.args.node) (may_end_at interner c.args.node) c.args.vertex c.requires.gathered
     (sound_on c.args.ground.now c.requires.right.lawful.numbered c.args.lists.now c.args.table.now c.args.node c.args.vertex c.args.branch.now.position c.in-Some-step.to (get_or c.args.lists.now.afters.items c.args.branch.now.position 0) c.entry_there-entry.result.now
     c.requires.listed (is_shift c) (comes c) (behind c).node (behind c).sound)
 

@@ -6,7 +6,7 @@ use Rattle.rbg_leaps.proofs.rounds.round.Goals.{then-branch, else-branch}
 
 pub loop-done-preserved : goal.loop-done-preserved
 loop-done-preserved c =
-    let size : c.len-nodes.result ≡ length c.args.lists.now.shelf.nodes.items = c.len-nodes.ensures ∙ c.args.lists.now.shelf.nodes.ok.0 in
+    let size : c.len-nodes.result ≡ length c.args.lists.now.interner.nodes.items = c.len-nodes.ensures ∙ c.args.lists.now.interner.nodes.ok.0 in
     record {
       sound = c.in_ok-mend.ensures.fills.sound;
       closed = elim c.if-branch.branch [

@@ -1,6 +1,6 @@
 -- There is an answer for each position up to the last.
 use Rattle.std.proofs.Common.{arith}
-use Rattle.rbg_auto.specs.Lent.{IsLentOf}
+use Rattle.rbg_auto.specs.LentSteps.{IsLentOf}
 use Rattle.rbg_test_parts.proofs.forms.lends_all.Goals as goal
 
 pub lends_at-same-requires : goal.lends_at-same-requires

@@ -1,6 +1,6 @@
 -- The proof of `table::Table::push`.
 use Rattle.std.proofs.Common.{refl}
-use Rattle.rbg_auto.proofs.WalkLemmas.{adds_list}
+use Rattle.rbg_auto.proofs.BuildingLemmas.{adds_list}
 use Rattle.rbg_auto.proofs.table.Table.push.Goals as goal
 
 pub returns-clause-adds : goal.returns-clause-adds

@@ -1,6 +1,6 @@
--- The proof of `walk::Walk::lay_at`.
-use Rattle.rbg_auto.proofs.WalkLemmas.{IsKept-grows, IsSpan-grows}
-use Rattle.rbg_auto.proofs.walk.Walk.lay_at.Goals as goal
+-- The proof of `table_builder::TableBuilder::lay_at`.
+use Rattle.rbg_auto.proofs.BuildingLemmas.{IsKept-grows, IsSpan-grows}
+use Rattle.rbg_auto.proofs.table_builder.TableBuilder.lay_at.Goals as goal
 
 pub set-requires-clause-inside_within : goal.set-requires-clause-inside_within
 set-requires-clause-inside_within c = IsSpan-grows c.args.self.now.table.entries.items c.keep.new.self.table.entries.items c.args.inside.first c.in_ok-next.ensures.adds.extends.entries c.requires.inside

@@ -2,11 +2,11 @@
 ghost use Rattle.std.specs.Prelude.{◌≡◌, ◌<◌, List, [], length, replicate, slice_index_or, IfOk};
 ghost use Rattle.rbg_auto.specs.internal.Tables.{Keeps, IsFirstWithin, no_node, no_inside};
 ghost use Rattle.rbg_auto.specs.internal.Trees.{IsBefore};
-ghost use Rattle.rbg_auto.specs.internal.Walks.{AddsList, IsKeptOf, LaysAt, LaysBefore, LaysPartsBefore, LaysLevel};
+ghost use Rattle.rbg_auto.specs.internal.Building.{AddsList, IsKeptOf, LaysAt, LaysBefore, LaysPartsBefore, LaysLevel};
 
 use crate::rest::{Rest, again, before};
-use crate::shelf::{Shelf, hash_of};
 use crate::span::{Node, Opening, Span};
+use crate::span_index::{SpanIndex, hash_of};
 use crate::steps::Glance;
 use crate::table::Table;
 use crate::tree::push_first;
@@ -19,24 +19,24 @@ use std::alloc::Global;
 /// A list goes into the table when the first action asks for it. Positions behind which the rules go on in the same way
 /// share it from then on: `kept` says where it is.
 #[derive(Drop)]
-pub(crate) struct Walk {
+pub(crate) struct TableBuilder {
     alloc: Global,
     pub(crate) table: Table,
-    shelf: Shelf,
+    index: SpanIndex,
 }
 
-impl Walk {
+impl TableBuilder {
     /// With nothing laid, at that many positions with position 0.
-    pub(crate) fn new(alloc: Global, positions: usize) -> Result<Walk, Memory>
-        ensures nodes { IfOk result (λ walk. walk.table.nodes.items ≡ replicate positions no_node) }
-        ensures insides { IfOk result (λ walk.
-            walk.table.insides.items ≡ replicate positions no_inside) }
-        ensures entries { IfOk result (λ walk. walk.table.entries.items ≡ []) }
+    pub(crate) fn new(alloc: Global, positions: usize) -> Result<TableBuilder, Memory>
+        ensures nodes { IfOk result (λ builder. builder.table.nodes.items ≡ replicate positions no_node) }
+        ensures insides { IfOk result (λ builder.
+            builder.table.insides.items ≡ replicate positions no_inside) }
+        ensures entries { IfOk result (λ builder. builder.table.entries.items ≡ []) }
     {
-        Ok(Walk {
+        Ok(TableBuilder {
             alloc,
             table: Table::new(alloc, positions)?,
-            shelf: Shelf::new(alloc),
+            index: SpanIndex::new(alloc),
         })
     }
 
@@ -47,11 +47,11 @@ impl Walk {
             Keeps self.new.table.entries.items span positions.now) }
     {
         let hash = hash_of(positions);
-        if let Some(span) = self.shelf.find(&self.table, hash, positions) {
+        if let Some(span) = self.index.find(&self.table, hash, positions) {
             return Ok(span);
         }
         let span = self.table.push(positions)?;
-        self.shelf.store(hash, span)?;
+        self.index.store(hash, span)?;
         Ok(span)
     }
 

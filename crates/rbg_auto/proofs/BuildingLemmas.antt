@@ -18,7 +18,7 @@ use Rattle.rbg_auto.specs.internal.Firsts.{firsts}
 use Rattle.rbg_auto.specs.internal.Laying.{IsLawful, Lays}
 use Rattle.rbg_auto.specs.internal.Trees.{GivesFirsts, LaysAll, of_tree, IsBefore, IsAgain}
 use Rattle.rbg_auto.specs.internal.Tables.{IsSpan, IsNextWithin, IsFirstWithin, listed, laid_of, Keeps, IsKept, Grows, no_span, no_node, no_inside, laid_at, told_at}
-use Rattle.rbg_auto.specs.internal.Walks.{laid_in, Extends, AddsList, LaysAt, LaysTree, LaysBefore, LaysSequence, LaysLevel}
+use Rattle.rbg_auto.specs.internal.Building.{laid_in, Extends, AddsList, LaysAt, LaysTree, LaysBefore, LaysSequence, LaysLevel}
 use Rattle.rbg_auto.proofs.LayTreeLemmas.{plain_laid, pattern_laid, BeginsTree, act_laid, pattern_laid_whole, then_laid, or_laid, star_laid, SumLaid, sum_laid_none, sum_laid_more, sum_laid_all, SequenceOwed, sequence_owed_all, sequence_owed_fewer, sequence_owed_none, resized}
 
 -- Lists stay where they are while the array grows.

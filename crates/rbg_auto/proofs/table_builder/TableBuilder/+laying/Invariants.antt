@@ -1,8 +1,8 @@
 -- What the loops over parts keep.
 use Rattle.std.proofs.Common.{◌<◌, length}
 use Rattle.rbg_auto.specs.internal.Tables.{IsKept}
-use Rattle.rbg_auto.proofs.WalkLemmas.{SumSoFar, SequenceOwes}
-use Rattle.rbg_auto.proofs.walk.Walk.+laying.Given as goal
+use Rattle.rbg_auto.proofs.BuildingLemmas.{SumSoFar, SequenceOwes}
+use Rattle.rbg_auto.proofs.table_builder.TableBuilder.+laying.Given as goal
 
 abbrev pub invariant-lay_sequence-loop-left : goal.invariant-lay_sequence-loop-left
 invariant-lay_sequence-loop-left l = record {

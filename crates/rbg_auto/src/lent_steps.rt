@@ -4,7 +4,7 @@ ghost use Rattle.rbg_rules.specs.Expression.{Expression};
 ghost use Rattle.rbg_rules.specs.Words.{after, Ends};
 ghost use Rattle.rbg_auto.specs.declared.steps.Glance.TheVariants.{Unknown};
 ghost use Rattle.rbg_auto.specs.Steps.{AreNext, IsGlance};
-ghost use Rattle.rbg_auto.specs.Lent.{HasAnswer, IsLentOf};
+ghost use Rattle.rbg_auto.specs.LentSteps.{HasAnswer, IsLentOf};
 
 use crate::steps::Glance;
 use rbg_base::Position;
@@ -24,12 +24,12 @@ pub(crate) struct Step {
 /// What an automaton answers of its positions, lent as slices. A loop that asks for many positions keeps it as a local,
 /// so that what it needs stays at hand.
 #[derive(Clone, Copy, Drop)]
-pub struct Lent<'a> {
+pub struct LentSteps<'a> {
     pub(crate) steps: &'a [Step],
     pub(crate) entries: &'a [Position],
 }
 
-impl<'a> Lent<'a> {
+impl<'a> LentSteps<'a> {
     /// What is told at once of the action at a position. Nothing is told where words may end, so a search that is told
     /// something need not ask for that.
     #[inline(always)]

@@ -3,8 +3,8 @@ use Rattle.std.specs.Prelude.{ℕ, ◌+◌, ◌<◌, ◌≤◌, ◌≢◌, List,
 use Rattle.rbg_rules.specs.Expression.{Expression}
 use Rattle.rbg_rules.specs.Positions.{positions_of}
 use Rattle.rbg_rules.specs.Words.{after, Ends}
-use Rattle.rbg_auto.specs.declared.lent.Lent.{Lent}
-use Rattle.rbg_auto.specs.declared.lent.Step.{Step}
+use Rattle.rbg_auto.specs.declared.lent_steps.LentSteps.{LentSteps}
+use Rattle.rbg_auto.specs.declared.lent_steps.Step.{Step}
 use Rattle.rbg_auto.specs.declared.steps.Glance.TheVariants.{Unknown}
 use Rattle.rbg_auto.specs.Steps.{AreNext, IsGlance}
 
@@ -21,13 +21,13 @@ abbrev pub list_of : List ℕ → Step → List ℕ
 list_of entries step = slice_range entries step.start (step.start + step.len)
 
 -- There is an answer for position p: a step, whose list is within the entries.
-pub record HasAnswer (lent : Lent) (p : ℕ) : Type 0 where
+pub record HasAnswer (lent : LentSteps) (p : ℕ) : Type 0 where
   pub there : p < length lent.steps.now
   pub within : (step_at lent.steps.now p).start + (step_at lent.steps.now p).len ≤ length lent.entries.now
 
 -- What is lent has an answer for each position of the rules and for 0, and its answers are right. Where something is
 -- told of an action, no word may end after it.
-pub record IsLentOf (rules : Expression) (lent : Lent) : Type 0 where
+pub record IsLentOf (rules : Expression) (lent : LentSteps) : Type 0 where
   pub has : (p : ℕ) → p ≤ length (positions_of rules) → HasAnswer lent p
   pub next : (p : ℕ) → AreNext rules p (list_of lent.entries.now (step_at lent.steps.now p))
   pub told : (p : ℕ) → IsGlance rules p (step_at lent.steps.now p).glance

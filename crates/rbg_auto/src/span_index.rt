@@ -11,7 +11,7 @@ use std::collections::HashMap;
 /// Where the lists in the table are, by the hash of each. Of two lists with one hash only the later one is known, so the
 /// earlier one would be kept twice.
 #[derive(Drop)]
-pub(crate) struct Shelf {
+pub(crate) struct SpanIndex {
     spans: HashMap<u64, Span>,
 }
 
@@ -24,10 +24,10 @@ pub(crate) fn hash_of(positions: &[Position]) -> u64 {
     hash ^ (hash >> 32)
 }
 
-impl Shelf {
+impl SpanIndex {
     /// With no list.
-    pub(crate) fn new(alloc: Global) -> Shelf {
-        Shelf {
+    pub(crate) fn new(alloc: Global) -> SpanIndex {
+        SpanIndex {
             spans: HashMap::new(alloc),
         }
     }

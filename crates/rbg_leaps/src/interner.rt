@@ -16,7 +16,7 @@ pub(crate) struct Node {
 
 /// The lists in one array, and a node for each that differs from the others.
 #[derive(Drop)]
-pub(crate) struct Shelf {
+pub(crate) struct Interner {
     pub(crate) positions: Vec<Position>,
     pub(crate) nodes: Vec<Node>,
     /// A node by the hash of its list. Of two nodes with one hash only the later one is known.
@@ -42,16 +42,16 @@ fn hash_of(positions: &[Position], may_end: bool) -> u64 {
     hash ^ (hash >> 32)
 }
 
-impl Shelf {
+impl Interner {
     ghost use Rattle.std.specs.Prelude.{◌≡◌, ◌<◌, [], IfOk, OnOk, IfSome, IsTrue, slice_index_or};
     ghost use Rattle.rbg_leaps.specs.internal.Spans.{no_node};
-    ghost use Rattle.rbg_leaps.specs.internal.Shelves.{list_at, may_end_at, IsKept, ExtendsShelf};
+    ghost use Rattle.rbg_leaps.specs.internal.Interned.{list_at, may_end_at, IsKept, ExtendsInterner};
 
     /// With no list.
-    pub(crate) fn new(alloc: Global) -> Shelf
+    pub(crate) fn new(alloc: Global) -> Interner
         ensures { result.nodes.items ≡ [] }
     {
-        Shelf {
+        Interner {
             positions: Vec::new(alloc),
             nodes: Vec::new(alloc),
             spots: HashMap::new(alloc),
@@ -87,7 +87,7 @@ impl Shelf {
 
     /// The node of a list, which is a new one where no node has it.
     pub(crate) fn keep(&mut self, positions: &[Position], may_end: bool) -> Result<usize, Memory>
-        ensures extends { OnOk result (ExtendsShelf self.old self.new) }
+        ensures extends { OnOk result (ExtendsInterner self.old self.new) }
         ensures kept { IfOk result (IsKept self.new positions.now may_end) }
     {
         let hash = hash_of(positions, may_end);
@@ -106,7 +106,7 @@ impl Shelf {
         positions: &[Position],
         may_end: bool,
     ) -> Result<usize, Memory>
-        ensures extends { OnOk result (ExtendsShelf self.old self.new) }
+        ensures extends { OnOk result (ExtendsInterner self.old self.new) }
         ensures kept { IfOk result (IsKept self.new positions.now may_end) }
     {
         if node >= self.nodes.len() || !self.holds(node, positions, may_end) {
@@ -137,7 +137,7 @@ impl Shelf {
 
     /// Appends a list and its node.
     fn push(&mut self, positions: &[Position], may_end: bool) -> Result<usize, Memory>
-        ensures extends { OnOk result (ExtendsShelf self.old self.new) }
+        ensures extends { OnOk result (ExtendsInterner self.old self.new) }
         ensures kept { IfOk result (IsKept self.new positions.now may_end) }
     {
         let start = self.positions.len();

@@ -5,9 +5,9 @@ use Rattle.rbg_rules.specs.declared.rule.Rule.{Rule}
 use Rattle.rbg_rules.specs.declared.rule.Rule.TheVariants.{Star}
 use Rattle.rbg_auto.specs.internal.Trees.{GivesFirsts, IsAgain}
 use Rattle.rbg_auto.specs.internal.Tables.{Keeps, IsKept}
-use Rattle.rbg_auto.specs.internal.Walks.{LaysTree, LaysSequence, LaysLevel}
-use Rattle.rbg_auto.proofs.WalkLemmas.{IsKept-grows, lays_act, lays_pattern, SumSoFar, lays_then, lays_star_tree, lays_level_by, sequence_begins, sequence_owes_fewer, part_laid, sequence_laid, sum_goes_on, sum_ends}
-use Rattle.rbg_auto.proofs.walk.Walk.+laying.Goals as goal
+use Rattle.rbg_auto.specs.internal.Building.{LaysTree, LaysSequence, LaysLevel}
+use Rattle.rbg_auto.proofs.BuildingLemmas.{IsKept-grows, lays_act, lays_pattern, SumSoFar, lays_then, lays_star_tree, lays_level_by, sequence_begins, sequence_owes_fewer, part_laid, sequence_laid, sum_goes_on, sum_ends}
+use Rattle.rbg_auto.proofs.table_builder.TableBuilder.+laying.Goals as goal
 
 pub lay-lay_at-requires-in-Pattern-clause-kept : goal.lay-lay_at-requires-in-Pattern-clause-kept
 lay-lay_at-requires-in-Pattern-clause-kept t c =
