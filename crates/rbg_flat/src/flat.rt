@@ -24,7 +24,7 @@ use crate::passing::held;
 use crate::paths::{Kind, Paths};
 use crate::sets::Sets;
 use crate::words::{lowest, unit_word, without};
-use rbg_base::{Memory, Position, Vertex};
+use rbg_base::{Memory, Pair, Position, Vertex};
 use rbg_leaps::Origin;
 use rbg_rules::Game;
 use rbg_state::SemiState;
@@ -79,12 +79,7 @@ impl Flat {
 
     /// Goes on up to the next vertex that is to be asked about a pattern, and returns it with the pattern's position;
     /// none where nothing is left to be looked at. Each turn takes one word.
-    pub fn advance(
-        &mut self,
-        game: &Game,
-        paths: &Paths,
-        state: &SemiState,
-    ) -> Option<(Vertex, Position)>
+    pub fn advance(&mut self, game: &Game, paths: &Paths, state: &SemiState) -> Option<Pair>
         requires lawful { IsGame game.now }
         requires paths { ArePathsOf game.now paths.now }
         requires fits { IsStateOf game.now state.now.state }
@@ -110,7 +105,7 @@ impl Flat {
             let position = self.sets.position_at(place);
             let vertex = self.sets.first_open(place);
             if is_pattern(game, paths, &self.sets, vertex, position) {
-                return Some((vertex, position));
+                return Some(Pair { vertex, position });
             }
             let column = self.sets.column_at(place);
             self.try_word(game, paths, state, place, position, column, vertex);

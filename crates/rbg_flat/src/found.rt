@@ -11,7 +11,7 @@ ghost use Rattle.rbg_flat.specs.internal.Gathering.{PushesWord};
 ghost use Rattle.rbg_flat.specs.declared.found.Word.{Word};
 
 use crate::words::{lowest, without};
-use rbg_base::{Memory, Position, Vertex};
+use rbg_base::{Memory, Pair, Position, Vertex};
 use rbg_rules::{Action, Game};
 use std::alloc::Global;
 use std::marker::Model;
@@ -96,19 +96,19 @@ impl Modifiers {
     }
 
     /// Puts these in place of what was there.
-    pub fn refill(&mut self, pairs: &[(Vertex, Position)]) -> Result<(), Memory>
+    pub fn refill(&mut self, pairs: &[Pair]) -> Result<(), Memory>
         ensures { OnOk result (self.new ≡ pairs.now) }
     {
         self.clear();
         for pair in pairs {
-            self.push(pair.0, pair.1)?;
+            self.push(pair.vertex, pair.position)?;
         }
         Ok(())
     }
 
     /// Takes the least of them, by vertex and then by position; none where there are none.
     #[inline(always)]
-    pub fn take_least(&mut self) -> Option<(Vertex, Position)>
+    pub fn take_least(&mut self) -> Option<Pair>
         ensures permutation { IfSome result (λ pair. IsPermutation self.old (pair ∷ self.new)) }
         ensures least { IfSome result (IsLeast self.old) }
         ensures none { IfNone result (self.old ≡ []) }
@@ -120,7 +120,7 @@ impl Modifiers {
     }
 
     /// Takes the least of those that are switches, by vertex and then by position; none where there are none.
-    pub fn take_switch(&mut self, game: &Game) -> Option<(Vertex, Position)>
+    pub fn take_switch(&mut self, game: &Game) -> Option<Pair>
         requires lawful { IsGame game.now }
         requires within { All (λ pair. (0 < pair.1) × (pair.1 ≤ length (positions_of game.now.rules)))
             self.old }
@@ -145,7 +145,7 @@ impl Modifiers {
     }
 
     /// Writes them out one by one, in place of what the list held.
-    pub fn write_to(&self, pairs: &mut Vec<(Vertex, Position)>) -> Result<(), Memory>
+    pub fn write_to(&self, pairs: &mut Vec<Pair>) -> Result<(), Memory>
         ensures { OnOk result (pairs.new.items ≡ self.now) }
     {
         pairs.clear();
@@ -198,7 +198,7 @@ fn least_word(words: &[Word]) -> Option<usize>
 
 /// Takes the first pair off a word.
 #[inline(always)]
-fn take_first(words: &mut Vec<Word>, index: usize) -> (Vertex, Position)
+fn take_first(words: &mut Vec<Word>, index: usize) -> Pair
     requires filled { All IsFilled words.old.items }
     requires index { index < length words.old.items }
     ensures first { result ≡ first_at words.old.items index }
@@ -218,7 +218,10 @@ fn take_first(words: &mut Vec<Word>, index: usize) -> (Vertex, Position)
             bits,
         };
     }
-    (word.base + bit, word.position)
+    Pair {
+        vertex: word.base + bit,
+        position: word.position,
+    }
 }
 
 /// Takes a word away. The last one takes its place.
@@ -341,7 +344,7 @@ fn has_bit(word: u64, bit: u32) -> bool
 }
 
 /// Writes the pairs of words behind what the list held.
-fn spell(words: &[Word], pairs: &mut Vec<(Vertex, Position)>) -> Result<(), Memory>
+fn spell(words: &[Word], pairs: &mut Vec<Pair>) -> Result<(), Memory>
     requires { All IsFilled words.now }
     ensures { OnOk result (pairs.new.items ≡ pairs.old.items ++ pairs_in words.now) }
 {
@@ -352,14 +355,17 @@ fn spell(words: &[Word], pairs: &mut Vec<(Vertex, Position)>) -> Result<(), Memo
 }
 
 /// Writes the pairs of a word behind what the list held.
-fn spell_word(word: Word, pairs: &mut Vec<(Vertex, Position)>) -> Result<(), Memory>
+fn spell_word(word: Word, pairs: &mut Vec<Pair>) -> Result<(), Memory>
     requires { IsFilled word }
     ensures { OnOk result (pairs.new.items ≡ pairs.old.items ++ pairs_of word) }
 {
     let mut rest = word.bits;
     while rest != 0 {
         let bit = lowest(rest);
-        pairs.push((word.base + bit, word.position))?;
+        pairs.push(Pair {
+            vertex: word.base + bit,
+            position: word.position,
+        })?;
         rest = without(rest, bit);
     }
     Ok(())

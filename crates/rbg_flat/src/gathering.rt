@@ -46,10 +46,12 @@ fn is_kept(game: &Game, state: &SemiState, position: Position) -> bool
     requires there { position ≤ length (positions_of game.now.rules) }
     ensures { IsTrue result ↔ Keeps game.now state.now.state position }
 {
-    match state.try_at(game, state.vertex(), position) {
+    let Some(trial) = state.try_at(game, state.vertex(), position) else {
+        return false;
+    };
+    match trial {
         Trial::Modifies => true,
         Trial::Invalid => false,
-        Trial::Pattern => false,
         Trial::LeadsTo(_) => false,
     }
 }

@@ -214,11 +214,13 @@ fn passes_at(game: &Game, state: &SemiState, vertex: Vertex, position: Position)
     requires plain { ¬ IsPatternAt game.now.rules position }
     ensures { IsTrue result ↔ Passes game.now state.now.state vertex position }
 {
-    match state.try_at(game, vertex, position) {
+    let Some(trial) = state.try_at(game, vertex, position) else {
+        return false;
+    };
+    match trial {
         Trial::LeadsTo(_) => true,
         Trial::Invalid => false,
         Trial::Modifies => false,
-        Trial::Pattern => false,
     }
 }
 

@@ -14,7 +14,7 @@ use rbg_base::{Memory, Move, Pair, Position};
 use rbg_flat::Paths;
 use rbg_rules::limits::{MAX_MODIFIERS, MAX_OPENINGS};
 use rbg_rules::{Action, Game};
-use rbg_search::{Budget, Origin, Search, Workspace};
+use rbg_search::{Budget, Buffers, Origin, Search};
 use std::alloc::Global;
 
 /// A search that may take up as many openings as a question may have. Where the game has paths, it goes by sets.
@@ -24,18 +24,18 @@ pub(crate) fn search_in<'a, S: Steps>(
     game: &'a Game,
     steps: &'a S,
     paths: Option<&'a Paths>,
-    workspace: &mut Workspace,
+    buffers: &mut Buffers,
 ) -> Search<'a, S>
     requires steps { S.of_rules steps.now game.now.rules }
     requires paths { IfSome paths (λ told. ArePathsOf game.now told.now) }
     ensures begun { result ≡ begun_in game.now }
-    ensures tally { workspace.new ≡ workspace.old }
+    ensures tally { buffers.new ≡ buffers.old }
 {
     let budget = Budget {
         openings: MAX_OPENINGS as u32,
         modifiers: MAX_MODIFIERS as u16,
     };
-    Search::with_paths(alloc, game, steps, paths, budget, workspace)
+    Search::with_paths(alloc, game, steps, paths, budget, buffers)
 }
 
 /// For proofs alone: the game is an accepted one. It does nothing.

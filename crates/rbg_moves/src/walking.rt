@@ -75,10 +75,7 @@ fn take_switch(game: &Game, pairs: &mut Modifiers) -> Option<Pair>
     ensures kept { IfNone result (pairs.new ≡ pairs.old) }
     ensures none { IfNone result (All (λ pair. ¬ IsSwitchAt game.now.rules pair.1) pairs.old) }
 {
-    match pairs.take_switch(game) {
-        Some((vertex, position)) => Some(Pair { vertex, position }),
-        None => None,
-    }
+    pairs.take_switch(game)
 }
 
 /// Finds the moves that go on from here, and adds each of them behind the front: first those of one switch, then those
@@ -115,8 +112,8 @@ pub(crate) fn walk<S: Steps>(
         search.keep_list(pairs);
         return Ok(true);
     }
-    while let Some((vertex, position)) = pairs.take_least() {
-        let ended = walk_behind(search, state, front, found, Pair { vertex, position })?;
+    while let Some(pair) = pairs.take_least() {
+        let ended = walk_behind(search, state, front, found, pair)?;
         if ended {
             search.keep_list(pairs);
             return Ok(true);

@@ -3,13 +3,13 @@ ghost use Rattle.std.specs.Prelude.{◌≡◌, [], IfOk};
 
 use crate::place::Place;
 use rbg_base::{Memory, MoveList, Pair};
-use rbg_search::Workspace as SearchWorkspace;
+use rbg_search::Buffers;
 use rbg_state::SemiState;
 use std::alloc::Global;
 
 /// What questions leave to later ones: their buffers, and what they took up in all.
 pub struct Workspace {
-    pub(crate) searches: SearchWorkspace,
+    pub(crate) searches: Buffers,
     /// The copy of a semi-state on which a question is asked.
     pub(crate) asked: SemiState,
     /// The modifiers that a question has applied, each with its vertex.
@@ -42,7 +42,7 @@ impl Workspace {
         ensures { result.searches ≡ record { openings = 0; pairs = 0 } }
     {
         Workspace {
-            searches: SearchWorkspace::new(alloc),
+            searches: Buffers::new(alloc),
             asked: SemiState::empty(alloc),
             front: Vec::new(alloc),
             states: Vec::new(alloc),

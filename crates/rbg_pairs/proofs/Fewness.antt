@@ -1,5 +1,5 @@
 -- There are no more pairs than marks for them.
-use Rattle.std.proofs.Common.{◌≡◌, ◌≢◌, ℕ, ◌+◌, ◌-◌, ◌*◌, ◌^◌, ◌<◌, ◌≤◌, List, map, length, get_or, suc, zero, true, ap, ◌∙◌, arith}
+use Rattle.std.proofs.Common.{◌≡◌, ◌≢◌, ℕ, ◌+◌, ◌-◌, ◌*◌, ◌<◌, ◌≤◌, List, map, length, get_or, suc, zero, true, arith}
 use Rattle.std.specs.Prelude.{Contains, nat_eq}
 use Rattle.std.specs.List.{list_any, IsDistinct}
 use Rattle.std.proofs.lemmas.Bool.{eqb-true}
@@ -8,10 +8,7 @@ use Rattle.std.proofs.lemmas.List.{get_or-map, length-map}
 use Rattle.std.proofs.lemmas.Map.Made.{IsDistinct-from_AllPairs}
 use Rattle.std.proofs.lemmas.Map.Steps.{length-le_from_distinct_below}
 use Rattle.std.proofs.lemmas.Map.Views.{Contains-from_any}
-use Rattle.rbg_rules.specs.State.{AbstractGame}
-use Rattle.rbg_rules.specs.Positions.{positions_of}
-use Rattle.rbg_pairs.specs.Meeting.{Met, HasMark, AreMarked}
-use Rattle.rbg_pairs.specs.Part.{HasMarksOf}
+use Rattle.rbg_pairs.specs.Meeting.{HasMark, AreMarked}
 use Rattle.rbg_pairs.proofs.Meetings.{one_pair}
 
 -- the number of a pair among those of the positions from 1 on

@@ -7,5 +7,5 @@ pub mod Modifiers
 pub mod Glances
 pub mod Nesting
 pub mod Fewness
-pub mod Tolds
+pub mod Takings
 pub mod Plains

@@ -15,8 +15,8 @@ use Rattle.rbg_pairs.specs.Flat.{IsFlatPart}
 use Rattle.rbg_pairs.specs.Closure.{at_vertex, Leads, Reached, first, then, IsFound, LeadsToEnd, EndsFlat}
 use Rattle.rbg_pairs.specs.Meeting.{Met, HasMark, MeetsAll}
 use Rattle.rbg_pairs.specs.Start.{IsPositionOf}
-use Rattle.rbg_pairs.specs.Part.{IsOutcome, SomeLeadsToEnd, IsPart, HasMarksOf}
-use Rattle.rbg_pairs.specs.declared.outcome.Outcome.TheVariants.{Invalid, Modifies, LeadsTo}
+use Rattle.rbg_pairs.specs.Part.{IsTrialAt, SomeLeadsToEnd, IsPart, HasMarksOf}
+use Rattle.rbg_state.specs.declared.state.trials.Trial.TheVariants.{Invalid, Modifies, LeadsTo}
 use Rattle.rbg_pairs.proofs.Closures.{found_next, next_found, may_end_flat, flat_may_end}
 use Rattle.rbg_pairs.proofs.Starts.{follower_position}
 use Rattle.rbg_pairs.proofs.Meetings.{mark_there}
@@ -116,7 +116,7 @@ module _ (game : AbstractGame) (s : AbstractState) (f : Start) where
           some.vertex some.position some.there some.leads
 
   -- A pair that is invalid leads nowhere.
-  pub invalid_part : (xs done found : List (ℕ × ℕ)) (ends : Bool) (v q : ℕ) → IsPart game s f xs done found ends → IsOutcome game s v q Invalid → IsPart game s f xs (done ++ (v, q) ∷ []) found ends
+  pub invalid_part : (xs done found : List (ℕ × ℕ)) (ends : Bool) (v q : ℕ) → IsPart game s f xs done found ends → IsTrialAt game s v q Invalid → IsPart game s f xs (done ++ (v, q) ∷ []) found ends
   unfolding FoundBy
   invalid_part xs done found ends v q part invalid =
       step_part xs xs done found found ends ends v q part (λ x h. h) part.sound
@@ -129,7 +129,7 @@ module _ (game : AbstractGame) (s : AbstractState) (f : Start) where
       to (inr leads) = absurd (invalid (at_vertex s leads.to) leads.leads.applies)
 
   -- A modifier is found.
-  pub modifier_part : (xs done found : List (ℕ × ℕ)) (ends : Bool) (v q : ℕ) → IsPart game s f xs done found ends → Contains xs (v, q) → ¬ Contains done (v, q) → IsOutcome game s v q Modifies → IsPart game s f xs (done ++ (v, q) ∷ []) (found ++ (v, q) ∷ []) ends
+  pub modifier_part : (xs done found : List (ℕ × ℕ)) (ends : Bool) (v q : ℕ) → IsPart game s f xs done found ends → Contains xs (v, q) → ¬ Contains done (v, q) → IsTrialAt game s v q Modifies → IsPart game s f xs (done ++ (v, q) ∷ []) (found ++ (v, q) ∷ []) ends
   unfolding FoundBy
   modifier_part xs done found ends v q part there once (modifies, (t, applies)) =
       step_part xs xs done found (found ++ (v, q) ∷ []) ends ends v q part (λ x h. h) part.sound
@@ -142,7 +142,7 @@ module _ (game : AbstractGame) (s : AbstractState) (f : Start) where
       to (inr leads) = absurd (leads.leads.quiet modifies)
 
   -- What may come after an action that leads on is met.
-  pub leads_part : (xs ys done found : List (ℕ × ℕ)) (ends last : Bool) (v q u : ℕ) (ps : List ℕ) → IsPart game s f xs done found ends → Contains xs (v, q) → IsOutcome game s v q (LeadsTo u) → AreAllThatFollow game.rules (after q) ps → MeetsAll xs ys u ps → Decides last (Ends game.rules (after q) []) → IsPart game s f ys (done ++ (v, q) ∷ []) found (ends || last)
+  pub leads_part : (xs ys done found : List (ℕ × ℕ)) (ends last : Bool) (v q u : ℕ) (ps : List ℕ) → IsPart game s f xs done found ends → Contains xs (v, q) → IsTrialAt game s v q (LeadsTo u) → AreAllThatFollow game.rules (after q) ps → MeetsAll xs ys u ps → Decides last (Ends game.rules (after q) []) → IsPart game s f ys (done ++ (v, q) ∷ []) found (ends || last)
   unfolding FoundBy
   leads_part xs ys done found ends last v q u ps part there (leads, only) follow meets decides =
       step_part xs ys done found found ends (ends || last) v q part (kept xs ys u ps meets)
@@ -158,10 +158,10 @@ module _ (game : AbstractGame) (s : AbstractState) (f : Start) where
       ends_here = ((λ is. record { to = u; leads = leads; ends = decides.0 is }), (λ h. decides.1 h.ends))
 
   -- The same where no word may end after the action.
-  pub quiet_lead_part : (xs ys done found : List (ℕ × ℕ)) (ends : Bool) (v q u : ℕ) (ps : List ℕ) → IsPart game s f xs done found ends → Contains xs (v, q) → IsOutcome game s v q (LeadsTo u) → AreAllThatFollow game.rules (after q) ps → MeetsAll xs ys u ps → ¬ Ends game.rules (after q) [] → IsPart game s f ys (done ++ (v, q) ∷ []) found ends
-  quiet_lead_part xs ys done found ends v q u ps part there outcome follow meets quiet =
+  pub quiet_lead_part : (xs ys done found : List (ℕ × ℕ)) (ends : Bool) (v q u : ℕ) (ps : List ℕ) → IsPart game s f xs done found ends → Contains xs (v, q) → IsTrialAt game s v q (LeadsTo u) → AreAllThatFollow game.rules (after q) ps → MeetsAll xs ys u ps → ¬ Ends game.rules (after q) [] → IsPart game s f ys (done ++ (v, q) ∷ []) found ends
+  quiet_lead_part xs ys done found ends v q u ps part there trial follow meets quiet =
       subst (IsPart game s f ys (done ++ (v, q) ∷ []) found) (or-false ends)
-      (leads_part xs ys done found ends false v q u ps part there outcome follow meets ((λ is. absurd (false_not_true is)), (λ h. absurd (quiet h))))
+      (leads_part xs ys done found ends false v q u ps part there trial follow meets ((λ is. absurd (false_not_true is)), (λ h. absurd (quiet h))))
     where
       false_not_true : false ≡ true → ⊥
       false_not_true e = cc

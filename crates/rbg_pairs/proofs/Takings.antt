@@ -8,7 +8,7 @@ use Rattle.rbg_rules.specs.Positions.{IsPatternAt}
 use Rattle.rbg_rules.specs.State.{AbstractGame}
 use Rattle.rbg_pairs.specs.Start.{IsPositionOf}
 use Rattle.rbg_pairs.specs.Meeting.{HasMark, MeetsAll}
-use Rattle.rbg_pairs.specs.internal.Told.{marks_of, AreMet, Lengthens}
+use Rattle.rbg_pairs.specs.internal.Taking.{marks_of, AreMet, Lengthens}
 use Rattle.rbg_pairs.proofs.Meetings.{met_once}
 use Rattle.rbg_pairs.proofs.Parts.{marks_there}
 

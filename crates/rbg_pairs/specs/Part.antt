@@ -6,14 +6,14 @@ use Rattle.rbg_rules.specs.State.{AbstractGame, AbstractState}
 use Rattle.rbg_rules.specs.Actions.{Applies}
 use Rattle.rbg_pairs.specs.Closure.{at_vertex, Leads, Reached, IsFound, LeadsToEnd}
 use Rattle.rbg_pairs.specs.Meeting.{Met}
-use Rattle.rbg_pairs.specs.declared.outcome.Outcome.{Outcome}
-use Rattle.rbg_pairs.specs.declared.outcome.Outcome.TheVariants.{Invalid, Modifies, LeadsTo}
+use Rattle.rbg_state.specs.declared.state.trials.Trial.{Trial}
+use Rattle.rbg_state.specs.declared.state.trials.Trial.TheVariants.{Invalid, Modifies, LeadsTo}
 
 -- What becomes of the action at position q where it is tried at vertex v.
-abbrev pub IsOutcome : AbstractGame → AbstractState → (v q : ℕ) → Outcome → Type 0
-IsOutcome game s v q Invalid = (t : AbstractState) → ¬ Applies game q (at_vertex s v) t
-IsOutcome game s v q Modifies = IsModifierAt game.rules q × ((t : AbstractState) × Applies game q (at_vertex s v) t)
-IsOutcome game s v q (LeadsTo u) = Leads game s v q u × ((w : ℕ) → Leads game s v q w → w ≡ u)
+abbrev pub IsTrialAt : AbstractGame → AbstractState → (v q : ℕ) → Trial → Type 0
+IsTrialAt game s v q Invalid = (t : AbstractState) → ¬ Applies game q (at_vertex s v) t
+IsTrialAt game s v q Modifies = IsModifierAt game.rules q × ((t : AbstractState) × Applies game q (at_vertex s v) t)
+IsTrialAt game s v q (LeadsTo u) = Leads game s v q u × ((w : ℕ) → Leads game s v q w → w ≡ u)
 
 -- One of the pairs leads to the end of a word.
 pub record SomeLeadsToEnd (game : AbstractGame) (s : AbstractState) (pairs : List (ℕ × ℕ)) : Type 0 where

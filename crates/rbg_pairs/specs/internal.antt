@@ -1,2 +1,2 @@
 -- Definitions that the crate's own proofs use.
-pub mod Told
+pub mod Taking

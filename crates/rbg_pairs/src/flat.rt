@@ -7,15 +7,14 @@ ghost use Rattle.rbg_rules.specs.Positions.{IsNumbered, HasAction, IsPatternAt};
 ghost use Rattle.rbg_rules.specs.Words.{Start};
 ghost use Rattle.rbg_rules.specs.Games.{IsGame};
 ghost use Rattle.rbg_pairs.specs.Flat.{IsFlatPart};
-ghost use Rattle.rbg_pairs.specs.Part.{IsOutcome, IsPart, HasMarksOf};
+ghost use Rattle.rbg_pairs.specs.Part.{IsTrialAt, IsPart, HasMarksOf};
 ghost use Rattle.rbg_pairs.specs.Plain.{HasPlain};
 ghost use Rattle.rbg_pairs.specs.Start.{start_of, IsPositionOf};
 
 use crate::game_steps::GameSteps;
-use crate::outcome::Outcome;
 use crate::queue::Queue;
 use rbg_auto::{Glance, Steps};
-use rbg_base::{Direction, Memory, Piece, Position, Vertex};
+use rbg_base::{Direction, Memory, Pair, Piece, Position, Vertex};
 use rbg_flat::is_shift;
 use rbg_leaps::Origin;
 use rbg_rules::Game;
@@ -29,7 +28,7 @@ pub struct Flat {
     /// How many of the queue's pairs were taken.
     pub taken: usize,
     /// The modifiers among them that are valid.
-    pub found: Vec<(Vertex, Position)>,
+    pub found: Vec<Pair>,
     /// Whether a word may end with no modifier more.
     pub ends: bool,
 }
@@ -90,25 +89,21 @@ impl Flat {
     {
         let mut many = 0;
         for index in 0..self.queue.len() {
-            let (_, position) = self.queue.pair(index);
-            many = one_more(rules, position, many);
+            let pair = self.queue.pair(index);
+            many = one_more(rules, pair.position, many);
         }
         many
     }
 
     /// Takes the next pair, of which this became.
-    pub fn take<S: Steps>(
-        &mut self,
-        rules: &GameSteps<'_, S>,
-        outcome: Outcome,
-    ) -> Result<(), Memory>
+    pub fn take<S: Steps>(&mut self, rules: &GameSteps<'_, S>, trial: Trial) -> Result<(), Memory>
         requires marks { HasMarksOf rules.now self.old.queue }
         requires left { self.old.taken < length self.old.queue.pairs }
-        requires there { (u : ℕ) → outcome ≡ Outcome.LeadsTo u → u < length rules.now.board.first }
+        requires there { (u : ℕ) → trial ≡ Trial.LeadsTo u → u < length rules.now.board.first }
         ensures marks { HasMarksOf rules.now self.new.queue }
         ensures part { OnOk result ((s : AbstractState) (f : Start) (v q : ℕ)
             → slice_get self.old.queue.pairs self.old.taken ≡ Some (v, q)
-            → IsOutcome rules.now s v q outcome
+            → IsTrialAt rules.now s v q trial
             → IsPart rules.now s f self.old.queue.pairs (take self.old.taken self.old.queue.pairs)
             self.old.found.items self.old.ends
             → IsPart rules.now s f self.new.queue.pairs (take self.new.taken self.new.queue.pairs)
@@ -120,8 +115,8 @@ impl Flat {
             ≡ take self.old.taken self.old.queue.pairs ++ (v, q) ∷ []) }
         ensures within { OnOk result (self.new.taken ≤ length self.new.queue.pairs) }
     {
-        let (vertex, position) = self.queue.pair(self.taken);
-        self.taken = self.take_pair(rules, self.taken, vertex, position, outcome)?;
+        let pair = self.queue.pair(self.taken);
+        self.taken = self.take_pair(rules, self.taken, pair, trial)?;
         Ok(())
     }
 
@@ -132,36 +127,35 @@ impl Flat {
         &mut self,
         rules: &GameSteps<'_, S>,
         taken: usize,
-        vertex: Vertex,
-        position: Position,
-        outcome: Outcome,
+        pair: Pair,
+        trial: Trial,
     ) -> Result<usize, Memory>
         requires marks { HasMarksOf rules.now self.old.queue }
-        requires next { slice_get self.old.queue.pairs taken ≡ Some (vertex, position) }
-        requires once { ¬ Contains (take taken self.old.queue.pairs) (vertex, position) }
+        requires next { slice_get self.old.queue.pairs taken ≡ Some pair }
+        requires once { ¬ Contains (take taken self.old.queue.pairs) pair }
         requires small { taken + 1 < 2 ^ 64 }
-        requires there { (u : ℕ) → outcome ≡ Outcome.LeadsTo u → u < length rules.now.board.first }
+        requires there { (u : ℕ) → trial ≡ Trial.LeadsTo u → u < length rules.now.board.first }
         ensures marks { HasMarksOf rules.now self.new.queue }
         ensures part { IfOk result (λ more. (s : AbstractState) (f : Start)
-            → IsOutcome rules.now s vertex position outcome
+            → IsTrialAt rules.now s pair.0 pair.1 trial
             → IsPart rules.now s f self.old.queue.pairs (take taken self.old.queue.pairs)
             self.old.found.items self.old.ends
             → IsPart rules.now s f self.new.queue.pairs (take more self.new.queue.pairs)
             self.new.found.items self.new.ends) }
         ensures taken { IfOk result (λ more. more ≡ taken + 1) }
         ensures done { IfOk result (λ more. take more self.new.queue.pairs
-            ≡ take taken self.old.queue.pairs ++ (vertex, position) ∷ []) }
+            ≡ take taken self.old.queue.pairs ++ pair ∷ []) }
         ensures within { IfOk result (λ more. more ≤ length self.new.queue.pairs) }
     {
         let more = taken + 1;
-        match outcome {
-            Outcome::Invalid => Ok(more),
-            Outcome::Modifies => {
-                self.found.push((vertex, position))?;
+        match trial {
+            Trial::Invalid => Ok(more),
+            Trial::Modifies => {
+                self.found.push(pair)?;
                 Ok(more)
             }
-            Outcome::LeadsTo(to) => {
-                let here = Origin::After(position);
+            Trial::LeadsTo(to) => {
+                let here = Origin::After(pair.position);
                 let ends = rules.may_end(here);
                 let following = rules.following(here);
                 self.ends |= ends;
@@ -176,7 +170,7 @@ impl Flat {
         &mut self,
         rules: &GameSteps<'_, S>,
         state: &SemiState,
-    ) -> Result<Option<(Vertex, Position)>, Memory>
+    ) -> Result<Option<Pair>, Memory>
         requires lawful { IsGame rules.now }
         requires marks { HasMarksOf rules.now self.old.queue }
         requires fits { IsStateOf rules.now state.now.state }
@@ -218,14 +212,14 @@ impl Flat {
             if taken == self.queue.len() {
                 return Ok(None);
             }
-            let (vertex, position) = self.queue.pair(taken);
-            if let Glance::Pattern = rules.glance(position) {
-                return Ok(Some((vertex, position)));
+            let pair = self.queue.pair(taken);
+            if let Glance::Pattern = rules.glance(pair.position) {
+                return Ok(Some(pair));
             }
-            let Some(outcome) = tried(rules, state, vertex, position) else {
-                return Ok(Some((vertex, position)));
+            let Some(trial) = tried(rules, state, pair.vertex, pair.position) else {
+                return Ok(Some(pair));
             };
-            self.taken = self.take_pair(rules, taken, vertex, position, outcome)?;
+            self.taken = self.take_pair(rules, taken, pair, trial)?;
         }
     }
 
@@ -285,14 +279,14 @@ pub fn tried<S: Steps>(
     state: &SemiState,
     vertex: Vertex,
     position: Position,
-) -> Option<Outcome>
+) -> Option<Trial>
     requires lawful { IsGame rules.now }
     requires fits { IsStateOf rules.now state.now.state }
     requires there { vertex < length rules.now.board.first }
     requires position { IsPositionOf rules.now.rules position }
-    ensures outcome { IfSome result (λ outcome.
-        IsOutcome rules.now state.now.state vertex position outcome) }
-    ensures there { IfSome result (λ outcome. (u : ℕ) → outcome ≡ Outcome.LeadsTo u
+    ensures trial { IfSome result (λ trial.
+        IsTrialAt rules.now state.now.state vertex position trial) }
+    ensures there { IfSome result (λ trial. (u : ℕ) → trial ≡ Trial.LeadsTo u
         → u < length rules.now.board.first) }
     ensures plain { IfSome result (λ _. ¬ IsPatternAt rules.now.rules position) }
     ensures pattern { IfNone result (IsPatternAt rules.now.rules position) }
@@ -300,78 +294,56 @@ pub fn tried<S: Steps>(
     match rules.glance(position) {
         Glance::Shift(direction) => Some(shifted(rules.game(), vertex, direction)),
         Glance::On(piece) => Some(stood_on(state, vertex, piece)),
-        Glance::Modifies => Some(Outcome::Modifies),
+        Glance::Modifies => Some(Trial::Modifies),
         Glance::OnEither(piece, other) => Some(stood_on_either(state, vertex, piece, other)),
         Glance::Pattern => None,
-        Glance::Unknown => tried_at(rules.game(), state, vertex, position),
+        Glance::Unknown => state.try_at(rules.game(), vertex, position),
     }
 }
 
 /// What becomes of a shift that is tried at a vertex.
 #[inline(always)]
-fn shifted(game: &Game, vertex: Vertex, direction: Direction) -> Outcome
+fn shifted(game: &Game, vertex: Vertex, direction: Direction) -> Trial
     requires { vertex < length game.now.board.first }
-    ensures outcome { (s : AbstractState) (q : ℕ) → IsNumbered game.now.rules
-        → HasAction game.now.rules q (shift direction) → IsOutcome game.now s vertex q result }
-    ensures there { (u : ℕ) → result ≡ Outcome.LeadsTo u → u < length game.now.board.first }
+    ensures trial { (s : AbstractState) (q : ℕ) → IsNumbered game.now.rules
+        → HasAction game.now.rules q (shift direction) → IsTrialAt game.now s vertex q result }
+    ensures there { (u : ℕ) → result ≡ Trial.LeadsTo u → u < length game.now.board.first }
 {
     match game.board().step(vertex, direction) {
-        Some(to) => Outcome::LeadsTo(to),
-        None => Outcome::Invalid,
+        Some(to) => Trial::LeadsTo(to),
+        None => Trial::Invalid,
     }
 }
 
 /// What becomes of an on of one piece that is tried at a vertex.
 #[inline(always)]
-fn stood_on(state: &SemiState, vertex: Vertex, piece: Piece) -> Outcome
+fn stood_on(state: &SemiState, vertex: Vertex, piece: Piece) -> Trial
     requires { vertex < length state.now.state.pieces }
-    ensures outcome { (game : AbstractGame) (q : ℕ) → IsNumbered game.rules
+    ensures trial { (game : AbstractGame) (q : ℕ) → IsNumbered game.rules
         → HasAction game.rules q (on (piece ∷ []))
-        → IsOutcome game state.now.state vertex q result }
-    ensures there { (u : ℕ) → result ≡ Outcome.LeadsTo u → u ≡ vertex }
+        → IsTrialAt game state.now.state vertex q result }
+    ensures there { (u : ℕ) → result ≡ Trial.LeadsTo u → u ≡ vertex }
 {
     if state.piece(vertex) == piece {
-        Outcome::LeadsTo(vertex)
+        Trial::LeadsTo(vertex)
     } else {
-        Outcome::Invalid
+        Trial::Invalid
     }
 }
 
 /// What becomes of an on of two pieces that is tried at a vertex.
 #[inline(always)]
-fn stood_on_either(state: &SemiState, vertex: Vertex, piece: Piece, other: Piece) -> Outcome
+fn stood_on_either(state: &SemiState, vertex: Vertex, piece: Piece, other: Piece) -> Trial
     requires { vertex < length state.now.state.pieces }
-    ensures outcome { (game : AbstractGame) (q : ℕ) → IsNumbered game.rules
+    ensures trial { (game : AbstractGame) (q : ℕ) → IsNumbered game.rules
         → HasAction game.rules q (on (piece ∷ other ∷ []))
-        → IsOutcome game state.now.state vertex q result }
-    ensures there { (u : ℕ) → result ≡ Outcome.LeadsTo u → u ≡ vertex }
+        → IsTrialAt game state.now.state vertex q result }
+    ensures there { (u : ℕ) → result ≡ Trial.LeadsTo u → u ≡ vertex }
 {
     let here = state.piece(vertex);
     if here == piece || here == other {
-        Outcome::LeadsTo(vertex)
+        Trial::LeadsTo(vertex)
     } else {
-        Outcome::Invalid
-    }
-}
-
-/// What becomes of an action that the game is asked for.
-#[inline(always)]
-fn tried_at(game: &Game, state: &SemiState, vertex: Vertex, position: Position) -> Option<Outcome>
-    requires lawful { IsGame game.now }
-    requires fits { IsStateOf game.now state.now.state }
-    requires there { vertex < length game.now.board.first }
-    requires position { IsPositionOf game.now.rules position }
-    ensures outcome { IfSome result (λ outcome.
-        IsOutcome game.now state.now.state vertex position outcome) }
-    ensures there { IfSome result (λ outcome. (u : ℕ) → outcome ≡ Outcome.LeadsTo u
-        → u < length game.now.board.first) }
-    ensures plain { IfSome result (λ _. ¬ IsPatternAt game.now.rules position) }
-    ensures pattern { IfNone result (IsPatternAt game.now.rules position) }
-{
-    match state.try_at(game, vertex, position) {
-        Trial::Pattern => None,
-        Trial::Invalid => Some(Outcome::Invalid),
-        Trial::Modifies => Some(Outcome::Modifies),
-        Trial::LeadsTo(to) => Some(Outcome::LeadsTo(to)),
+        Trial::Invalid
     }
 }

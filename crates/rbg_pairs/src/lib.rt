@@ -5,12 +5,10 @@
 mod flat;
 mod game_steps;
 mod marks;
-mod outcome;
 mod queue;
 mod tables;
-mod told;
+mod taking;
 
 pub use flat::{Flat, one_more, tried};
 pub use game_steps::GameSteps;
-pub use outcome::Outcome;
 pub use rbg_leaps::Origin;

@@ -2,14 +2,14 @@
 ghost use Rattle.std.specs.Prelude.{◌≡◌, ℕ, ◌<◌, ◌≤◌, ◌+◌, ◌*◌, ◌/◌, ◌%◌, ◌^◌, length, take, replicate, All, true, false, IsTrue};
 ghost use Rattle.rbg_pairs.specs.Meeting.{HasMark, MeetsAll, AreMarked, is_marked, mark_at};
 
-use rbg_base::{Position, Vertex};
+use rbg_base::{Pair, Position, Vertex};
 
 /// Meets the pairs of a vertex and each of these positions: those that weren't met stand in the room behind the pairs
 /// that were. Returns how many were met then.
 #[inline(always)]
 pub(crate) fn meet_each(
     words: &mut [u64],
-    room: &mut [(Vertex, Position)],
+    room: &mut [Pair],
     met: usize,
     rows: usize,
     vertex: Vertex,
@@ -34,7 +34,7 @@ pub(crate) fn meet_each(
         let word = column * rows + position as usize;
         if !is_marked(words, word, bit) {
             words[word] |= 1 << bit;
-            room[count] = (vertex, position);
+            room[count] = Pair { vertex, position };
             count += 1;
         }
     }
@@ -91,7 +91,7 @@ fn fill_with_zeros(words: &mut [u64])
 }
 
 /// Takes the marks of the pairs away, and maybe others.
-pub(crate) fn unmark(words: &mut [u64], pairs: &[(Vertex, Position)], rows: usize)
+pub(crate) fn unmark(words: &mut [u64], pairs: &[Pair], rows: usize)
     requires small { All (λ q. q.0 / 64 * rows + q.1 < 2 ^ 64) pairs.now }
     requires there { All (λ q. q.0 / 64 * rows + q.1 < length words.old) pairs.now }
     ensures size { length words.new ≡ length words.old }
@@ -106,21 +106,21 @@ pub(crate) fn unmark(words: &mut [u64], pairs: &[(Vertex, Position)], rows: usiz
         unmark_narrow(words, pairs);
         return;
     }
-    for (vertex, position) in pairs {
-        let word = *vertex as usize / 64 * rows + *position as usize;
+    for pair in pairs {
+        let word = pair.vertex as usize / 64 * rows + pair.position as usize;
         words[word] = 0;
     }
 }
 
 /// Takes the marks of the pairs away where there are at most 64 vertices.
-fn unmark_narrow(words: &mut [u64], pairs: &[(Vertex, Position)])
+fn unmark_narrow(words: &mut [u64], pairs: &[Pair])
     requires there { All (λ q. q.1 < length words.old) pairs.now }
     requires narrow { All (λ q. q.0 < 64) pairs.now }
     ensures size { length words.new ≡ length words.old }
     ensures gone { All (λ q. is_marked words.new (q.1 * 64 + q.0) ≡ false) pairs.now }
     ensures none_set { (k : ℕ) → is_marked words.new k ≡ true → is_marked words.old k ≡ true }
 {
-    for (_, position) in pairs {
-        words[*position as usize] = 0;
+    for pair in pairs {
+        words[pair.position as usize] = 0;
     }
 }

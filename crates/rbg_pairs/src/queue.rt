@@ -9,8 +9,8 @@ ghost use Rattle.rbg_pairs.specs.Part.{IsPart, HasMarksOf};
 
 use crate::marks::{LONG_LIST, are_marked, meet_each, unmark};
 use crate::tables::Tables;
-use crate::told::{Progress, take_told};
-use rbg_base::{Memory, Piece, Position, Vertex};
+use crate::taking::{QueueCounts, take_told};
+use rbg_base::{Memory, Pair, Piece, Position, Vertex};
 use std::alloc::Global;
 use std::marker::Model;
 
@@ -25,7 +25,7 @@ pub(crate) struct Queue {
     /// Whether each pair was met, a bit for each: the first 64 vertices at each position, then the next 64.
     words: Vec<u64>,
     /// The pairs, and behind them room for more.
-    room: Vec<(Vertex, Position)>,
+    room: Vec<Pair>,
     /// How many pairs were met.
     met: usize,
 }
@@ -82,7 +82,7 @@ impl Queue {
     }
 
     /// The pair that was met after `index` others.
-    pub(crate) fn pair(&self, index: usize) -> (Vertex, Position)
+    pub(crate) fn pair(&self, index: usize) -> Pair
         requires { index < length self.now.pairs }
         ensures pair { slice_get self.now.pairs index ≡ Some result }
         ensures there { HasMark self.now.vertices self.now.marks result }
@@ -121,7 +121,7 @@ impl Queue {
         &mut self,
         tables: &Tables<'_>,
         pieces: &[Piece],
-        found: &mut Vec<(Vertex, Position)>,
+        found: &mut Vec<Pair>,
         taken: usize,
     ) -> usize
         requires lawful { IsGame tables.now }
@@ -140,11 +140,11 @@ impl Queue {
         ensures quiet { (v p : ℕ) → Contains (take result self.new.pairs) (v, p)
             → IsPatternAt tables.now.rules p → Contains (take taken self.old.pairs) (v, p) }
     {
-        let begun = Progress {
+        let begun = QueueCounts {
             met: self.met,
             taken,
         };
-        let progress = take_told(
+        let counts = take_told(
             tables,
             pieces,
             &mut self.words,
@@ -153,8 +153,8 @@ impl Queue {
             found,
             begun,
         );
-        self.met = progress.met;
-        progress.taken
+        self.met = counts.met;
+        counts.taken
     }
 
     /// Forgets the pairs, and keeps their room.
@@ -169,7 +169,7 @@ impl Queue {
 /// Makes room for so many pairs more behind those that were met. Where hardly any would be left beside them, it makes
 /// more.
 #[inline(always)]
-fn make_room(room: &mut Vec<(Vertex, Position)>, met: usize, more: usize) -> Result<(), Memory>
+fn make_room(room: &mut Vec<Pair>, met: usize, more: usize) -> Result<(), Memory>
     requires met { met ≤ length room.old.items }
     ensures kept { OnOk result (take met room.new.items ≡ take met room.old.items) }
     ensures wide { OnOk result (met + more ≤ length room.new.items) }
@@ -185,7 +185,7 @@ fn make_room(room: &mut Vec<(Vertex, Position)>, met: usize, more: usize) -> Res
 /// Makes room for so many pairs more, for some at least, and for twice as many as before.
 #[cold]
 #[inline(never)]
-fn widen(room: &mut Vec<(Vertex, Position)>, more: usize) -> Result<(), Memory>
+fn widen(room: &mut Vec<Pair>, more: usize) -> Result<(), Memory>
     ensures items { OnOk result ((n : ℕ)
         × (room.new.items ≡ room.old.items ++ replicate n (0, 0))) }
     ensures wide { OnOk result (length room.old.items + more ≤ length room.new.items) }
@@ -195,6 +195,6 @@ fn widen(room: &mut Vec<(Vertex, Position)>, more: usize) -> Result<(), Memory>
     let Some(wide) = len.checked_add(more.max(len).max(2 * LONG_LIST)) else {
         return Err(Memory);
     };
-    room.resize(wide, (0, 0))?;
+    room.resize(wide, Pair::default())?;
     Ok(())
 }

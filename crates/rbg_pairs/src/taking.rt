@@ -6,18 +6,18 @@ ghost use Rattle.rbg_rules.specs.Positions.{IsPatternAt};
 ghost use Rattle.rbg_rules.specs.Words.{Start, after, Ends};
 ghost use Rattle.rbg_rules.specs.Games.{IsGame};
 ghost use Rattle.rbg_pairs.specs.Start.{IsPositionOf};
-ghost use Rattle.rbg_pairs.specs.Part.{IsOutcome, IsPart};
-ghost use Rattle.rbg_pairs.specs.internal.Told.{AreMet, Lengthens};
+ghost use Rattle.rbg_pairs.specs.Part.{IsTrialAt, IsPart};
+ghost use Rattle.rbg_pairs.specs.internal.Taking.{AreMet, Lengthens};
 
 use crate::marks::{LONG_LIST, are_marked, meet_each};
-use crate::outcome::Outcome;
 use crate::tables::Tables;
 use rbg_auto::Glance;
-use rbg_base::{Piece, Position, Vertex};
+use rbg_base::{Pair, Piece, Position, Vertex};
+use rbg_state::Trial;
 
 /// How far a flat part is.
 #[derive(Clone, Copy, Drop)]
-pub(crate) struct Progress {
+pub(crate) struct QueueCounts {
     /// How many pairs were met.
     pub(crate) met: usize,
     /// How many of them were taken.
@@ -31,10 +31,10 @@ pub(crate) fn take_told(
     pieces: &[Piece],
     words: &mut [u64],
     rows: usize,
-    room: &mut [(Vertex, Position)],
-    found: &mut Vec<(Vertex, Position)>,
-    begun: Progress,
-) -> Progress
+    room: &mut [Pair],
+    found: &mut Vec<Pair>,
+    begun: QueueCounts,
+) -> QueueCounts
     requires lawful { IsGame tables.now }
     requires pieces { length pieces.now ≡ length tables.now.board.first }
     requires met { AreMet tables.now rows words.old room.old begun.met }
@@ -62,7 +62,8 @@ pub(crate) fn take_told(
     let mut met = begun.met;
     let mut taken = begun.taken;
     while taken < met {
-        let (vertex, position) = room[taken];
+        let pair = room[taken];
+        let Pair { vertex, position } = pair;
         if !take_one(
             tables, pieces, words, rows, room, found, limit, &mut met, vertex, position,
         ) {
@@ -70,7 +71,7 @@ pub(crate) fn take_told(
         }
         taken += 1;
     }
-    Progress { met, taken }
+    QueueCounts { met, taken }
 }
 
 /// Takes a pair that was met; not where it is a pattern, where nothing is told of its action, or where there is no room.
@@ -81,8 +82,8 @@ fn take_one(
     pieces: &[Piece],
     words: &mut [u64],
     rows: usize,
-    room: &mut [(Vertex, Position)],
-    found: &mut Vec<(Vertex, Position)>,
+    room: &mut [Pair],
+    found: &mut Vec<Pair>,
     limit: usize,
     met: &mut usize,
     vertex: Vertex,
@@ -137,14 +138,14 @@ fn take_one(
 
 /// Keeps a modifier, if there is room for it. Tells whether there is.
 #[inline(never)]
-fn keep_modifier(found: &mut Vec<(Vertex, Position)>, vertex: Vertex, position: Position) -> bool
+fn keep_modifier(found: &mut Vec<Pair>, vertex: Vertex, position: Position) -> bool
     ensures found { IsTrue result → found.new.items ≡ found.old.items ++ (vertex, position) ∷ [] }
     ensures kept { result ≡ false → found.new.items ≡ found.old.items }
 {
     if found.len() == found.capacity() {
         return false;
     }
-    found.push_reserved((vertex, position));
+    found.push_reserved(Pair { vertex, position });
     true
 }
 
@@ -155,7 +156,7 @@ fn lead_on(
     tables: &Tables<'_>,
     words: &mut [u64],
     rows: usize,
-    room: &mut [(Vertex, Position)],
+    room: &mut [Pair],
     limit: usize,
     met: &mut usize,
     position: Position,
@@ -174,7 +175,7 @@ fn lead_on(
     ensures grown { Lengthens (take met.old room.old) (take met.new room.new) }
     ensures part { IsTrue result
         → (s : AbstractState) (f : Start) (done found : List (ℕ × ℕ)) (ends : Bool) (v : ℕ)
-        → IsOutcome tables.now s v position (Outcome.LeadsTo to)
+        → IsTrialAt tables.now s v position (Trial.LeadsTo to)
         → Contains (take met.old room.old) (v, position)
         → IsPart tables.now s f (take met.old room.old) done found ends
         → IsPart tables.now s f (take met.new room.new) (done ++ (v, position) ∷ []) found ends }

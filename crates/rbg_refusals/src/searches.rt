@@ -11,7 +11,7 @@ use rbg_base::{Move, Pair, Position};
 use rbg_game::{Game, load};
 use rbg_moves::{Listed, Over, Place, PlayedGame, Workspace};
 use rbg_perft::{CountError, Extent, count_from_start};
-use rbg_search::{Budget, Origin, Reached, Search};
+use rbg_search::{Budget, FlatPart, Origin, Search};
 use rbg_state::SemiState;
 use std::alloc::Global;
 use std::io::{self, Write};
@@ -265,7 +265,7 @@ fn reach_from<W: Write>(
 }
 
 fn tell_answer<W: Write>(
-    answer: &Result<Reached, Over>,
+    answer: &Result<FlatPart, Over>,
     kept: bool,
     output: &mut W,
 ) -> io::Result<()> {
@@ -276,9 +276,9 @@ fn tell_answer<W: Write>(
     tell_kept("semi-state is", kept, output)
 }
 
-fn tell_reached<W: Write>(reached: &Reached, output: &mut W) -> io::Result<()> {
-    for (vertex, position) in &reached.pairs {
-        writeln!(output, "reached {vertex} {position}")?;
+fn tell_reached<W: Write>(reached: &FlatPart, output: &mut W) -> io::Result<()> {
+    for pair in &reached.pairs {
+        writeln!(output, "reached {} {}", pair.vertex, pair.position)?;
     }
     writeln!(output, "ends {}", reached.ends)
 }

@@ -13,8 +13,8 @@ use Rattle.rbg_pairs.specs.Flat.{IsFlatPart}
 use Rattle.rbg_pairs.specs.Start.{IsPositionOf}
 use Rattle.rbg_pairs.specs.Closure.{Reached}
 use Rattle.rbg_pairs.specs.Meeting.{MeetsAll}
-use Rattle.rbg_pairs.specs.Part.{IsOutcome, IsPart}
-use Rattle.rbg_pairs.specs.declared.outcome.Outcome.TheVariants.{Modifies}
+use Rattle.rbg_pairs.specs.Part.{IsTrialAt, IsPart}
+use Rattle.rbg_state.specs.declared.state.trials.Trial.TheVariants.{Modifies}
 use Rattle.rbg_pairs.proofs.Glances.{no_pattern}
 use Rattle.rbg_flat.specs.Found.{HasCandidates}
 use Rattle.rbg_pairs.proofs.Plains.{plain_none, plain_more}
@@ -50,7 +50,7 @@ some_pair (suc a) (suc b) k l first second = grind (arith, products)
 some_pair (suc a) zero k l first second = absurd (omega (arith, second))
 some_pair zero b k l first second = absurd (omega (arith, first))
 
-module _ (game : AbstractGame) (numbered : IsNumbered game.rules) (s : AbstractState) (f : Start) (p : ℕ) (ends : Bool) (follow : AreAllThatFollow game.rules f (p ∷ [])) (decides : Decides ends (Ends game.rules f [])) (modifies : IsOutcome game s s.vertex p Modifies) where
+module _ (game : AbstractGame) (numbered : IsNumbered game.rules) (s : AbstractState) (f : Start) (p : ℕ) (ends : Bool) (follow : AreAllThatFollow game.rules f (p ∷ [])) (decides : Decides ends (Ends game.rules f [])) (modifies : IsTrialAt game s s.vertex p Modifies) where
   -- The modifier is met, done and found.
   alone : List (ℕ × ℕ)
   alone = (s.vertex, p) ∷ []

@@ -15,9 +15,9 @@ use Rattle.rbg_pairs.specs.Flat.{IsFlatPart}
 use Rattle.rbg_pairs.specs.Closure.{at_vertex, Reached}
 use Rattle.rbg_search.specs.internal.Behind.{IsReady, RunsBehindPair, SomeRunsBehind}
 use Rattle.rbg_pairs.specs.Start.{IsPositionOf}
-use Rattle.rbg_pairs.specs.Part.{IsOutcome}
+use Rattle.rbg_pairs.specs.Part.{IsTrialAt}
 use Rattle.rbg_pairs.specs.Nesting.{NestsFrom}
-use Rattle.rbg_pairs.specs.declared.outcome.Outcome.TheVariants.{Invalid, LeadsTo}
+use Rattle.rbg_state.specs.declared.state.trials.Trial.TheVariants.{Invalid, LeadsTo}
 use Rattle.rbg_pairs.proofs.Closures.{by_words}
 use Rattle.rbg_pairs.proofs.Starts.{action_position}
 use Rattle.rbg_pairs.proofs.Nesting.{nests_inside}
@@ -42,13 +42,13 @@ pattern_position rules numbered p pattern = by_sign pattern.stands
     by_sign (inr has) = action_position rules numbered p (negative pattern.inside_it) has
 
 -- A pattern that is valid leads to its own vertex, and one that is not leads nowhere.
-pub pattern_leads : (game : AbstractGame) → IsNumbered game.rules → (s : AbstractState) (v p : ℕ) → IsPatternAt game.rules p → Applies game p (at_vertex s v) (at_vertex s v) → IsOutcome game s v p (LeadsTo v)
+pub pattern_leads : (game : AbstractGame) → IsNumbered game.rules → (s : AbstractState) (v p : ℕ) → IsPatternAt game.rules p → Applies game p (at_vertex s v) (at_vertex s v) → IsTrialAt game s v p (LeadsTo v)
 pattern_leads game numbered s v p pattern applies = (
   record { quiet = no_modifier game.rules numbered p pattern; applies = applies },
   (λ w leads. ap (λ (t : AbstractState). t.vertex) (pattern_law game numbered p pattern.inside_it pattern.stands (at_vertex s v) (at_vertex s w) leads.applies)),
 )
 
-pub pattern_fails : (game : AbstractGame) → IsNumbered game.rules → (s : AbstractState) (v p : ℕ) → IsPatternAt game.rules p → ¬ Applies game p (at_vertex s v) (at_vertex s v) → IsOutcome game s v p Invalid
+pub pattern_fails : (game : AbstractGame) → IsNumbered game.rules → (s : AbstractState) (v p : ℕ) → IsPatternAt game.rules p → ¬ Applies game p (at_vertex s v) (at_vertex s v) → IsTrialAt game s v p Invalid
 pattern_fails game numbered s v p pattern fails = λ t applies.
     fails (subst (λ (u : AbstractState). Applies game p (at_vertex s v) u) (pattern_law game numbered p pattern.inside_it pattern.stands (at_vertex s v) t applies) applies)
 

@@ -10,7 +10,6 @@ use Rattle.rbg_flat.specs.declared.flat.Flat.{Flat}
 use Rattle.rbg_flat.specs.Candidates.{IsCandidate, MayEnd}
 use Rattle.rbg_flat.specs.Chains.{Holds}
 use Rattle.rbg_flat.specs.Found.{IsFound as IsFoundBySets, AreFound}
-use Rattle.rbg_flat.specs.internal.Begun.{IsBegun}
 use Rattle.rbg_flat.specs.internal.Sets.{IsMarked, IsOpen, IsDone, KeepsDone}
 use Rattle.rbg_flat.proofs.ChainLemmas.{candidate_of, met_of}
 use Rattle.rbg_flat.proofs.Steps.{all_marked}

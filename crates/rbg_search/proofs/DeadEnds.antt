@@ -5,13 +5,13 @@ use Rattle.rbg_rules.specs.Words.{Start}
 use Rattle.rbg_rules.specs.State.{AbstractGame, AbstractState}
 use Rattle.rbg_flat.specs.Ending.{IsDeadEnd}
 use Rattle.rbg_flat.specs.Found.{AreFound}
-use Rattle.rbg_search.specs.internal.Straight.{IsWalked}
+use Rattle.rbg_search.specs.internal.Straight.{IsScanned}
 use Rattle.rbg_search.proofs.BySets.{found_part, nothing_in}
 use Rattle.rbg_search.proofs.Takings.{is_candidate, no_shift}
 
 -- Its flat part is whole: it has no modifier and no pattern.
-pub dead_walked : (game : AbstractGame) → IsNumbered game.rules → (s : AbstractState) (f : Start) (many : ℕ) (ends : Bool) → IsDeadEnd game s f many ends → IsWalked game s f ends
-dead_walked game numbered s f many ends dead = record {
+pub dead_scanned : (game : AbstractGame) → IsNumbered game.rules → (s : AbstractState) (f : Start) (many : ℕ) (ends : Bool) → IsDeadEnd game s f many ends → IsScanned game s f ends
+dead_scanned game numbered s f many ends dead = record {
   part = found_part game numbered s f [] ends none dead.may_end;
   quiet = λ v p reached pattern. dead.no_pattern v p (is_candidate game numbered s f v p reached (no_shift game.rules numbered p pattern)) pattern;
 }

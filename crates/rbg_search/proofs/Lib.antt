@@ -16,7 +16,7 @@ pub mod Forcing
 pub mod ForcingSteps
 pub mod Fewness
 pub mod Straights
-pub mod Walking
+pub mod Scanning
 pub mod Takings
 pub mod BySets
 pub mod Asks

@@ -1,4 +1,4 @@
--- What a walk tells of a pattern's question: its answer, and what it had to take up.
+-- What a scan tells of a pattern's question: its answer, and what it had to take up.
 use Rattle.std.proofs.Common.{◌≡◌, ◌≢◌, ℕ, ◌+◌, List, [], ◌∷◌, Bool, true, false, refl, arith}
 use Rattle.std.specs.Prelude.{Contains, IsTrue, ◌↔◌}
 use Rattle.rbg_rules.specs.Positions.{IsNumbered}
@@ -7,7 +7,7 @@ use Rattle.rbg_rules.specs.State.{AbstractGame, AbstractState}
 use Rattle.rbg_rules.specs.Questions.{try_move, reach, pattern, SomeWordRuns, Item}
 use Rattle.rbg_search.specs.Forced.{HasFewInRow, CountsForced}
 use Rattle.rbg_search.specs.internal.Behind.{SomeRunsBehind}
-use Rattle.rbg_search.specs.internal.Straight.{IsWalked}
+use Rattle.rbg_search.specs.internal.Straight.{IsScanned}
 use Rattle.rbg_search.proofs.Behinds.{runs_at_end, only_behind}
 use Rattle.rbg_search.proofs.Forcing.{IsForcedHere, nothing, asked, forced_here, takes_none}
 use Rattle.rbg_search.proofs.ForcingSteps.{asked_forced}
@@ -17,9 +17,9 @@ pattern_pairs e = cc
 
 module _ (game : AbstractGame) (numbered : IsNumbered game.rules) (s : AbstractState) (f : Start) where
   -- Some word runs exactly where one ends on the way.
-  pub walked_decides : (ends : Bool) → IsWalked game s f ends → IsTrue ends ↔ SomeWordRuns game s f
-  walked_decides true walked = ((λ _. runs_at_end game numbered s f [] true walked.part refl), (λ _. refl))
-  walked_decides false walked = ((λ e. absurd (false_not_true e)), (λ some. absurd (none (only_behind game numbered s f [] false walked.part refl some))))
+  pub scanned_decides : (ends : Bool) → IsScanned game s f ends → IsTrue ends ↔ SomeWordRuns game s f
+  scanned_decides true scanned = ((λ _. runs_at_end game numbered s f [] true scanned.part refl), (λ _. refl))
+  scanned_decides false scanned = ((λ e. absurd (false_not_true e)), (λ some. absurd (none (only_behind game numbered s f [] false scanned.part refl some))))
     where
       false_not_true : false ≡ true → ⊥
       false_not_true e = cc
@@ -28,8 +28,8 @@ module _ (game : AbstractGame) (numbered : IsNumbered game.rules) (s : AbstractS
       none some = let (k, under, is) = some.there in omega (arith, under)
 
   -- The one opening is all that was forced.
-  reach_forced : (cut : Bool) (ends : Bool) (old new left most : ℕ) → IsWalked game s f ends → new ≡ old + 1 → CountsForced game cut reach s f old new left most
-  reach_forced cut ends old new left most walked one = record {
+  reach_forced : (cut : Bool) (ends : Bool) (old new left most : ℕ) → IsScanned game s f ends → new ≡ old + 1 → CountsForced game cut reach s f old new left most
+  reach_forced cut ends old new left most scanned one = record {
     openings = [] ∷ [];
     all = λ o forced. there o (forced_here game numbered cut s f o forced);
     fits = omega (arith, one);
@@ -38,13 +38,13 @@ module _ (game : AbstractGame) (numbered : IsNumbered game.rules) (s : AbstractS
     where
       there : (o : List Item) → IsForcedHere game cut s f o → Contains ([] ∷ []) o
       there _ nothing = (0, omega arith, refl)
-      there _ (asked {v = v} {p = p} reached is forced) = absurd (walked.quiet v p reached is)
+      there _ (asked {v = v} {p = p} reached is forced) = absurd (scanned.quiet v p reached is)
 
       short : (o : List Item) → IsForcedHere game cut s f o → HasFewInRow left most o
       short _ nothing = tt
-      short _ (asked {v = v} {p = p} reached is forced) = absurd (walked.quiet v p reached is)
+      short _ (asked {v = v} {p = p} reached is forced) = absurd (scanned.quiet v p reached is)
 
-  pub walked_forced : (cut : Bool) (ends : Bool) (old new left most : ℕ) → IsWalked game s f ends → new ≡ old + 1 → CountsForced game cut pattern s f old new left most
-  walked_forced cut ends old new left most walked one =
-      asked_forced game numbered s f [] ends ends old new new left most cut (walked_decides ends walked) walked.part (reach_forced cut ends old new left most walked one)
+  pub scanned_forced : (cut : Bool) (ends : Bool) (old new left most : ℕ) → IsScanned game s f ends → new ≡ old + 1 → CountsForced game cut pattern s f old new left most
+  scanned_forced cut ends old new left most scanned one =
+      asked_forced game numbered s f [] ends ends old new new left most cut (scanned_decides ends scanned) scanned.part (reach_forced cut ends old new left most scanned one)
       (record { grows = omega arith; forced = λ cut' _ _. takes_none game numbered cut' pattern s new new left most (omega arith) })

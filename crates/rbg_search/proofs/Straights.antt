@@ -1,4 +1,4 @@
--- A walk along a straight line, step by step.
+-- A scan along a straight line, step by step.
 use Rattle.std.proofs.Common.{◌≡◌, ◌≢◌, ℕ, suc, ◌<◌, List, [], ◌∷◌, ◌++◌, length, ◌==◌, Bool, true, ◌||◌, refl, sym, subst, append-nil, arith}
 use Rattle.std.specs.Prelude.{All, AllPairs, Contains, Decides}
 use Rattle.std.proofs.lemmas.List.Elements.{All-nil, All-cons, All-head, All-push, All-weaker, All-contains, Contains-push}
@@ -10,11 +10,11 @@ use Rattle.rbg_rules.specs.State.{AbstractGame, AbstractState}
 use Rattle.rbg_auto.specs.Steps.{AreAllThatFollow}
 use Rattle.rbg_flat.specs.Found.{HasCandidates}
 use Rattle.rbg_pairs.specs.Meeting.{MeetsAll}
-use Rattle.rbg_pairs.specs.Part.{IsOutcome, IsPart}
+use Rattle.rbg_pairs.specs.Part.{IsTrialAt, IsPart}
 use Rattle.rbg_pairs.specs.Plain.{HasPlain}
-use Rattle.rbg_search.specs.internal.Straight.{IsWalked, IsWalking}
-use Rattle.rbg_pairs.specs.declared.outcome.Outcome.{Outcome}
-use Rattle.rbg_pairs.specs.declared.outcome.Outcome.TheVariants.{Invalid, Modifies, LeadsTo}
+use Rattle.rbg_search.specs.internal.Straight.{IsScanned, IsScanning}
+use Rattle.rbg_state.specs.declared.state.trials.Trial.{Trial}
+use Rattle.rbg_state.specs.declared.state.trials.Trial.TheVariants.{Invalid, Modifies, LeadsTo}
 use Rattle.rbg_pairs.specs.Closure.{at_vertex}
 use Rattle.rbg_pairs.proofs.Plains.{plain_none}
 use Rattle.rbg_search.proofs.Takings.{part_pairs}
@@ -41,17 +41,17 @@ is_empty_list (p ∷ ps) e = absurd (none (length ps) e)
     none n e = grind (arith, nat_tests)
 
 -- What becomes of an action at a vertex is the same wherever the semi-state's own vertex is.
-pub outcome_there : (game : AbstractGame) (s : AbstractState) (u v p : ℕ) (o : Outcome) → IsOutcome game s v p o → IsOutcome game (at_vertex s u) v p o
-outcome_there game s u v p Invalid fails = fails
-outcome_there game s u v p Modifies valid = valid
-outcome_there game s u v p (LeadsTo w) (leads, only) = (
+pub trial_there : (game : AbstractGame) (s : AbstractState) (u v p : ℕ) (o : Trial) → IsTrialAt game s v p o → IsTrialAt game (at_vertex s u) v p o
+trial_there game s u v p Invalid fails = fails
+trial_there game s u v p Modifies valid = valid
+trial_there game s u v p (LeadsTo w) (leads, only) = (
   record { quiet = leads.quiet; applies = leads.applies },
   (λ x other. only x (record { quiet = other.quiet; applies = other.applies })),
 )
 
 module _ (game : AbstractGame) (s : AbstractState) (f : Start) where
-  pub begin_walk : (ps : List ℕ) (p : ℕ) (ends : Bool) → ps ≡ p ∷ [] → AreAllThatFollow game.rules f ps → Decides ends (Ends game.rules f []) → IsWalking game s f s.vertex p ends 0
-  begin_walk ps p ends one follow decides = record {
+  pub begin_scan : (ps : List ℕ) (p : ℕ) (ends : Bool) → ps ≡ p ∷ [] → AreAllThatFollow game.rules f ps → Decides ends (Ends game.rules f []) → IsScanning game s f s.vertex p ends 0
+  begin_scan ps p ends one follow decides = record {
     done = [];
     plain = plain_none game.rules;
     different = λ i j d less within. absurd (omega (arith, less, within));
@@ -60,71 +60,71 @@ module _ (game : AbstractGame) (s : AbstractState) (f : Start) where
     quiet = All-nil (λ q. ¬ IsPatternAt game.rules q.1);
   }
 
-  module _ (v p : ℕ) (ends : Bool) (many : ℕ) (walking : IsWalking game s f v p ends many) (plain : ¬ IsPatternAt game.rules p) where
-    quiet_on : All (λ q. ¬ IsPatternAt game.rules q.1) (walking.done ++ (v, p) ∷ [])
-    quiet_on = All-push (λ q. ¬ IsPatternAt game.rules q.1) walking.done (v, p) walking.quiet plain
+  module _ (v p : ℕ) (ends : Bool) (many : ℕ) (scanning : IsScanning game s f v p ends many) (plain : ¬ IsPatternAt game.rules p) where
+    quiet_on : All (λ q. ¬ IsPatternAt game.rules q.1) (scanning.done ++ (v, p) ∷ [])
+    quiet_on = All-push (λ q. ¬ IsPatternAt game.rules q.1) scanning.done (v, p) scanning.quiet plain
 
     -- The pair stands behind all that were tried, so it is none of them.
-    once : AllPairs (λ a b. a ≢ b) (walking.done ++ (v, p) ∷ [])
-    once = all_pairs_push (λ a b. a ≢ b) walking.done (v, p) walking.different (λ k d under same. not_before (subst (λ (q : ℕ × ℕ). q.1 < p) same (walking.before k d under)))
+    once : AllPairs (λ a b. a ≢ b) (scanning.done ++ (v, p) ∷ [])
+    once = all_pairs_push (λ a b. a ≢ b) scanning.done (v, p) scanning.different (λ k d under same. not_before (subst (λ (q : ℕ × ℕ). q.1 < p) same (scanning.before k d under)))
       where
         not_before : p < p → ⊥
         not_before less = absurd (omega (arith, less))
 
-    pub not_done : ¬ Contains walking.done (v, p)
-    not_done there = not_before (All-contains (λ (q : ℕ × ℕ). q.1 < p) walking.done (v, p) walking.before there)
+    pub not_done : ¬ Contains scanning.done (v, p)
+    not_done there = not_before (All-contains (λ (q : ℕ × ℕ). q.1 < p) scanning.done (v, p) scanning.before there)
       where
         not_before : p < p → ⊥
         not_before less = absurd (omega (arith, less))
 
     -- Each pair is done.
-    walked : IsNumbered game.rules → (ends' : Bool) → IsPart game s f (walking.done ++ (v, p) ∷ []) (walking.done ++ (v, p) ∷ []) [] ends' → IsWalked game s f ends'
-    walked numbered ends' part = record {
-      part = whole_part game s f numbered (walking.done ++ (v, p) ∷ []) [] ends' part;
-      quiet = λ w q reached. All-contains (λ x. ¬ IsPatternAt game.rules x.1) (walking.done ++ (v, p) ∷ []) (w, q) quiet_on (all_met game s f numbered (walking.done ++ (v, p) ∷ []) [] ends' part w q reached);
+    scanned : IsNumbered game.rules → (ends' : Bool) → IsPart game s f (scanning.done ++ (v, p) ∷ []) (scanning.done ++ (v, p) ∷ []) [] ends' → IsScanned game s f ends'
+    scanned numbered ends' part = record {
+      part = whole_part game s f numbered (scanning.done ++ (v, p) ∷ []) [] ends' part;
+      quiet = λ w q reached. All-contains (λ x. ¬ IsPatternAt game.rules x.1) (scanning.done ++ (v, p) ∷ []) (w, q) quiet_on (all_met game s f numbered (scanning.done ++ (v, p) ∷ []) [] ends' part w q reached);
     }
 
-    all_taken : IsNumbered game.rules → (ends' : Bool) (all : ℕ) → IsPart game s f (walking.done ++ (v, p) ∷ []) (walking.done ++ (v, p) ∷ []) [] ends' → HasPlain game.rules (walking.done ++ (v, p) ∷ []) all → HasCandidates game s f all
-    all_taken numbered ends' all part has = part_pairs game numbered s f (walking.done ++ (v, p) ∷ []) [] ends' all part has
+    all_taken : IsNumbered game.rules → (ends' : Bool) (all : ℕ) → IsPart game s f (scanning.done ++ (v, p) ∷ []) (scanning.done ++ (v, p) ∷ []) [] ends' → HasPlain game.rules (scanning.done ++ (v, p) ∷ []) all → HasCandidates game s f all
+    all_taken numbered ends' all part has = part_pairs game numbered s f (scanning.done ++ (v, p) ∷ []) [] ends' all part has
 
     -- The last action isn't valid.
-    pub taken_up_to : IsNumbered game.rules → (all : ℕ) → HasPlain game.rules (walking.done ++ (v, p) ∷ []) all → IsOutcome game s v p Invalid → HasCandidates game s f all
-    taken_up_to numbered all has invalid = all_taken numbered ends all (invalid_part game s f (walking.done ++ (v, p) ∷ []) walking.done [] ends v p walking.part invalid) has
+    pub taken_up_to : IsNumbered game.rules → (all : ℕ) → HasPlain game.rules (scanning.done ++ (v, p) ∷ []) all → IsTrialAt game s v p Invalid → HasCandidates game s f all
+    taken_up_to numbered all has invalid = all_taken numbered ends all (invalid_part game s f (scanning.done ++ (v, p) ∷ []) scanning.done [] ends v p scanning.part invalid) has
 
-    pub walked_up_to : IsNumbered game.rules → IsOutcome game s v p Invalid → IsWalked game s f ends
-    walked_up_to numbered invalid = walked numbered ends (invalid_part game s f (walking.done ++ (v, p) ∷ []) walking.done [] ends v p walking.part invalid)
+    pub scanned_up_to : IsNumbered game.rules → IsTrialAt game s v p Invalid → IsScanned game s f ends
+    scanned_up_to numbered invalid = scanned numbered ends (invalid_part game s f (scanning.done ++ (v, p) ∷ []) scanning.done [] ends v p scanning.part invalid)
 
     -- .. or nothing follows it.
-    through : (u : ℕ) (ps : List ℕ) (last : Bool) → IsOutcome game s v p (LeadsTo u) → ps ≡ [] → AreAllThatFollow game.rules (after p) ps → Decides last (Ends game.rules (after p) []) → IsPart game s f (walking.done ++ (v, p) ∷ []) (walking.done ++ (v, p) ∷ []) [] (ends || last)
+    through : (u : ℕ) (ps : List ℕ) (last : Bool) → IsTrialAt game s v p (LeadsTo u) → ps ≡ [] → AreAllThatFollow game.rules (after p) ps → Decides last (Ends game.rules (after p) []) → IsPart game s f (scanning.done ++ (v, p) ∷ []) (scanning.done ++ (v, p) ∷ []) [] (ends || last)
     through u ps last leads none follow decides =
-        leads_part game s f (walking.done ++ (v, p) ∷ []) (walking.done ++ (v, p) ∷ []) walking.done [] ends last v p u [] walking.part (Contains-push walking.done (v, p)) leads
+        leads_part game s f (scanning.done ++ (v, p) ∷ []) (scanning.done ++ (v, p) ∷ []) scanning.done [] ends last v p u [] scanning.part (Contains-push scanning.done (v, p)) leads
         (subst (λ (qs : List ℕ). AreAllThatFollow game.rules (after p) qs) none follow) nothing decides
       where
-        nothing : MeetsAll (walking.done ++ (v, p) ∷ []) (walking.done ++ (v, p) ∷ []) u []
+        nothing : MeetsAll (scanning.done ++ (v, p) ∷ []) (scanning.done ++ (v, p) ∷ []) u []
         nothing = record {
           more = [];
-          grown = sym (append-nil (walking.done ++ (v, p) ∷ []));
+          grown = sym (append-nil (scanning.done ++ (v, p) ∷ []));
           only = All-nil (λ (q : ℕ × ℕ). (q.0 ≡ u) × Contains [] q.1);
-          all = All-nil (λ (r : ℕ). Contains (walking.done ++ (v, p) ∷ []) (u, r));
+          all = All-nil (λ (r : ℕ). Contains (scanning.done ++ (v, p) ∷ []) (u, r));
         }
 
-    pub walked_through : IsNumbered game.rules → (u : ℕ) (ps : List ℕ) (last : Bool) → IsOutcome game s v p (LeadsTo u) → ps ≡ [] → AreAllThatFollow game.rules (after p) ps → Decides last (Ends game.rules (after p) []) → IsWalked game s f (ends || last)
-    walked_through numbered u ps last leads none follow decides = walked numbered (ends || last) (through u ps last leads none follow decides)
+    pub scanned_through : IsNumbered game.rules → (u : ℕ) (ps : List ℕ) (last : Bool) → IsTrialAt game s v p (LeadsTo u) → ps ≡ [] → AreAllThatFollow game.rules (after p) ps → Decides last (Ends game.rules (after p) []) → IsScanned game s f (ends || last)
+    scanned_through numbered u ps last leads none follow decides = scanned numbered (ends || last) (through u ps last leads none follow decides)
 
-    pub taken_through : IsNumbered game.rules → (all : ℕ) → HasPlain game.rules (walking.done ++ (v, p) ∷ []) all → (u : ℕ) (ps : List ℕ) (last : Bool) → IsOutcome game s v p (LeadsTo u) → ps ≡ [] → AreAllThatFollow game.rules (after p) ps → Decides last (Ends game.rules (after p) []) → HasCandidates game s f all
+    pub taken_through : IsNumbered game.rules → (all : ℕ) → HasPlain game.rules (scanning.done ++ (v, p) ∷ []) all → (u : ℕ) (ps : List ℕ) (last : Bool) → IsTrialAt game s v p (LeadsTo u) → ps ≡ [] → AreAllThatFollow game.rules (after p) ps → Decides last (Ends game.rules (after p) []) → HasCandidates game s f all
     taken_through numbered all has u ps last leads none follow decides = all_taken numbered (ends || last) all (through u ps last leads none follow decides) has
 
     -- One more action follows.
-    pub walked_on : (all : ℕ) → HasPlain game.rules (walking.done ++ (v, p) ∷ []) all → (u q : ℕ) (ps : List ℕ) (last : Bool) → IsOutcome game s v p (LeadsTo u) → ps ≡ q ∷ [] → AreAllThatFollow game.rules (after p) ps → Decides last (Ends game.rules (after p) []) → p < q → IsWalking game s f u q (ends || last) all
-    walked_on all has u q ps last leads one follow decides later = record {
-      done = walking.done ++ (v, p) ∷ [];
+    pub scanned_on : (all : ℕ) → HasPlain game.rules (scanning.done ++ (v, p) ∷ []) all → (u q : ℕ) (ps : List ℕ) (last : Bool) → IsTrialAt game s v p (LeadsTo u) → ps ≡ q ∷ [] → AreAllThatFollow game.rules (after p) ps → Decides last (Ends game.rules (after p) []) → p < q → IsScanning game s f u q (ends || last) all
+    scanned_on all has u q ps last leads one follow decides later = record {
+      done = scanning.done ++ (v, p) ∷ [];
       plain = has;
       different = once;
       before =
-          All-push (λ (r : ℕ × ℕ). r.1 < q) walking.done (v, p)
-          (All-weaker (λ (r : ℕ × ℕ). r.1 < p) (λ (r : ℕ × ℕ). r.1 < q) (λ r less. omega (arith, less, later)) walking.done walking.before) later;
+          All-push (λ (r : ℕ × ℕ). r.1 < q) scanning.done (v, p)
+          (All-weaker (λ (r : ℕ × ℕ). r.1 < p) (λ (r : ℕ × ℕ). r.1 < q) (λ r less. omega (arith, less, later)) scanning.done scanning.before) later;
       part =
-          leads_part game s f (walking.done ++ (v, p) ∷ []) ((walking.done ++ (v, p) ∷ []) ++ (u, q) ∷ []) walking.done [] ends last v p u (q ∷ []) walking.part (Contains-push walking.done (v, p)) leads
-          (subst (λ (qs : List ℕ). AreAllThatFollow game.rules (after p) qs) one follow) (meets_one (walking.done ++ (v, p) ∷ []) u q) decides;
+          leads_part game s f (scanning.done ++ (v, p) ∷ []) ((scanning.done ++ (v, p) ∷ []) ++ (u, q) ∷ []) scanning.done [] ends last v p u (q ∷ []) scanning.part (Contains-push scanning.done (v, p)) leads
+          (subst (λ (qs : List ℕ). AreAllThatFollow game.rules (after p) qs) one follow) (meets_one (scanning.done ++ (v, p) ∷ []) u q) decides;
       quiet = quiet_on;
     }

@@ -8,25 +8,25 @@ ghost use Rattle.rbg_rules.specs.Questions.{SomeWordRuns};
 ghost use Rattle.rbg_rules.specs.Games.{IsGame};
 ghost use Rattle.rbg_pairs.specs.Start.{IsPositionOf};
 ghost use Rattle.rbg_pairs.specs.Closure.{at_vertex};
-ghost use Rattle.rbg_pairs.specs.Part.{IsOutcome};
+ghost use Rattle.rbg_pairs.specs.Part.{IsTrialAt};
 ghost use Rattle.rbg_search.specs.internal.Shown.{shows_negative};
 
 use rbg_base::{Position, Vertex};
-use rbg_pairs::Outcome;
 use rbg_rules::{Action, Game};
+use rbg_state::Trial;
 
 /// What becomes of a pattern at a vertex where it is valid, or isn't.
-pub(crate) fn outcome_of(vertex: Vertex, valid: bool) -> Outcome
-    ensures outcome { (game : AbstractGame) (s : AbstractState) (p : ℕ)
+pub(crate) fn trial_of(vertex: Vertex, valid: bool) -> Trial
+    ensures trial { (game : AbstractGame) (s : AbstractState) (p : ℕ)
         → IsNumbered game.rules → IsPatternAt game.rules p
         → IsTrue valid ↔ Applies game p (at_vertex s vertex) (at_vertex s vertex)
-        → IsOutcome game s vertex p result }
-    ensures there { (u : ℕ) → result ≡ Outcome.LeadsTo u → u ≡ vertex }
+        → IsTrialAt game s vertex p result }
+    ensures there { (u : ℕ) → result ≡ Trial.LeadsTo u → u ≡ vertex }
 {
     if valid {
-        Outcome::LeadsTo(vertex)
+        Trial::LeadsTo(vertex)
     } else {
-        Outcome::Invalid
+        Trial::Invalid
     }
 }
 

@@ -1,4 +1,4 @@
-//! What searches leave to later ones.
+//! The buffers that searches leave to later ones.
 ghost use Rattle.std.specs.Prelude.{◌≡◌};
 
 use rbg_flat::{Flat as SetFlat, Modifiers};
@@ -8,7 +8,7 @@ use std::marker::Model;
 
 /// What searches leave to later ones: their buffers, and what they took up in all. Contracts see the two counts.
 #[derive(Drop)]
-pub struct Workspace {
+pub struct Buffers {
     /// Flat parts that are not in use.
     pub(crate) flats: Vec<Box<Flat>>,
     /// Flat parts by sets that are not in use.
@@ -19,20 +19,20 @@ pub struct Workspace {
     pub(crate) pairs: u64,
 }
 
-impl Model for Workspace {
+impl Model for Buffers {
     ghost use Rattle.rbg_search.specs.Searching.{Tally};
 
     ghost Value = { Tally };
 
-    ghost view = { λ w. record { openings = w.openings; pairs = w.pairs } };
+    ghost view = { λ b. record { openings = b.openings; pairs = b.pairs } };
 }
 
-impl Workspace {
-    /// A workspace that no search has used.
-    pub fn new(alloc: Global) -> Workspace
+impl Buffers {
+    /// Buffers that no search has used.
+    pub fn new(alloc: Global) -> Buffers
         ensures { result ≡ record { openings = 0; pairs = 0 } }
     {
-        Workspace {
+        Buffers {
             flats: Vec::new(alloc),
             sets: Vec::new(alloc),
             lists: Vec::new(alloc),

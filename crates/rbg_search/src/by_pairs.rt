@@ -13,11 +13,11 @@ ghost use Rattle.rbg_pairs.specs.Part.{HasMarksOf};
 ghost use Rattle.rbg_pairs.specs.Plain.{HasPlain};
 ghost use Rattle.rbg_search.specs.internal.Spent.{CountsPart, IsSpentButOne};
 
-use crate::answer::outcome_of;
+use crate::answer::trial_of;
 use crate::over::Over;
 use crate::search::Search;
 use rbg_auto::Steps;
-use rbg_base::{Memory, Position, Vertex};
+use rbg_base::{Memory, Pair, Position, Vertex};
 use rbg_flat::Modifiers;
 use rbg_pairs::{Flat, Origin};
 use rbg_state::SemiState;
@@ -55,7 +55,7 @@ impl<'a, S: Steps> Search<'a, S> {
         &self,
         flat: &mut Box<Flat>,
         state: &SemiState,
-    ) -> Result<Option<(Vertex, Position)>, Memory>
+    ) -> Result<Option<Pair>, Memory>
         requires fits { IsStateOf self.now.game state.now.state }
         requires marks { HasMarksOf self.now.game flat.old.value.queue }
         requires within { flat.old.value.taken ≤ length flat.old.value.queue.pairs }
@@ -115,7 +115,7 @@ impl<'a, S: Steps> Search<'a, S> {
     {
         let _game = self.rules.game();
         let _position = position;
-        flat.take(&self.rules, outcome_of(vertex, valid))?;
+        flat.take(&self.rules, trial_of(vertex, valid))?;
         let _taken = flat.taken;
         Ok(())
     }

@@ -14,7 +14,7 @@ ghost use Rattle.rbg_search.specs.internal.Spent.{CountsPart, IsSpentButOne};
 use crate::over::Over;
 use crate::search::Search;
 use rbg_auto::Steps;
-use rbg_base::{Position, Vertex};
+use rbg_base::{Pair, Position, Vertex};
 use rbg_flat::{Flat as SetFlat, Modifiers, Paths};
 use rbg_pairs::Origin;
 use rbg_state::SemiState;
@@ -67,7 +67,7 @@ impl<'a, S: Steps> Search<'a, S> {
         paths: &Paths,
         flat: &mut Box<SetFlat>,
         state: &SemiState,
-    ) -> Option<(Vertex, Position)>
+    ) -> Option<Pair>
         requires paths { ArePathsOf self.now.game paths.now }
         requires fits { IsStateOf self.now.game state.now.state }
         requires sets { HasSetsFor self.now.game flat.old.value }

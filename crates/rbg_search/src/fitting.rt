@@ -3,38 +3,38 @@ ghost use Rattle.std.specs.Prelude.{◌≡◌, All, IsTrue};
 ghost use Rattle.rbg_flat.specs.internal.Leading.{AreSizedFor};
 ghost use Rattle.rbg_pairs.specs.Part.{HasMarksOf};
 
-use crate::workspace::Workspace;
+use crate::buffers::Buffers;
 use rbg_flat::{Flat as SetFlat, Paths};
 use rbg_pairs::Flat;
 use rbg_rules::Game;
 use std::alloc::Global;
 use std::mem::replace;
 
-/// Flat parts by pairs for a search, out of a workspace. Where the game has paths there is no use for them, and they stay.
+/// Flat parts by pairs for a search, out of the buffers. Where the game has paths there is no use for them, and they stay.
 #[inline(always)]
 pub(crate) fn flats_for(
     alloc: Global,
     game: &Game,
     paths: Option<&Paths>,
-    workspace: &mut Workspace,
+    buffers: &mut Buffers,
 ) -> Vec<Box<Flat>>
     ensures flats { All (λ flat. HasMarksOf game.now flat.value.queue) result.items }
-    ensures tally { workspace.new ≡ workspace.old }
+    ensures tally { buffers.new ≡ buffers.old }
 {
     if paths.is_some() {
         return Vec::new(alloc);
     }
-    let flats = replace(&mut workspace.flats, Vec::new(alloc));
+    let flats = replace(&mut buffers.flats, Vec::new(alloc));
     fitting(alloc, game, flats)
 }
 
-/// Gives flat parts by pairs back to a workspace. A search that had none leaves those that are there.
+/// Gives flat parts by pairs back to the buffers. A search that had none leaves those that are there.
 #[inline(always)]
-pub(crate) fn keep_flats(workspace: &mut Workspace, flats: Vec<Box<Flat>>)
-    ensures tally { workspace.new ≡ workspace.old }
+pub(crate) fn keep_flats(buffers: &mut Buffers, flats: Vec<Box<Flat>>)
+    ensures tally { buffers.new ≡ buffers.old }
 {
     if flats.len() > 0 {
-        workspace.flats = flats;
+        buffers.flats = flats;
     }
 }
 

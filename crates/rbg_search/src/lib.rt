@@ -2,20 +2,19 @@
 #![tactic(auto)]
 
 mod answer;
+mod buffers;
 mod by_pairs;
 mod by_sets;
 mod fitting;
 mod lists;
-mod only;
 mod order;
 mod over;
+mod scan;
 mod search;
-mod walk;
-mod walked;
-mod workspace;
+mod single;
 
+pub use buffers::Buffers;
 pub use over::Over;
 pub use rbg_base::Memory;
 pub use rbg_pairs::Origin;
-pub use search::{Budget, Reached, Search};
-pub use workspace::Workspace;
+pub use search::{Budget, FlatPart, Search};

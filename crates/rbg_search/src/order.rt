@@ -3,11 +3,11 @@ ghost use Rattle.std.specs.List.Sorted.{IsPermutation};
 ghost use Rattle.std.specs.Prelude.{◌≢◌, AllPairs};
 ghost use Rattle.rbg_pairs.specs.Flat.{IsBefore};
 
-use rbg_base::{Position, Vertex};
+use rbg_base::Pair;
 
 /// Puts pairs in order: by vertex, then by position.
 #[inline(always)]
-pub(crate) fn sort(pairs: &mut Vec<(Vertex, Position)>)
+pub(crate) fn sort(pairs: &mut Vec<Pair>)
     requires { AllPairs (λ a b. a ≢ b) pairs.old.items }
     ensures permutation { IsPermutation pairs.old.items pairs.new.items }
     ensures order { AllPairs IsBefore pairs.new.items }

@@ -1,44 +1,51 @@
 //! Patterns that need no flat part: those whose inside is a straight line of actions, and those in which nothing goes on
-//! from the beginning.
-ghost use Rattle.std.specs.Prelude.{◌≡◌, ◌<◌, ◌≤◌, [], ◌∷◌, length, IfSome, IsTrue, ◌↔◌};
-ghost use Rattle.rbg_rules.specs.State.{IsStateOf};
+//! from the beginning. They are answered by a scan.
+ghost use Rattle.std.specs.Prelude.{◌≡◌, ◌<◌, ◌≤◌, ◌↔◌, length, Bool, Err, IfOk, IfSome, IsOk, IsTrue, OnOk};
+ghost use Rattle.rbg_rules.specs.Actions.{Applies};
 ghost use Rattle.rbg_rules.specs.Positions.{IsPatternAt, inside};
+ghost use Rattle.rbg_rules.specs.Questions.{pattern};
+ghost use Rattle.rbg_rules.specs.State.{AbstractState, IsStateOf};
 ghost use Rattle.rbg_rules.specs.Words.{beginning};
 ghost use Rattle.rbg_flat.specs.Found.{HasCandidates};
-ghost use Rattle.rbg_search.specs.Taken.{most_pairs_of};
 ghost use Rattle.rbg_pairs.specs.Closure.{at_vertex};
-ghost use Rattle.rbg_search.specs.internal.Straight.{IsWalked};
+ghost use Rattle.rbg_search.specs.Forced.{CountsForced};
+ghost use Rattle.rbg_search.specs.Taken.{CountsPairs, most_pairs_of};
+ghost use Rattle.rbg_search.specs.internal.Asked.{IsCounted};
+ghost use Rattle.rbg_search.specs.internal.Straight.{IsScanned};
 
+use crate::over::Over;
+use crate::search::Search;
+use crate::single::only;
 use rbg_auto::{Expr, Steps};
 use rbg_base::{Position, Vertex};
-use rbg_pairs::{GameSteps, Origin, Outcome, one_more, tried};
-use rbg_state::SemiState;
+use rbg_pairs::{GameSteps, Origin, one_more, tried};
+use rbg_state::{SemiState, Trial};
 
-/// What is told of a pattern that needs no flat part, by a walk along a straight line or by its first leaps.
+/// What is told of a pattern that needs no flat part, by a scan along a straight line or by its first leaps.
 #[derive(Drop)]
-pub(crate) struct Walk {
+pub(crate) struct PatternScan {
     /// Whether a word ends on the way.
     pub(crate) ends: bool,
     /// How many pairs were tried that are no shifts.
     pub(crate) pairs: usize,
 }
 
-/// Walks along the inside of a pattern, from a vertex up to the first action that isn't valid, or to the last one. None
+/// Scans along the inside of a pattern, from a vertex up to the first action that isn't valid, or to the last one. None
 /// where there isn't exactly one first action, where more than one may come next, or where a pattern, a valid modifier
 /// or an action that stands no later comes next.
-pub(crate) fn walk_inside<S: Steps>(
+pub(crate) fn scan_inside<S: Steps>(
     rules: &GameSteps<'_, S>,
     state: &SemiState,
     vertex: Vertex,
     pattern: Position,
-) -> Option<Walk>
+) -> Option<PatternScan>
     requires fits { IsStateOf rules.now state.now.state }
     requires there { vertex < length rules.now.board.first }
-    ensures walked { IfSome result (λ walk. IsWalked rules.now (at_vertex state.now.state vertex)
-        (beginning (inside pattern)) walk.ends) }
-    ensures few { IfSome result (λ walk. walk.pairs ≤ most_pairs_of rules.now) }
-    ensures taken { IfSome result (λ walk. HasCandidates rules.now (at_vertex state.now.state vertex)
-        (beginning (inside pattern)) walk.pairs) }
+    ensures scanned { IfSome result (λ scan. IsScanned rules.now (at_vertex state.now.state vertex)
+        (beginning (inside pattern)) scan.ends) }
+    ensures few { IfSome result (λ scan. scan.pairs ≤ most_pairs_of rules.now) }
+    ensures taken { IfSome result (λ scan. HasCandidates rules.now (at_vertex state.now.state vertex)
+        (beginning (inside pattern)) scan.pairs) }
 {
     let begin = Origin::Begin(Expr::Inside(pattern));
     let mut position = only(rules.following(begin))?;
@@ -48,14 +55,14 @@ pub(crate) fn walk_inside<S: Steps>(
     loop {
         pairs = one_more(rules, position, pairs);
         match tried(rules, state, vertex, position)? {
-            Outcome::Invalid => return Some(Walk { ends, pairs }),
-            Outcome::Modifies => return None,
-            Outcome::LeadsTo(to) => {
+            Trial::Invalid => return Some(PatternScan { ends, pairs }),
+            Trial::Modifies => return None,
+            Trial::LeadsTo(to) => {
                 let here = Origin::After(position);
                 ends |= rules.may_end(here);
                 let following = rules.following(here);
                 if following.is_empty() {
-                    return Some(Walk { ends, pairs });
+                    return Some(PatternScan { ends, pairs });
                 }
                 let next = only(following)?;
                 if next <= position {
@@ -68,7 +75,7 @@ pub(crate) fn walk_inside<S: Steps>(
     }
 }
 
-/// Where nothing goes on from the beginning of the inside of a pattern, as its leaps tell: what a walk would find. None
+/// Where nothing goes on from the beginning of the inside of a pattern, as its leaps tell: what a scan would find. None
 /// elsewhere, and in a game without leaps.
 #[inline(always)]
 pub(crate) fn dead_end<S: Steps>(
@@ -76,30 +83,48 @@ pub(crate) fn dead_end<S: Steps>(
     state: &SemiState,
     vertex: Vertex,
     pattern: Position,
-) -> Option<Walk>
+) -> Option<PatternScan>
     requires fits { IsStateOf rules.now state.now.state }
     requires vertex { vertex < length rules.now.board.first }
     requires there { IsPatternAt rules.now.rules pattern }
-    ensures walked { IfSome result (λ walk. IsWalked rules.now (at_vertex state.now.state vertex)
-        (beginning (inside pattern)) walk.ends) }
-    ensures few { IfSome result (λ walk. walk.pairs ≤ most_pairs_of rules.now) }
-    ensures taken { IfSome result (λ walk. HasCandidates rules.now (at_vertex state.now.state vertex)
-        (beginning (inside pattern)) walk.pairs) }
+    ensures scanned { IfSome result (λ scan. IsScanned rules.now (at_vertex state.now.state vertex)
+        (beginning (inside pattern)) scan.ends) }
+    ensures few { IfSome result (λ scan. scan.pairs ≤ most_pairs_of rules.now) }
+    ensures taken { IfSome result (λ scan. HasCandidates rules.now (at_vertex state.now.state vertex)
+        (beginning (inside pattern)) scan.pairs) }
 {
     let paths = rules.paths()?;
     let dead = paths.dead_end(rules.game(), state, pattern, vertex)?;
-    Some(Walk {
+    Some(PatternScan {
         ends: dead.ends,
         pairs: dead.many,
     })
 }
 
-/// The one position of a list that has one.
-pub(crate) fn only(positions: &[Position]) -> Option<Position>
-    ensures { IfSome result (λ p. positions.now ≡ p ∷ []) }
-{
-    match positions {
-        [position] => Some(*position),
-        _ => None,
+impl<'a, S: Steps> Search<'a, S> {
+    /// Whether a pattern is valid by the scan along its inside, for which one more opening is taken up.
+    pub(crate) fn answer(&mut self, position: Position, scan: PatternScan) -> Result<bool, Over>
+        requires there { IsPatternAt self.old.game.rules position }
+        requires few { scan.pairs ≤ most_pairs_of self.old.game }
+        ensures kept { self.new ≡ record self.old { opened = self.new.opened; taken = self.new.taken } }
+        ensures valid { IfOk result (λ valid. (s : AbstractState)
+            → IsScanned self.old.game s (beginning (inside position)) scan.ends
+            → IsTrue valid ↔ Applies self.old.game position s s) }
+        ensures counts { (s : AbstractState)
+            → IsCounted self.old.game pattern s (beginning (inside position))
+            self.old.opened self.new.opened self.old.modifiers self.old.openings self.old.modifiers
+            (result ≡ Err Over.Deep) (result ≡ Err Over.Wide) }
+        ensures forced { OnOk result ((s : AbstractState) (cut : Bool)
+            → IsScanned self.old.game s (beginning (inside position)) scan.ends
+            → CountsForced self.old.game cut pattern s (beginning (inside position))
+            self.old.opened self.new.opened self.old.modifiers self.old.modifiers) }
+        ensures taken { (s : AbstractState)
+            → HasCandidates self.old.game s (beginning (inside position)) scan.pairs
+            → CountsPairs self.old.game pattern s (beginning (inside position))
+            self.old.opened self.new.opened self.old.taken self.new.taken (IsOk result) }
+    {
+        self.open()?;
+        self.count_pairs(scan.pairs);
+        Ok(self.is_valid(position, scan.ends))
     }
 }

@@ -24,23 +24,23 @@ ghost use Rattle.rbg_search.specs.internal.Behind.{IsReady, RunsBehindPair, Some
 ghost use Rattle.rbg_pairs.specs.Closure.{at_vertex};
 ghost use Rattle.rbg_pairs.specs.Nesting.{NestsFrom};
 ghost use Rattle.rbg_auto.specs.Steps.{AreAllThatFollow};
-ghost use Rattle.rbg_pairs.specs.Part.{HasMarksOf, IsOutcome};
+ghost use Rattle.rbg_pairs.specs.Part.{HasMarksOf, IsTrialAt};
 ghost use Rattle.rbg_search.specs.internal.Spent.{IsSpent, IsSpentButOne};
-ghost use Rattle.rbg_search.specs.internal.Straight.{IsWalked};
+ghost use Rattle.rbg_search.specs.internal.Straight.{IsScanned};
 
 use crate::answer::is_valid;
+use crate::buffers::Buffers;
 use crate::fitting::{fitting_sets, flats_for, keep_flats};
-use crate::only::only_modifier;
 use crate::order::sort;
 use crate::over::Over;
-use crate::walk::{Walk, dead_end, walk_inside};
-use crate::workspace::Workspace;
+use crate::scan::{PatternScan, dead_end, scan_inside};
+use crate::single::only_modifier;
 use rbg_auto::{Expr, Steps};
-use rbg_base::{Memory, Position, Vertex};
+use rbg_base::{Pair, Position, Vertex};
 use rbg_flat::{Flat as SetFlat, Modifiers, Paths};
-use rbg_pairs::{Flat, GameSteps, Origin, Outcome};
+use rbg_pairs::{Flat, GameSteps, Origin};
 use rbg_rules::Game;
-use rbg_state::SemiState;
+use rbg_state::{SemiState, Trial};
 use std::alloc::Global;
 use std::marker::Model;
 use std::mem::replace;
@@ -56,9 +56,9 @@ pub struct Budget {
 
 /// What is reached without a modifier.
 #[derive(Drop)]
-pub struct Reached {
+pub struct FlatPart {
     /// The valid modifiers that come next, each with the vertex where it is valid.
-    pub pairs: Vec<(Vertex, Position)>,
+    pub pairs: Vec<Pair>,
     /// Whether a word may end with no modifier more.
     pub ends: bool,
 }
@@ -179,26 +179,8 @@ impl<'a, S: Steps> Search<'a, S> {
         }
     }
 
-    /// A search that has taken up no opening, with the buffers of a workspace.
-    pub fn with_workspace(
-        alloc: Global,
-        game: &'a Game,
-        steps: &'a S,
-        budget: Budget,
-        workspace: &mut Workspace,
-    ) -> Search<'a, S>
-        requires { S.of_rules steps.now game.now.rules }
-        ensures game { result.game ≡ game.now }
-        ensures openings { result.openings ≡ budget.openings }
-        ensures modifiers { result.modifiers ≡ max budget.modifiers 1 }
-        ensures opened { result.opened ≡ 0 }
-        ensures taken { result.taken ≡ 0 }
-        ensures tally { workspace.new ≡ workspace.old }
-    {
-        Search::with_paths(alloc, game, steps, None, budget, workspace)
-    }
-
-    /// As `with_workspace`, with the paths of the game where it has some: then flat parts are found by sets.
+    /// A search that has taken up no opening, with these buffers, and with the paths of the game where it has some: then
+    /// flat parts are found by sets.
     #[inline(always)]
     pub fn with_paths(
         alloc: Global,
@@ -206,7 +188,7 @@ impl<'a, S: Steps> Search<'a, S> {
         steps: &'a S,
         paths: Option<&'a Paths>,
         budget: Budget,
-        workspace: &mut Workspace,
+        buffers: &mut Buffers,
     ) -> Search<'a, S>
         requires steps { S.of_rules steps.now game.now.rules }
         requires paths { IfSome paths (λ told. ArePathsOf game.now told.now) }
@@ -215,28 +197,28 @@ impl<'a, S: Steps> Search<'a, S> {
         ensures modifiers { result.modifiers ≡ max budget.modifiers 1 }
         ensures opened { result.opened ≡ 0 }
         ensures taken { result.taken ≡ 0 }
-        ensures tally { workspace.new ≡ workspace.old }
+        ensures tally { buffers.new ≡ buffers.old }
     {
-        let flats = flats_for(alloc, game, paths, workspace);
-        let sets = replace(&mut workspace.sets, Vec::new(alloc));
+        let flats = flats_for(alloc, game, paths, buffers);
+        let sets = replace(&mut buffers.sets, Vec::new(alloc));
         let sets = fitting_sets(alloc, game, sets);
-        let lists = replace(&mut workspace.lists, Vec::new(alloc));
+        let lists = replace(&mut buffers.lists, Vec::new(alloc));
         Search::with_buffers(alloc, game, steps, paths, budget, flats, sets, lists)
     }
 
-    /// Ends the search. A workspace gets its buffers, and counts what it took up; at the greatest number it stays.
+    /// Ends the search, and gives its buffers back. What it took up is counted there; at the greatest number it stays.
     #[inline(always)]
-    pub fn leave(self, workspace: &mut Workspace)
-        ensures openings { workspace.new.openings
-            ≡ min (workspace.old.openings + self.entry.opened) (2 ^ 64 - 1) }
-        ensures pairs { workspace.new.pairs
-            ≡ min (workspace.old.pairs + self.entry.taken) (2 ^ 64 - 1) }
+    pub fn leave(self, buffers: &mut Buffers)
+        ensures openings { buffers.new.openings
+            ≡ min (buffers.old.openings + self.entry.opened) (2 ^ 64 - 1) }
+        ensures pairs { buffers.new.pairs
+            ≡ min (buffers.old.pairs + self.entry.taken) (2 ^ 64 - 1) }
     {
-        workspace.openings = workspace.openings.saturating_add(u64::from(self.opened));
-        workspace.pairs = workspace.pairs.saturating_add(self.taken);
-        keep_flats(workspace, self.flats);
-        workspace.sets = self.sets;
-        workspace.lists = self.lists;
+        buffers.openings = buffers.openings.saturating_add(u64::from(self.opened));
+        buffers.pairs = buffers.pairs.saturating_add(self.taken);
+        keep_flats(buffers, self.flats);
+        buffers.sets = self.sets;
+        buffers.lists = self.lists;
     }
 
     /// The game that is searched.
@@ -266,7 +248,7 @@ impl<'a, S: Steps> Search<'a, S> {
 
     /// What is reached from a semi-state and a place in the rules with no modifier before it, in order of vertices and
     /// then of positions. The semi-state is given back.
-    pub fn reach(&mut self, state: &mut SemiState, origin: Origin) -> Result<Reached, Over>
+    pub fn reach(&mut self, state: &mut SemiState, origin: Origin) -> Result<FlatPart, Over>
         requires fits { IsStateOf self.old.game state.old.state }
         requires stands { IsStart self.old.game.rules (start_of origin) }
         ensures answered { IsAnswered self.old self.new state.old state.new reach (start_of origin)
@@ -281,7 +263,7 @@ impl<'a, S: Steps> Search<'a, S> {
         found.write_to(&mut pairs)?;
         self.keep_list(found);
         sort(&mut pairs);
-        Ok(Reached { pairs, ends })
+        Ok(FlatPart { pairs, ends })
     }
 
     /// As `reach`, with the modifiers by words, in a list that is lent. Returns whether a word may end with no modifier more.
@@ -319,8 +301,8 @@ impl<'a, S: Steps> Search<'a, S> {
         requires fits { IsStateOf self.old.game state.old.state }
         requires stands { IsStart self.old.game.rules (start_of origin) }
         requires only { AreAllThatFollow self.old.game.rules (start_of origin) (position ∷ []) }
-        requires modifies { IsOutcome self.old.game state.old.state state.old.state.vertex position
-            Outcome.Modifies }
+        requires modifies { IsTrialAt self.old.game state.old.state state.old.state.vertex position
+            Trial.Modifies }
         ensures asked { IsAsked self.old self.new state.old state.new reach state.old.state
             (start_of origin) self.old.modifiers result }
         ensures found { IfOk result (λ ends. HasReached self.old self.new state.old state.new
@@ -432,22 +414,22 @@ impl<'a, S: Steps> Search<'a, S> {
         is_valid(self.rules.game(), position, runs)
     }
 
-    /// Walks along the inside of a pattern at a vertex, where that is a straight line, or where nothing goes on from its
+    /// Scans along the inside of a pattern at a vertex, where that is a straight line, or where nothing goes on from its
     /// beginning.
-    fn walk(&self, state: &SemiState, vertex: Vertex, position: Position) -> Option<Walk>
+    fn scan(&self, state: &SemiState, vertex: Vertex, position: Position) -> Option<PatternScan>
         requires fits { IsStateOf self.now.game state.now.state }
         requires vertex { vertex < length state.now.state.pieces }
         requires there { IsPatternAt self.now.game.rules position }
-        ensures walked { IfSome result (λ walk.
-            IsWalked self.now.game (at_vertex state.now.state vertex)
-            (beginning (inside position)) walk.ends) }
-        ensures few { IfSome result (λ walk. walk.pairs ≤ most_pairs_of self.now.game) }
-        ensures taken { IfSome result (λ walk.
+        ensures scanned { IfSome result (λ scan.
+            IsScanned self.now.game (at_vertex state.now.state vertex)
+            (beginning (inside position)) scan.ends) }
+        ensures few { IfSome result (λ scan. scan.pairs ≤ most_pairs_of self.now.game) }
+        ensures taken { IfSome result (λ scan.
             HasCandidates self.now.game (at_vertex state.now.state vertex)
-            (beginning (inside position)) walk.pairs) }
+            (beginning (inside position)) scan.pairs) }
     {
-        match walk_inside(&self.rules, state, vertex, position) {
-            Some(walk) => Some(walk),
+        match scan_inside(&self.rules, state, vertex, position) {
+            Some(scan) => Some(scan),
             None => dead_end(&self.rules, state, vertex, position),
         }
     }
@@ -496,7 +478,7 @@ impl<'a, S: Steps> Search<'a, S> {
     {
         self.enter(state)?;
         let mut flat = self.begun(origin, state.vertex())?;
-        while let Some((vertex, position)) = self.advance(&mut flat, state)? {
+        while let Some(Pair { vertex, position }) = self.advance(&mut flat, state)? {
             let valid = self.ask(state, vertex, position, nested)?;
             self.take(&mut flat, vertex, position, valid)?;
         }
@@ -525,7 +507,7 @@ impl<'a, S: Steps> Search<'a, S> {
     {
         self.enter(state)?;
         let mut flat = self.begun_by_sets(paths, state, origin)?;
-        while let Some((vertex, position)) = self.advance_by_sets(paths, &mut flat, state) {
+        while let Some(Pair { vertex, position }) = self.advance_by_sets(paths, &mut flat, state) {
             let valid = self.ask(state, vertex, position, nested)?;
             self.take_by_sets(paths, &mut flat, state, vertex, position, valid);
         }
@@ -558,8 +540,8 @@ impl<'a, S: Steps> Search<'a, S> {
             (at_vertex state.old.state vertex) (beginning (inside position))
             self.old.opened self.new.opened self.old.modifiers self.old.modifiers) }
     {
-        if let Some(walk) = self.walk(state, vertex, position) {
-            return self.answer(position, walk);
+        if let Some(scan) = self.scan(state, vertex, position) {
+            return self.answer(position, scan);
         }
         let modifiers = self.budget.modifiers;
         let mark = state.mark();
@@ -624,11 +606,11 @@ impl<'a, S: Steps> Search<'a, S> {
             self.old.opened self.new.opened modifiers self.old.modifiers) }
     {
         // which questions are above the limits doesn't depend on how the modifiers were met
-        while let Some((vertex, position)) = pairs.take_least() {
+        while let Some(pair) = pairs.take_least() {
             if modifiers <= 1 {
                 return Err(Over::Deep);
             }
-            if self.runs_behind_one(state, vertex, position, nested, modifiers)? {
+            if self.runs_behind_one(state, pair, nested, modifiers)? {
                 return Ok(true);
             }
         }
@@ -640,30 +622,29 @@ impl<'a, S: Steps> Search<'a, S> {
     fn runs_behind_one(
         &mut self,
         state: &mut SemiState,
-        vertex: Vertex,
-        position: Position,
+        pair: Pair,
         nested: u8,
         modifiers: u16,
     ) -> Result<bool, Over>
         requires fits { IsStateOf self.old.game state.old.state }
         requires room { 2 ≤ state.old.room }
-        requires ready { IsReady self.old.game state.old.state nested (vertex, position) }
-        requires inside { StandsInPattern self.old.game.rules (after position) }
+        requires ready { IsReady self.old.game state.old.state nested pair }
+        requires inside { StandsInPattern self.old.game.rules (after pair.1) }
         requires some { 0 < modifiers }
         ensures asked { (later : AbstractState)
-            → Applies self.old.game position (at_vertex state.old.state vertex) later
-            → IsAsked self.old self.new state.old state.new pattern later (after position)
+            → Applies self.old.game pair.1 (at_vertex state.old.state pair.0) later
+            → IsAsked self.old self.new state.old state.new pattern later (after pair.1)
             (modifiers - 1) result }
         ensures answer { IfOk result (λ runs.
-            IsTrue runs ↔ RunsBehindPair self.old.game state.old.state vertex position) }
+            IsTrue runs ↔ RunsBehindPair self.old.game state.old.state pair.0 pair.1) }
         ensures forced { OnOk result ((cut : Bool) (later : AbstractState)
-            → Applies self.old.game position (at_vertex state.old.state vertex) later
-            → CountsForced self.old.game cut pattern later (after position)
+            → Applies self.old.game pair.1 (at_vertex state.old.state pair.0) later
+            → CountsForced self.old.game cut pattern later (after pair.1)
             self.old.opened self.new.opened (modifiers - 1) self.old.modifiers) }
     {
         let mark = state.mark();
-        self.apply_at(state, vertex, position);
-        let runs = self.word_runs(state, Origin::After(position), nested, modifiers - 1);
+        self.apply_at(state, pair.vertex, pair.position);
+        let runs = self.word_runs(state, Origin::After(pair.position), nested, modifiers - 1);
         state.undo_to(mark);
         Ok(runs?)
     }

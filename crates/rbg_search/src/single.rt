@@ -1,15 +1,14 @@
-//! A flat part that is one modifier alone: it needs no queue.
-ghost use Rattle.std.specs.Prelude.{[], ◌∷◌, IfSome};
+//! Where one action alone may come next: a flat part that is one modifier needs no queue.
+ghost use Rattle.std.specs.Prelude.{◌≡◌, [], ◌∷◌, IfSome};
 ghost use Rattle.rbg_rules.specs.State.{IsStateOf};
 ghost use Rattle.rbg_auto.specs.Steps.{AreAllThatFollow};
 ghost use Rattle.rbg_pairs.specs.Start.{start_of};
-ghost use Rattle.rbg_pairs.specs.Part.{IsOutcome};
+ghost use Rattle.rbg_pairs.specs.Part.{IsTrialAt};
 
-use crate::walk::only;
 use rbg_auto::{Glance, Steps};
 use rbg_base::Position;
-use rbg_pairs::{GameSteps, Origin, Outcome, tried};
-use rbg_state::SemiState;
+use rbg_pairs::{GameSteps, Origin, tried};
+use rbg_state::{SemiState, Trial};
 
 /// The position of the one action that may come next, where there is one alone and it is a modifier that is valid here.
 #[inline(always)]
@@ -22,7 +21,7 @@ pub(crate) fn only_modifier<S: Steps>(
     ensures only { IfSome result (λ p.
         AreAllThatFollow rules.now.rules (start_of origin) (p ∷ [])) }
     ensures modifies { IfSome result (λ p.
-        IsOutcome rules.now state.now.state state.now.state.vertex p Outcome.Modifies) }
+        IsTrialAt rules.now state.now.state state.now.state.vertex p Trial.Modifies) }
 {
     let position = only(rules.following(origin))?;
     match rules.glance(position) {
@@ -30,7 +29,17 @@ pub(crate) fn only_modifier<S: Steps>(
         Glance::Shift(_) | Glance::On(_) | Glance::OnEither(_, _) | Glance::Pattern => return None,
     }
     match tried(rules, state, state.vertex(), position)? {
-        Outcome::Modifies => Some(position),
-        Outcome::Invalid | Outcome::LeadsTo(_) => None,
+        Trial::Modifies => Some(position),
+        Trial::Invalid | Trial::LeadsTo(_) => None,
+    }
+}
+
+/// The one position of a list that has one.
+pub(crate) fn only(positions: &[Position]) -> Option<Position>
+    ensures { IfSome result (λ p. positions.now ≡ p ∷ []) }
+{
+    match positions {
+        [position] => Some(*position),
+        _ => None,
     }
 }

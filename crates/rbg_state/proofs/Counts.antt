@@ -1,5 +1,5 @@
 -- A piece stands on as many vertices as its row has bits.
-use Rattle.std.proofs.Common.{◌≡◌, ◌≢◌, ℕ, zero, suc, ◌+◌, ◌*◌, ◌/◌, ◌%◌, ◌^◌, ◌<◌, ◌≤◌, ◌==◌, inl, inr, List, length, get_or, take, Some, Bool, true, false, sym, ap, subst, ◌∙◌, arith, add-one}
+use Rattle.std.proofs.Common.{◌≡◌, ℕ, zero, suc, ◌+◌, ◌*◌, ◌/◌, ◌%◌, ◌^◌, ◌<◌, ◌≤◌, ◌==◌, inl, inr, List, length, get_or, take, Some, sym, ap, subst, ◌∙◌, arith}
 use Rattle.std.specs.Prelude.{◌↔◌, count_by, count_ones, slice_get}
 use Rattle.std.specs.Int.{bit_at}
 use Rattle.std.specs.Int.Count.{ones_step}

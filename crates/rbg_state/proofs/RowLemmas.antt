@@ -1,13 +1,11 @@
 -- Rows of bits stay right where a piece is put on a vertex.
-use Rattle.std.proofs.Common.{◌≡◌, ◌≢◌, ℕ, ◌+◌, ◌*◌, ◌/◌, ◌%◌, ◌<◌, ◌≤◌, ◌^◌, ◌⊎◌, inl, inr, List, [], length, get_or, take, drop, Some, sym, ap, subst, ◌∙◌, slice_set, slice_get, replicate, arith}
-use Rattle.std.specs.Prelude.{◌↔◌, bit_or, bit_and, slice_range}
+use Rattle.std.proofs.Common.{◌≡◌, ◌≢◌, ℕ, ◌+◌, ◌*◌, ◌/◌, ◌%◌, ◌<◌, ◌^◌, ◌⊎◌, inl, inr, List, [], length, get_or, Some, sym, ap, subst, ◌∙◌, slice_set, replicate, arith}
+use Rattle.std.specs.Prelude.{◌↔◌, bit_or, bit_and}
 use Rattle.std.specs.Int.{bit_at, bit_not, w64}
-use Rattle.std.proofs.lemmas.Bool.{cases_lt}
 use Rattle.std.proofs.lemmas.Nat.{div-mul-add}
 use Rattle.std.proofs.lemmas.Nat.Bits.{bit_at-zero, bit_at_set_same, bit_at_set_other, bit_at_clear_same, bit_at_clear_other}
-use Rattle.std.proofs.lemmas.List.{length-set, get_or-set_same, get_or-set_other, get_or_past, get_or-replicate, length-take-le, length-drop, get_or-drop, get_or-take, length-replicate}
+use Rattle.std.proofs.lemmas.List.{length-set, get_or-set_same, get_or-set_other, get_or-replicate, length-replicate}
 use Rattle.std.proofs.lemmas.Option.{slice_get-get_or, get_or_from_slice_get, slice_get_within}
-use Rattle.std.proofs.lemmas.Slice.{between_is}
 use native.Mathlib.Decide.{ℕ_discrete}
 use Rattle.rbg_state.specs.Rows.{IsWordOf, word_of, HasBit, bit_in, AreRows, ChangesBit, ChangesWord}
 

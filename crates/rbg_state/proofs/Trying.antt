@@ -1,5 +1,6 @@
 -- What is told of an action that is tried, and of the position where it stands.
-use Rattle.std.proofs.Common.{◌≡◌, ℕ, ◌<◌, Bool, true, false, sym, refl, ap, subst, ◌∙◌, length}
+use Rattle.std.proofs.Common.{◌≡◌, ℕ, ◌<◌, true, false, sym, refl, ap, subst, ◌∙◌, length}
+use Rattle.std.specs.Prelude.{Option, Some, None, IfSome, IfNone}
 use Rattle.rbg_base.specs.declared.relation.Relation.{Relation}
 use Rattle.rbg_rules.specs.Expression.{AbstractArithmetic, number, variable, piece_count, negated, sum, difference, product, quotient, AbstractAction, comparison}
 use Rattle.rbg_rules.specs.Positions.{HasAction, IsPatternAt, is_modifier}
@@ -17,7 +18,7 @@ use Rattle.rbg_rules.proofs.StateLemmas.{state_law}
 use Rattle.rbg_rules.proofs.TableLemmas.{pattern_stands}
 use Rattle.rbg_state.specs.Trials.{Tells, IsTrial}
 use Rattle.rbg_state.specs.declared.state.trials.Trial.{Trial}
-use Rattle.rbg_state.specs.declared.state.trials.Trial.TheVariants.{Invalid, Modifies, Pattern, LeadsTo}
+use Rattle.rbg_state.specs.declared.state.trials.Trial.TheVariants.{Invalid, Modifies, LeadsTo}
 use Rattle.rbg_state.proofs.Applying.{ShownAction, shown_action}
 
 -- the semi-state with this current vertex
@@ -45,26 +46,25 @@ compares_here game e f r s t v (x, y, left, right, holds, same) = (x, y, sym (sa
 true_not_false : true ≡ false → ⊥
 true_not_false e = cc
 
-module _ (game : AbstractGame) (lawful : IsGame game) (p : ℕ) (i : Action) (stands : Stands game.rules p i) (s : AbstractState) where
-  tried_by : (trial : Trial) → ShownAction game.rules p i → ((a : AbstractAction) → Shows a i → Tells game a s trial) → IsTrial game s p trial
-  tried_by Invalid here tells = λ u applies. tells here.action here.shown u (applied_acts game lawful.numbered p here.action here.stands applies)
-  tried_by Modifies here tells =
-      let (modifies, (t, acts)) = tells here.action here.shown in
-      (record { action = here.action; stands = here.stands; modifies = modifies }, (t, record { action = here.action; stands = here.stands; acts = acts }))
-  tried_by Pattern here tells = absurd (tells here.action here.shown)
-  tried_by (LeadsTo v) here tells =
-      let (quiet, acts) = tells here.action here.shown in
-      ((λ m. true_not_false (sym m.modifies ∙ ap is_modifier (one_stands game.rules lawful.numbered p m.action here.action m.stands here.stands) ∙ quiet)), record { action = here.action; stands = here.stands; acts = acts })
+module _ (game : AbstractGame) (lawful : IsGame game) (p : ℕ) (i : Action) (stands : Stands game.rules p i) where
+  tried_by : (s : AbstractState) (trial : Trial) (here : ShownAction game.rules p i) → Tells game here.action s trial → IsTrial game s p trial
+  tried_by s Invalid here none = λ u applies. none u (applied_acts game lawful.numbered p here.action here.stands applies)
+  tried_by s Modifies here (modifies, (t, acts)) = (record { action = here.action; stands = here.stands; modifies = modifies }, (t, record { action = here.action; stands = here.stands; acts = acts }))
+  tried_by s (LeadsTo v) here (quiet, acts) = ((λ m. true_not_false (sym m.modifies ∙ ap is_modifier (one_stands game.rules lawful.numbered p m.action here.action m.stands here.stands) ∙ quiet)), record { action = here.action; stands = here.stands; acts = acts })
 
-  pub tried : (trial : Trial) → (shows_pattern i ≡ false → (a : AbstractAction) → Shows a i → Tells game a s trial) → (shows_pattern i ≡ true → trial ≡ Pattern) → IsTrial game s p trial
-  tried trial tells asks = by_kind (shows_pattern i) refl
-    where
-      by_kind : (r : Bool) → shows_pattern i ≡ r → IsTrial game s p trial
-      by_kind true is = subst (IsTrial game s p) (sym (asks is)) ((pattern_stands game.rules lawful.numbered p i stands).0 is)
-      by_kind false is = tried_by trial (shown_action game.rules p i is stands) (tells is)
+  -- What is told of an action that is shown at a position is told of the position.
+  pub tried : (s : AbstractState) (told : Option Trial) → IfSome told (λ trial. (a : AbstractAction) → Shows a i → Tells game a s trial) → IfSome told (λ _. shows_pattern i ≡ false) → IfSome told (IsTrial game s p)
+  tried s None tells plain = _
+  tried s (Some trial) tells plain = let here = shown_action game.rules p i plain stands in tried_by s trial here (tells here.action here.shown)
 
-  pub tried_pattern : (trial : Trial) → (shows_pattern i ≡ true → trial ≡ Pattern) → IsPatternAt game.rules p → trial ≡ Pattern
-  tried_pattern trial asks is = asks ((pattern_stands game.rules lawful.numbered p i stands).1 is)
+  -- Something is told exactly where no pattern stands.
+  pub tried_plain : (told : Option Trial) → IfSome told (λ _. shows_pattern i ≡ false) → IfSome told (λ _. ¬ IsPatternAt game.rules p)
+  tried_plain None plain = _
+  tried_plain (Some trial) plain = λ is. true_not_false (sym ((pattern_stands game.rules lawful.numbered p i stands).1 is) ∙ plain)
+
+  pub tried_pattern : (told : Option Trial) → IfNone told (shows_pattern i ≡ true) → IfNone told (IsPatternAt game.rules p)
+  tried_pattern None is = (pattern_stands game.rules lawful.numbered p i stands).0 is
+  tried_pattern (Some trial) is = _
 
 -- An action that is shown at a position is one of the game's.
 pub named_here : (game : AbstractGame) → IsGame game → (p : ℕ) (i : Action) → Stands game.rules p i → (a : AbstractAction) → Shows a i → IsActionOf game a
@@ -78,8 +78,9 @@ named_here game lawful p Positive stands a (x, shown) = subst (IsActionOf game) 
 named_here game lawful p Negative stands a (x, shown) = subst (IsActionOf game) (sym shown) _
 
 -- The vertex where an action leads is one of the board.
-pub leads_within : (game : AbstractGame) (lawful : IsGame game) (p : ℕ) (s : AbstractState) (v u : ℕ) → IsStateOf game s → v < length s.pieces → (trial : Trial) → IsTrial game (standing s v) p trial → trial ≡ LeadsTo u → u < length s.pieces
-leads_within game lawful p s v u fits below trial told is =
+pub leads_within : (game : AbstractGame) (lawful : IsGame game) (p : ℕ) (s : AbstractState) (v : ℕ) → IsStateOf game s → v < length s.pieces → (told : Option Trial) → IfSome told (IsTrial game (standing s v) p) → IfSome told (λ trial. (u : ℕ) → trial ≡ LeadsTo u → u < length s.pieces)
+leads_within game lawful p s v fits below None told = _
+leads_within game lawful p s v fits below (Some trial) told = λ u is.
     let there : IsTrial game (standing s v) p (LeadsTo u) = subst (IsTrial game (standing s v) p) is told in
     let stands_there : IsStateOf game (standing s v) = record { player = fits.player; vertices = fits.vertices; pieces = fits.pieces; variables = fits.variables; bounds = fits.bounds; vertex = below } in
     let fits_there : IsStateOf game (standing s u) = (state_law game lawful).1 p (standing s v) (standing s u) stands_there there.1 in

@@ -1,26 +1,23 @@
 -- What an action would do where it is tried.
 use Rattle.std.specs.Prelude.{◌≡◌, ℕ, true, false}
 use Rattle.rbg_rules.specs.Expression.{AbstractAction}
-use Rattle.rbg_rules.specs.Positions.{is_modifier, IsModifierAt, IsPatternAt}
+use Rattle.rbg_rules.specs.Positions.{is_modifier, IsModifierAt}
 use Rattle.rbg_rules.specs.State.{AbstractGame, AbstractState}
 use Rattle.rbg_rules.specs.Actions.{Acts, Applies}
 use Rattle.rbg_state.specs.declared.state.trials.Trial.{Trial}
-use Rattle.rbg_state.specs.declared.state.trials.Trial.TheVariants.{Invalid, Modifies, Pattern, LeadsTo}
+use Rattle.rbg_state.specs.declared.state.trials.Trial.TheVariants.{Invalid, Modifies, LeadsTo}
 
 -- What is told of an action in s, which is no pattern.
 --   Invalid: the action takes s nowhere
 --   Modifies: it is a modifier, and takes s somewhere
---   Pattern: no such action, as this is told of patterns alone
 --   LeadsTo: it is no modifier, and takes s to this vertex; nothing else changes
 abbrev pub Tells : AbstractGame → AbstractAction → AbstractState → Trial → Type 0
 Tells game a s Invalid = (t : AbstractState) → ¬ Acts game a s t
 Tells game a s Modifies = (is_modifier a ≡ true) × ((t : AbstractState) × Acts game a s t)
-Tells game a s Pattern = ⊥
 Tells game a s (LeadsTo v) = (is_modifier a ≡ false) × Acts game a s (record s { vertex = v })
 
--- The same of the action at position p of the game, which may be a pattern.
+-- The same of the action at position p of the game.
 abbrev pub IsTrial : AbstractGame → AbstractState → ℕ → Trial → Type 0
 IsTrial game s p Invalid = (t : AbstractState) → ¬ Applies game p s t
 IsTrial game s p Modifies = IsModifierAt game.rules p × ((t : AbstractState) × Applies game p s t)
-IsTrial game s p Pattern = IsPatternAt game.rules p
 IsTrial game s p (LeadsTo v) = (¬ IsModifierAt game.rules p) × Applies game p s (record s { vertex = v })

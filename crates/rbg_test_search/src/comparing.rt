@@ -16,7 +16,7 @@ use rbg_auto::{Expr, Steps};
 use rbg_base::Position;
 use rbg_moves::Place;
 use rbg_rules::Game;
-use rbg_search::{Budget, Origin, Over, Reached, Search, Workspace};
+use rbg_search::{Budget, Buffers, FlatPart, Origin, Over, Search};
 
 /// What searches may take up here: what goes on for ever ends soon.
 const BUDGET: Budget = Budget {
@@ -56,8 +56,8 @@ fn reach<S: Steps>(
     asked: &Asked<'_, S>,
     place: &Place,
     origin: Origin,
-    workspace: &mut Workspace,
-) -> Result<Result<Reached, Over>, Odd>
+    buffers: &mut Buffers,
+) -> Result<Result<FlatPart, Over>, Odd>
     requires steps { S.of_rules asked.now.steps.now asked.now.game.now.rules }
     requires paths { IfSome asked.now.paths (λ told. ArePathsOf asked.now.game.now told.now) }
     requires place { IsPlaceOf asked.now.game.now place.now }
@@ -70,16 +70,16 @@ fn reach<S: Steps>(
         asked.steps,
         asked.paths,
         BUDGET,
-        workspace,
+        buffers,
     );
     let reached = search.reach(&mut state, origin);
-    search.leave(workspace);
+    search.leave(buffers);
     expect(state == place.state, Odd::Reach)?;
     Ok(reached)
 }
 
 /// Compares what is reached with the slow answer.
-fn expect_reached(reached: Result<Reached, Over>, next: &Next) -> Result<(), Odd> {
+fn expect_reached(reached: Result<FlatPart, Over>, next: &Next) -> Result<(), Odd> {
     let Ok(reached) = reached else {
         return expect(!next.whole, Odd::Limits);
     };
@@ -101,7 +101,7 @@ fn compare_start<S: Steps>(
     world: &World,
     origin: Origin,
     words: &[Word],
-    workspace: &mut Workspace,
+    buffers: &mut Buffers,
     tally: &mut Tally,
 ) -> Result<(), Odd>
     requires steps { S.of_rules asked.now.steps.now asked.now.game.now.rules }
@@ -111,7 +111,7 @@ fn compare_start<S: Steps>(
 {
     let next = asked.rules.next(asked.alloc, world, words)?;
     tally.count_next(&next);
-    let reached = reach(asked, place, origin, workspace)?;
+    let reached = reach(asked, place, origin, buffers)?;
     expect_reached(reached, &next)
 }
 
@@ -120,7 +120,7 @@ fn pattern<S: Steps>(
     asked: &Asked<'_, S>,
     place: &Place,
     position: Position,
-    workspace: &mut Workspace,
+    buffers: &mut Buffers,
 ) -> Result<Result<bool, Over>, Odd>
     requires steps { S.of_rules asked.now.steps.now asked.now.game.now.rules }
     requires paths { IfSome asked.now.paths (λ told. ArePathsOf asked.now.game.now told.now) }
@@ -134,10 +134,10 @@ fn pattern<S: Steps>(
         asked.steps,
         asked.paths,
         BUDGET,
-        workspace,
+        buffers,
     );
     let valid = search.pattern(&mut state, position);
-    search.leave(workspace);
+    search.leave(buffers);
     expect(state == place.state, Odd::Pattern)?;
     Ok(valid)
 }
@@ -166,7 +166,7 @@ fn compare_position<S: Steps>(
     place: &Place,
     world: &World,
     position: Position,
-    workspace: &mut Workspace,
+    buffers: &mut Buffers,
     tally: &mut Tally,
 ) -> Result<(), Odd>
     requires steps { S.of_rules asked.now.steps.now asked.now.game.now.rules }
@@ -179,7 +179,7 @@ fn compare_position<S: Steps>(
         return Err(Odd::Load);
     };
     let origin = after(asked.game, position);
-    compare_start(asked, place, world, origin, &entry.rests, workspace, tally)?;
+    compare_start(asked, place, world, origin, &entry.rests, buffers, tally)?;
     let Stands::Pattern { words, .. } = &entry.stands else {
         return expect(!asked.game.is_pattern(position), Odd::Load);
     };
@@ -187,8 +187,8 @@ fn compare_position<S: Steps>(
         return Err(Odd::Load);
     }
     let origin = in_pattern(asked.game, position);
-    compare_start(asked, place, world, origin, words, workspace, tally)?;
-    let valid = pattern(asked, place, position, workspace)?;
+    compare_start(asked, place, world, origin, words, buffers, tally)?;
+    let valid = pattern(asked, place, position, buffers)?;
     expect_pattern(valid, asked.rules.is_valid(world, position), tally)
 }
 
@@ -203,12 +203,12 @@ pub(crate) fn compare_reach<S: Steps>(
     requires paths { IfSome asked.now.paths (λ told. ArePathsOf asked.now.game.now told.now) }
     requires place { IsPlaceOf asked.now.game.now place.now }
 {
-    let mut workspace = Workspace::new(asked.alloc);
+    let mut buffers = Buffers::new(asked.alloc);
     let origin = at_beginning(asked.game);
     let words = asked.rules.table.words.as_slice();
-    compare_start(asked, place, world, origin, words, &mut workspace, tally)?;
+    compare_start(asked, place, world, origin, words, &mut buffers, tally)?;
     for position in 1..=asked.game.positions() as Position {
-        compare_position(asked, place, world, position, &mut workspace, tally)?;
+        compare_position(asked, place, world, position, &mut buffers, tally)?;
     }
     Ok(())
 }

@@ -4,7 +4,7 @@ use crate::board::Board;
 use crate::table::{Stands, Table};
 use crate::words::{LETTERS, Word};
 use crate::world::World;
-use rbg_base::{Position, Vertex};
+use rbg_base::Position;
 use rbg_moves::Pair;
 use std::alloc::{AllocError, Global};
 
@@ -39,7 +39,7 @@ pub(crate) struct Rules<'a> {
 #[derive(Drop)]
 pub(crate) struct Next {
     /// The modifiers that come next, each once, with the vertex where it is valid.
-    pub(crate) pairs: Vec<(Vertex, Position)>,
+    pub(crate) pairs: Vec<Pair>,
     /// Whether a word may end.
     pub(crate) ends: bool,
     /// Whether that is all.
@@ -160,7 +160,11 @@ impl Rules<'_> {
             };
             match self.try_at(&world, position, NESTED) {
                 Tried::To(_) if self.table.is_modifier(position) => {
-                    return add_pair(&mut next.pairs, (world.vertex, position));
+                    let pair = Pair {
+                        vertex: world.vertex,
+                        position,
+                    };
+                    return add_pair(&mut next.pairs, pair);
                 }
                 Tried::To(after) => world = after,
                 Tried::Invalid => return Ok(()),
@@ -260,10 +264,7 @@ impl Moves {
 }
 
 /// Adds a pair to a list that doesn't have it.
-fn add_pair(
-    pairs: &mut Vec<(Vertex, Position)>,
-    pair: (Vertex, Position),
-) -> Result<(), AllocError> {
+fn add_pair(pairs: &mut Vec<Pair>, pair: Pair) -> Result<(), AllocError> {
     if pairs.contains(&pair) {
         return Ok(());
     }

@@ -1,4 +1,4 @@
--- A straight line of actions that is walked along.
+-- A straight line of actions that is scanned along.
 use Rattle.std.specs.Prelude.{◌≢◌, ℕ, ◌<◌, List, [], ◌∷◌, ◌++◌, All, AllPairs, Bool}
 use Rattle.rbg_rules.specs.Positions.{IsPatternAt}
 use Rattle.rbg_rules.specs.Words.{Start}
@@ -9,13 +9,13 @@ use Rattle.rbg_pairs.specs.Part.{IsPart}
 use Rattle.rbg_pairs.specs.Plain.{HasPlain}
 
 -- The flat part is whole: it has no modifier, no pattern may come in it, and `ends` tells whether a word may end.
-pub record IsWalked (game : AbstractGame) (s : AbstractState) (f : Start) (ends : Bool) : Type 0 where
+pub record IsScanned (game : AbstractGame) (s : AbstractState) (f : Start) (ends : Bool) : Type 0 where
   pub part : IsFlatPart game s f [] ends
   pub quiet : (v p : ℕ) → Reached game s f v p → ¬ IsPatternAt game.rules p
 
 -- So many pairs were tried so far that are no shifts, none at a pattern or a valid modifier, each at a position before p;
 -- and position p at vertex v is all that is left.
-pub record IsWalking
+pub record IsScanning
     (game : AbstractGame) (s : AbstractState) (f : Start) (v p : ℕ) (ends : Bool) (many : ℕ)
     : Type 0
   where

@@ -1,5 +1,5 @@
 //! What the actions of a game would do to a semi-state, which stays as it is.
-ghost use Rattle.std.specs.Prelude.{◌≡◌, ℕ, ◌<◌, ◌≤◌, ◌↔◌, true, false, length, slice_index, Contains, IsTrue, Option};
+ghost use Rattle.std.specs.Prelude.{◌≡◌, ℕ, ◌<◌, ◌≤◌, ◌↔◌, true, false, length, slice_index, Contains, IfSome, IfNone, IsTrue, Option};
 ghost use Rattle.rbg_board.specs.Graph.{next};
 ghost use Rattle.rbg_rules.specs.Expression.{AbstractAction, shift, on, assignment, comparison};
 ghost use Rattle.rbg_rules.specs.State.{AbstractGame, AbstractState, IsStateOf};
@@ -23,53 +23,57 @@ pub enum Trial {
     Invalid,
     /// It is a modifier, and valid there.
     Modifies,
-    /// It is a pattern, whose inside wasn't tried.
-    Pattern,
     /// It is no modifier and valid there, and leads to this vertex.
     LeadsTo(Vertex),
 }
 
 impl SemiState {
-    /// What the action at a position of the game would do if the vertex were the current one. Nothing changes.
+    /// What the action at a position of the game would do if the vertex were the current one; none where it is a pattern.
+    /// Nothing changes.
     #[inline(always)]
-    pub fn try_at(&self, game: &Game, vertex: Vertex, position: Position) -> Trial
+    pub fn try_at(&self, game: &Game, vertex: Vertex, position: Position) -> Option<Trial>
         requires fits { IsStateOf game.now self.now.state }
         requires vertex { vertex < length self.now.state.pieces }
         requires from_one { 0 < position }
         requires there { position ≤ length (positions_of game.now.rules) }
-        ensures told { IsTrial game.now (record self.now.state { vertex = vertex }) position
-            result }
-        ensures pattern { IsPatternAt game.now.rules position → result ≡ Trial.Pattern }
-        ensures there { (v : ℕ) → result ≡ Trial.LeadsTo v → v < length self.now.state.pieces }
+        ensures told { IfSome result (IsTrial game.now (record self.now.state { vertex = vertex })
+            position) }
+        ensures plain { IfSome result (λ _. ¬ IsPatternAt game.now.rules position) }
+        ensures pattern { IfNone result (IsPatternAt game.now.rules position) }
+        ensures there { IfSome result (λ trial. (v : ℕ) → trial ≡ Trial.LeadsTo v
+            → v < length self.now.state.pieces) }
     {
         self.tell(game, game.board(), game.action(position), vertex)
     }
 
-    /// What an action would do at a vertex.
+    /// What an action would do at a vertex; none where it is a pattern.
     #[inline(always)]
-    fn tell(&self, game: &Game, board: &Board, action: &Action, vertex: Vertex) -> Trial
+    fn tell(&self, game: &Game, board: &Board, action: &Action, vertex: Vertex) -> Option<Trial>
         requires lawful { IsGame game.now }
         requires board { board.now ≡ game.now.board }
         requires fits { IsStateOf game.now self.now.state }
         requires vertex { vertex < length self.now.state.pieces }
         requires named { (a : AbstractAction) → Shows a action.now → IsActionOf game.now a }
-        ensures told { shows_pattern action.now ≡ false → (a : AbstractAction) → Shows a action.now
-            → Tells game.now a (record self.now.state { vertex = vertex }) result }
-        ensures pattern { shows_pattern action.now ≡ true → result ≡ Trial.Pattern }
+        ensures told { IfSome result (λ trial. (a : AbstractAction) → Shows a action.now
+            → Tells game.now a (record self.now.state { vertex = vertex }) trial) }
+        ensures plain { IfSome result (λ _. shows_pattern action.now ≡ false) }
+        ensures pattern { IfNone result (shows_pattern action.now ≡ true) }
     {
         match action {
-            Action::Shift { direction } => tell_shift(board.step(vertex, *direction)),
-            Action::On { pieces } => self.tell_on(pieces, vertex),
+            Action::Shift { direction } => Some(tell_shift(board.step(vertex, *direction))),
+            Action::On { pieces } => Some(self.tell_on(pieces, vertex)),
             Action::Compare {
                 left,
                 relation,
                 right,
-            } => self.tell_compare(left, *relation, right, vertex),
-            Action::Assign { variable, value } => self.tell_assign(value, game.bound(*variable)),
-            Action::Off { .. } => Trial::Modifies,
-            Action::Switch { .. } => Trial::Modifies,
-            Action::Positive => Trial::Pattern,
-            Action::Negative => Trial::Pattern,
+            } => Some(self.tell_compare(left, *relation, right, vertex)),
+            Action::Assign { variable, value } => {
+                Some(self.tell_assign(value, game.bound(*variable)))
+            }
+            Action::Off { .. } => Some(Trial::Modifies),
+            Action::Switch { .. } => Some(Trial::Modifies),
+            Action::Positive => None,
+            Action::Negative => None,
         }
     }
 

@@ -82,9 +82,9 @@ returns-in_err-ended-clause-tallies x c = tallies_none c.from_residual.result _ 
 pub returns-then-not-ended-clause-tallies : goal.returns-then-not-ended-clause-tallies
 returns-then-not-ended-clause-tallies x c =
     tallies_one _
-    (asked_tallies c.search_in-search.ensures.begun c.place.view_is find_move c.walk-ended.new.search false _ c.args.workspace.now.searches c.search_in-search.new.workspace c.leave.new.workspace c.search_in-search.ensures.tally c.walk-ended.ensures.search (looks_for c.in_ok-ended.ended c.clear.ensures.items c.in_ok-ended.ensures.walked).counts c.leave.ensures.openings c.leave.ensures.pairs)
+    (asked_tallies c.search_in-search.ensures.begun c.place.view_is find_move c.walk-ended.new.search false _ c.args.workspace.now.searches c.search_in-search.new.buffers c.leave.new.buffers c.search_in-search.ensures.tally c.walk-ended.ensures.search (looks_for c.in_ok-ended.ended c.clear.ensures.items c.in_ok-ended.ensures.walked).counts c.leave.ensures.openings c.leave.ensures.pairs)
 
 pub returns-clause-tallies : goal.returns-clause-tallies
 returns-clause-tallies x c =
     tallies_one _
-    (asked_tallies c.search_in-search.ensures.begun c.place.view_is find_move c.walk-ended.new.search false _ c.args.workspace.now.searches c.search_in-search.new.workspace c.leave.new.workspace c.search_in-search.ensures.tally c.walk-ended.ensures.search (looks_for c.in_ok-ended.ended c.clear.ensures.items c.in_ok-ended.ensures.walked).counts c.leave.ensures.openings c.leave.ensures.pairs)
+    (asked_tallies c.search_in-search.ensures.begun c.place.view_is find_move c.walk-ended.new.search false _ c.args.workspace.now.searches c.search_in-search.new.buffers c.leave.new.buffers c.search_in-search.ensures.tally c.walk-ended.ensures.search (looks_for c.in_ok-ended.ended c.clear.ensures.items c.in_ok-ended.ensures.walked).counts c.leave.ensures.openings c.leave.ensures.pairs)

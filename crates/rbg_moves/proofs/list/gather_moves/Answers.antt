@@ -55,4 +55,4 @@ returns-clause-tallies g c =
     let there = from_copy c.args.place.now c.copy_from.new.self.state c.place.inside.state.state c.place.inside.after c.in_ok-copy_from.ensures.state c.place.view_is in
     let counts = as_listing (λ cut question. CountsAnswer c.search_in-search.result c.walk.new.search cut question c.copy_from.new.self.state (stand_of c.place.inside.after) (most_pairs - length c.clear.new.self.items)) c.args.max c.in_ok-cut.cut c.requires.some c.in_ok-cut.ensures.walked.counts in
     tallies_one _
-    (asked_tallies c.search_in-search.ensures.begun there list_moves c.walk.new.search c.in_ok-cut.cut _ c.args.workspace.now.searches c.search_in-search.new.workspace c.leave.new.workspace (c.search_in-search.ensures.tally ∙ c.take_moves-moves.ensures.tally) c.walk.ensures.search counts c.leave.ensures.openings c.leave.ensures.pairs)
+    (asked_tallies c.search_in-search.ensures.begun there list_moves c.walk.new.search c.in_ok-cut.cut _ c.args.workspace.now.searches c.search_in-search.new.buffers c.leave.new.buffers (c.search_in-search.ensures.tally ∙ c.take_moves-moves.ensures.tally) c.walk.ensures.search counts c.leave.ensures.openings c.leave.ensures.pairs)

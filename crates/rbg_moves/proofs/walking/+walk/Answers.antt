@@ -40,8 +40,8 @@ walk-returns-then-branch-clause-walked g t c =
     subst (λ (x : Searching). IsWalked c.args.search.now x place c.args.front.now.items c.args.found.now.max c.args.found.now.moves c.add_switches.new.self.moves c.add_switches.new.self.first.items true) (sym c.keep_list.ensures)
     (walk_ended c.args.after c.game-game.ensures.lawful.numbered come c.requires.short (switches_as c.game-game.ensures.game c.deref.ensures.value c.if-branch.true c.in_ok-add_switches.ensures.lists))
 
-pub walk-loop-vertex-init : goal.walk-loop-vertex-init
-walk-loop-vertex-init g t c =
+pub walk-loop-pair-init : goal.walk-loop-pair-init
+walk-loop-pair-init g t c =
     let old = c.args.search.now in
     let pairs : List (ℕ × ℕ) = c.reach_into.new.pairs in
     let ends = c.in_ok-reach_into.field-0 in
@@ -62,8 +62,8 @@ walk-loop-vertex-init g t c =
 
 pub walk-walk_behind-requires : goal.walk-walk_behind-requires
 walk-walk_behind-requires g t c κs within =
-    let now = c.loop-vertex in
-    let inv = c.loop-vertex.invariant in
+    let now = c.loop-pair in
+    let inv = c.loop-pair.invariant in
     let turn = walk_turn c.game-game.ensures.lawful inv.search (ap (λ (h : History). h.state) inv.state) inv.front inv.max inv.whole inv.plain inv.so_far c.in-Some.ensures.permutation in
     let size : length now.front.items ≡ length c.args.front.now.items = ap (λ (ys : List (ℕ × ℕ)). length ys) inv.front in
     let few = inv.so_far.gathers.few in
@@ -71,29 +71,29 @@ walk-walk_behind-requires g t c κs within =
 
 pub walk-returns-in_err-ended-clause-given_up : goal.walk-returns-in_err-ended-clause-given_up
 walk-returns-in_err-ended-clause-given_up g t c =
-    let inv = c.loop-vertex.invariant in
+    let inv = c.loop-pair.invariant in
     let turn = walk_turn c.game-game.ensures.lawful inv.search (ap (λ (h : History). h.state) inv.state) inv.front inv.max inv.whole inv.plain inv.so_far c.in-Some.ensures.permutation in
     let p = err_from_is_err_and c.from_residual-in_err-ended.result c.from_residual-in_err-ended.ensures.1 in
     rw (p.1, p.2) (turn_given_up turn _ _ c.requires.short c.in_err-ended.ensures.given_up)
 
 pub walk-returns-then-ended-clause-walked : goal.walk-returns-then-ended-clause-walked
 walk-returns-then-ended-clause-walked g t c =
-    let inv = c.loop-vertex.invariant in
+    let inv = c.loop-pair.invariant in
     let place : AbstractPlace = record { state = c.args.state.now.state; last = c.args.after } in
     let turn = walk_turn c.game-game.ensures.lawful inv.search (ap (λ (h : History). h.state) inv.state) inv.front inv.max inv.whole inv.plain inv.so_far c.in-Some.ensures.permutation in
     subst (λ (x : Searching). IsWalked c.args.search.now x place c.args.front.now.items c.args.found.now.max c.args.found.now.moves c.walk_behind.new.found.moves c.walk_behind.new.found.first.items true) (sym c.keep_list-then-ended.ensures)
     (turn_ended turn c.requires.short c.if-ended.true c.in_ok-ended.ensures.walked)
 
-pub walk-loop-vertex-smaller : goal.walk-loop-vertex-smaller
-walk-loop-vertex-smaller g t c =
-    turn_fewer c.loop-vertex.pairs c.take_least.new.self (c.in-Some.vertex, c.in-Some.position) c.in-Some.ensures.permutation
+pub walk-loop-pair-smaller : goal.walk-loop-pair-smaller
+walk-loop-pair-smaller g t c =
+    turn_fewer c.loop-pair.pairs c.take_least.new.self c.in-Some.pair c.in-Some.ensures.permutation
 
-pub walk-loop-vertex-preserved : goal.walk-loop-vertex-preserved
-walk-loop-vertex-preserved g t c =
-    let now = c.loop-vertex in
-    let inv = c.loop-vertex.invariant in
+pub walk-loop-pair-preserved : goal.walk-loop-pair-preserved
+walk-loop-pair-preserved g t c =
+    let now = c.loop-pair in
+    let inv = c.loop-pair.invariant in
     let then = c.walk_behind.new in
-    let q : ℕ × ℕ = (c.in-Some.vertex, c.in-Some.position) in
+    let q : ℕ × ℕ = c.in-Some.pair in
     let turn = walk_turn c.game-game.ensures.lawful inv.search (ap (λ (h : History). h.state) inv.state) inv.front inv.max inv.whole inv.plain inv.so_far c.in-Some.ensures.permutation in
     let more = c.in_ok-ended.ensures in
     record {
@@ -111,8 +111,8 @@ walk-loop-vertex-preserved g t c =
 
 pub walk-returns-clause-walked : goal.walk-returns-clause-walked
 walk-returns-clause-walked g t c =
-    let now = c.loop-vertex in
-    let inv = c.loop-vertex.invariant in
+    let now = c.loop-pair in
+    let inv = c.loop-pair.invariant in
     let place : AbstractPlace = record { state = c.args.state.now.state; last = c.args.after } in
     subst (λ (x : Searching). IsWalked c.args.search.now x place c.args.front.now.items c.args.found.now.max c.args.found.now.moves now.found.moves now.found.first.items false) (sym c.keep_list-2.ensures)
     (walk_whole c.game-game.ensures.lawful.numbered c.requires.short inv.whole c.in_default.ensures.none inv.so_far)
@@ -163,7 +163,7 @@ walk-returns-in_err-add_switches-clause-after g t c = on_err _ _ (after_kept c.a
 pub walk-returns-in_err-ended-clause-after : goal.walk-returns-in_err-ended-clause-after
 walk-returns-in_err-ended-clause-after g t c =
     on_err _ _
-    (after_both c.args.state.now c.loop-vertex.state c.walk_behind.new.state (after_kept c.args.state.now c.loop-vertex.state c.loop-vertex.invariant.state)
+    (after_both c.args.state.now c.loop-pair.state c.walk_behind.new.state (after_kept c.args.state.now c.loop-pair.state c.loop-pair.invariant.state)
     (err_of c.walk_behind.result c.in_err-ended.field-0.0 _ c.in_err-ended.was c.walk_behind.ensures.after))
 
 pub walk_behind-returns-in_err-push-clause-after : goal.walk_behind-returns-in_err-push-clause-after

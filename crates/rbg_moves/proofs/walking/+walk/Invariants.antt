@@ -12,8 +12,8 @@ decreases-walk g l = 2 * (most_pairs - length l.front.now.items)
 abbrev pub decreases-walk_behind : goal.decreases-walk_behind
 decreases-walk_behind g l = 2 * (most_pairs - length l.front.now.items) - 1
 
-abbrev pub invariant-walk-loop-vertex : goal.invariant-walk-loop-vertex
-invariant-walk-loop-vertex g l = record {
+abbrev pub invariant-walk-loop-pair : goal.invariant-walk-loop-pair
+invariant-walk-loop-pair g l = record {
   done : List (ℕ × ℕ);
   whole : IsWhole l.fn.search.game l.fn.state.state (stand_of l.fn.after) (done ++ l.pairs);
   plain : All (λ (q : ℕ × ℕ). ¬ IsSwitchAt l.fn.search.game.rules q.1) l.pairs;
@@ -26,5 +26,5 @@ invariant-walk-loop-vertex g l = record {
   so_far : IsSoFar l.fn.search l.search (record { state = l.fn.state.state; last = l.fn.after }) l.fn.front.items l.fn.found.max l.fn.found.moves l.found.moves l.found.first.items done;
 }
 
-abbrev pub decreases-walk-loop-vertex : goal.decreases-walk-loop-vertex
-decreases-walk-loop-vertex g l = length l.pairs
+abbrev pub decreases-walk-loop-pair : goal.decreases-walk-loop-pair
+decreases-walk-loop-pair g l = length l.pairs

@@ -3,12 +3,12 @@ use Rattle.rbg_board.specs.Graph.{Graph, next}
 use Rattle.rbg_pairs.proofs.Glances.{shift_leads, shift_stays}
 use Rattle.rbg_pairs.proofs.flat.shifted.Goals as goal
 
-pub returns-in-Some-clause-outcome : goal.returns-in-Some-clause-outcome
-returns-in-Some-clause-outcome c = λ s q numbered here.
+pub returns-in-Some-clause-trial : goal.returns-in-Some-clause-trial
+returns-in-Some-clause-trial c = λ s q numbered here.
     shift_leads c.args.game.now numbered s c.args.vertex q c.args.direction c.in-Some.to here
     (ap (λ (g : Graph). next g c.args.vertex c.args.direction) (sym c.board.ensures.board) ∙ sym c.in-Some.ensures.next)
 
-pub returns-in-None-clause-outcome : goal.returns-in-None-clause-outcome
-returns-in-None-clause-outcome c = λ s q numbered here.
+pub returns-in-None-clause-trial : goal.returns-in-None-clause-trial
+returns-in-None-clause-trial c = λ s q numbered here.
     shift_stays c.args.game.now numbered s c.args.vertex q c.args.direction here
     (ap (λ (g : Graph). next g c.args.vertex c.args.direction) (sym c.board.ensures.board) ∙ sym c.in-None.ensures.next)

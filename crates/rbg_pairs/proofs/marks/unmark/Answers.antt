@@ -1,4 +1,4 @@
-use Rattle.std.proofs.Common.{◌≡◌, ◌*◌, ◌+◌, ◌/◌, ◌<◌, ℕ, List, length, get_or, set, take, false, sym, ◌∙◌, subst, ap, arith}
+use Rattle.std.proofs.Common.{◌≡◌, ◌^◌, ◌*◌, ◌+◌, ◌/◌, ◌<◌, ℕ, List, length, get_or, set, take, false, sym, ◌∙◌, subst, ap, arith}
 use Rattle.std.specs.Prelude.{All}
 use Rattle.std.proofs.lemmas.List.{take_more, take_all, length-set}
 use Rattle.std.proofs.lemmas.List.Elements.{All-push, All-weaker}
@@ -7,40 +7,45 @@ use Rattle.rbg_pairs.proofs.Meetings.{still_marked, still_unmarked, unmarked_her
 use Rattle.rbg_pairs.proofs.marks.unmark.Goals as goal
 
 pub overflow_mul-word : goal.overflow_mul-word
-overflow_mul-word c = let small = c.requires.small c.loop-vertex.vertex-index (0, 0) c.loop-vertex-test.true in omega (arith, small)
+overflow_mul-word c =
+    let all = subst (λ (q : ℕ × ℕ). q.0 / 64 * c.args.rows + q.1 < 2 ^ 64) (sym c.pair-item.is ∙ sym c.pair.view_is) (c.requires.small c.loop-pair.pair-index c.pair-item.result c.loop-pair-test.true) in
+    omega (arith, all)
 
 pub overflow_add-word : goal.overflow_add-word
-overflow_add-word c = let small = c.requires.small c.loop-vertex.vertex-index (0, 0) c.loop-vertex-test.true in omega (arith, small)
+overflow_add-word c =
+    let all = subst (λ (q : ℕ × ℕ). q.0 / 64 * c.args.rows + q.1 < 2 ^ 64) (sym c.pair-item.is ∙ sym c.pair.view_is) (c.requires.small c.loop-pair.pair-index c.pair-item.result c.loop-pair-test.true) in
+    omega (arith, all)
 
-pub loop-vertex-preserved : goal.loop-vertex-preserved
-loop-vertex-preserved c =
+pub loop-pair-preserved : goal.loop-pair-preserved
+loop-pair-preserved c =
     let pairs : List (ℕ × ℕ) = c.args.pairs.now in
     let n : ℕ = c.args.rows in
-    let q : ℕ × ℕ = get_or pairs c.loop-vertex.vertex-index (0, 0) in
-    let word : ℕ = q.0 / 64 * n + q.1 in
+    let q : ℕ × ℕ = get_or pairs c.loop-pair.pair-index c.pair-item.result in
+    let word : ℕ = c.pair.inside.vertex / 64 * n + c.pair.inside.position in
     let mark : ℕ = mark_at n q in
-    let place : mark / 64 ≡ word = word_of_mark n q.0 q.1 in
-    let words : List ℕ = c.loop-vertex.words in
-    let there : word < length c.args.words.now = c.requires.there c.loop-vertex.vertex-index (0, 0) c.loop-vertex-test.true in
-    let within : word < length words = omega (arith, there, c.loop-vertex.invariant.size) in
+    let same : q.0 / 64 * n + q.1 ≡ word = ap (λ (x : ℕ × ℕ). x.0 / 64 * n + x.1) (sym c.pair-item.is ∙ sym c.pair.view_is) in
+    let place : mark / 64 ≡ word = word_of_mark n q.0 q.1 ∙ same in
+    let words : List ℕ = c.loop-pair.words in
+    let there : word < length c.args.words.now = subst (λ (w : ℕ). w < length c.args.words.now) same (c.requires.there c.loop-pair.pair-index c.pair-item.result c.loop-pair-test.true) in
+    let within : word < length words = omega (arith, there, c.loop-pair.invariant.size) in
     let below : mark < length words * 64 = omega (arith, within, place) in
     let after : List ℕ = set words word 0 in
     record {
-      size = length-set words word 0 ∙ c.loop-vertex.invariant.size;
+      size = length-set words word 0 ∙ c.loop-pair.invariant.size;
       gone =
           subst (λ (qs : List (ℕ × ℕ)). All (λ r. is_marked after (mark_at n r) ≡ false) qs)
-          (sym (take_more pairs c.loop-vertex.vertex-index (0, 0) c.loop-vertex-test.true))
-          (All-push (λ r. is_marked after (mark_at n r) ≡ false) (take c.loop-vertex.vertex-index pairs) q
-          (All-weaker (λ r. is_marked words (mark_at n r) ≡ false) (λ r. is_marked after (mark_at n r) ≡ false) (λ r is. still_unmarked words word (mark_at n r) within is) (take c.loop-vertex.vertex-index pairs) c.loop-vertex.invariant.gone)
+          (sym (take_more pairs c.loop-pair.pair-index c.pair-item.result c.loop-pair-test.true))
+          (All-push (λ r. is_marked after (mark_at n r) ≡ false) (take c.loop-pair.pair-index pairs) q
+          (All-weaker (λ r. is_marked words (mark_at n r) ≡ false) (λ r. is_marked after (mark_at n r) ≡ false) (λ r is. still_unmarked words word (mark_at n r) within is) (take c.loop-pair.pair-index pairs) c.loop-pair.invariant.gone)
           (subst (λ (i : ℕ). is_marked (set words i 0) mark ≡ false) place (unmarked_here words mark below)));
-      none_set = λ k is. c.loop-vertex.invariant.none_set k (still_marked words word k within is);
+      none_set = λ k is. c.loop-pair.invariant.none_set k (still_marked words word k within is);
     }
 
 pub returns-clause-gone : goal.returns-clause-gone
 returns-clause-gone c =
-    subst (λ (qs : List (ℕ × ℕ)). All (λ r. is_marked c.loop-vertex.words (mark_at c.args.rows r) ≡ false) qs)
-    (take_all c.loop-vertex.vertex-index c.args.pairs.now c.loop-vertex-test.false)
-    c.loop-vertex.invariant.gone
+    subst (λ (qs : List (ℕ × ℕ)). All (λ r. is_marked c.loop-pair.words (mark_at c.args.rows r) ≡ false) qs)
+    (take_all c.loop-pair.pair-index c.args.pairs.now c.loop-pair-test.false)
+    c.loop-pair.invariant.gone
 
 pub returns-then-words-pairs-clause-gone : goal.returns-then-words-pairs-clause-gone
 returns-then-words-pairs-clause-gone c =

@@ -4,9 +4,9 @@ use Rattle.std.specs.Prelude.{All}
 use Rattle.rbg_pairs.specs.Meeting.{is_marked, mark_at}
 use Rattle.rbg_pairs.proofs.marks.unmark.Given as goal
 
-abbrev pub invariant-loop-vertex : goal.invariant-loop-vertex
-invariant-loop-vertex l = record {
+abbrev pub invariant-loop-pair : goal.invariant-loop-pair
+invariant-loop-pair l = record {
   size : length l.words ≡ length l.initial.words;
-  gone : All (λ q. is_marked l.words (mark_at l.rows q) ≡ false) (take l.vertex-index l.pairs);
+  gone : All (λ q. is_marked l.words (mark_at l.rows q) ≡ false) (take l.pair-index l.pairs);
   none_set : (k : ℕ) → is_marked l.words k ≡ true → is_marked l.initial.words k ≡ true;
 }

@@ -4,9 +4,9 @@ use Rattle.std.specs.Prelude.{All}
 use Rattle.rbg_pairs.specs.Meeting.{is_marked}
 use Rattle.rbg_pairs.proofs.marks.unmark_narrow.Given as goal
 
-abbrev pub invariant-loop-position : goal.invariant-loop-position
-invariant-loop-position l = record {
+abbrev pub invariant-loop-pair : goal.invariant-loop-pair
+invariant-loop-pair l = record {
   size : length l.words ≡ length l.initial.words;
-  gone : All (λ q. is_marked l.words (q.1 * 64 + q.0) ≡ false) (take l.position-index l.pairs);
+  gone : All (λ q. is_marked l.words (q.1 * 64 + q.0) ≡ false) (take l.pair-index l.pairs);
   none_set : (k : ℕ) → is_marked l.words k ≡ true → is_marked l.initial.words k ≡ true;
 }

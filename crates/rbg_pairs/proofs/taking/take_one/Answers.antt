@@ -5,7 +5,7 @@ use Rattle.rbg_rules.specs.State.{AbstractState}
 use Rattle.rbg_pairs.specs.Part.{IsPart}
 use Rattle.rbg_pairs.proofs.Glances.{no_pattern, shift_leads, shift_stays, on_leads, on_another, either_leads, either_another, always_modifies, modifies_plain}
 use Rattle.rbg_pairs.proofs.Parts.{invalid_part, modifier_part}
-use Rattle.rbg_pairs.proofs.told.take_one.Goals as goal
+use Rattle.rbg_pairs.proofs.taking.take_one.Goals as goal
 
 -- What stands at the vertex.
 stands : (s : AbstractState) (pieces : List ℕ) (v x : ℕ) → s.pieces ≡ pieces → slice_index pieces v ≡ x → slice_index s.pieces v ≡ x

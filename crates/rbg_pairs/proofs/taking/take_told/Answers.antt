@@ -1,10 +1,9 @@
 use Rattle.std.proofs.Common.{◌≡◌, ℕ, ◌+◌, List, [], ◌∷◌, ◌++◌, get_or, take, sym, subst, arith}
 use Rattle.std.specs.Prelude.{Contains}
 use Rattle.std.proofs.lemmas.List.Elements.{Contains-append_left}
-use Rattle.std.proofs.lemmas.List.{get_or_default}
 use Rattle.rbg_pairs.specs.Part.{IsPart}
-use Rattle.rbg_pairs.proofs.Tolds.{there, once, one_more, no_fewer, quiet_before}
-use Rattle.rbg_pairs.proofs.told.take_told.Goals as goal
+use Rattle.rbg_pairs.proofs.Takings.{there, once, one_more, no_fewer, quiet_before}
+use Rattle.rbg_pairs.proofs.taking.take_told.Goals as goal
 
 pub returns-then-not-take_one-clause-part : goal.returns-then-not-take_one-clause-part
 returns-then-not-take_one-clause-part c = λ s f ends same part.
@@ -21,11 +20,11 @@ loop-taken-preserved c =
     let room : List (ℕ × ℕ) = c.loop-taken.room in
     let taken : ℕ = c.loop-taken.taken in
     let met : ℕ = c.loop-taken.met in
-    let pair : ℕ × ℕ = get_or room taken (0, 0) in
+    let pair : ℕ × ℕ = (c.pair.inside.vertex, c.pair.inside.position) in
     let invariant = c.loop-taken.invariant in
     let within = invariant.met.within in
     let below = c.loop-taken-test.true in
-    let is : get_or room taken pair ≡ pair = get_or_default room taken pair (0, 0) (omega (arith, within, below)) in
+    let is : get_or room taken pair ≡ pair = subst (λ (x : ℕ × ℕ). get_or room taken x ≡ x) (sym c.pair.view_is) (sym c.index-room-taken.is) in
     let new : List (ℕ × ℕ) = take c.take_one.new.met c.take_one.new.room in
     let done : List (ℕ × ℕ) = take taken (take met room) in
     let grown : take (taken + 1) new ≡ done ++ pair ∷ [] = one_more room met taken within below new c.take_one.ensures.grown pair is in

@@ -5,8 +5,8 @@ use Rattle.rbg_rules.specs.Positions.{IsPatternAt}
 use Rattle.rbg_rules.specs.State.{AbstractState}
 use Rattle.rbg_rules.specs.Words.{Start}
 use Rattle.rbg_pairs.specs.Part.{IsPart}
-use Rattle.rbg_pairs.specs.internal.Told.{AreMet}
-use Rattle.rbg_pairs.proofs.told.take_told.Given as goal
+use Rattle.rbg_pairs.specs.internal.Taking.{AreMet}
+use Rattle.rbg_pairs.proofs.taking.take_told.Given as goal
 
 abbrev pub invariant-loop-taken : goal.invariant-loop-taken
 invariant-loop-taken l = record {

@@ -4,12 +4,12 @@ use Rattle.rbg_rules.specs.Positions.{inside}
 use Rattle.rbg_rules.specs.Words.{beginning}
 use Rattle.rbg_pairs.specs.Start.{IsPositionOf}
 use Rattle.rbg_pairs.specs.Closure.{at_vertex}
-use Rattle.rbg_search.specs.internal.Straight.{IsWalking}
-use Rattle.rbg_search.proofs.walk.walk_inside.Given as goal
+use Rattle.rbg_search.specs.internal.Straight.{IsScanning}
+use Rattle.rbg_search.proofs.scan.scan_inside.Given as goal
 
 abbrev pub invariant-loop-to : goal.invariant-loop-to
 invariant-loop-to g l = record {
-  walking : IsWalking l.rules (at_vertex l.state.state l.fn.vertex) (beginning (inside l.pattern)) l.vertex l.position l.ends l.pairs;
+  scanning : IsScanning l.rules (at_vertex l.state.state l.fn.vertex) (beginning (inside l.pattern)) l.vertex l.position l.ends l.pairs;
   there : l.vertex < length l.rules.board.first;
   position : IsPositionOf l.rules.rules l.position;
   few : l.pairs < l.position;

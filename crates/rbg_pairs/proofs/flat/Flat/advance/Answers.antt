@@ -2,28 +2,29 @@ use Rattle.std.proofs.Common.{rules, ◌≡◌, ℕ, List, [], ◌∷◌, ◌++�
 use Rattle.std.specs.Prelude.{Contains}
 use Rattle.std.proofs.lemmas.List.Elements.{Contains-append_left}
 use Rattle.std.proofs.lemmas.List.{take_all}
-use Rattle.rbg_pairs.specs.Part.{IsPart}
+use Rattle.rbg_rules.specs.Positions.{IsPatternAt}
+use Rattle.rbg_pairs.specs.Part.{IsPart, IsTrialAt}
 use Rattle.rbg_pairs.proofs.Parts.{whole_part}
-use Rattle.rbg_pairs.proofs.Tolds.{quiet_before}
+use Rattle.rbg_pairs.proofs.Takings.{quiet_before}
 use Rattle.rbg_pairs.proofs.flat.Flat.advance.Goals as goal
 
 pub loop-taken-preserved : goal.loop-taken-preserved
 loop-taken-preserved g c =
-    let v = c.pair-vertex.result.0 in
-    let q = c.pair-vertex.result.1 in
+    let v = c.pair-pair.result.0 in
+    let q = c.pair-pair.result.1 in
     let told = c.take_told.new.self in
     let done : List (ℕ × ℕ) = take told.taken told.queue.pairs in
     let one_more : take c.in_ok-self.field-0 c.take_pair.new.self.queue.pairs ≡ done ++ (v, q) ∷ [] = c.in_ok-self.ensures.done in
     record {
       marks = c.take_pair.ensures.marks;
-      part = λ f part. c.in_ok-self.ensures.part c.args.state.now.state f c.in-Some.ensures.outcome (c.take_told.ensures.part f (c.loop-taken.invariant.part f part));
+      part = λ f part. c.in_ok-self.ensures.part c.args.state.now.state f (subst (λ (x : ℕ × ℕ). IsTrialAt c.args.rules.now c.args.state.now.state x.0 x.1 c.in-Some.trial) c.pair.view_is c.in-Some.ensures.trial) (c.take_told.ensures.part f (c.loop-taken.invariant.part f part));
       within = c.in_ok-self.ensures.within;
       further = omega (arith, c.in_ok-self.ensures.taken, c.take_told.ensures.further, c.loop-taken.invariant.further);
       still_done = λ x h.
           subst (λ (ds : List (ℕ × ℕ)). Contains ds x) (sym one_more) (Contains-append_left done ((v, q) ∷ []) x (c.take_told.ensures.still_done x (c.loop-taken.invariant.still_done x h)));
       quiet = λ w p there is.
           let there' : Contains (done ++ (v, q) ∷ []) (w, p) = subst (λ (ds : List (ℕ × ℕ)). Contains ds (w, p)) one_more there in
-          c.loop-taken.invariant.quiet w p (c.take_told.ensures.quiet w p (quiet_before c.args.rules.now.rules done (v, q) c.in-Some.ensures.plain w p there' is) is) is;
+          c.loop-taken.invariant.quiet w p (c.take_told.ensures.quiet w p (quiet_before c.args.rules.now.rules done (v, q) (subst (λ (x : ℕ × ℕ). ¬ IsPatternAt c.args.rules.now.rules x.1) c.pair.view_is c.in-Some.ensures.plain) w p there' is) is) is;
     }
 
 pub returns-then-taken-len-clause-whole : goal.returns-then-taken-len-clause-whole
@@ -45,8 +46,8 @@ returns-in_default-tried g c = record {
   further = omega (arith, c.take_told.ensures.further, c.loop-taken.invariant.further);
   still_done = λ x h. c.take_told.ensures.still_done x (c.loop-taken.invariant.still_done x h);
   quiet = λ w p there is. c.loop-taken.invariant.quiet w p (c.take_told.ensures.quiet w p there is) is;
-  asked = (c.pair-vertex.ensures.pair, omega (arith, c.pair-vertex.ensures.there.vertex, c.take_told.ensures.marks.vertices), c.in_default-tried.ensures.pattern);
-  fresh = c.pair-vertex.ensures.once;
+  asked = (c.pair-pair.ensures.pair, omega (arith, c.pair-pair.ensures.there.vertex, c.take_told.ensures.marks.vertices), subst (λ (x : ℕ × ℕ). IsPatternAt c.args.rules.now.rules x.1) c.pair.view_is c.in_default-tried.ensures.pattern);
+  fresh = c.pair-pair.ensures.once;
   done = search rules;
   whole = search rules;
 }

@@ -11,20 +11,20 @@ pairs c = ap (take c.self.inside.met) c.deref_mut-2.ensures.value ∙ ap (λ (m 
 
 pub returns-clause-part : goal.returns-clause-part
 returns-clause-part c = λ s f ends same part.
-    let room = c.take_told-progress.ensures.room ∙ c.deref_mut-2.ensures.len in
-    rw (with_items_is c.self.inside.room c.take_told-progress.new.room room)
-    (c.take_told-progress.ensures.part s f ends same
+    let room = c.take_told-counts.ensures.room ∙ c.deref_mut-2.ensures.len in
+    rw (with_items_is c.self.inside.room c.take_told-counts.new.room room)
+    (c.take_told-counts.ensures.part s f ends same
     (subst (λ (ps : List (ℕ × ℕ)). IsPart c.args.tables.now s f ps (take c.args.taken ps) c.args.found.now.items ends) (sym (pairs c)) part))
 
 pub returns-clause-still_done : goal.returns-clause-still_done
 returns-clause-still_done c = λ x h.
-    let room = c.take_told-progress.ensures.room ∙ c.deref_mut-2.ensures.len in
-    rw (with_items_is c.self.inside.room c.take_told-progress.new.room room)
-    (c.take_told-progress.ensures.still_done x (subst (λ (ps : List (ℕ × ℕ)). Contains (take c.args.taken ps) x) (sym (pairs c)) h))
+    let room = c.take_told-counts.ensures.room ∙ c.deref_mut-2.ensures.len in
+    rw (with_items_is c.self.inside.room c.take_told-counts.new.room room)
+    (c.take_told-counts.ensures.still_done x (subst (λ (ps : List (ℕ × ℕ)). Contains (take c.args.taken ps) x) (sym (pairs c)) h))
 
 pub returns-clause-quiet : goal.returns-clause-quiet
 returns-clause-quiet c = λ v p h is.
-    let room = c.take_told-progress.ensures.room ∙ c.deref_mut-2.ensures.len in
-    let there : Contains (take c.take_told-progress.result.taken (take c.take_told-progress.result.met c.take_told-progress.new.room)) (v, p) =
-    rw (with_items_is c.self.inside.room c.take_told-progress.new.room room) at h in
-    subst (λ (ps : List (ℕ × ℕ)). Contains (take c.args.taken ps) (v, p)) (pairs c) (c.take_told-progress.ensures.quiet v p there is)
+    let room = c.take_told-counts.ensures.room ∙ c.deref_mut-2.ensures.len in
+    let there : Contains (take c.take_told-counts.result.taken (take c.take_told-counts.result.met c.take_told-counts.new.room)) (v, p) =
+    rw (with_items_is c.self.inside.room c.take_told-counts.new.room room) at h in
+    subst (λ (ps : List (ℕ × ℕ)). Contains (take c.args.taken ps) (v, p)) (pairs c) (c.take_told-counts.ensures.quiet v p there is)

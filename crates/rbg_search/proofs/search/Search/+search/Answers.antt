@@ -142,8 +142,8 @@ pairs_part-ask-requires g t c κs within =
     let f : Start = start_of c.args.origin in
     let flat = c.advance.new.flat.value in
     let is : FindsByPairs h k s l f flat = pairs_on c.loop-flat.invariant flat (c.in_ok-vertex.ensures.begun f) c.in_ok-vertex.ensures.still_done c.in_ok-vertex.ensures.quiet in
-    let v : ℕ = c.in-Some.vertex in
-    let p : ℕ = c.in-Some.position in
+    let v : ℕ = c.in-Some.field-0.vertex in
+    let p : ℕ = c.in-Some.field-0.position in
     let next : (slice_get flat.queue.pairs flat.taken ≡ Some (v, p)) × (v < length k.game.board.first) × IsPatternAt k.game.rules p = search rules in
     let fits : IsStateOf k.game l.state = onward IsStateOf h k s l is.finds.kept is.finds.given_back c.requires.fits in
     let nests = some_nested h.game.rules c.args.nested p
@@ -164,8 +164,8 @@ pairs_part-returns-in_err-valid-clause-asked g t c =
     let f : Start = start_of c.args.origin in
     let flat = c.advance.new.flat.value in
     let is : FindsByPairs h k s l f flat = pairs_on c.loop-flat.invariant flat (c.in_ok-vertex.ensures.begun f) c.in_ok-vertex.ensures.still_done c.in_ok-vertex.ensures.quiet in
-    let v : ℕ = c.in-Some.vertex in
-    let p : ℕ = c.in-Some.position in
+    let v : ℕ = c.in-Some.field-0.vertex in
+    let p : ℕ = c.in-Some.field-0.position in
     let next : (slice_get flat.queue.pairs flat.taken ≡ Some (v, p)) × (v < length k.game.board.first) × IsPatternAt k.game.rules p = search rules in
     let fresh : ¬ Contains (take flat.taken flat.queue.pairs) (v, p) = search rules in
     pairs_failed is v p next.0 next.2 fresh c.ask.ensures.asked c.from_residual-in_err-valid.result c.in_err-valid.field-0.0 c.in_err-valid.was c.from_residual-in_err-valid.ensures.1
@@ -175,13 +175,13 @@ pairs_part-take-requires-clause-marks g t c = onward_rules (λ x. HasMarksOf x c
 
 pub pairs_part-take-requires-clause-vertex : goal.pairs_part-take-requires-clause-vertex
 pairs_part-take-requires-clause-vertex g t c =
-    let asked : (slice_get c.advance.new.flat.value.queue.pairs c.advance.new.flat.value.taken ≡ Some (c.in-Some.vertex, c.in-Some.position)) × (c.in-Some.vertex < length c.loop-flat.self.game.board.first) × IsPatternAt c.loop-flat.self.game.rules c.in-Some.position = search rules in
-    onward_rules (λ x. c.in-Some.vertex < length x.board.first) c.loop-flat.self c.ask.new.self c.ask.ensures.asked.kept asked.1
+    let asked : (slice_get c.advance.new.flat.value.queue.pairs c.advance.new.flat.value.taken ≡ Some (c.in-Some.field-0.vertex, c.in-Some.field-0.position)) × (c.in-Some.field-0.vertex < length c.loop-flat.self.game.board.first) × IsPatternAt c.loop-flat.self.game.rules c.in-Some.field-0.position = search rules in
+    onward_rules (λ x. c.in-Some.field-0.vertex < length x.board.first) c.loop-flat.self c.ask.new.self c.ask.ensures.asked.kept asked.1
 
 pub pairs_part-take-requires-clause-there : goal.pairs_part-take-requires-clause-there
 pairs_part-take-requires-clause-there g t c =
-    let asked : (slice_get c.advance.new.flat.value.queue.pairs c.advance.new.flat.value.taken ≡ Some (c.in-Some.vertex, c.in-Some.position)) × (c.in-Some.vertex < length c.loop-flat.self.game.board.first) × IsPatternAt c.loop-flat.self.game.rules c.in-Some.position = search rules in
-    onward_rules (λ x. IsPatternAt x.rules c.in-Some.position) c.loop-flat.self c.ask.new.self c.ask.ensures.asked.kept asked.2
+    let asked : (slice_get c.advance.new.flat.value.queue.pairs c.advance.new.flat.value.taken ≡ Some (c.in-Some.field-0.vertex, c.in-Some.field-0.position)) × (c.in-Some.field-0.vertex < length c.loop-flat.self.game.board.first) × IsPatternAt c.loop-flat.self.game.rules c.in-Some.field-0.position = search rules in
+    onward_rules (λ x. IsPatternAt x.rules c.in-Some.field-0.position) c.loop-flat.self c.ask.new.self c.ask.ensures.asked.kept asked.2
 
 pub pairs_part-returns-in_err-take-clause-asked : goal.pairs_part-returns-in_err-take-clause-asked
 pairs_part-returns-in_err-take-clause-asked g t c =
@@ -192,8 +192,8 @@ pairs_part-returns-in_err-take-clause-asked g t c =
     let f : Start = start_of c.args.origin in
     let flat = c.advance.new.flat.value in
     let is : FindsByPairs h k s l f flat = pairs_on c.loop-flat.invariant flat (c.in_ok-vertex.ensures.begun f) c.in_ok-vertex.ensures.still_done c.in_ok-vertex.ensures.quiet in
-    let v : ℕ = c.in-Some.vertex in
-    let p : ℕ = c.in-Some.position in
+    let v : ℕ = c.in-Some.field-0.vertex in
+    let p : ℕ = c.in-Some.field-0.position in
     let next : (slice_get flat.queue.pairs flat.taken ≡ Some (v, p)) × (v < length k.game.board.first) × IsPatternAt k.game.rules p = search rules in
     let fresh : ¬ Contains (take flat.taken flat.queue.pairs) (v, p) = search rules in
     finds_refused (pairs_asked is v p next.0 next.2 fresh c.ask.ensures.asked c.in_ok-valid.valid c.in_ok-valid.was c.in_ok-valid.ensures.forced) c.ask.new.self refl refl c.from_residual-in_err-take.result Memory c.from_residual-in_err-take.ensures.1 refl refl
@@ -207,8 +207,8 @@ pairs_part-loop-flat-preserved g t c =
     let f : Start = start_of c.args.origin in
     let flat = c.advance.new.flat.value in
     let is : FindsByPairs h k s l f flat = pairs_on c.loop-flat.invariant flat (c.in_ok-vertex.ensures.begun f) c.in_ok-vertex.ensures.still_done c.in_ok-vertex.ensures.quiet in
-    let v : ℕ = c.in-Some.vertex in
-    let p : ℕ = c.in-Some.position in
+    let v : ℕ = c.in-Some.field-0.vertex in
+    let p : ℕ = c.in-Some.field-0.position in
     let next : (slice_get flat.queue.pairs flat.taken ≡ Some (v, p)) × (v < length k.game.board.first) × IsPatternAt k.game.rules p = search rules in
     let fresh : ¬ Contains (take flat.taken flat.queue.pairs) (v, p) = search rules in
     pairs_more is v p next.0 next.2 fresh c.ask.ensures.asked c.in_ok-valid.valid c.in_ok-valid.was c.in_ok-valid.ensures.forced c.take.new.flat.value c.in_ok-valid.valid c.in_ok-valid.ensures.valid c.in_ok-take.ensures.done (c.in_ok-take.ensures.begun l.state f)
@@ -329,8 +329,8 @@ sets_part-ask-requires g t c κs within =
     let f : Start = start_of c.args.origin in
     let flat = c.advance_by_sets.new.flat.value in
     let is : FindsBySets h k s l f flat = sets_on c.loop-vertex.invariant flat c.advance_by_sets.ensures.advances in
-    let v : ℕ = c.in-Some.vertex in
-    let p : ℕ = c.in-Some.position in
+    let v : ℕ = c.in-Some.field-0.vertex in
+    let p : ℕ = c.in-Some.field-0.position in
     let next : IsToBeAsked k.game flat v p = search rules in
     let fits : IsStateOf k.game l.state = onward IsStateOf h k s l is.finds.kept is.finds.given_back c.requires.fits in
     let nests = some_nested h.game.rules c.args.nested p
@@ -357,8 +357,8 @@ sets_part-take_by_sets-requires-clause-sets g t c =
 
 pub sets_part-take_by_sets-requires-clause-next : goal.sets_part-take_by_sets-requires-clause-next
 sets_part-take_by_sets-requires-clause-next g t c =
-    let next : IsToBeAsked c.loop-vertex.self.game c.advance_by_sets.new.flat.value c.in-Some.vertex c.in-Some.position = search rules in
-    onward_rules (λ x. IsToBeAsked x c.advance_by_sets.new.flat.value c.in-Some.vertex c.in-Some.position) c.loop-vertex.self c.ask.new.self c.ask.ensures.asked.kept next
+    let next : IsToBeAsked c.loop-vertex.self.game c.advance_by_sets.new.flat.value c.in-Some.field-0.vertex c.in-Some.field-0.position = search rules in
+    onward_rules (λ x. IsToBeAsked x c.advance_by_sets.new.flat.value c.in-Some.field-0.vertex c.in-Some.field-0.position) c.loop-vertex.self c.ask.new.self c.ask.ensures.asked.kept next
 
 pub sets_part-loop-vertex-preserved : goal.sets_part-loop-vertex-preserved
 sets_part-loop-vertex-preserved g t c =
@@ -369,8 +369,8 @@ sets_part-loop-vertex-preserved g t c =
     let f : Start = start_of c.args.origin in
     let flat = c.advance_by_sets.new.flat.value in
     let is : FindsBySets h k s l f flat = sets_on c.loop-vertex.invariant flat c.advance_by_sets.ensures.advances in
-    let v : ℕ = c.in-Some.vertex in
-    let p : ℕ = c.in-Some.position in
+    let v : ℕ = c.in-Some.field-0.vertex in
+    let p : ℕ = c.in-Some.field-0.position in
     let next : IsToBeAsked k.game flat v p = search rules in
     sets_more is v p next c.ask.ensures.asked c.take_by_sets.new.flat.value c.in_ok-valid.valid c.in_ok-valid.valid c.in_ok-valid.was c.in_ok-valid.ensures.valid c.take_by_sets.ensures.takes c.in_ok-valid.ensures.forced
 
@@ -386,8 +386,8 @@ sets_part-returns-in_err-valid-clause-asked g t c =
     let f : Start = start_of c.args.origin in
     let flat = c.advance_by_sets.new.flat.value in
     let is : FindsBySets h k s l f flat = sets_on c.loop-vertex.invariant flat c.advance_by_sets.ensures.advances in
-    let v : ℕ = c.in-Some.vertex in
-    let p : ℕ = c.in-Some.position in
+    let v : ℕ = c.in-Some.field-0.vertex in
+    let p : ℕ = c.in-Some.field-0.position in
     let next : IsToBeAsked k.game flat v p = search rules in
     sets_failed is v p next c.ask.ensures.asked c.from_residual-in_err-valid.result c.in_err-valid.field-0.0 c.in_err-valid.was c.from_residual-in_err-valid.ensures.1
 
@@ -576,8 +576,8 @@ word_runs-returns-clause-forced g t c = λ cut.
 
 -- ---- whether one runs behind modifiers
 
-pub runs_behind-loop-vertex-init : goal.runs_behind-loop-vertex-init
-runs_behind-loop-vertex-init g t c = record {
+pub runs_behind-loop-pair-init : goal.runs_behind-loop-pair-init
+runs_behind-loop-pair-init g t c = record {
   done = [];
   whole = IsPermutation-refl c.args.pairs.now;
   tries = tries_none c.args.self.now c.args.state.now c.args.pairs.now c.args.modifiers;
@@ -586,25 +586,25 @@ runs_behind-loop-vertex-init g t c = record {
 pub runs_behind-returns-then-modifiers-le1-clause-asked : goal.runs_behind-returns-then-modifiers-le1-clause-asked
 runs_behind-returns-then-modifiers-le1-clause-asked g t c =
     let h = c.args.self.now in
-    let k = c.loop-vertex.self in
+    let k = c.loop-pair.self in
     let s = c.args.state.now in
-    let l = c.loop-vertex.state in
-    let is = c.loop-vertex.invariant in
-    let q : ℕ × ℕ = (c.in-Some.vertex, c.in-Some.position) in
-    let there = turn_there c.args.pairs.now is.done c.loop-vertex.pairs c.take_least.new.self q is.whole c.in-Some.ensures.permutation in
+    let l = c.loop-pair.state in
+    let is = c.loop-pair.invariant in
+    let q : ℕ × ℕ = c.in-Some.pair in
+    let there = turn_there c.args.pairs.now is.done c.loop-pair.pairs c.take_least.new.self q is.whole c.in-Some.ensures.permutation in
     let ready : IsReady h.game s.state c.args.nested q = All-contains (IsReady h.game s.state c.args.nested) c.args.pairs.now q c.requires.ready there in
-    let moves = turn_moves c.args.pairs.now is.done c.loop-vertex.pairs c.take_least.new.self q is.whole c.in-Some.ensures.permutation in
+    let moves = turn_moves c.args.pairs.now is.done c.loop-pair.pairs c.take_least.new.self q is.whole c.in-Some.ensures.permutation in
     tries_deep is.tries c.take_least.new.self q moves ready.later ready.applies c.if-modifiers-le1.true
 
 pub runs_behind-runs_behind_one-requires : goal.runs_behind-runs_behind_one-requires
 runs_behind-runs_behind_one-requires g t c κs within =
     let h = c.args.self.now in
-    let k = c.loop-vertex.self in
+    let k = c.loop-pair.self in
     let s = c.args.state.now in
-    let l = c.loop-vertex.state in
-    let is = c.loop-vertex.invariant in
-    let q : ℕ × ℕ = (c.in-Some.vertex, c.in-Some.position) in
-    let there = turn_there c.args.pairs.now is.done c.loop-vertex.pairs c.take_least.new.self q is.whole c.in-Some.ensures.permutation in
+    let l = c.loop-pair.state in
+    let is = c.loop-pair.invariant in
+    let q : ℕ × ℕ = c.in-Some.pair in
+    let there = turn_there c.args.pairs.now is.done c.loop-pair.pairs c.take_least.new.self q is.whole c.in-Some.ensures.permutation in
     let fits : IsStateOf k.game l.state = onward IsStateOf h k s l is.tries.kept is.tries.given_back c.requires.fits in
     let room : 2 ≤ l.room = omega (arith, c.requires.room, is.tries.room) in
     let some : 0 < c.args.modifiers = omega (arith, c.if-modifiers-le1.false) in
@@ -615,90 +615,99 @@ runs_behind-runs_behind_one-requires g t c κs within =
 pub runs_behind-returns-in_err-runs_behind_one-clause-asked : goal.runs_behind-returns-in_err-runs_behind_one-clause-asked
 runs_behind-returns-in_err-runs_behind_one-clause-asked g t c =
     let h = c.args.self.now in
-    let k = c.loop-vertex.self in
+    let k = c.loop-pair.self in
     let s = c.args.state.now in
-    let l = c.loop-vertex.state in
-    let is = c.loop-vertex.invariant in
-    let q : ℕ × ℕ = (c.in-Some.vertex, c.in-Some.position) in
-    let there = turn_there c.args.pairs.now is.done c.loop-vertex.pairs c.take_least.new.self q is.whole c.in-Some.ensures.permutation in
+    let l = c.loop-pair.state in
+    let is = c.loop-pair.invariant in
+    let q : ℕ × ℕ = c.in-Some.pair in
+    let there = turn_there c.args.pairs.now is.done c.loop-pair.pairs c.take_least.new.self q is.whole c.in-Some.ensures.permutation in
     let ready : IsReady h.game s.state c.args.nested q = All-contains (IsReady h.game s.state c.args.nested) c.args.pairs.now q c.requires.ready there in
-    let moves = turn_moves c.args.pairs.now is.done c.loop-vertex.pairs c.take_least.new.self q is.whole c.in-Some.ensures.permutation in
+    let moves = turn_moves c.args.pairs.now is.done c.loop-pair.pairs c.take_least.new.self q is.whole c.in-Some.ensures.permutation in
     tries_failed is.tries c.take_least.new.self q moves ready.later ready.applies (omega (arith, c.if-modifiers-le1.false)) c.runs_behind_one.ensures.asked c.from_residual.result c.in_err-runs_behind_one.field-0.0 c.in_err-runs_behind_one.was c.from_residual.ensures.1
 
 pub runs_behind-returns-then-branch-clause-asked : goal.runs_behind-returns-then-branch-clause-asked
 runs_behind-returns-then-branch-clause-asked g t c =
     let h = c.args.self.now in
-    let k = c.loop-vertex.self in
+    let k = c.loop-pair.self in
     let s = c.args.state.now in
-    let l = c.loop-vertex.state in
-    let is = c.loop-vertex.invariant in
-    let q : ℕ × ℕ = (c.in-Some.vertex, c.in-Some.position) in
-    let there = turn_there c.args.pairs.now is.done c.loop-vertex.pairs c.take_least.new.self q is.whole c.in-Some.ensures.permutation in
+    let l = c.loop-pair.state in
+    let is = c.loop-pair.invariant in
+    let q : ℕ × ℕ = c.in-Some.pair in
+    let there = turn_there c.args.pairs.now is.done c.loop-pair.pairs c.take_least.new.self q is.whole c.in-Some.ensures.permutation in
     let ready : IsReady h.game s.state c.args.nested q = All-contains (IsReady h.game s.state c.args.nested) c.args.pairs.now q c.requires.ready there in
-    let moves = turn_moves c.args.pairs.now is.done c.loop-vertex.pairs c.take_least.new.self q is.whole c.in-Some.ensures.permutation in
+    let moves = turn_moves c.args.pairs.now is.done c.loop-pair.pairs c.take_least.new.self q is.whole c.in-Some.ensures.permutation in
     tries_yes is.tries c.take_least.new.self q moves ready.later ready.applies (omega (arith, c.if-modifiers-le1.false)) c.runs_behind_one.ensures.asked c.in_ok-runs_behind_one.field-0 c.in_ok-runs_behind_one.was true
 
 pub runs_behind-returns-then-branch-clause-answer : goal.runs_behind-returns-then-branch-clause-answer
 runs_behind-returns-then-branch-clause-answer g t c =
     let h = c.args.self.now in
-    let k = c.loop-vertex.self in
+    let k = c.loop-pair.self in
     let s = c.args.state.now in
-    let l = c.loop-vertex.state in
-    let is = c.loop-vertex.invariant in
-    let q : ℕ × ℕ = (c.in-Some.vertex, c.in-Some.position) in
-    let there = turn_there c.args.pairs.now is.done c.loop-vertex.pairs c.take_least.new.self q is.whole c.in-Some.ensures.permutation in
+    let l = c.loop-pair.state in
+    let is = c.loop-pair.invariant in
+    let q : ℕ × ℕ = c.in-Some.pair in
+    let there = turn_there c.args.pairs.now is.done c.loop-pair.pairs c.take_least.new.self q is.whole c.in-Some.ensures.permutation in
     let decides = before (λ x u. IsTrue c.in_ok-runs_behind_one.field-0 ↔ RunsBehindPair x u q.0 q.1) h k s l is.tries.kept is.tries.given_back c.in_ok-runs_behind_one.ensures.answer in
     turn_some h.game s.state c.args.pairs.now q c.in_ok-runs_behind_one.field-0 there decides c.if-branch.true
 
 pub runs_behind-returns-then-branch-clause-forced : goal.runs_behind-returns-then-branch-clause-forced
 runs_behind-returns-then-branch-clause-forced g t c =
     let h = c.args.self.now in
-    let k = c.loop-vertex.self in
+    let k = c.loop-pair.self in
     let s = c.args.state.now in
-    let l = c.loop-vertex.state in
-    let is = c.loop-vertex.invariant in
-    let q : ℕ × ℕ = (c.in-Some.vertex, c.in-Some.position) in
-    let there = turn_there c.args.pairs.now is.done c.loop-vertex.pairs c.take_least.new.self q is.whole c.in-Some.ensures.permutation in
+    let l = c.loop-pair.state in
+    let is = c.loop-pair.invariant in
+    let q : ℕ × ℕ = c.in-Some.pair in
+    let there = turn_there c.args.pairs.now is.done c.loop-pair.pairs c.take_least.new.self q is.whole c.in-Some.ensures.permutation in
     let ready : IsReady h.game s.state c.args.nested q = All-contains (IsReady h.game s.state c.args.nested) c.args.pairs.now q c.requires.ready there in
-    let moves = turn_moves c.args.pairs.now is.done c.loop-vertex.pairs c.take_least.new.self q is.whole c.in-Some.ensures.permutation in
+    let moves = turn_moves c.args.pairs.now is.done c.loop-pair.pairs c.take_least.new.self q is.whole c.in-Some.ensures.permutation in
     ran_some h.game s.state c.args.pairs.now h.opened c.runs_behind_one.new.self.opened c.args.modifiers h.modifiers
     (tries_grow is.tries c.take_least.new.self q moves ready.later ready.applies (omega (arith, c.if-modifiers-le1.false)) c.runs_behind_one.ensures.asked c.in_ok-runs_behind_one.field-0 c.in_ok-runs_behind_one.was c.in_ok-runs_behind_one.ensures.forced)
 
-pub runs_behind-loop-vertex-preserved : goal.runs_behind-loop-vertex-preserved
-runs_behind-loop-vertex-preserved g t c =
+pub runs_behind-loop-pair-preserved : goal.runs_behind-loop-pair-preserved
+runs_behind-loop-pair-preserved g t c =
     let h = c.args.self.now in
-    let k = c.loop-vertex.self in
+    let k = c.loop-pair.self in
     let s = c.args.state.now in
-    let l = c.loop-vertex.state in
-    let is = c.loop-vertex.invariant in
-    let q : ℕ × ℕ = (c.in-Some.vertex, c.in-Some.position) in
-    let there = turn_there c.args.pairs.now is.done c.loop-vertex.pairs c.take_least.new.self q is.whole c.in-Some.ensures.permutation in
+    let l = c.loop-pair.state in
+    let is = c.loop-pair.invariant in
+    let q : ℕ × ℕ = c.in-Some.pair in
+    let there = turn_there c.args.pairs.now is.done c.loop-pair.pairs c.take_least.new.self q is.whole c.in-Some.ensures.permutation in
     let ready : IsReady h.game s.state c.args.nested q = All-contains (IsReady h.game s.state c.args.nested) c.args.pairs.now q c.requires.ready there in
-    let moves = turn_moves c.args.pairs.now is.done c.loop-vertex.pairs c.take_least.new.self q is.whole c.in-Some.ensures.permutation in
+    let moves = turn_moves c.args.pairs.now is.done c.loop-pair.pairs c.take_least.new.self q is.whole c.in-Some.ensures.permutation in
     record {
       done = is.done ++ q ∷ [];
-      whole = turn_after c.args.pairs.now is.done c.loop-vertex.pairs c.take_least.new.self q is.whole c.in-Some.ensures.permutation;
+      whole = turn_after c.args.pairs.now is.done c.loop-pair.pairs c.take_least.new.self q is.whole c.in-Some.ensures.permutation;
       tries = tries_more is.tries c.take_least.new.self q moves ready.later ready.applies (omega (arith, c.if-modifiers-le1.false)) c.runs_behind_one.ensures.asked c.in_ok-runs_behind_one.field-0 c.in_ok-runs_behind_one.was c.in_ok-runs_behind_one.ensures.forced c.in_ok-runs_behind_one.ensures.answer c.if-branch.false;
     }
 
-pub runs_behind-loop-vertex-smaller : goal.runs_behind-loop-vertex-smaller
-runs_behind-loop-vertex-smaller g t c = turn_fewer c.loop-vertex.pairs c.take_least.new.self (c.in-Some.vertex, c.in-Some.position) c.in-Some.ensures.permutation
+pub runs_behind-loop-pair-smaller : goal.runs_behind-loop-pair-smaller
+runs_behind-loop-pair-smaller g t c = turn_fewer c.loop-pair.pairs c.take_least.new.self c.in-Some.pair c.in-Some.ensures.permutation
 
 pub runs_behind-returns-clause-asked : goal.runs_behind-returns-clause-asked
-runs_behind-returns-clause-asked g t c = tries_end c.loop-vertex.invariant.tries false
+runs_behind-returns-clause-asked g t c = tries_end c.loop-pair.invariant.tries false
 
 pub runs_behind-returns-clause-answer : goal.runs_behind-returns-clause-answer
 runs_behind-returns-clause-answer g t c =
-    none_of_all c.args.self.now.game c.args.state.now.state c.args.pairs.now c.loop-vertex.invariant.done (turn_end c.args.pairs.now c.loop-vertex.invariant.done c.loop-vertex.pairs c.loop-vertex.invariant.whole c.in_default.ensures.none) c.loop-vertex.invariant.tries.none
+    none_of_all c.args.self.now.game c.args.state.now.state c.args.pairs.now c.loop-pair.invariant.done (turn_end c.args.pairs.now c.loop-pair.invariant.done c.loop-pair.pairs c.loop-pair.invariant.whole c.in_default.ensures.none) c.loop-pair.invariant.tries.none
 
 pub runs_behind-returns-clause-forced : goal.runs_behind-returns-clause-forced
 runs_behind-returns-clause-forced g t c =
-    let is = c.loop-vertex.invariant in
-    let moves = turn_end c.args.pairs.now is.done c.loop-vertex.pairs is.whole c.in_default.ensures.none in
+    let is = c.loop-pair.invariant in
+    let moves = turn_end c.args.pairs.now is.done c.loop-pair.pairs is.whole c.in_default.ensures.none in
     record {
       grows = is.tries.grows;
-      forced = λ cut numbered _. ran_permuted c.args.self.now.game cut c.args.state.now.state c.args.pairs.now is.done c.args.self.now.opened c.loop-vertex.self.opened c.args.modifiers c.args.self.now.modifiers moves (is.tries.forced cut numbered);
+      forced = λ cut numbered _. ran_permuted c.args.self.now.game cut c.args.state.now.state c.args.pairs.now is.done c.args.self.now.opened c.loop-pair.self.opened c.args.modifiers c.args.self.now.modifiers moves (is.tries.forced cut numbered);
     }
+
+pub runs_behind_one-apply_at-requires-clause-vertex : goal.runs_behind_one-apply_at-requires-clause-vertex
+runs_behind_one-apply_at-requires-clause-vertex g t c = let ready = rw (← c.pair.view_is) at c.requires.ready in ready.vertex
+
+pub runs_behind_one-apply_at-requires-clause-position : goal.runs_behind_one-apply_at-requires-clause-position
+runs_behind_one-apply_at-requires-clause-position g t c = let ready = rw (← c.pair.view_is) at c.requires.ready in ready.position
+
+pub runs_behind_one-apply_at-requires-clause-modifies : goal.runs_behind_one-apply_at-requires-clause-modifies
+runs_behind_one-apply_at-requires-clause-modifies g t c = let ready = rw (← c.pair.view_is) at c.requires.ready in ready.modifies
 
 pub runs_behind_one-undo_to-requires : goal.runs_behind_one-undo_to-requires
 runs_behind_one-undo_to-requires g t c =
@@ -706,28 +715,31 @@ runs_behind_one-undo_to-requires g t c =
 
 pub runs_behind_one-word_runs-runs-requires : goal.runs_behind_one-word_runs-runs-requires
 runs_behind_one-word_runs-runs-requires g t c κs within =
-    (search rules, (within, (c.apply_at.ensures.fits, (c.requires.ready.nests, c.requires.inside))))
+    let ready = rw (← c.pair.view_is) at c.requires.ready in
+    let inside = rw (← c.pair.view_is) at c.requires.inside in
+    (search rules, (within, (c.apply_at.ensures.fits, (ready.nests, inside))))
 
 pub runs_behind_one-returns-in_err-runs-clause-asked : goal.runs_behind_one-returns-in_err-runs-clause-asked
-runs_behind_one-returns-in_err-runs-clause-asked g t c = λ later applies.
+runs_behind_one-returns-in_err-runs-clause-asked g t c = rw (← c.pair.view_is) (λ later applies.
     let given = back c.args.state.now c.apply_at.new.state c.word_runs-runs.new.state c.undo_to.new.self c.mark-mark.result c.mark-mark.ensures c.apply_at.ensures.after c.word_runs-runs.ensures.asked.given_back c.undo_to.ensures.given_back in
     let there =
     asked_there c.word_runs-runs.ensures.asked c.args.state.now c.undo_to.new.self later (c.args.modifiers - 1) (c.apply_at.ensures.only later applies) refl given
     (given_room c.args.state.now c.apply_at.new.state c.word_runs-runs.new.state c.undo_to.new.self c.apply_at.ensures.capacity c.word_runs-runs.ensures.asked.given_back c.word_runs-runs.ensures.asked.room c.undo_to.ensures.capacity given) in
-    handed_on there c.from_residual.result c.in_err-runs.field-0.0 c.in_err-runs.was c.from_residual.ensures.1
+    handed_on there c.from_residual.result c.in_err-runs.field-0.0 c.in_err-runs.was c.from_residual.ensures.1)
 
 pub runs_behind_one-returns-clause-asked : goal.runs_behind_one-returns-clause-asked
-runs_behind_one-returns-clause-asked g t c = λ later applies.
+runs_behind_one-returns-clause-asked g t c = rw (← c.pair.view_is) (λ later applies.
     let given = back c.args.state.now c.apply_at.new.state c.word_runs-runs.new.state c.undo_to.new.self c.mark-mark.result c.mark-mark.ensures c.apply_at.ensures.after c.word_runs-runs.ensures.asked.given_back c.undo_to.ensures.given_back in
     let there =
     asked_there c.word_runs-runs.ensures.asked c.args.state.now c.undo_to.new.self later (c.args.modifiers - 1) (c.apply_at.ensures.only later applies) refl given
     (given_room c.args.state.now c.apply_at.new.state c.word_runs-runs.new.state c.undo_to.new.self c.apply_at.ensures.capacity c.word_runs-runs.ensures.asked.given_back c.word_runs-runs.ensures.asked.room c.undo_to.ensures.capacity given) in
-    answered_on there c.in_ok-runs.field-0 c.in_ok-runs.field-0 c.in_ok-runs.was
+    answered_on there c.in_ok-runs.field-0 c.in_ok-runs.field-0 c.in_ok-runs.was)
 
 pub runs_behind_one-returns-clause-answer : goal.runs_behind_one-returns-clause-answer
 runs_behind_one-returns-clause-answer g t c =
-    runs_one c.args.self.now.game c.args.state.now.state c.apply_at.new.state.state c.args.nested c.args.vertex c.args.position c.in_ok-runs.field-0 c.requires.ready c.apply_at.ensures.only c.in_ok-runs.ensures.answer
+    let ready = rw (← c.pair.view_is) at c.requires.ready in
+    rw (← c.pair.view_is) (runs_one c.args.self.now.game c.args.state.now.state c.apply_at.new.state.state c.args.nested c.pair.inside.vertex c.pair.inside.position c.in_ok-runs.field-0 ready c.apply_at.ensures.only c.in_ok-runs.ensures.answer)
 
 pub runs_behind_one-returns-clause-forced : goal.runs_behind_one-returns-clause-forced
-runs_behind_one-returns-clause-forced g t c = λ cut later applies.
-    subst (λ (u : AbstractState). CountsForced c.args.self.now.game cut pattern u (after c.args.position) c.args.self.now.opened c.word_runs-runs.new.self.opened (c.args.modifiers - 1) c.args.self.now.modifiers) (sym (c.apply_at.ensures.only later applies)) (c.in_ok-runs.ensures.forced cut)
+runs_behind_one-returns-clause-forced g t c = rw (← c.pair.view_is) (λ cut later applies.
+    subst (λ (u : AbstractState). CountsForced c.args.self.now.game cut pattern u (after c.pair.inside.position) c.args.self.now.opened c.word_runs-runs.new.self.opened (c.args.modifiers - 1) c.args.self.now.modifiers) (sym (c.apply_at.ensures.only later applies)) (c.in_ok-runs.ensures.forced cut))

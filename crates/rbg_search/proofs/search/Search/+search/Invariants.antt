@@ -41,12 +41,12 @@ invariant-sets_part-loop-vertex g l = FindsBySets l.fn.self l.self l.fn.state l.
 abbrev pub decreases-sets_part-loop-vertex : goal.decreases-sets_part-loop-vertex
 decreases-sets_part-loop-vertex g l = weight l.flat.value.sets
 
-abbrev pub invariant-runs_behind-loop-vertex : goal.invariant-runs_behind-loop-vertex
-invariant-runs_behind-loop-vertex g l = record {
+abbrev pub invariant-runs_behind-loop-pair : goal.invariant-runs_behind-loop-pair
+invariant-runs_behind-loop-pair g l = record {
   done : List (ℕ × ℕ);
   whole : IsPermutation l.fn.pairs (done ++ l.pairs);
   tries : TriesBehind l.fn.self l.self l.fn.state l.state l.fn.pairs done l.fn.modifiers;
 }
 
-abbrev pub decreases-runs_behind-loop-vertex : goal.decreases-runs_behind-loop-vertex
-decreases-runs_behind-loop-vertex g l = length l.pairs
+abbrev pub decreases-runs_behind-loop-pair : goal.decreases-runs_behind-loop-pair
+decreases-runs_behind-loop-pair g l = length l.pairs

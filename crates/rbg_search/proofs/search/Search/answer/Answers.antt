@@ -15,7 +15,7 @@ use Rattle.rbg_search.proofs.Counted.{wide_not_deep, ok_not_err, counted_only, o
 use Rattle.rbg_search.proofs.CountedSteps.{returned_is}
 use Rattle.rbg_search.proofs.Kept.{kept_twice, onward_rules, rules_before}
 use Rattle.rbg_search.proofs.Patterns.{pattern_inside, inside_start}
-use Rattle.rbg_search.proofs.Walking.{pattern_pairs, walked_decides, walked_forced}
+use Rattle.rbg_search.proofs.Scanning.{pattern_pairs, scanned_decides, scanned_forced}
 use Rattle.rbg_search.proofs.search.Search.answer.Goals as goal
 
 pub returns-in_err-open-clause-counts : goal.returns-in_err-open-clause-counts
@@ -28,13 +28,13 @@ returns-in_err-open-clause-counts g c = λ s.
     }
 
 pub returns-clause-valid : goal.returns-clause-valid
-returns-clause-valid g c = λ s walked.
+returns-clause-valid g c = λ s scanned.
     let kept : c.count_pairs.new.self ≡ (record c.args.self.now { opened = c.count_pairs.new.self.opened; taken = c.count_pairs.new.self.taken }) =
     kept_twice c.args.self.now c.open.new.self c.count_pairs.new.self c.open.ensures.kept c.count_pairs.ensures.kept in
-    let decides : IsTrue c.args.walk.ends ↔ SomeWordRuns c.args.self.now.game s (beginning (inside c.args.position)) =
-    walked_decides c.args.self.now.game c.open.ensures.lawful.numbered s (beginning (inside c.args.position)) c.args.walk.ends walked in
+    let decides : IsTrue c.args.scan.ends ↔ SomeWordRuns c.args.self.now.game s (beginning (inside c.args.position)) =
+    scanned_decides c.args.self.now.game c.open.ensures.lawful.numbered s (beginning (inside c.args.position)) c.args.scan.ends scanned in
     rules_before (λ x. IsTrue c.is_valid.result ↔ Applies x c.args.position s s) c.args.self.now c.count_pairs.new.self kept
-    (c.is_valid.ensures s (onward_rules (λ x. IsTrue c.args.walk.ends ↔ SomeWordRuns x s (beginning (inside c.args.position))) c.args.self.now c.count_pairs.new.self kept decides))
+    (c.is_valid.ensures s (onward_rules (λ x. IsTrue c.args.scan.ends ↔ SomeWordRuns x s (beginning (inside c.args.position))) c.args.self.now c.count_pairs.new.self kept decides))
 
 pub returns-clause-counts : goal.returns-clause-counts
 returns-clause-counts g c = λ s.
@@ -45,12 +45,12 @@ returns-clause-counts g c = λ s.
     (ok_not_err c.is_valid.result Deep) (ok_not_err c.is_valid.result Wide)
 
 pub returns-clause-forced : goal.returns-clause-forced
-returns-clause-forced g c = λ s cut walked.
+returns-clause-forced g c = λ s cut scanned.
     let opened : c.count_pairs.new.self.opened ≡ c.args.self.now.opened + 1 = c.count_pairs.ensures.opened ∙ c.in_ok-open.ensures.opened in
-    walked_forced c.args.self.now.game c.open.ensures.lawful.numbered s (beginning (inside c.args.position)) cut c.args.walk.ends c.args.self.now.opened c.count_pairs.new.self.opened c.args.self.now.modifiers c.args.self.now.modifiers walked opened
+    scanned_forced c.args.self.now.game c.open.ensures.lawful.numbered s (beginning (inside c.args.position)) cut c.args.scan.ends c.args.self.now.opened c.count_pairs.new.self.opened c.args.self.now.modifiers c.args.self.now.modifiers scanned opened
 
 pub count_pairs-requires-clause-few : goal.count_pairs-requires-clause-few
-count_pairs-requires-clause-few g c = onward_rules (λ x. c.args.walk.pairs ≤ most_pairs_of x) c.args.self.now c.open.new.self c.open.ensures.kept c.requires.few
+count_pairs-requires-clause-few g c = onward_rules (λ x. c.args.scan.pairs ≤ most_pairs_of x) c.args.self.now c.open.new.self c.open.ensures.kept c.requires.few
 
 pub count_pairs-requires-clause-one : goal.count_pairs-requires-clause-one
 count_pairs-requires-clause-one g c =
@@ -69,6 +69,6 @@ returns-clause-taken g c = λ s has.
     let now = c.args.self.now in
     let f = beginning (inside c.args.position) in
     let opened : c.count_pairs.new.self.opened ≡ now.opened + 1 = c.count_pairs.ensures.opened ∙ c.in_ok-open.ensures.opened in
-    takes_own now.game pattern s f now.opened c.count_pairs.new.self.opened now.taken c.open.new.self.taken c.count_pairs.new.self.taken c.args.walk.pairs _
+    takes_own now.game pattern s f now.opened c.count_pairs.new.self.opened now.taken c.open.new.self.taken c.count_pairs.new.self.taken c.args.scan.pairs _
     (takes_none_yet now.game pattern s f (now.opened + 1) c.count_pairs.new.self.opened now.taken c.open.new.self.taken (Unit {0}) (sym opened) c.open.ensures.none_taken)
-    (own_part now.game pattern s f c.args.walk.pairs has c.requires.few) c.count_pairs.ensures.taken
+    (own_part now.game pattern s f c.args.scan.pairs has c.requires.few) c.count_pairs.ensures.taken

@@ -23,8 +23,8 @@ use Rattle.rbg_search.proofs.Counted.{memory_not_deep, memory_not_wide, ok_not_e
 use Rattle.rbg_search.proofs.CountedSteps.{not_memory}
 use Rattle.rbg_search.proofs.Finding.{finds_none, finds_asked, finds_own}
 use Rattle.std.specs.Prelude.{Result, Err, IsOk}
-use Rattle.rbg_pairs.specs.Part.{IsOutcome}
-use Rattle.rbg_pairs.specs.declared.outcome.Outcome.TheVariants.{Modifies}
+use Rattle.rbg_pairs.specs.Part.{IsTrialAt}
+use Rattle.rbg_state.specs.declared.state.trials.Trial.TheVariants.{Modifies}
 use Rattle.rbg_search.specs.Answered.{HasReached}
 use Rattle.rbg_search.specs.declared.over.Over.{Over as AnyOver}
 use Rattle.rbg_search.specs.internal.Asked.{IsAsked}
@@ -45,7 +45,7 @@ decided : (h e : Searching) (f : Start) (ends : Bool) (inner : AbstractGame) →
 decided h e f ends inner kept game is = rules_before (λ x. Decides ends (Ends x.rules f [])) h e kept (subst (λ (x : AbstractGame). Decides ends (Ends x.rules f [])) game is)
 
 -- What is said of the one modifier, where one opening was taken up for it.
-module _ (h e k : Searching) (s l : History) (f : Start) (p : ℕ) (ends : Bool) (begun : Finds h e s l f []) (fits : IsStateOf h.game s.state) (only : AreAllThatFollow h.game.rules f (p ∷ [])) (decides : Decides ends (Ends h.game.rules f [])) (modifies : IsOutcome h.game s.state s.state.vertex p Modifies) (kept : k ≡ record e { opened = k.opened; taken = k.taken }) (opened : k.opened ≡ e.opened) (taken : k.taken ≡ e.taken + 1) where
+module _ (h e k : Searching) (s l : History) (f : Start) (p : ℕ) (ends : Bool) (begun : Finds h e s l f []) (fits : IsStateOf h.game s.state) (only : AreAllThatFollow h.game.rules f (p ∷ [])) (decides : Decides ends (Ends h.game.rules f [])) (modifies : IsTrialAt h.game s.state s.state.vertex p Modifies) (kept : k ≡ record e { opened = k.opened; taken = k.taken }) (opened : k.opened ≡ e.opened) (taken : k.taken ≡ e.taken + 1) where
   asked : {X : Type 0} (r : Result X AnyOver) → ¬ (r ≡ Err Deep) → ¬ (r ≡ Err Wide) → IsAsked h k s l reach s.state f h.modifiers r
   asked r deep wide =
       let part = own_part h.game reach s.state f 1 (alone_pairs h.game begun.lawful.numbered s.state f p ends only decides modifies) (few h s.state f p fits begun.lawful.numbered only) in

@@ -1,8 +1,7 @@
-use Rattle.std.proofs.Common.{◌≡◌, ℕ, ◌+◌, ◌*◌, ◌<◌, ◌≤◌, List, length, sym, subst, ap, ◌∙◌, arith}
-use Rattle.std.specs.Prelude.{count_ones}
+use Rattle.std.proofs.Common.{◌≡◌, ℕ, ◌+◌, ◌*◌, ◌<◌, List, length, sym, subst, ap, ◌∙◌, arith}
 use Rattle.std.proofs.lemmas.List.{get_or_read}
 use Rattle.rbg_state.specs.Rows.{IsWordOf}
-use Rattle.rbg_state.proofs.Counts.{column_more, all_columns}
+use Rattle.rbg_state.proofs.Counts.{column_more}
 use Rattle.rbg_state.proofs.RowLemmas.{word_is}
 use Rattle.rbg_state.proofs.rows.Rows.count.Goals as goal
 

@@ -8,22 +8,22 @@ use Rattle.rbg_state.proofs.Trying.{standing}
 use Rattle.rbg_state.proofs.state.SemiState.tell.Goals as goal
 
 pub returns-in-Shift-clause-told : goal.returns-in-Shift-clause-told
-returns-in-Shift-clause-told c = rw c.in-Shift.is (λ _ a shown. rw shown (c.tell_shift.ensures c.args.game.now (standing c.args.self.now.state c.args.vertex) c.in-Shift.direction (sym (c.step.ensures.next ∙ ap (λ (g : Graph). next g c.args.vertex c.in-Shift.direction) c.requires.board))))
+returns-in-Shift-clause-told c = rw c.in-Shift.is (λ a shown. rw shown (c.tell_shift.ensures c.args.game.now (standing c.args.self.now.state c.args.vertex) c.in-Shift.direction (sym (c.step.ensures.next ∙ ap (λ (g : Graph). next g c.args.vertex c.in-Shift.direction) c.requires.board))))
 
 pub returns-in-On-clause-told : goal.returns-in-On-clause-told
-returns-in-On-clause-told c = rw c.in-On.is (λ _ a shown. rw (shown, ← c.deref.ensures.value) (c.tell_on.ensures c.args.game.now))
+returns-in-On-clause-told c = rw c.in-On.is (λ a shown. rw (shown, ← c.deref.ensures.value) (c.tell_on.ensures c.args.game.now))
 
 pub returns-in-Compare-clause-told : goal.returns-in-Compare-clause-told
-returns-in-Compare-clause-told c = rw c.in-Compare.is (λ _ a shown. rw shown (c.tell_compare.ensures c.args.game.now))
+returns-in-Compare-clause-told c = rw c.in-Compare.is (λ a shown. rw shown (c.tell_compare.ensures c.args.game.now))
 
 pub returns-in-Assign-clause-told : goal.returns-in-Assign-clause-told
-returns-in-Assign-clause-told c = rw c.in-Assign.is (λ _ a shown. rw shown (c.tell_assign.ensures c.args.game.now c.in-Assign.variable c.args.vertex (get_or_from_slice_get c.args.game.now.bounds c.in-Assign.variable c.bound.result 0 c.bound.ensures)))
+returns-in-Assign-clause-told c = rw c.in-Assign.is (λ a shown. rw shown (c.tell_assign.ensures c.args.game.now c.in-Assign.variable c.args.vertex (get_or_from_slice_get c.args.game.now.bounds c.in-Assign.variable c.bound.result 0 c.bound.ensures)))
 
 pub returns-in-Off-clause-told : goal.returns-in-Off-clause-told
-returns-in-Off-clause-told c = rw c.in-Off.is (λ _ a shown. rw shown (refl, (_, refl)))
+returns-in-Off-clause-told c = rw c.in-Off.is (λ a shown. rw shown (refl, (_, refl)))
 
 pub returns-in-Switch-clause-told : goal.returns-in-Switch-clause-told
-returns-in-Switch-clause-told c = rw c.in-Switch.is (λ _ a shown. rw shown (refl, (_, refl)))
+returns-in-Switch-clause-told c = rw c.in-Switch.is (λ a shown. rw shown (refl, (_, refl)))
 
 pub tell_assign-requires : goal.tell_assign-requires
 tell_assign-requires c =
