@@ -1,12 +1,12 @@
 -- Steps of the proofs about small games.
-use Rattle.std.proofs.Common.{◌≡◌, ◌≢◌, ℕ, zero, suc, List, [], ◌∷◌, ◌++◌, refl, sym, ap, ◌∙◌, subst, ◌⊎◌, inl, inr, arith, true, false}
-use Rattle.std.specs.Prelude.{All, Some, slice_get}
+use Rattle.std.proofs.Common.{◌≡◌, ◌≢◌, ℕ, zero, suc, List, [], ◌∷◌, ◌++◌, refl, sym, ap, ◌∙◌, subst, ◌⊎◌, inl, inr, arith, Bool, true, false}
+use Rattle.std.specs.Prelude.{◌&&◌, All, Some, slice_get}
 use Rattle.std.specs.List.{list_any}
 use Rattle.std.specs.Str.{bytes_eq}
-use Rattle.std.proofs.lemmas.Bool.{or_parts}
+use Rattle.std.proofs.lemmas.Bool.{and_parts, or_parts}
 use Rattle.std.proofs.lemmas.Slice.Eq.{bytes_eq-Decides}
-use Rattle.rbg_rules.specs.Expression.{AbstractAction, off, switch, Expression, act, sequence_of}
-use Rattle.rbg_rules.specs.Positions.{HasAction, HasOwnAction, IsNumbered, IsSwitchAt, HasNoSwitch, outermost, is_modifier}
+use Rattle.rbg_rules.specs.Expression.{AbstractAction, shift, on, off, assignment, comparison, switch, positive, negative, Expression, act, skip, sequence, fail, choice, star, sequence_of}
+use Rattle.rbg_rules.specs.Positions.{HasAction, HasInside, HasOwnAction, IsNumbered, IsSwitchAt, IsPatternAt, HasNoSwitch, outermost, is_modifier}
 use Rattle.rbg_rules.specs.Words.{Word, Follows, after}
 use Rattle.rbg_rules.specs.State.{AbstractGame, AbstractState}
 use Rattle.rbg_rules.specs.Actions.{Applies}
@@ -175,3 +175,40 @@ only_nothing (q ∷ qs) more some e = cc
 pub all_of_one : (pair : ℕ × ℕ) (qs more : List (ℕ × ℕ)) → more ≢ [] → pair ∷ [] ≡ qs ++ more → qs ≡ []
 all_of_one pair [] more some e = refl
 all_of_one pair (q ∷ qs) more some e = let tails : [] ≡ qs ++ more = cc in absurd (only_nothing qs more some tails)
+
+-- whether all actions are modifiers
+abbrev all_modify : Expression → Bool
+all_modify (act p a) = is_modifier a
+all_modify skip = true
+all_modify (sequence x y) = all_modify x && all_modify y
+all_modify fail = true
+all_modify (choice x y) = all_modify x && all_modify y
+all_modify (star x) = all_modify x
+
+nothing_inside : (a b : AbstractAction) (p : ℕ) → is_modifier b ≡ true → HasInside b p a → ⊥
+nothing_inside a (off x) p is has = has
+nothing_inside a (assignment v e) p is has = has
+nothing_inside a (switch n) p is has = has
+nothing_inside a (shift d) p is has = has
+nothing_inside a (on xs) p is has = has
+nothing_inside a (comparison e r f) p is has = has
+nothing_inside a (positive x) p is has = true_not_false (sym is)
+nothing_inside a (negative x) p is has = true_not_false (sym is)
+
+each_modifies : (x : Expression) → all_modify x ≡ true → (p : ℕ) (a : AbstractAction) → HasAction x p a → is_modifier a ≡ true
+each_modifies (act q b) all p a (inl (_, e)) = ap is_modifier e ∙ all
+each_modifies (act q b) all p a (inr has) = absurd (nothing_inside a b p all has)
+each_modifies skip all p a has = absurd has
+each_modifies (sequence x y) all p a (inl has) = each_modifies x (and_parts (all_modify x) (all_modify y) all).0 p a has
+each_modifies (sequence x y) all p a (inr has) = each_modifies y (and_parts (all_modify x) (all_modify y) all).1 p a has
+each_modifies fail all p a has = absurd has
+each_modifies (choice x y) all p a (inl has) = each_modifies x (and_parts (all_modify x) (all_modify y) all).0 p a has
+each_modifies (choice x y) all p a (inr has) = each_modifies y (and_parts (all_modify x) (all_modify y) all).1 p a has
+each_modifies (star x) all p a has = each_modifies x all p a has
+
+-- Rules of modifiers alone have no pattern.
+pub no_pattern_among : (x : Expression) → all_modify x ≡ true → (p : ℕ) → ¬ IsPatternAt x p
+no_pattern_among x all p pattern = elim pattern.stands [
+  | inl h ↦ true_not_false (sym (each_modifies x all p (positive pattern.inside_it) h))
+  | inr h ↦ true_not_false (sym (each_modifies x all p (negative pattern.inside_it) h))
+]

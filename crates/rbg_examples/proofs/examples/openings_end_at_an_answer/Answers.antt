@@ -1,13 +1,12 @@
 -- The proof of `examples::openings_end_at_an_answer`.
-use Rattle.std.proofs.Common.{◌≡◌, ℕ, List, [], ◌∷◌, refl, inl, inr, sym, ap, ◌∙◌, false}
+use Rattle.std.proofs.Common.{◌≡◌, ℕ, List, [], ◌∷◌, refl, inl, inr}
 use Rattle.std.proofs.lemmas.List.Elements.{All-nil}
-use Rattle.rbg_rules.specs.Expression.{AbstractAction, positive, negative}
-use Rattle.rbg_rules.specs.Positions.{HasAction, IsSwitchAt, IsPatternAt, outermost, is_modifier}
+use Rattle.rbg_rules.specs.Positions.{IsSwitchAt, outermost}
 use Rattle.rbg_rules.specs.Words.{after, done}
 use Rattle.rbg_rules.specs.Moves.{stay}
 use Rattle.rbg_rules.specs.Questions.{at, behind, AnswersBehind, GoesTo, find_move}
 use Rattle.rbg_examples.specs.ExampleGames.{star_of_offs, state_of}
-use Rattle.rbg_examples.proofs.ExampleLemmas.{true_not_false}
+use Rattle.rbg_examples.proofs.ExampleLemmas.{no_pattern_among}
 use Rattle.rbg_examples.proofs.examples.openings_end_at_an_answer.Goals as goal
 
 -- The switch to black stands behind no modifier.
@@ -29,19 +28,6 @@ stops : (ps : List (ℕ × ℕ)) → GoesTo star_of_offs find_move (state_of 1 (
 stops [] goes = refl
 stops (q ∷ ps) goes = absurd (goes [] (q ∷ ps, (λ e. cc), refl) answer)
 
--- The rules have no pattern.
-no_pattern : (p : ℕ) → ¬ IsPatternAt star_of_offs.rules p
-no_pattern p pattern = elim pattern.stands [ inl h ↦ plain (positive pattern.inside_it) refl h | inr h ↦ plain (negative pattern.inside_it) refl h ]
-  where
-    plain : (a : AbstractAction) → is_modifier a ≡ false → ¬ HasAction star_of_offs.rules p a
-    plain a quiet (inl (inl (inl none))) = absurd none
-    plain a quiet (inl (inl (inr (inl (_, e))))) = true_not_false (sym (ap is_modifier e) ∙ quiet)
-    plain a quiet (inl (inl (inr (inr none)))) = absurd none
-    plain a quiet (inl (inr (inl (_, e)))) = true_not_false (sym (ap is_modifier e) ∙ quiet)
-    plain a quiet (inl (inr (inr none))) = absurd none
-    plain a quiet (inr (inl (_, e))) = true_not_false (sym (ap is_modifier e) ∙ quiet)
-    plain a quiet (inr (inr none)) = absurd none
-
 pub returns : goal.returns
 returns c o (at {ps} runs goes) = rw (stops ps goes)
-returns c o (behind {p} runs goes follows pattern more) = absurd (no_pattern p pattern)
+returns c o (behind {p} runs goes follows pattern more) = absurd (no_pattern_among star_of_offs.rules refl p pattern)

@@ -1,10 +1,10 @@
 -- The proof of `examples::openings_of_a_sum`.
-use Rattle.std.proofs.Common.{◌≡◌, ◌≢◌, ℕ, List, [], ◌∷◌, ◌++◌, refl, inl, inr, sym, ap, ◌∙◌, subst, ◌⊎◌, arith, false}
+use Rattle.std.proofs.Common.{◌≡◌, ◌≢◌, ℕ, List, [], ◌∷◌, ◌++◌, refl, inl, inr, sym, ap, ◌∙◌, subst, ◌⊎◌, arith}
 use Rattle.std.specs.Prelude.{All, Contains, AllPairs}
 use Rattle.std.proofs.lemmas.List.Elements.{All-cons, All-nil}
 use Rattle.std.proofs.lemmas.List.Kept.{AllPairs-cons}
-use Rattle.rbg_rules.specs.Expression.{AbstractAction, off, switch, positive, negative, act, choice_of}
-use Rattle.rbg_rules.specs.Positions.{HasAction, IsNumbered, IsSwitchAt, IsPatternAt, HasNoSwitch, outermost, is_modifier}
+use Rattle.rbg_rules.specs.Expression.{off, switch, act, choice_of}
+use Rattle.rbg_rules.specs.Positions.{HasAction, IsNumbered, IsSwitchAt, HasNoSwitch, outermost}
 use Rattle.rbg_rules.specs.Words.{after, Follows, Word}
 use Rattle.rbg_rules.specs.State.{AbstractState}
 use Rattle.rbg_rules.specs.Moves.{RunPairs, stay, modify, pass}
@@ -12,7 +12,7 @@ use Rattle.rbg_rules.specs.Laws.{IsJoinOfWords}
 use Rattle.rbg_rules.specs.Questions.{Item, modifier_at, Opening, at, behind, GoesTo, AnswersBehind, find_move, items_of}
 use Rattle.rbg_examples.specs.ExampleGames.{small_sum}
 use Rattle.rbg_rules.proofs.PositionLemmas.{Among}
-use Rattle.rbg_examples.proofs.ExampleLemmas.{no_switch_at, true_not_false, only_nothing, all_of_one, modifies, no_pairs, one_pair, goes_on, join_word, at_front, all_among}
+use Rattle.rbg_examples.proofs.ExampleLemmas.{no_switch_at, true_not_false, only_nothing, all_of_one, modifies, no_pairs, one_pair, goes_on, join_word, at_front, all_among, no_pattern_among}
 use Rattle.rbg_examples.proofs.ExampleStates.{start, with_piece}
 use Rattle.rbg_examples.proofs.examples.openings_of_a_sum.Goals as goal
 
@@ -123,22 +123,6 @@ these = All-cons IsOpened [] ((modifier_at 0 2 ∷ []) ∷ (modifier_at 0 3 ∷ 
 pub returns-clause-these : goal.returns-clause-these
 returns-clause-these c = these
 
--- The rules have no pattern.
-no_pattern : (p : ℕ) → ¬ IsPatternAt small_sum.rules p
-no_pattern p pattern = elim pattern.stands [ inl h ↦ plain (positive pattern.inside_it) refl h | inr h ↦ plain (negative pattern.inside_it) refl h ]
-  where
-    plain : (a : AbstractAction) → is_modifier a ≡ false → ¬ HasAction small_sum.rules p a
-    plain a quiet (inl (inl (inl no_action))) = absurd no_action
-    plain a quiet (inl (inl (inr (inl (_, e))))) = true_not_false (sym (ap is_modifier e) ∙ quiet)
-    plain a quiet (inl (inl (inr (inr no_action)))) = absurd no_action
-    plain a quiet (inl (inr (inl (inl no_action)))) = absurd no_action
-    plain a quiet (inl (inr (inl (inr (inl (_, e)))))) = true_not_false (sym (ap is_modifier e) ∙ quiet)
-    plain a quiet (inl (inr (inl (inr (inr no_action))))) = absurd no_action
-    plain a quiet (inl (inr (inr (inl (_, e))))) = true_not_false (sym (ap is_modifier e) ∙ quiet)
-    plain a quiet (inl (inr (inr (inr no_action)))) = absurd no_action
-    plain a quiet (inr (inl (_, e))) = true_not_false (sym (ap is_modifier e) ∙ quiet)
-    plain a quiet (inr (inr no_action)) = absurd no_action
-
 is_one : (m : List ℕ) (t : AbstractState) (ps : List (ℕ × ℕ)) → RunPairs small_sum m start t ps → ((m ≡ []) ⊎ (m ≡ 2 ∷ [])) ⊎ (m ≡ 3 ∷ []) → Contains three (items_of ps)
 is_one m t ps run (inl (inl e)) = let same = no_pairs small_sum start t ps (subst (λ (w : List ℕ). RunPairs small_sum w start t ps) e run) in (0, omega arith, sym (ap items_of same))
 is_one m t ps run (inl (inr e)) = let same = one_pair small_sum numbered 2 0 puts_e start t ps (subst (λ (w : List ℕ). RunPairs small_sum w start t ps) e run) in (1, omega arith, sym (ap items_of same))
@@ -146,7 +130,7 @@ is_one m t ps run (inr e) = let same = one_pair small_sum numbered 3 1 puts_w st
 
 pub returns-clause-no_other : goal.returns-clause-no_other
 returns-clause-no_other c o (at {m} {t} {ps} runs goes) = is_one m t ps runs.runs (short m runs.no_switch (begins m runs.follows))
-returns-clause-no_other c o (behind {p} runs goes follows pattern more) = absurd (no_pattern p pattern)
+returns-clause-no_other c o (behind {p} runs goes follows pattern more) = absurd (no_pattern_among small_sum.rules refl p pattern)
 
 abbrev Differs : List Item → List Item → Type 0
 Differs o o' = o ≢ o'
