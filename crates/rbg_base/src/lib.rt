@@ -1,5 +1,5 @@
-//! What every layer shares: names of the language, decimal numbers, the numbers of the things of a game, the relations
-//! of arithmetic, moves as they are written, and the error for a refused allocation.
+//! What every layer shares: names of the language, decimal numbers, the numbers of the things of a game, the operators
+//! and relations of arithmetic, moves as they are written, and the error for a refused allocation.
 #![tactic(auto)]
 
 mod decimal;
@@ -9,6 +9,7 @@ mod list;
 mod moves;
 mod names;
 mod numbers;
+mod operator;
 mod pair;
 mod relation;
 
@@ -18,6 +19,7 @@ pub use list::MoveList;
 pub use moves::{MAX_PAIRS, Move};
 pub use names::{is_name, is_name_part, is_name_start};
 pub use numbers::{Direction, Piece, Player, Position, Variable, Vertex};
+pub use operator::Operator;
 pub use pair::Pair;
 pub use relation::Relation;
 pub use std::alloc::AllocError as Memory;

@@ -4,17 +4,18 @@ use Rattle.rbg_tokens.specs.Token.{Lexeme}
 use Rattle.rbg_tokens.specs.declared.token.Symbol.TheVariants.{DoubleArrow, Arrow, OpenBrace, CloseBrace}
 use Rattle.rbg_tokens.specs.declared.token.TokenKind.{TokenKind}
 use Rattle.rbg_tokens.specs.declared.token.TokenKind.TheVariants as kinds
+use Rattle.rbg_tokens.specs.Kinds.{is_name_kind, is_symbol}
 use Rattle.rbg_grammar.specs.Tree.{SpeltRule, act, shift, switch}
 use Rattle.rbg_grammar.specs.Phrase.{IsName, Listed, Within}
 use Rattle.rbg_grammar.specs.Grammar.{IsOpenAtom, moves, switches, keeps}
-use Rattle.rbg_grammar.specs.Reading.{Reading, ◌>>=◌, next_is, is_name, is_symbol, symbol_at, name_at, listed_at, within_at, open_atom_at}
+use Rattle.rbg_grammar.specs.Reading.{Reading, ◌>>=◌, next_is, symbol_at, name_at, listed_at, within_at, open_atom_at}
 use Rattle.rbg_grammar.proofs.Readers.{bind_ok, ok_one, IsReadBy, Always, symbol_read, symbol_next, name_read, name_next, next_test-symbol, next_test-name}
 use Rattle.rbg_grammar.proofs.Combinators.{EndsList, within_read}
 use Rattle.rbg_grammar.proofs.SectionReaders.{name_list_read, ends_list}
 
 open_atom_sound : (ts : List Lexeme) (x : SpeltRule) (rest : List Lexeme) → open_atom_at ts ≡ Ok (x, rest) → IsOpenAtom ts x rest
 unfolding open_atom_at
-open_atom_sound ts x rest e = first (next_is is_name ts) (next_is (is_symbol Arrow) ts) e
+open_atom_sound ts x rest e = first (next_is is_name_kind ts) (next_is (is_symbol Arrow) ts) e
   where
     first : (b c : Bool) → cond {A = Reading SpeltRule} b (name_at ts >>= λ n. Ok (act (shift n.0), n.1))
         (cond c (symbol_at Arrow ts >>= λ at. name_at at.1 >>= λ n. Ok (act (switch at.0 (Some n.0)), n.1)) (symbol_at DoubleArrow ts >>= λ at. Ok (act (switch at.0 None), at.1))) ≡ Ok (x, rest) → IsOpenAtom ts x rest
@@ -34,10 +35,10 @@ unfolding open_atom_at
 open_atom_complete {ts} {rest} (moves {n = n} d) = rw (name_next ts n rest d, name_read.complete ts n rest d tt)
 open_atom_complete {ts} {rest} (switches {mid = mid} {at = at} {n = n} d e) =
     let here = symbol_next Arrow ts at mid d in
-    rw (next_test-symbol Arrow is_name ts here, here, (symbol_read Arrow).complete ts at mid d tt, name_read.complete mid n rest e tt)
+    rw (next_test-symbol Arrow is_name_kind ts here, here, (symbol_read Arrow).complete ts at mid d tt, name_read.complete mid n rest e tt)
 open_atom_complete {ts} {rest} (keeps {at = at} d) =
     let here = symbol_next DoubleArrow ts at rest d in
-    rw (next_test-symbol DoubleArrow is_name ts here, next_test-symbol DoubleArrow (is_symbol Arrow) ts here, (symbol_read DoubleArrow).complete ts at rest d tt)
+    rw (next_test-symbol DoubleArrow is_name_kind ts here, next_test-symbol DoubleArrow (is_symbol Arrow) ts here, (symbol_read DoubleArrow).complete ts at rest d tt)
 
 open_atom_shorter : {ts rest : List Lexeme} {x : SpeltRule} → IsOpenAtom ts x rest → 1 + length rest ≤ length ts
 open_atom_shorter {ts} {rest} (moves {n = n} d) = name_read.shorter ts n rest d
@@ -53,5 +54,5 @@ open_atom_begins {ts} {rest} (moves {n = n} d) test same other = next_test-name 
 open_atom_begins {ts} {rest} (switches {mid = mid} {at = at} d e) test same other = next_test-symbol Arrow test ts (symbol_next Arrow ts at mid d)
 open_atom_begins {ts} {rest} (keeps {at = at} d) test same other = next_test-symbol DoubleArrow test ts (symbol_next DoubleArrow ts at rest d) ∙ other
 
-pub set_read : IsReadBy 1 (Within OpenBrace CloseBrace (Listed IsName)) Always (within_at OpenBrace CloseBrace (listed_at is_name name_at))
-set_read = within_read 0 (Listed IsName) (EndsList Always is_name) (listed_at is_name name_at) name_list_read OpenBrace CloseBrace (ends_list CloseBrace refl)
+pub set_read : IsReadBy 1 (Within OpenBrace CloseBrace (Listed IsName)) Always (within_at OpenBrace CloseBrace (listed_at is_name_kind name_at))
+set_read = within_read 0 (Listed IsName) (EndsList Always is_name_kind) (listed_at is_name_kind name_at) name_list_read OpenBrace CloseBrace (ends_list CloseBrace refl)

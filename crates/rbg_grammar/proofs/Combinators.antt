@@ -4,8 +4,9 @@ use Rattle.rbg_tokens.specs.Token.{Lexeme}
 use Rattle.rbg_tokens.specs.declared.token.Symbol.{Symbol}
 use Rattle.rbg_tokens.specs.declared.token.Symbol.TheVariants.{Comma}
 use Rattle.rbg_tokens.specs.declared.token.TokenKind.{TokenKind}
+use Rattle.rbg_tokens.specs.Kinds.{is_symbol}
 use Rattle.rbg_grammar.specs.Phrase.{Repeated, done, again, After, after, Separated, separated, Listed, nothing, listed, Within, within, WithComma, with_comma}
-use Rattle.rbg_grammar.specs.Reading.{Reading, ◌>>=◌, next_is, is_symbol, symbol_at, repeated_within, repeated_at, after_at, separated_at, listed_at, within_at, with_comma_at}
+use Rattle.rbg_grammar.specs.Reading.{Reading, ◌>>=◌, next_is, symbol_at, repeated_within, repeated_at, after_at, separated_at, listed_at, within_at, with_comma_at}
 use Rattle.rbg_grammar.proofs.Readers.{bind_ok, ok_one, IsReadBy, Always, symbol_read, symbol_next}
 
 -- each phrase begins with a token that passes the test, and such a token may follow a phrase
@@ -86,6 +87,30 @@ module _ {A B C : Type 0} (P : List Lexeme → A → List Lexeme → Type 0) (Fi
 
   pub both_read : IsReadBy 1 R Follow both_at
   both_read = record { sound = both_sound; complete = λ ts z rest d stop. parts_complete (parts ts z rest d) stop; shorter = λ ts z rest d. parts_shorter (parts ts z rest d) }
+
+-- a phrase whose value is made of that of another one
+pub data Made {A B : Type 0} (P : List Lexeme → A → List Lexeme → Type 0) (f : A → B) : List Lexeme → B → List Lexeme → Type 0 where
+  made : {ts rest : List Lexeme} {x : A} → P ts x rest → Made P f ts (f x) rest
+
+module _ {A B : Type 0} (least : ℕ) (P : List Lexeme → A → List Lexeme → Type 0) (Follow : List Lexeme → Type 0) (read : List Lexeme → Reading A) (reads : IsReadBy least P Follow read)
+    (R : List Lexeme → B → List Lexeme → Type 0) (f : A → B) (make : (ts : List Lexeme) (x : A) (rest : List Lexeme) → P ts x rest → R ts (f x) rest)
+    (part : (ts : List Lexeme) (y : B) (rest : List Lexeme) → R ts y rest → Made P f ts y rest) where
+  abbrev made_at : List Lexeme → Reading B
+  made_at ts = read ts >>= λ x. Ok (f x.0, x.1)
+
+  made_sound : (ts : List Lexeme) (y : B) (rest : List Lexeme) → made_at ts ≡ Ok (y, rest) → R ts y rest
+  made_sound ts y rest e =
+      let (x, all, given) = bind_ok (read ts) (λ (x : A × List Lexeme). Ok (f x.0, x.1)) (y, rest) e in
+      subst (λ (q : B × List Lexeme). R ts q.0 q.1) (ok_one (f x.0, x.1) (y, rest) given) (make ts x.0 x.1 (reads.sound ts x.0 x.1 all))
+
+  made_complete : {ts rest : List Lexeme} {y : B} → Made P f ts y rest → Follow rest → made_at ts ≡ Ok (y, rest)
+  made_complete {ts} {rest} (made {x = x} d) stop = rw (reads.complete ts x rest d stop)
+
+  made_shorter : {ts rest : List Lexeme} {y : B} → Made P f ts y rest → least + length rest ≤ length ts
+  made_shorter {ts} {rest} (made {x = x} d) = reads.shorter ts x rest d
+
+  pub made_read : IsReadBy least R Follow made_at
+  made_read = record { sound = made_sound; complete = λ ts y rest d stop. made_complete (part ts y rest d) stop; shorter = λ ts y rest d. made_shorter (part ts y rest d) }
 
 -- after a symbol
 module _ {A : Type 0} (least : ℕ) (P : List Lexeme → A → List Lexeme → Type 0) (Follow : List Lexeme → Type 0) (read : List Lexeme → Reading A)

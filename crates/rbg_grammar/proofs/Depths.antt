@@ -69,11 +69,7 @@ too_deep_here at ts e = from 128 refl (deep_place 128 at ts e)
   where
     from : (n : ℕ) → n ≡ 128 → Deep (AreRules (suc n)) n at ts → IsTooDeep ts at
     from n same d = record {
-      before = d.before;
-      bracket = d.bracket;
-      behind = d.behind;
-      whole = d.whole;
-      place = d.place;
+      here = record { before = d.before; token = d.bracket; behind = d.behind; whole = d.whole; place = d.place };
       is_bracket = d.is_bracket;
       depth = d.depth 0 ∙ omega (arith, same);
       first = λ front rest is. let few : open_after 0 front ≤ 0 + n = front_fits (0 + n) 0 front rest (omega arith) (subst (λ us. Fits (0 + n) 0 us) is (d.fits 0)) in omega (arith, same, few);
@@ -104,8 +100,8 @@ one_bracket m n (a ∷ xs) (b ∷ ys) x y us vs same is_x is_y depth_x depth_y f
 
 pub one_too_deep : OneTooDeepLaw
 one_too_deep ts a b one other =
-    let same = one_bracket 128 0 one.before other.before one.bracket other.bracket one.behind other.behind (sym one.whole ∙ other.whole) one.is_bracket other.is_bracket one.depth other.depth one.first other.first in
-    sym one.place ∙ ap (λ (t : Lexeme). t.at) same ∙ other.place
+    let same = one_bracket 128 0 one.here.before other.here.before one.here.token other.here.token one.here.behind other.here.behind (sym one.here.whole ∙ other.here.whole) one.is_bracket other.is_bracket one.depth other.depth one.first other.first in
+    sym one.here.place ∙ ap (λ (t : Lexeme). t.at) same ∙ other.here.place
 
 -- where a bracket is opened too deep nothing is spelt within the depth
 no_bracket_above : (n : ℕ) (ts before : List Lexeme) (bracket : Lexeme) (behind : List Lexeme) (r : SpeltRule) → ts ≡ before ++ bracket ∷ behind → opens bracket.kind ≡ true → open_after 0 before ≡ n → AreRules n ts r [] → ⊥
@@ -117,4 +113,4 @@ no_bracket_above n ts before bracket behind r whole is depth d =
     omega (arith, below, depth)
 
 pub too_deep_spells_nothing : (ts : List Lexeme) (at : ℕ) (r : SpeltRule) → IsTooDeep ts at → AreRules 128 ts r [] → ⊥
-too_deep_spells_nothing ts at r deep d = no_bracket_above 128 ts deep.before deep.bracket deep.behind r deep.whole deep.is_bracket deep.depth d
+too_deep_spells_nothing ts at r deep d = no_bracket_above 128 ts deep.here.before deep.here.token deep.here.behind r deep.here.whole deep.is_bracket deep.depth d

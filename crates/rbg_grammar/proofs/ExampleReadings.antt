@@ -93,5 +93,5 @@ closing_not_deep ts (t ∷ before) bracket behind rest whole depth spelt =
 pub misspelt_alone : MisspeltAlone
 misspelt_alone = record {
   spells_nothing = λ k r d. closing_spells_nothing k (signs symbols.OpenParenthesis 1 129) r d;
-  not_deep = λ at h. closing_not_deep (signs symbols.OpenParenthesis 1 129) h.before h.bracket h.behind h.other h.whole h.depth h.fits;
+  not_deep = λ at h. closing_not_deep (signs symbols.OpenParenthesis 1 129) h.here.before h.here.token h.here.behind h.other h.here.whole h.depth h.fits;
 }

@@ -7,8 +7,8 @@ use Rattle.rbg_tokens.specs.declared.token.Symbol.{Symbol}
 use Rattle.rbg_tokens.specs.declared.token.Symbol.TheVariants as symbols
 use Rattle.rbg_tokens.specs.declared.token.TokenKind.{TokenKind}
 use Rattle.rbg_tokens.specs.declared.token.TokenKind.TheVariants as kinds
-use Rattle.rbg_grammar.specs.declared.expression.Operator.{Operator}
-use Rattle.rbg_grammar.specs.declared.expression.Operator.TheVariants as operators
+use Rattle.rbg_base.specs.declared.operator.Operator.{Operator}
+use Rattle.rbg_base.specs.declared.operator.Operator.TheVariants as operators
 use Rattle.rbg_grammar.specs.declared.expression.Rank.{Rank}
 use Rattle.rbg_grammar.specs.declared.expression.Rank.TheVariants as ranks
 use Rattle.rbg_grammar.specs.Tree.{SpeltExpression, SpeltOperands, no_operands, more_operands, SpeltOperand, SpeltRule, SpeltRules, no_rules, more_rules, SpeltBoard, operands_after, first_of, in_chain, rules_after, sequence_of, choice_of}

@@ -9,6 +9,7 @@ pub mod Misfits
 pub mod Nesting
 pub mod OneDescription
 pub mod OnePlace
+pub mod Patterns
 pub mod PhraseLaws
 pub mod Pieces
 pub mod Readers

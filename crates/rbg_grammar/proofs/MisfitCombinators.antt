@@ -11,9 +11,10 @@ use Rattle.rbg_tokens.specs.declared.token.Symbol.{Symbol}
 use Rattle.rbg_tokens.specs.declared.token.Symbol.TheVariants.{Comma}
 use Rattle.rbg_tokens.specs.declared.token.TokenKind.{TokenKind}
 use Rattle.rbg_tokens.specs.declared.token.TokenKind.TheVariants as kinds
+use Rattle.rbg_tokens.specs.Kinds.{is_name_kind, is_number_kind, is_symbol}
 use Rattle.rbg_grammar.specs.Tree.{SpeltName, SpeltNumber}
 use Rattle.rbg_grammar.specs.Phrase.{IsSymbol, symbol, IsName, name, IsNumber, number, IsWord, word, IsOneOf, one_of, Repeated, done, again, After, after, Separated, separated, Listed, nothing, listed, Within, within, WithComma, with_comma}
-use Rattle.rbg_grammar.specs.Reading.{Fault, misfit, Reading, ◌>>=◌, TakesSome, next_is, is_name, is_number, is_symbol, symbol_at, name_at, number_at, word_at, or_misfit, one_of_at, repeated_within, repeated_at, after_at, separated_at, listed_at, within_at, with_comma_at}
+use Rattle.rbg_grammar.specs.Reading.{Fault, misfit, Reading, ◌>>=◌, TakesSome, next_is, symbol_at, name_at, number_at, word_at, or_misfit, one_of_at, repeated_within, repeated_at, after_at, separated_at, listed_at, within_at, with_comma_at}
 use Rattle.rbg_grammar.proofs.Misfits.{Begun, Judged, Judges, Behind, seen, given, bind, bind_at, choose, choose_at, same_reader, as_read}
 use Rattle.rbg_grammar.proofs.Readers.{kind_of-is_symbol, kind_of-is_name, kind_of-is_number}
 use Rattle.rbg_grammar.proofs.Turns.{after_some, within_enough}
@@ -26,7 +27,7 @@ module _ {A : Type 0} (table : TokenKind → Option A) (sample : Lexeme) (value 
   front_judged : (t : Lexeme) (ts : List Lexeme) (o : Option A) → table t.kind ≡ o → Judged (IsOneOf table) (one_of_at table) (t ∷ ts) (or_misfit o (t, ts))
   unfolding one_of_at
   front_judged t ts (Some x) e = record { used = t ∷ []; whole = refl; spells = λ tail. one_of e; same = λ u behind other left. rw e }
-  front_judged t ts None e = record { before = []; token = t; behind = ts; whole = refl; place = refl; begun = may_begin_one; same = λ other. rw e }
+  front_judged t ts None e = record { here = record { before = []; token = t; behind = ts; whole = refl; place = refl }; begun = may_begin_one; same = λ other. rw e }
 
   some_front : (ts : List Lexeme) → Judged (IsOneOf table) (one_of_at table) ts (one_of_at table ts)
   unfolding one_of_at
@@ -48,7 +49,7 @@ module _ {A : Type 0} (P : List Lexeme → A → List Lexeme → Type 0) (test :
 
   one_token_at : (t : Lexeme) (ts : List Lexeme) (b : Bool) → test t ≡ b → Judged P (one_token test f) (t ∷ ts) (cond {A = Reading A} b (Ok (f t, ts)) (Err (misfit (Some t.at))))
   one_token_at t ts true e = record { used = t ∷ []; whole = refl; spells = λ tail. spells' t e tail; same = λ u behind other left. rw e }
-  one_token_at t ts false e = record { before = []; token = t; behind = ts; whole = refl; place = refl; begun = may_begin; same = λ other. rw e }
+  one_token_at t ts false e = record { here = record { before = []; token = t; behind = ts; whole = refl; place = refl }; begun = may_begin; same = λ other. rw e }
 
   some_token : (ts : List Lexeme) → Judged P (one_token test f) ts (one_token test f ts)
   some_token [] = may_begin
@@ -78,42 +79,42 @@ symbol_judged s =
     same_reader (symbol_same s)
     (token_judged (IsSymbol s) (λ (t : Lexeme). is_symbol s t.kind) (λ (t : Lexeme). t.at) (λ t e tail. symbol (kind_of-is_symbol s t.kind e)) (mark s) (true_same the_type s s refl))
 
-name_same : (ts : List Lexeme) → name_at ts ≡ one_token {A = SpeltName} (λ (t : Lexeme). is_name t.kind) (λ (t : Lexeme). record { text = t.text; at = t.at }) ts
+name_same : (ts : List Lexeme) → name_at ts ≡ one_token {A = SpeltName} (λ (t : Lexeme). is_name_kind t.kind) (λ (t : Lexeme). record { text = t.text; at = t.at }) ts
 unfolding name_at
 name_same [] = refl
-name_same (t ∷ ts) = chosen_bind (is_name t.kind) (t, ts) (misfit (Some t.at)) (λ (q : Lexeme × List Lexeme). Ok (record { text = q.0.text; at = q.0.at }, q.1))
+name_same (t ∷ ts) = chosen_bind (is_name_kind t.kind) (t, ts) (misfit (Some t.at)) (λ (q : Lexeme × List Lexeme). Ok (record { text = q.0.text; at = q.0.at }, q.1))
 
 pub name_judged : Judges IsName name_at
 name_judged =
     same_reader name_same
-    (token_judged IsName (λ (t : Lexeme). is_name t.kind) (λ (t : Lexeme). record { text = t.text; at = t.at }) (λ t e tail. name (kind_of-is_name t.kind e)) (record { kind = kinds.Name; text = []; at = 0 }) refl)
+    (token_judged IsName (λ (t : Lexeme). is_name_kind t.kind) (λ (t : Lexeme). record { text = t.text; at = t.at }) (λ t e tail. name (kind_of-is_name t.kind e)) (record { kind = kinds.Name; text = []; at = 0 }) refl)
 
-number_same : (ts : List Lexeme) → number_at ts ≡ one_token {A = SpeltNumber} (λ (t : Lexeme). is_number t.kind) (λ (t : Lexeme). record { value = number_of_digits t.text; at = t.at }) ts
+number_same : (ts : List Lexeme) → number_at ts ≡ one_token {A = SpeltNumber} (λ (t : Lexeme). is_number_kind t.kind) (λ (t : Lexeme). record { value = number_of_digits t.text; at = t.at }) ts
 unfolding number_at
 number_same [] = refl
-number_same (t ∷ ts) = chosen_bind (is_number t.kind) (t, ts) (misfit (Some t.at)) (λ (q : Lexeme × List Lexeme). Ok (record { value = number_of_digits q.0.text; at = q.0.at }, q.1))
+number_same (t ∷ ts) = chosen_bind (is_number_kind t.kind) (t, ts) (misfit (Some t.at)) (λ (q : Lexeme × List Lexeme). Ok (record { value = number_of_digits q.0.text; at = q.0.at }, q.1))
 
 pub number_judged : Judges IsNumber number_at
 number_judged =
     same_reader number_same
-    (token_judged IsNumber (λ (t : Lexeme). is_number t.kind) (λ (t : Lexeme). record { value = number_of_digits t.text; at = t.at }) (λ t e tail. number (kind_of-is_number t.kind e)) (record { kind = kinds.Number; text = []; at = 0 }) refl)
+    (token_judged IsNumber (λ (t : Lexeme). is_number_kind t.kind) (λ (t : Lexeme). record { value = number_of_digits t.text; at = t.at }) (λ t e tail. number (kind_of-is_number t.kind e)) (record { kind = kinds.Number; text = []; at = 0 }) refl)
 
 abbrev is_word : List ℕ → Lexeme → Bool
-is_word text t = is_name t.kind && bytes_eq t.text text
+is_word text t = is_name_kind t.kind && bytes_eq t.text text
 
 word_same : (text : List ℕ) (ts : List Lexeme) → word_at text ts ≡ one_token (is_word text) (λ (t : Lexeme). t.at) ts
 unfolding word_at
 word_same text [] = refl
 word_same text (t ∷ ts) =
-    chosen_bind (is_name t.kind) (t, ts) (misfit (Some t.at)) (λ (q : Lexeme × List Lexeme). cond {A = Reading ℕ} (bytes_eq q.0.text text) (Ok (q.0.at, q.1)) (Err (misfit (Some q.0.at))))
-    ∙ chosen_both {A = Reading ℕ} (is_name t.kind) (bytes_eq t.text text) (Ok (t.at, ts)) (Err (misfit (Some t.at)))
+    chosen_bind (is_name_kind t.kind) (t, ts) (misfit (Some t.at)) (λ (q : Lexeme × List Lexeme). cond {A = Reading ℕ} (bytes_eq q.0.text text) (Ok (q.0.at, q.1)) (Err (misfit (Some q.0.at))))
+    ∙ chosen_both {A = Reading ℕ} (is_name_kind t.kind) (bytes_eq t.text text) (Ok (t.at, ts)) (Err (misfit (Some t.at)))
 
 both_true : (a b : Bool) → (a && b) ≡ true → (a ≡ true) × (b ≡ true)
 both_true true b e = (refl, e)
 both_true false b e = cc
 
 word_spelt : (text : List ℕ) (t : Lexeme) → is_word text t ≡ true → (tail : List Lexeme) → IsWord text (t ∷ tail) t.at tail
-word_spelt text t e tail = let (named, same) = both_true (is_name t.kind) (bytes_eq t.text text) e in word (kind_of-is_name t.kind named) ((bytes_eq-Decides t.text text).0 same)
+word_spelt text t e tail = let (named, same) = both_true (is_name_kind t.kind) (bytes_eq t.text text) e in word (kind_of-is_name t.kind named) ((bytes_eq-Decides t.text text).0 same)
 
 pub word_judged : (text : List ℕ) → Judges (IsWord text) (word_at text)
 word_judged text =

@@ -2,6 +2,7 @@
 use Rattle.std.proofs.Common.{◌≡◌, ℕ, List, [], ◌∷◌, ◌++◌, Bool, true, false, cond, Some, None, Ok, Err, refl, sym, ap, ◌∙◌, subst, append_assoc}
 use Rattle.rbg_tokens.specs.Token.{Lexeme}
 use Rattle.rbg_grammar.specs.Reading.{misfit, too_deep, Reading, ◌>>=◌}
+use Rattle.rbg_grammar.specs.Spells.{TokenAt}
 
 -- with some tokens behind them the tokens are such a phrase, whatever follows
 pub record Begun {A : Type 0} (P : List Lexeme → A → List Lexeme → Type 0) (ts : List Lexeme) : Type 0 where
@@ -18,13 +19,9 @@ pub record Taken {A : Type 0} (P : List Lexeme → A → List Lexeme → Type 0)
 
 -- The tokens before the one at this place may begin such a phrase, and with it nothing is read, whatever follows.
 pub record Stuck {A : Type 0} (P : List Lexeme → A → List Lexeme → Type 0) (read : List Lexeme → Reading A) (ts : List Lexeme) (at : ℕ) : Type 0 where
-  pub before : List Lexeme
-  pub token : Lexeme
-  pub behind : List Lexeme
-  pub whole : ts ≡ before ++ token ∷ behind
-  pub place : token.at ≡ at
-  pub begun : Begun P before
-  pub same : (other : List Lexeme) → read (before ++ token ∷ other) ≡ Err (misfit (Some at))
+  pub here : TokenAt ts at
+  pub begun : Begun P here.before
+  pub same : (other : List Lexeme) → read (here.before ++ here.token ∷ other) ≡ Err (misfit (Some at))
 
 -- what is read of the tokens
 abbrev pub Judged : {A : Type 0} → (List Lexeme → A → List Lexeme → Type 0) → (List Lexeme → Reading A) → List Lexeme → Reading A → Type 0
@@ -59,13 +56,9 @@ as_read P read other ts (Ok q) same j = record {
 }
 as_read P read other ts (Err (misfit None)) same j = j
 as_read P read other ts (Err (misfit (Some at))) same j = record {
-  before = j.before;
-  token = j.token;
-  behind = j.behind;
-  whole = j.whole;
-  place = j.place;
+  here = j.here;
   begun = j.begun;
-  same = λ more. sym (same j.before j.token j.behind more j.whole) ∙ j.same more;
+  same = λ more. sym (same j.here.before j.here.token j.here.behind more j.here.whole) ∙ j.same more;
 }
 as_read P read other ts (Err (too_deep at)) same j = j
 
@@ -79,12 +72,8 @@ seen_at : {A : Type 0} (P R : List Lexeme → A → List Lexeme → Type 0) (rea
 seen_at P R read see ts (Ok q) j = record { used = j.used; whole = j.whole; spells = λ tail. see (j.used ++ tail) q.0 tail (j.spells tail); same = j.same }
 seen_at {A} P R read see ts (Err (misfit None)) j = begun_as P R (λ (x : A). x) see ts j
 seen_at {A} P R read see ts (Err (misfit (Some at))) j = record {
-  before = j.before;
-  token = j.token;
-  behind = j.behind;
-  whole = j.whole;
-  place = j.place;
-  begun = begun_as P R (λ (x : A). x) see j.before j.begun;
+  here = j.here;
+  begun = begun_as P R (λ (x : A). x) see j.here.before j.begun;
   same = j.same;
 }
 seen_at P R read see ts (Err (too_deep at)) j = j
@@ -103,7 +92,7 @@ given {A} {R} {x} spells = record { at = given_at R x spells }
 begun_here : {A : Type 0} (R : List Lexeme → A → List Lexeme → Type 0) (read : List Lexeme → Reading A) (r : Reading A) → Judged R read [] r → Begun R []
 begun_here R read (Ok q) j = record { other = j.used; value = q.0; spells = j.spells }
 begun_here R read (Err (misfit None)) j = j
-begun_here R read (Err (misfit (Some at))) j = absurd (no_token j.before j.token j.behind j.whole)
+begun_here R read (Err (misfit (Some at))) j = absurd (no_token j.here.before j.here.token j.here.behind j.here.whole)
 begun_here R read (Err (too_deep at)) j = absurd (j refl)
 
 -- the tokens that are left begin with the same token
@@ -145,15 +134,17 @@ module _ {A C : Type 0} (P : List Lexeme → A → List Lexeme → Type 0) (R : 
   }
   second ts x mid k (Err (misfit None)) j = subst (λ us. Begun R us) (sym k.whole) (begun_second k.used mid j)
   second ts x mid k (Err (misfit (Some at))) j = record {
-    before = k.used ++ j.before;
-    token = j.token;
-    behind = j.behind;
-    whole = k.whole ∙ ap (λ us. k.used ++ us) j.whole ∙ sym (append_assoc k.used j.before (j.token ∷ j.behind));
-    place = j.place;
-    begun = begun_second k.used j.before j.begun;
+    here = record {
+      before = k.used ++ j.here.before;
+      token = j.here.token;
+      behind = j.here.behind;
+      whole = k.whole ∙ ap (λ us. k.used ++ us) j.here.whole ∙ sym (append_assoc k.used j.here.before (j.here.token ∷ j.here.behind));
+      place = j.here.place;
+    };
+    begun = begun_second k.used j.here.before j.begun;
     same = λ other.
-        ap (λ us. read us >>= next) (append_assoc k.used j.before (j.token ∷ other))
-        ∙ ap (λ u. u >>= next) (read_again P read ts x mid k j.before j.token j.behind other j.whole)
+        ap (λ us. read us >>= next) (append_assoc k.used j.here.before (j.here.token ∷ other))
+        ∙ ap (λ u. u >>= next) (read_again P read ts x mid k j.here.before j.here.token j.here.behind other j.here.whole)
         ∙ j.same other;
   }
   second ts x mid k (Err (too_deep at)) j = λ none. j (nothing_left k.used mid (sym k.whole ∙ none))
@@ -167,13 +158,9 @@ module _ {A C : Type 0} (P : List Lexeme → A → List Lexeme → Type 0) (R : 
   first Left nil ts (Err (misfit None)) left j more =
       begun_first ts j (more j.value (ts ++ j.other) (λ tail. subst (λ us. P us j.value tail) (sym (append_assoc ts j.other tail)) (j.spells tail)) [] nil)
   first Left nil ts (Err (misfit (Some at))) left j more = record {
-    before = j.before;
-    token = j.token;
-    behind = j.behind;
-    whole = j.whole;
-    place = j.place;
-    begun = begun_first j.before j.begun
-        (more j.begun.value (j.before ++ j.begun.other) (λ tail. subst (λ us. P us j.begun.value tail) (sym (append_assoc j.before j.begun.other tail)) (j.begun.spells tail)) [] nil);
+    here = j.here;
+    begun = begun_first j.here.before j.begun
+        (more j.begun.value (j.here.before ++ j.begun.other) (λ tail. subst (λ us. P us j.begun.value tail) (sym (append_assoc j.here.before j.begun.other tail)) (j.begun.spells tail)) [] nil);
     same = λ other. ap (λ u. u >>= next) (j.same other);
   }
   first Left nil ts (Err (too_deep at)) left j more = j

@@ -4,8 +4,9 @@ use Rattle.rbg_tokens.specs.Token.{Lexeme}
 use Rattle.rbg_macro.specs.Sections.{SectionTokens}
 use Rattle.rbg_macro.specs.declared.source.SectionKind.{SectionKind}
 use Rattle.rbg_tokens.specs.declared.token.Symbol.TheVariants.{Comma}
+use Rattle.rbg_tokens.specs.Kinds.{is_name_kind, is_symbol}
 use Rattle.rbg_grammar.specs.Grammar.{IsBounded, bounded, ArePlayers, AreVariables, ArePieces, IsBoard, AreRules}
-use Rattle.rbg_grammar.specs.Reading.{Reading, next_is, is_name, is_symbol, bounded_at, name_at, separated_at, listed_at, board_at}
+use Rattle.rbg_grammar.specs.Reading.{Reading, next_is, bounded_at, name_at, separated_at, listed_at, board_at}
 use Rattle.rbg_grammar.specs.RuleReading.{rules_at}
 use Rattle.rbg_grammar.specs.Sections.{sections_of}
 use Rattle.rbg_grammar.specs.Spells.{HasSection, IsSection, MayHaveVariables, Spells}
@@ -46,11 +47,11 @@ one_board s t = one_in_section 1 IsBoard Always board_at board_read tt s t
 one_rule : (n : ℕ) {sections : List SectionTokens} {kind : SectionKind} {x y : SpeltRule} → IsSection sections kind (AreRules n) x → IsSection sections kind (AreRules n) y → x ≡ y
 one_rule n s t = one_in_section 1 (AreRules n) EndsRules (rules_at n) (rules_read n) nothing_ends_rules s t
 
-bounded_next : {ts rest : List Lexeme} {x : SpeltBounded} → IsBounded ts x rest → next_is is_name ts ≡ true
+bounded_next : {ts rest : List Lexeme} {x : SpeltBounded} → IsBounded ts x rest → next_is is_name_kind ts ≡ true
 bounded_next {ts} (bounded {mid = mid} {n = n} d e) = name_next ts n mid d
 
-pub variables_read : IsReadBy 0 AreVariables (EndsList Always is_name) (listed_at is_name bounded_at)
-variables_read = listed_read IsBounded Always bounded_at is_name bounded_read (λ ts x rest d. bounded_next d) (λ ts e. tt)
+pub variables_read : IsReadBy 0 AreVariables (EndsList Always is_name_kind) (listed_at is_name_kind bounded_at)
+variables_read = listed_read IsBounded Always bounded_at is_name_kind bounded_read (λ ts x rest d. bounded_next d) (λ ts e. tt)
 
 pub no_section : {sections : List SectionTokens} {kind : SectionKind} {A : Type 0} {P : List Lexeme → A → List Lexeme → Type 0} {x : A} → sections_of kind sections ≡ [] → IsSection sections kind P x → ⊥
 no_section none s = let wrong : [] ≡ s.has.section ∷ [] = sym none ∙ s.has.only in cc
@@ -59,7 +60,7 @@ pub one_variables : {sections : List SectionTokens} {x y : List SpeltBounded} �
 one_variables (inl s) (inl t) = s.1 ∙ sym t.1
 one_variables (inl s) (inr t) = absurd (no_section s.0 t)
 one_variables (inr s) (inl t) = absurd (no_section t.0 s)
-one_variables (inr s) (inr t) = one_in_section 0 AreVariables (EndsList Always is_name) (listed_at is_name bounded_at) variables_read (record { no_part = refl; no_comma = record { ends = refl; follows = tt } }) s t
+one_variables (inr s) (inr t) = one_in_section 0 AreVariables (EndsList Always is_name_kind) (listed_at is_name_kind bounded_at) variables_read (record { no_part = refl; no_comma = record { ends = refl; follows = tt } }) s t
 
 pub one_description : (sections : List SectionTokens) (a b : SpeltDescription) → Spells sections a → Spells sections b → a ≡ b
 one_description sections a b s t =

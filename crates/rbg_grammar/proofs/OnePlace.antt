@@ -33,15 +33,15 @@ could_go_on kind xs x mid ts is goes =
     (mid ++ goes.0, subst (λ us. IsSpelt kind us) same goes.1)
 
 one_misfit : (kind : SectionKind) (ts : List Lexeme) (a b : ℕ) → IsMisfit kind ts a → IsMisfit kind ts b → a ≡ b
-one_misfit kind ts a b one other = go (places one.before other.before one.token other.token one.behind other.behind (sym one.whole ∙ other.whole))
+one_misfit kind ts a b one other = go (places one.here.before other.here.before one.here.token other.here.token one.here.behind other.here.behind (sym one.here.whole ∙ other.here.whole))
   where
-    go : Places one.before other.before one.token other.token → a ≡ b
-    go (same_place e) = sym one.place ∙ ap (λ (t : Lexeme). t.at) e ∙ other.place
-    go (first_before mid e) = absurd (one.refused (could_go_on kind one.before one.token mid other.before e other.fits))
-    go (second_before mid e) = absurd (other.refused (could_go_on kind other.before other.token mid one.before e one.fits))
+    go : Places one.here.before other.here.before one.here.token other.here.token → a ≡ b
+    go (same_place e) = sym one.here.place ∙ ap (λ (t : Lexeme). t.at) e ∙ other.here.place
+    go (first_before mid e) = absurd (one.refused (could_go_on kind one.here.before one.here.token mid other.here.before e other.fits))
+    go (second_before mid e) = absurd (other.refused (could_go_on kind other.here.before other.here.token mid one.here.before e one.fits))
 
 not_both : (kind : SectionKind) (section : SectionTokens) (a b : ℕ) → IsMisfit kind section.tokens a → EndsEarly kind section b → ⊥
-not_both kind section a b one other = one.refused (could_go_on kind one.before one.token one.behind section.tokens one.whole other.fits)
+not_both kind section a b one other = one.refused (could_go_on kind one.here.before one.here.token one.here.behind section.tokens one.here.whole other.fits)
 
 pub one_place : OnePlaceLaw
 one_place kind section a b (inl one) (inl other) = one_misfit kind section.tokens a b one other

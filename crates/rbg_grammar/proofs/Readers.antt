@@ -10,9 +10,10 @@ use Rattle.rbg_tokens.specs.contracts.token.Symbol.{the_type}
 use Rattle.rbg_tokens.specs.declared.token.Symbol.{Symbol}
 use Rattle.rbg_tokens.specs.declared.token.TokenKind.{TokenKind}
 use Rattle.rbg_tokens.specs.declared.token.TokenKind.TheVariants as kinds
+use Rattle.rbg_tokens.specs.Kinds.{is_name_kind, is_number_kind, is_symbol}
 use Rattle.rbg_grammar.specs.Tree.{SpeltName, SpeltNumber}
 use Rattle.rbg_grammar.specs.Phrase.{IsSymbol, symbol, IsName, name, IsNumber, number, IsWord, word, IsOneOf, one_of}
-use Rattle.rbg_grammar.specs.Reading.{Fault, misfit, Reading, ◌>>=◌, next_is, is_name, is_number, is_symbol, token_at, symbol_at, name_at, number_at, word_at, is_in, or_misfit, one_of_at}
+use Rattle.rbg_grammar.specs.Reading.{Fault, misfit, Reading, ◌>>=◌, next_is, token_at, symbol_at, name_at, number_at, word_at, is_in, or_misfit, one_of_at}
 
 pub bind_ok : {A B : Type 0} (r : Result A Fault) (f : A → Result B Fault) (y : B) → (r >>= f) ≡ Ok y → (x : A) × (r ≡ Ok x) × (f x ≡ Ok y)
 bind_ok (Ok x) f y e = (x, refl, e)
@@ -38,12 +39,12 @@ token_at_ok test (u ∷ us) t rest e =
     let p = chosen_ok {A = Lexeme × List Lexeme} (test u.kind) (u, us) (t, rest) (misfit (Some u.at)) e in
     (ap (λ (q : Lexeme × List Lexeme). q.0 ∷ q.1) p.1, subst (λ (q : Lexeme × List Lexeme). test q.0.kind ≡ true) p.1 p.0)
 
-pub kind_of-is_name : (k : TokenKind) → is_name k ≡ true → k ≡ kinds.Name
+pub kind_of-is_name : (k : TokenKind) → is_name_kind k ≡ true → k ≡ kinds.Name
 kind_of-is_name kinds.Name e = refl
 kind_of-is_name kinds.Number e = cc
 kind_of-is_name (kinds.Symbol s) e = cc
 
-pub kind_of-is_number : (k : TokenKind) → is_number k ≡ true → k ≡ kinds.Number
+pub kind_of-is_number : (k : TokenKind) → is_number_kind k ≡ true → k ≡ kinds.Number
 kind_of-is_number kinds.Name e = cc
 kind_of-is_number kinds.Number e = refl
 kind_of-is_number (kinds.Symbol s) e = cc
@@ -57,64 +58,56 @@ pub ok_one : {A : Type 0} (x y : A) → ◌≡◌ {A = Result A Fault} (Ok x) (O
 ok_one x y e = cc
 
 -- a phrase of one token, by its kind
-token_sound : {A : Type 0} (P : List Lexeme → A → List Lexeme → Type 0) (test : TokenKind → Bool) (make : Lexeme → A) → ((t : Lexeme) (rest : List Lexeme) → test t.kind ≡ true → P (t ∷ rest) (make t) rest)
-    → (ts : List Lexeme) (x : A) (rest : List Lexeme) → (◌>>=◌ {B = A × List Lexeme} (token_at test ts) (λ (t : Lexeme × List Lexeme). Ok (make t.0, t.1))) ≡ Ok (x, rest) → P ts x rest
-token_sound {A} P test make spells ts x rest e =
-    let (t, taken, given) = bind_ok (token_at test ts) (λ (t : Lexeme × List Lexeme). Ok (make t.0, t.1)) (x, rest) e in
-    let (here, is) = token_at_ok test ts t.0 t.1 taken in
-    subst (λ (q : A × List Lexeme). P ts q.0 q.1) (ok_one (make t.0, t.1) (x, rest) given) (subst (λ us. P us (make t.0) t.1) (sym here) (spells t.0 t.1 is))
+data OneToken {A : Type 0} (test : TokenKind → Bool) (make : Lexeme → A) : List Lexeme → A → List Lexeme → Type 0 where
+  one_token : {t : Lexeme} {rest : List Lexeme} → test t.kind ≡ true → OneToken test make (t ∷ rest) (make t) rest
 
-symbol_sound : (s : Symbol) (ts : List Lexeme) (at : ℕ) (rest : List Lexeme) → symbol_at s ts ≡ Ok (at, rest) → IsSymbol s ts at rest
-unfolding symbol_at
-symbol_sound s = token_sound (IsSymbol s) (is_symbol s) (λ t. t.at) (λ t rest is. symbol (kind_of-is_symbol s t.kind is))
+module _ {A : Type 0} (P : List Lexeme → A → List Lexeme → Type 0) (test : TokenKind → Bool) (make : Lexeme → A)
+    (spells : (t : Lexeme) (rest : List Lexeme) → test t.kind ≡ true → P (t ∷ rest) (make t) rest)
+    (part : (ts : List Lexeme) (x : A) (rest : List Lexeme) → P ts x rest → OneToken test make ts x rest) where
+  abbrev one_at : List Lexeme → Reading A
+  one_at ts = token_at test ts >>= λ t. Ok (make t.0, t.1)
 
-pub symbol_complete : {s : Symbol} {ts rest : List Lexeme} {at : ℕ} → IsSymbol s ts at rest → symbol_at s ts ≡ Ok (at, rest)
-unfolding symbol_at
-symbol_complete {s} (symbol k) = rw (k, true_same the_type s s refl)
+  one_sound : (ts : List Lexeme) (x : A) (rest : List Lexeme) → one_at ts ≡ Ok (x, rest) → P ts x rest
+  one_sound ts x rest e =
+      let (t, taken, given) = bind_ok (token_at test ts) (λ (t : Lexeme × List Lexeme). Ok (make t.0, t.1)) (x, rest) e in
+      let (here, is) = token_at_ok test ts t.0 t.1 taken in
+      subst (λ (q : A × List Lexeme). P ts q.0 q.1) (ok_one (make t.0, t.1) (x, rest) given) (subst (λ us. P us (make t.0) t.1) (sym here) (spells t.0 t.1 is))
 
-symbol_shorter : {s : Symbol} {ts rest : List Lexeme} {at : ℕ} → IsSymbol s ts at rest → 1 + length rest ≤ length ts
-symbol_shorter (symbol k) = omega arith
+  one_complete : {ts rest : List Lexeme} {x : A} → OneToken test make ts x rest → one_at ts ≡ Ok (x, rest)
+  one_complete (one_token is) = rw is
+
+  one_shorter : {ts rest : List Lexeme} {x : A} → OneToken test make ts x rest → 1 + length rest ≤ length ts
+  one_shorter (one_token is) = omega arith
+
+  token_read : IsReadBy 1 P Always one_at
+  token_read = record { sound = one_sound; complete = λ ts x rest d stop. one_complete (part ts x rest d); shorter = λ ts x rest d. one_shorter (part ts x rest d) }
+
+symbol_part : (s : Symbol) (ts : List Lexeme) (at : ℕ) (rest : List Lexeme) → IsSymbol s ts at rest → OneToken (is_symbol s) (λ t. t.at) ts at rest
+symbol_part s ts _ rest (symbol k) = one_token (rw k (true_same the_type s s refl))
 
 pub symbol_read : (s : Symbol) → IsReadBy 1 (IsSymbol s) Always (symbol_at s)
-symbol_read s = record {
-  sound = symbol_sound s;
-  complete = λ ts x rest d f. symbol_complete d;
-  shorter = λ ts x rest d. symbol_shorter d;
-}
+unfolding symbol_at
+symbol_read s = token_read (IsSymbol s) (is_symbol s) (λ t. t.at) (λ t rest is. symbol (kind_of-is_symbol s t.kind is)) (symbol_part s)
 
-name_sound : (ts : List Lexeme) (n : SpeltName) (rest : List Lexeme) → name_at ts ≡ Ok (n, rest) → IsName ts n rest
-unfolding name_at
-name_sound = token_sound IsName is_name (λ t. record { text = t.text; at = t.at }) (λ t rest is. name (kind_of-is_name t.kind is))
-
-pub name_complete : {ts rest : List Lexeme} {n : SpeltName} → IsName ts n rest → name_at ts ≡ Ok (n, rest)
-unfolding name_at
-name_complete (name k) = rw k
-
-name_shorter : {ts rest : List Lexeme} {n : SpeltName} → IsName ts n rest → 1 + length rest ≤ length ts
-name_shorter (name k) = omega arith
+name_part : (ts : List Lexeme) (n : SpeltName) (rest : List Lexeme) → IsName ts n rest → OneToken is_name_kind (λ t. record { text = t.text; at = t.at }) ts n rest
+name_part ts _ rest (name k) = one_token (rw k refl)
 
 pub name_read : IsReadBy 1 IsName Always name_at
-name_read = record { sound = name_sound; complete = λ ts x rest d f. name_complete d; shorter = λ ts x rest d. name_shorter d }
+unfolding name_at
+name_read = token_read IsName is_name_kind (λ t. record { text = t.text; at = t.at }) (λ t rest is. name (kind_of-is_name t.kind is)) name_part
 
-number_sound : (ts : List Lexeme) (n : SpeltNumber) (rest : List Lexeme) → number_at ts ≡ Ok (n, rest) → IsNumber ts n rest
-unfolding number_at
-number_sound = token_sound IsNumber is_number (λ t. record { value = number_of_digits t.text; at = t.at }) (λ t rest is. number (kind_of-is_number t.kind is))
-
-pub number_complete : {ts rest : List Lexeme} {n : SpeltNumber} → IsNumber ts n rest → number_at ts ≡ Ok (n, rest)
-unfolding number_at
-number_complete (number k) = rw k
-
-number_shorter : {ts rest : List Lexeme} {n : SpeltNumber} → IsNumber ts n rest → 1 + length rest ≤ length ts
-number_shorter (number k) = omega arith
+number_part : (ts : List Lexeme) (n : SpeltNumber) (rest : List Lexeme) → IsNumber ts n rest → OneToken is_number_kind (λ t. record { value = number_of_digits t.text; at = t.at }) ts n rest
+number_part ts _ rest (number k) = one_token (rw k refl)
 
 pub number_read : IsReadBy 1 IsNumber Always number_at
-number_read = record { sound = number_sound; complete = λ ts x rest d f. number_complete d; shorter = λ ts x rest d. number_shorter d }
+unfolding number_at
+number_read = token_read IsNumber is_number_kind (λ t. record { value = number_of_digits t.text; at = t.at }) (λ t rest is. number (kind_of-is_number t.kind is)) number_part
 
 word_sound : (text : List ℕ) (ts : List Lexeme) (at : ℕ) (rest : List Lexeme) → word_at text ts ≡ Ok (at, rest) → IsWord text ts at rest
 unfolding word_at
 word_sound text ts at rest e =
-    let (t, taken, given) = bind_ok (token_at is_name ts) (λ (t : Lexeme × List Lexeme). cond {A = Reading ℕ} (bytes_eq t.0.text text) (Ok (t.0.at, t.1)) (Err (misfit (Some t.0.at)))) (at, rest) e in
-    let (here, is) = token_at_ok is_name ts t.0 t.1 taken in
+    let (t, taken, given) = bind_ok (token_at is_name_kind ts) (λ (t : Lexeme × List Lexeme). cond {A = Reading ℕ} (bytes_eq t.0.text text) (Ok (t.0.at, t.1)) (Err (misfit (Some t.0.at)))) (at, rest) e in
+    let (here, is) = token_at_ok is_name_kind ts t.0 t.1 taken in
     let (same, given) = chosen_ok {A = ℕ × List Lexeme} (bytes_eq t.0.text text) (t.0.at, t.1) (at, rest) (misfit (Some t.0.at)) given in
     let k : IsWord text (t.0 ∷ t.1) t.0.at t.1 = word (kind_of-is_name t.0.kind is) ((bytes_eq-Decides t.0.text text).0 same) in
     subst (λ (q : ℕ × List Lexeme). IsWord text ts q.0 q.1) given (subst (λ us. IsWord text us t.0.at t.1) (sym here) k)
@@ -162,10 +155,10 @@ symbol_next_at {s} (symbol k) = rw (k, true_same the_type s s refl)
 pub symbol_next : (s : Symbol) (ts : List Lexeme) (at : ℕ) (rest : List Lexeme) → IsSymbol s ts at rest → next_is (is_symbol s) ts ≡ true
 symbol_next s ts at rest d = symbol_next_at d
 
-name_next_at : {ts rest : List Lexeme} {n : SpeltName} → IsName ts n rest → next_is is_name ts ≡ true
+name_next_at : {ts rest : List Lexeme} {n : SpeltName} → IsName ts n rest → next_is is_name_kind ts ≡ true
 name_next_at (name k) = rw k
 
-pub name_next : (ts : List Lexeme) (n : SpeltName) (rest : List Lexeme) → IsName ts n rest → next_is is_name ts ≡ true
+pub name_next : (ts : List Lexeme) (n : SpeltName) (rest : List Lexeme) → IsName ts n rest → next_is is_name_kind ts ≡ true
 name_next ts n rest d = name_next_at d
 
 -- what any test says where the next token is a symbol, or a name
@@ -173,6 +166,6 @@ pub next_test-symbol : (s : Symbol) (test : TokenKind → Bool) (ts : List Lexem
 next_test-symbol s test [] e = cc
 next_test-symbol s test (t ∷ ts) e = ap test (kind_of-is_symbol s t.kind e)
 
-pub next_test-name : (test : TokenKind → Bool) (ts : List Lexeme) → next_is is_name ts ≡ true → next_is test ts ≡ test kinds.Name
+pub next_test-name : (test : TokenKind → Bool) (ts : List Lexeme) → next_is is_name_kind ts ≡ true → next_is test ts ≡ test kinds.Name
 next_test-name test [] e = cc
 next_test-name test (t ∷ ts) e = ap test (kind_of-is_name t.kind e)

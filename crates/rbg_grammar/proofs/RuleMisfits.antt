@@ -6,15 +6,16 @@ use Rattle.rbg_tokens.specs.declared.token.Symbol.TheVariants.{DoubleArrow, Arro
 use Rattle.rbg_tokens.specs.declared.token.TokenKind.{TokenKind}
 use Rattle.rbg_tokens.specs.declared.token.TokenKind.TheVariants as kinds
 use Rattle.rbg_base.specs.declared.relation.Relation.TheVariants as relations
-use Rattle.rbg_grammar.specs.declared.expression.Operator.TheVariants as operators
+use Rattle.rbg_base.specs.declared.operator.Operator.TheVariants as operators
 use Rattle.rbg_grammar.specs.declared.expression.Rank.{Rank}
 use Rattle.rbg_grammar.specs.declared.expression.Rank.TheVariants as ranks
 use Rattle.rbg_grammar.specs.Tree.{SpeltExpression, SpeltRule, SpeltAction, act, shift, switch, assign, compare, positive, negative, star, first_of, in_chain, sequence_of}
 use Rattle.rbg_grammar.specs.Phrase.{IsSymbol, Separated, separated, within}
-use Rattle.rbg_grammar.specs.Grammar.{relation_of, operator_of, IsOperator, IsFurtherOperand, further_operand, IsChain, chained, IsFactor, plain, minus, IsSumOver, IsNumberOrName, number as a_number, name as a_name, IsPrimary, IsSum, IsRelation, IsOpenAtom, moves, switches, keeps, IsComparison, comparison, IsAssignment, assignment, AreAssignments, assignments, IsBracketAtom, groups, stands_on, puts, compares, assigns, holds, fails, IsItem, once, starred, IsSequence, in_turn, AreRulesOver, either, IsAtom, AreRules}
-use Rattle.rbg_grammar.specs.Reading.{Fault, misfit, Reading, ◌>>=◌, TakesSome, next_is, is_name, is_number, is_symbol, symbol_at, name_at, one_of_at, repeated_at, after_at, listed_at, within_at, open_atom_at, on_at, off_at, in_sequence}
-use Rattle.rbg_tokens.specs.Kinds.{opens}
-use Rattle.rbg_grammar.specs.RuleReading.{too_deep_at, is_operator, number_or_name_at, factor_at, further_operand_at, chain_at, operand_at, sum_over_at, primary_at, sum_at, comparison_at, assignment_at, assignments_at, in_choice, positive_at, negative_at, in_braces_at, in_brackets_at, bracket_atom_at, item_at, begins_atom, sequence_at, rules_over_at, atom_at, rules_at}
+use Rattle.rbg_grammar.specs.Grammar.{relation_of, operator_of, IsOperator, IsFurtherOperand, further_operand, IsChain, chained, IsFactor, plain, minus, IsSumOver, IsNumberOrName, number as a_number, name as a_name, IsPrimary, IsSum, IsRelation, IsOpenAtom, moves, switches, keeps, IsComparison, comparison, IsAssignment, assignment, AreAssignments, assignments, IsBracketAtom, groups, stands_on, puts, compares, assigns, IsItem, once, starred, IsSequence, in_turn, AreRulesOver, either, IsAtom, AreRules}
+use Rattle.rbg_grammar.specs.Reading.{Fault, misfit, Reading, ◌>>=◌, TakesSome, next_is, symbol_at, name_at, one_of_at, repeated_at, after_at, listed_at, within_at, open_atom_at, on_at, off_at, in_sequence}
+use Rattle.rbg_tokens.specs.Kinds.{opens, is_name_kind, is_number_kind, is_symbol}
+use Rattle.rbg_grammar.specs.RuleReading.{too_deep_at, pattern_at, is_operator, number_or_name_at, factor_at, further_operand_at, chain_at, operand_at, sum_over_at, primary_at, sum_at, comparison_at, assignment_at, assignments_at, in_choice, positive_at, negative_at, in_braces_at, in_brackets_at, bracket_atom_at, item_at, begins_atom, sequence_at, rules_over_at, atom_at, rules_at}
+use Rattle.rbg_grammar.proofs.Patterns.{IsPattern, pattern, positive_is, negative_is}
 use Rattle.rbg_grammar.proofs.Misfits.{Judged, Judges, Behind, seen, given, bind, choose, choose_at, same_reader}
 use Rattle.rbg_grammar.proofs.MisfitCombinators.{one_of_judged, symbol_judged, name_judged, number_judged, after_judged, closed_as, closed_at, closed_judged, within_judged, repeated_judged, separated_judged}
 use Rattle.rbg_grammar.proofs.PhraseLaws.{further_operand_takes_some, assignment_takes_some, item_takes_some, sequence_takes_some}
@@ -23,7 +24,7 @@ use Rattle.rbg_grammar.proofs.SectionMisfits.{names_judged}
 number_or_name_judged : Judges IsNumberOrName number_or_name_at
 unfolding number_or_name_at
 number_or_name_judged =
-    choose (next_is is_number) (λ t us vs. refl) (bind number_judged (λ n. Ok (SpeltExpression.number n.0, n.1)) (λ x u d. given (λ tail. a_number (d tail))))
+    choose (next_is is_number_kind) (λ t us vs. refl) (bind number_judged (λ n. Ok (SpeltExpression.number n.0, n.1)) (λ x u d. given (λ tail. a_number (d tail))))
     (bind name_judged (λ n. Ok (SpeltExpression.name n.0, n.1)) (λ x u d. given (λ tail. a_name (d tail))))
 
 -- a sum or a product, by its operands
@@ -134,27 +135,32 @@ module _ (Rules : List Lexeme → SpeltRule → List Lexeme → Type 0) (rules' 
   compare_part : ℕ × List Lexeme → Reading SpeltRule
   compare_part q = closed_at CloseBrace (after_at Dollar (comparison_at sum')) q.1
 
+  pattern_part : Symbol → ℕ × List Lexeme → Reading (ℕ × SpeltRule)
+  pattern_part sign q = after_at sign rules' q.1 >>= λ r. symbol_at CloseBrace r.1 >>= λ end. Ok ((q.0, r.0), end.1)
+
   hold_part : ℕ × List Lexeme → Reading SpeltRule
-  hold_part q = after_at Question rules' q.1 >>= λ r. symbol_at CloseBrace r.1 >>= λ end. Ok (act (positive q.0 r.0), end.1)
+  hold_part q = pattern_part Question q >>= λ p. Ok (act (positive p.0.0 p.0.1), p.1)
 
   fail_part : ℕ × List Lexeme → Reading SpeltRule
-  fail_part q = after_at Exclamation rules' q.1 >>= λ r. symbol_at CloseBrace r.1 >>= λ end. Ok (act (negative q.0 r.0), end.1)
+  fail_part q = pattern_part Exclamation q >>= λ p. Ok (act (negative p.0.0 p.0.1), p.1)
 
   on_part : ℕ × List Lexeme → Reading SpeltRule
-  on_part q = closed_at CloseBrace (listed_at is_name name_at) q.1 >>= λ ns. Ok (act (SpeltAction.on ns.0), ns.1)
+  on_part q = closed_at CloseBrace (listed_at is_name_kind name_at) q.1 >>= λ ns. Ok (act (SpeltAction.on ns.0), ns.1)
 
   braces_part : ℕ × List Lexeme → Reading SpeltRule
   braces_part q = cond (next_is (is_symbol Dollar) q.1) (compare_part q) (cond (next_is (is_symbol Question) q.1) (hold_part q) (cond (next_is (is_symbol Exclamation) q.1) (fail_part q) (on_part q)))
 
   braces_same : (ts : List Lexeme) → in_braces_at rules' sum' ts ≡ (symbol_at OpenBrace ts >>= braces_part)
-  unfolding in_braces_at within_at positive_at negative_at on_at compare_part hold_part fail_part on_part braces_part
+  unfolding in_braces_at within_at pattern_at positive_at negative_at on_at compare_part pattern_part hold_part fail_part on_part braces_part
   braces_same ts =
       let D = next_is (is_symbol Dollar) (drop 1 ts) in
       let Q = next_is (is_symbol Question) (drop 1 ts) in
       let E = next_is (is_symbol Exclamation) (drop 1 ts) in
       let opened = symbol_at OpenBrace ts in
-      ap (λ (u : Reading SpeltRule). cond D (opened >>= compare_part) (cond Q (opened >>= hold_part) (cond E (opened >>= fail_part) u)))
-      (bound_twice opened (λ q. closed_at CloseBrace (listed_at is_name name_at) q.1) (λ ns. Ok (act (SpeltAction.on ns.0), ns.1)))
+      ap (λ (u : Reading SpeltRule). cond D (opened >>= compare_part) (cond Q u (cond E (negative_at rules' ts) (on_at ts)))) (bound_twice opened (pattern_part Question) (λ p. Ok (act (positive p.0.0 p.0.1), p.1)))
+      ∙ ap (λ (u : Reading SpeltRule). cond D (opened >>= compare_part) (cond Q (opened >>= hold_part) (cond E u (on_at ts)))) (bound_twice opened (pattern_part Exclamation) (λ p. Ok (act (negative p.0.0 p.0.1), p.1)))
+      ∙ ap (λ (u : Reading SpeltRule). cond D (opened >>= compare_part) (cond Q (opened >>= hold_part) (cond E (opened >>= fail_part) u)))
+      (bound_twice opened (λ q. closed_at CloseBrace (listed_at is_name_kind name_at) q.1) (λ ns. Ok (act (SpeltAction.on ns.0), ns.1)))
       ∙ ap (λ (u : Reading SpeltRule). cond D (opened >>= compare_part) (cond Q (opened >>= hold_part) u)) (second_chosen OpenBrace (is_symbol Exclamation) fail_part on_part ts)
       ∙ ap (λ (u : Reading SpeltRule). cond D (opened >>= compare_part) u)
       (second_chosen OpenBrace (is_symbol Question) hold_part (λ q. cond (next_is (is_symbol Exclamation) q.1) (fail_part q) (on_part q)) ts)
@@ -165,17 +171,19 @@ module _ (Rules : List Lexeme → SpeltRule → List Lexeme → Type 0) (rules' 
     unfolding compare_part
     compare_part_judged = seen (λ ts x rest k. closed_as k (λ mid end e f. compares (within (d ts) e f))) (closed_judged CloseBrace (after_judged Dollar (comparison_judged Sum sum' j)))
 
+    pattern_part_judged : (sign : Symbol) → Judges (Behind u (IsPattern sign Rules)) (λ us. pattern_part sign (at, us))
+    unfolding pattern_part
+    pattern_part_judged sign =
+        bind (after_judged sign rules_j) (λ r. symbol_at CloseBrace r.1 >>= λ end. Ok ((at, r.0), end.1))
+        (λ x v e. bind (symbol_judged CloseBrace) (λ end. Ok ((at, x), end.1)) (λ end w f. given (λ tail. pattern (d (v ++ (w ++ tail))) (e (w ++ tail)) (f tail))))
+
     hold_part_judged : Judges (Behind u (IsBracketAtom Rules Sum)) (λ us. hold_part (at, us))
     unfolding hold_part
-    hold_part_judged =
-        bind (after_judged Question rules_j) (λ r. symbol_at CloseBrace r.1 >>= λ end. Ok (act (positive at r.0), end.1))
-        (λ x v e. bind (symbol_judged CloseBrace) (λ end. Ok (act (positive at x), end.1)) (λ end w f. given (λ tail. holds (d (v ++ (w ++ tail))) (e (w ++ tail)) (f tail))))
+    hold_part_judged = bind (pattern_part_judged Question) (λ p. Ok (act (positive p.0.0 p.0.1), p.1)) (λ p v e. given (λ tail. positive_is (u ++ (v ++ tail)) p tail (e tail)))
 
     fail_part_judged : Judges (Behind u (IsBracketAtom Rules Sum)) (λ us. fail_part (at, us))
     unfolding fail_part
-    fail_part_judged =
-        bind (after_judged Exclamation rules_j) (λ r. symbol_at CloseBrace r.1 >>= λ end. Ok (act (negative at r.0), end.1))
-        (λ x v e. bind (symbol_judged CloseBrace) (λ end. Ok (act (negative at x), end.1)) (λ end w f. given (λ tail. fails (d (v ++ (w ++ tail))) (e (w ++ tail)) (f tail))))
+    fail_part_judged = bind (pattern_part_judged Exclamation) (λ p. Ok (act (negative p.0.0 p.0.1), p.1)) (λ p v e. given (λ tail. negative_is (u ++ (v ++ tail)) p tail (e tail)))
 
     on_part_judged : Judges (Behind u (IsBracketAtom Rules Sum)) (λ us. on_part (at, us))
     unfolding on_part
@@ -237,7 +245,7 @@ module _ (Rules : List Lexeme → SpeltRule → List Lexeme → Type 0) (rules' 
 open_atom_judged : Judges IsOpenAtom open_atom_at
 unfolding open_atom_at
 open_atom_judged =
-    choose (next_is is_name) (λ t us vs. refl) (bind name_judged (λ n. Ok (act (shift n.0), n.1)) (λ n u d. given (λ tail. moves (d tail))))
+    choose (next_is is_name_kind) (λ t us vs. refl) (bind name_judged (λ n. Ok (act (shift n.0), n.1)) (λ n u d. given (λ tail. moves (d tail))))
     (choose (next_is (is_symbol Arrow)) (λ t us vs. refl)
     (bind (symbol_judged Arrow) (λ at. name_at at.1 >>= λ n. Ok (act (switch at.0 (Some n.0)), n.1))
     (λ at u d. bind name_judged (λ n. Ok (act (switch at (Some n.0)), n.1)) (λ n v e. given (λ tail. switches (d (v ++ tail)) (e tail)))))

@@ -9,10 +9,11 @@ use Rattle.rbg_base.specs.declared.relation.Relation.{Relation}
 use Rattle.rbg_base.specs.declared.relation.Relation.TheVariants as relations
 use Rattle.rbg_grammar.specs.Tree.{SpeltName, SpeltExpression, SpeltRule, SpeltAction, act, shift, switch, assign, compare, positive, negative, star, sequence_of}
 use Rattle.rbg_grammar.specs.Phrase.{IsSymbol, symbol, IsName, name, one_of, Repeated, done, After, Separated, separated, Listed, nothing, Within, within}
-use Rattle.rbg_grammar.specs.Grammar.{relation_of, IsRelation, IsSum, IsOpenAtom, moves, switches, keeps, IsComparison, comparison, IsAssignment, assignment, AreAssignments, assignments, IsBracketAtom, groups, stands_on, puts, compares, assigns, holds, fails, IsItem, once, starred, IsSequence, in_turn, AreRulesOver, either, IsAtom, AreRules}
-use Rattle.rbg_tokens.specs.Kinds.{opens, closes}
-use Rattle.rbg_grammar.specs.Reading.{too_deep, Reading, ◌>>=◌, next_is, is_name, is_symbol, symbol_at, name_at, one_of_at, listed_at, repeated_at, after_at, separated_at, within_at, open_atom_at, on_at, off_at, in_sequence}
-use Rattle.rbg_grammar.specs.RuleReading.{comparison_at, assignment_at, assignments_at, in_choice, positive_at, negative_at, in_braces_at, in_brackets_at, bracket_atom_at, item_at, begins_atom, sequence_at, rules_over_at, atom_at, rules_at, sum_at}
+use Rattle.rbg_grammar.specs.Grammar.{relation_of, IsRelation, IsSum, IsOpenAtom, moves, switches, keeps, IsComparison, comparison, IsAssignment, assignment, AreAssignments, assignments, IsBracketAtom, groups, stands_on, puts, compares, assigns, IsItem, once, starred, IsSequence, in_turn, AreRulesOver, either, IsAtom, AreRules}
+use Rattle.rbg_tokens.specs.Kinds.{opens, closes, is_name_kind, is_symbol}
+use Rattle.rbg_grammar.specs.Reading.{too_deep, Reading, ◌>>=◌, next_is, symbol_at, name_at, one_of_at, listed_at, repeated_at, after_at, separated_at, within_at, open_atom_at, on_at, off_at, in_sequence}
+use Rattle.rbg_grammar.specs.RuleReading.{comparison_at, assignment_at, assignments_at, in_choice, pattern_at, positive_at, negative_at, in_braces_at, in_brackets_at, bracket_atom_at, item_at, begins_atom, sequence_at, rules_over_at, atom_at, rules_at, sum_at}
+use Rattle.rbg_grammar.proofs.Patterns.{IsPattern, pattern, positive_is, negative_is}
 use Rattle.rbg_grammar.proofs.Pieces.{Piece, Deep, Sample, Outcome, bind, seen_piece, seen_deep, pieces, first_deep, symbol_piece}
 use Rattle.rbg_grammar.proofs.Readers.{symbol_read, one_of_read}
 use Rattle.rbg_grammar.proofs.SharedOutcomes.{bind_same, map_outcome, seen_outcome, later, both_outcome, none_sample, symbol_never, name_never, name_piece, one_of_never, one_of_piece, no_bracket, name_outcome, names_outcome, repeated_outcome, after_outcome, separated_outcome, bracket_outcome}
@@ -109,29 +110,36 @@ module _ (Rules : List Lexeme → SpeltRule → List Lexeme → Type 0) (rules' 
   inside_outcome : (s : Symbol) → opens (kinds.Symbol s) ≡ false → closes (kinds.Symbol s) ≡ false → (ts : List Lexeme) → Outcome (After s Rules) n ts (after_at s rules' ts) (after_at s more_rules' ts)
   inside_outcome s no_opening no_closing = after_outcome Rules n rules' more_rules' rules_reads s no_opening no_closing
 
+  pattern_outcome : (sign : Symbol) → opens (kinds.Symbol sign) ≡ false → closes (kinds.Symbol sign) ≡ false → (ts : List Lexeme)
+      → Outcome (IsPattern sign Rules) (suc n) ts (pattern_at sign rules' ts) (pattern_at sign more_rules' ts)
+  unfolding pattern_at
+  pattern_outcome sign no_opening no_closing =
+      bracket_outcome OpenBrace CloseBrace refl refl refl (After sign Rules) (IsPattern sign Rules) (λ (at : ℕ) (r : SpeltRule). (at, r))
+      (λ ts at first x last end rest d e f. pattern d e f) n (after_at sign rules') (after_at sign more_rules') (inside_outcome sign no_opening no_closing)
+
   positive_outcome : (ts : List Lexeme) → Outcome (IsBracketAtom Rules Sum) (suc n) ts (positive_at rules' ts) (positive_at more_rules' ts)
   unfolding positive_at
-  positive_outcome =
-      bracket_outcome OpenBrace CloseBrace refl refl refl (After Question Rules) (IsBracketAtom Rules Sum) (λ (at : ℕ) (r : SpeltRule). act (positive at r))
-      (λ ts at first x last end rest d e f. holds d e f) n (after_at Question rules') (after_at Question more_rules') (inside_outcome Question refl refl)
+  positive_outcome ts =
+      map_outcome (IsPattern Question Rules) (IsBracketAtom Rules Sum) (λ (p : ℕ × SpeltRule). act (positive p.0 p.1)) (suc n) positive_is ts
+      (pattern_at Question rules' ts) (pattern_at Question more_rules' ts) (pattern_outcome Question refl refl ts)
 
   negative_outcome : (ts : List Lexeme) → Outcome (IsBracketAtom Rules Sum) (suc n) ts (negative_at rules' ts) (negative_at more_rules' ts)
   unfolding negative_at
-  negative_outcome =
-      bracket_outcome OpenBrace CloseBrace refl refl refl (After Exclamation Rules) (IsBracketAtom Rules Sum) (λ (at : ℕ) (r : SpeltRule). act (negative at r))
-      (λ ts at first x last end rest d e f. fails d e f) n (after_at Exclamation rules') (after_at Exclamation more_rules') (inside_outcome Exclamation refl refl)
+  negative_outcome ts =
+      map_outcome (IsPattern Exclamation Rules) (IsBracketAtom Rules Sum) (λ (p : ℕ × SpeltRule). act (negative p.0 p.1)) (suc n) negative_is ts
+      (pattern_at Exclamation rules' ts) (pattern_at Exclamation more_rules' ts) (pattern_outcome Exclamation refl refl ts)
 
-  set_outcome : (ts : List Lexeme) → Outcome (Within OpenBrace CloseBrace (Listed IsName)) (suc n) ts (within_at OpenBrace CloseBrace (listed_at is_name name_at) ts) (within_at OpenBrace CloseBrace (listed_at is_name name_at) ts)
+  set_outcome : (ts : List Lexeme) → Outcome (Within OpenBrace CloseBrace (Listed IsName)) (suc n) ts (within_at OpenBrace CloseBrace (listed_at is_name_kind name_at) ts) (within_at OpenBrace CloseBrace (listed_at is_name_kind name_at) ts)
   unfolding within_at
   set_outcome =
       bracket_outcome OpenBrace CloseBrace refl refl refl (Listed IsName) (Within OpenBrace CloseBrace (Listed IsName)) (λ (at : ℕ) (ns : List SpeltName). ns)
-      (λ ts at first x last end rest d e f. within d e f) n (listed_at is_name name_at) (listed_at is_name name_at) (names_outcome n)
+      (λ ts at first x last end rest d e f. within d e f) n (listed_at is_name_kind name_at) (listed_at is_name_kind name_at) (names_outcome n)
 
   on_outcome : (ts : List Lexeme) → Outcome (IsBracketAtom Rules Sum) (suc n) ts (on_at ts) (on_at ts)
   unfolding on_at
   on_outcome ts =
       map_outcome (Within OpenBrace CloseBrace (Listed IsName)) (IsBracketAtom Rules Sum) (λ (ns : List SpeltName). act (SpeltAction.on ns)) (suc n) (λ ts x rest d. stands_on d) ts
-      (within_at OpenBrace CloseBrace (listed_at is_name name_at) ts) (within_at OpenBrace CloseBrace (listed_at is_name name_at) ts) (set_outcome ts)
+      (within_at OpenBrace CloseBrace (listed_at is_name_kind name_at) ts) (within_at OpenBrace CloseBrace (listed_at is_name_kind name_at) ts) (set_outcome ts)
 
   piece_outcome : (ts : List Lexeme) → Outcome (Within OpenBracket CloseBracket IsName) (suc n) ts (within_at OpenBracket CloseBracket name_at ts) (within_at OpenBracket CloseBracket name_at ts)
   unfolding within_at
@@ -181,7 +189,7 @@ module _ (Rules : List Lexeme → SpeltRule → List Lexeme → Type 0) (rules' 
 -- atoms without a bracket
 open_atom_outcome : (n : ℕ) (ts : List Lexeme) → Outcome IsOpenAtom n ts (open_atom_at ts) (open_atom_at ts)
 unfolding open_atom_at
-open_atom_outcome n ts = go (next_is is_name ts) (next_is (is_symbol Arrow) ts)
+open_atom_outcome n ts = go (next_is is_name_kind ts) (next_is (is_symbol Arrow) ts)
   where
     go : (b c : Bool) → Outcome IsOpenAtom n ts
         (cond {A = Reading SpeltRule} b (name_at ts >>= λ x. Ok (act (shift x.0), x.1))

@@ -11,11 +11,12 @@ use Rattle.rbg_grammar.specs.declared.expression.Rank.TheVariants as ranks
 use Rattle.rbg_grammar.specs.Tree.{SpeltName, SpeltExpression, SpeltRule, SpeltAction, act, assign, positive, negative, star, sequence_of}
 use Rattle.rbg_grammar.specs.Phrase.{IsSymbol, symbol, IsName, Repeated, After, Separated, separated, Listed, nothing, listed, Within, within}
 use Rattle.rbg_grammar.specs.Grammar.{relation_of, IsRelation, IsSum, IsOpenAtom, IsComparison, comparison, IsAssignment, assignment, AreAssignments, assignments, IsBracketAtom, groups, stands_on, puts, compares, assigns, holds, fails, IsItem, once, starred, IsSequence, in_turn, AreRulesOver, either, IsAtom, AreRules}
-use Rattle.rbg_grammar.specs.Reading.{Reading, ◌>>=◌, next_is, is_symbol, is_in, symbol_at, name_at, repeated_at, after_at, separated_at, within_at, open_atom_at, on_at, off_at, in_sequence}
-use Rattle.rbg_tokens.specs.Kinds.{opens}
-use Rattle.rbg_grammar.specs.RuleReading.{too_deep_at, is_operator, comparison_at, assignment_at, assignments_at, in_choice, positive_at, negative_at, in_braces_at, in_brackets_at, bracket_atom_at, item_at, begins_atom, sequence_at, rules_over_at, atom_at, rules_at, sum_at}
+use Rattle.rbg_grammar.specs.Reading.{Reading, ◌>>=◌, next_is, is_in, symbol_at, name_at, listed_at, repeated_at, after_at, separated_at, within_at, open_atom_at, on_at, off_at, in_sequence}
+use Rattle.rbg_tokens.specs.Kinds.{opens, is_name_kind, is_symbol}
+use Rattle.rbg_grammar.specs.RuleReading.{too_deep_at, is_operator, comparison_at, assignment_at, assignments_at, in_choice, pattern_at, positive_at, negative_at, in_braces_at, in_brackets_at, bracket_atom_at, item_at, begins_atom, sequence_at, rules_over_at, atom_at, rules_at, sum_at}
 use Rattle.rbg_grammar.proofs.Readers.{bind_ok, ok_one, IsReadBy, Always, symbol_read, symbol_next, name_read, one_of_complete, one_of_read, one_of_test, next_test-symbol}
-use Rattle.rbg_grammar.proofs.Combinators.{FirstThen, first_then, both_read, repeated_read, Begins, Stops, after_read, within_read, separated_read, may_follow}
+use Rattle.rbg_grammar.proofs.Combinators.{FirstThen, first_then, Made, made, made_read, both_read, repeated_read, Begins, Stops, after_read, within_read, separated_read, may_follow}
+use Rattle.rbg_grammar.proofs.Patterns.{IsPattern, pattern, positive_is, negative_is}
 use Rattle.rbg_grammar.proofs.SectionReaders.{piece_read}
 use Rattle.rbg_grammar.proofs.SumReaders.{symbol_test, name_test, after_test, within_test, after_here, within_here, EndsSum, ends_sum, symbol_ends_sum, sum_read}
 use Rattle.rbg_grammar.proofs.AtomReaders.{open_atom_read, open_atom_begins, set_read}
@@ -80,24 +81,17 @@ module _ (Sum : List Lexeme → SpeltExpression → List Lexeme → Type 0) (sum
   pub assignment_list_read : IsReadBy 1 (Separated Comma (IsAssignment Sum)) (Stops EndsSum (is_symbol Comma)) (separated_at Comma (assignment_at sum))
   assignment_list_read = separated_read (IsAssignment Sum) EndsSum (assignment_at sum) assignment_read Comma (symbol_ends_sum Comma refl refl)
 
-  assignments_from : {ts rest : List Lexeme} {rs : List SpeltRule} → Separated Comma (IsAssignment Sum) ts rs rest → AreAssignments Sum ts (in_sequence rs) rest
-  assignments_from (separated d more) = assignments (separated d more)
+  assignments_made : (ts : List Lexeme) (rs : List SpeltRule) (rest : List Lexeme) → Separated Comma (IsAssignment Sum) ts rs rest → AreAssignments Sum ts (in_sequence rs) rest
+  assignments_made ts _ rest (separated d more) = assignments (separated d more)
 
-  assignments_sound : (ts : List Lexeme) (x : SpeltRule) (rest : List Lexeme) → assignments_at sum ts ≡ Ok (x, rest) → AreAssignments Sum ts x rest
-  unfolding assignments_at
-  assignments_sound ts x rest e =
-      let (rs, all, given) = bind_ok _ _ _ e in
-      subst (λ (q : SpeltRule × List Lexeme). AreAssignments Sum ts q.0 q.1) (ok_one _ (x, rest) given) (assignments_from (assignment_list_read.sound ts rs.0 rs.1 all))
-
-  assignments_complete : {ts rest : List Lexeme} {x : SpeltRule} → AreAssignments Sum ts x rest → Stops EndsSum (is_symbol Comma) rest → assignments_at sum ts ≡ Ok (x, rest)
-  unfolding assignments_at
-  assignments_complete {ts} {rest} (assignments {r = r} {rs = rs} d) stop = rw (assignment_list_read.complete ts (r ∷ rs) rest d stop)
-
-  assignments_shorter : {ts rest : List Lexeme} {x : SpeltRule} → AreAssignments Sum ts x rest → 1 + length rest ≤ length ts
-  assignments_shorter {ts} {rest} (assignments {r = r} {rs = rs} d) = assignment_list_read.shorter ts (r ∷ rs) rest d
+  assignments_part : (ts : List Lexeme) (x : SpeltRule) (rest : List Lexeme) → AreAssignments Sum ts x rest → Made (Separated Comma (IsAssignment Sum)) in_sequence ts x rest
+  assignments_part ts _ rest (assignments d) = made d
 
   pub assignments_read : IsReadBy 1 (AreAssignments Sum) (Stops EndsSum (is_symbol Comma)) (assignments_at sum)
-  assignments_read = record { sound = assignments_sound; complete = λ ts x rest d stop. assignments_complete d stop; shorter = λ ts x rest d. assignments_shorter d }
+  unfolding assignments_at
+  assignments_read =
+      made_read 1 (Separated Comma (IsAssignment Sum)) (Stops EndsSum (is_symbol Comma)) (separated_at Comma (assignment_at sum)) assignment_list_read (AreAssignments Sum) in_sequence
+      assignments_made assignments_part
 
 -- what may follow an item, a sequence and rules
 abbrev pub EndsItem : List Lexeme → Type 0
@@ -155,35 +149,38 @@ module _ (Rules : List Lexeme → SpeltRule → List Lexeme → Type 0) (rules' 
   inside_read : (s : Symbol) → IsReadBy 1 (After s Rules) EndsRules (after_at s rules')
   inside_read s = after_read 1 Rules EndsRules rules' rules_read s
 
-  positive_sound : (ts : List Lexeme) (x : SpeltRule) (rest : List Lexeme) → positive_at rules' ts ≡ Ok (x, rest) → IsBracketAtom Rules Sum ts x rest
-  unfolding positive_at
-  positive_sound ts x rest e =
+  pattern_sound : (sign : Symbol) (ts : List Lexeme) (p : ℕ × SpeltRule) (rest : List Lexeme) → pattern_at sign rules' ts ≡ Ok (p, rest) → IsPattern sign Rules ts p rest
+  unfolding pattern_at
+  pattern_sound sign ts p rest e =
       let (at, opening, further) = bind_ok _ _ _ e in
       let (r, inside, further) = bind_ok _ _ _ further in
       let (end, closing, given) = bind_ok _ _ _ further in
-      subst (λ (q : SpeltRule × List Lexeme). IsBracketAtom Rules Sum ts q.0 q.1) (ok_one _ (x, rest) given)
-      (holds ((symbol_read OpenBrace).sound ts at.0 at.1 opening) ((inside_read Question).sound at.1 r.0 r.1 inside) ((symbol_read CloseBrace).sound r.1 end.0 end.1 closing))
+      subst (λ (q : (ℕ × SpeltRule) × List Lexeme). IsPattern sign Rules ts q.0 q.1) (ok_one _ (p, rest) given)
+      (pattern ((symbol_read OpenBrace).sound ts at.0 at.1 opening) ((inside_read sign).sound at.1 r.0 r.1 inside) ((symbol_read CloseBrace).sound r.1 end.0 end.1 closing))
+
+  -- an atom that is made of another phrase
+  atom_sound_of : {A : Type 0} (P : List Lexeme → A → List Lexeme → Type 0) (f : A → SpeltRule) (read : List Lexeme → Reading A)
+      → ((ts : List Lexeme) (y : A) (rest : List Lexeme) → read ts ≡ Ok (y, rest) → P ts y rest) → ((ts : List Lexeme) (y : A) (rest : List Lexeme) → P ts y rest → IsBracketAtom Rules Sum ts (f y) rest)
+      → (ts : List Lexeme) (x : SpeltRule) (rest : List Lexeme) → ◌≡◌ {A = Reading SpeltRule} (read ts >>= λ y. Ok (f y.0, y.1)) (Ok (x, rest)) → IsBracketAtom Rules Sum ts x rest
+  atom_sound_of {A} P f read sound see ts x rest e =
+      let (y, all, given) = bind_ok (read ts) (λ (y : A × List Lexeme). Ok (f y.0, y.1)) (x, rest) e in
+      subst (λ (q : SpeltRule × List Lexeme). IsBracketAtom Rules Sum ts q.0 q.1) (ok_one (f y.0, y.1) (x, rest) given) (see ts y.0 y.1 (sound ts y.0 y.1 all))
+
+  positive_sound : (ts : List Lexeme) (x : SpeltRule) (rest : List Lexeme) → positive_at rules' ts ≡ Ok (x, rest) → IsBracketAtom Rules Sum ts x rest
+  unfolding positive_at
+  positive_sound = atom_sound_of (IsPattern Question Rules) (λ p. act (positive p.0 p.1)) (pattern_at Question rules') (pattern_sound Question) positive_is
 
   negative_sound : (ts : List Lexeme) (x : SpeltRule) (rest : List Lexeme) → negative_at rules' ts ≡ Ok (x, rest) → IsBracketAtom Rules Sum ts x rest
   unfolding negative_at
-  negative_sound ts x rest e =
-      let (at, opening, further) = bind_ok _ _ _ e in
-      let (r, inside, further) = bind_ok _ _ _ further in
-      let (end, closing, given) = bind_ok _ _ _ further in
-      subst (λ (q : SpeltRule × List Lexeme). IsBracketAtom Rules Sum ts q.0 q.1) (ok_one _ (x, rest) given)
-      (fails ((symbol_read OpenBrace).sound ts at.0 at.1 opening) ((inside_read Exclamation).sound at.1 r.0 r.1 inside) ((symbol_read CloseBrace).sound r.1 end.0 end.1 closing))
+  negative_sound = atom_sound_of (IsPattern Exclamation Rules) (λ p. act (negative p.0 p.1)) (pattern_at Exclamation rules') (pattern_sound Exclamation) negative_is
 
   on_sound : (ts : List Lexeme) (x : SpeltRule) (rest : List Lexeme) → on_at ts ≡ Ok (x, rest) → IsBracketAtom Rules Sum ts x rest
   unfolding on_at
-  on_sound ts x rest e =
-      let (ns, set, given) = bind_ok _ _ _ e in
-      subst (λ (q : SpeltRule × List Lexeme). IsBracketAtom Rules Sum ts q.0 q.1) (ok_one _ (x, rest) given) (stands_on (set_read.sound ts ns.0 ns.1 set))
+  on_sound = atom_sound_of (Within OpenBrace CloseBrace (Listed IsName)) (λ ns. act (SpeltAction.on ns)) (within_at OpenBrace CloseBrace (listed_at is_name_kind name_at)) set_read.sound (λ ts ns rest d. stands_on d)
 
   off_sound : (ts : List Lexeme) (x : SpeltRule) (rest : List Lexeme) → off_at ts ≡ Ok (x, rest) → IsBracketAtom Rules Sum ts x rest
   unfolding off_at
-  off_sound ts x rest e =
-      let (n, put, given) = bind_ok _ _ _ e in
-      subst (λ (q : SpeltRule × List Lexeme). IsBracketAtom Rules Sum ts q.0 q.1) (ok_one _ (x, rest) given) (puts (piece_read.sound ts n.0 n.1 put))
+  off_sound = atom_sound_of (Within OpenBracket CloseBracket IsName) (λ n. act (SpeltAction.off n)) (within_at OpenBracket CloseBracket name_at) piece_read.sound (λ ts n rest d. puts d)
 
   in_braces_sound : (ts : List Lexeme) (x : SpeltRule) (rest : List Lexeme) → in_braces_at rules' sum ts ≡ Ok (x, rest) → IsBracketAtom Rules Sum ts x rest
   unfolding in_braces_at
@@ -221,17 +218,21 @@ module _ (Rules : List Lexeme → SpeltRule → List Lexeme → Type 0) (rules' 
   unfolding off_at
   off_complete {ts} {rest} {n} d = rw (piece_read.complete ts n rest d tt)
 
+  pattern_complete : {sign : Symbol} {ts first last rest : List Lexeme} {at end : ℕ} {r : SpeltRule} → IsSymbol OpenBrace ts at first → After sign Rules first r last → IsSymbol CloseBrace last end rest
+      → pattern_at sign rules' ts ≡ Ok ((at, r), rest)
+  unfolding pattern_at
+  pattern_complete {sign} {ts} {first} {last} {rest} {at} {end} {r} d e f =
+      rw ((symbol_read OpenBrace).complete ts at first d tt, (inside_read sign).complete first r last e (closing_ends_rules CloseBrace refl refl refl last (symbol_next CloseBrace last end rest f)), (symbol_read CloseBrace).complete last end rest f tt)
+
   positive_complete : {ts first last rest : List Lexeme} {at end : ℕ} {r : SpeltRule} → IsSymbol OpenBrace ts at first → After Question Rules first r last → IsSymbol CloseBrace last end rest
       → positive_at rules' ts ≡ Ok (act (positive at r), rest)
   unfolding positive_at
-  positive_complete {ts} {first} {last} {rest} {at} {end} {r} d e f =
-      rw ((symbol_read OpenBrace).complete ts at first d tt, (inside_read Question).complete first r last e (closing_ends_rules CloseBrace refl refl refl last (symbol_next CloseBrace last end rest f)), (symbol_read CloseBrace).complete last end rest f tt)
+  positive_complete d e f = rw (pattern_complete d e f)
 
   negative_complete : {ts first last rest : List Lexeme} {at end : ℕ} {r : SpeltRule} → IsSymbol OpenBrace ts at first → After Exclamation Rules first r last → IsSymbol CloseBrace last end rest
       → negative_at rules' ts ≡ Ok (act (negative at r), rest)
   unfolding negative_at
-  negative_complete {ts} {first} {last} {rest} {at} {end} {r} d e f =
-      rw ((symbol_read OpenBrace).complete ts at first d tt, (inside_read Exclamation).complete first r last e (closing_ends_rules CloseBrace refl refl refl last (symbol_next CloseBrace last end rest f)), (symbol_read CloseBrace).complete last end rest f tt)
+  negative_complete d e f = rw (pattern_complete d e f)
 
   in_braces_on : {ts rest : List Lexeme} {ns : List SpeltName} → Within OpenBrace CloseBrace (Listed IsName) ts ns rest → in_braces_at rules' sum ts ≡ Ok (act (SpeltAction.on ns), rest)
   unfolding in_braces_at
@@ -359,24 +360,15 @@ module _ (Atom : List Lexeme → SpeltRule → List Lexeme → Type 0) (atom : L
   pub sequences_read : IsReadBy 1 (Separated Plus (IsSequence Atom)) EndsRules (separated_at Plus (sequence_at atom))
   sequences_read = separated_read (IsSequence Atom) EndsSequence (sequence_at atom) sequence_read Plus plus_ends_sequence
 
-  rules_from : {ts rest : List Lexeme} {rs : List SpeltRule} → Separated Plus (IsSequence Atom) ts rs rest → AreRulesOver Atom ts (in_choice rs) rest
-  rules_from (separated d more) = either (separated d more)
+  rules_made : (ts : List Lexeme) (rs : List SpeltRule) (rest : List Lexeme) → Separated Plus (IsSequence Atom) ts rs rest → AreRulesOver Atom ts (in_choice rs) rest
+  rules_made ts _ rest (separated d more) = either (separated d more)
 
-  rules_over_sound : (ts : List Lexeme) (x : SpeltRule) (rest : List Lexeme) → rules_over_at atom ts ≡ Ok (x, rest) → AreRulesOver Atom ts x rest
-  unfolding rules_over_at
-  rules_over_sound ts x rest e =
-      let (rs, all, given) = bind_ok _ _ _ e in
-      subst (λ (q : SpeltRule × List Lexeme). AreRulesOver Atom ts q.0 q.1) (ok_one _ (x, rest) given) (rules_from (sequences_read.sound ts rs.0 rs.1 all))
-
-  rules_over_complete : {ts rest : List Lexeme} {x : SpeltRule} → AreRulesOver Atom ts x rest → EndsRules rest → rules_over_at atom ts ≡ Ok (x, rest)
-  unfolding rules_over_at
-  rules_over_complete {ts} {rest} (either {r = r} {rs = rs} d) stop = rw (sequences_read.complete ts (r ∷ rs) rest d stop)
-
-  rules_over_shorter : {ts rest : List Lexeme} {x : SpeltRule} → AreRulesOver Atom ts x rest → 1 + length rest ≤ length ts
-  rules_over_shorter {ts} {rest} (either {r = r} {rs = rs} d) = sequences_read.shorter ts (r ∷ rs) rest d
+  rules_part : (ts : List Lexeme) (x : SpeltRule) (rest : List Lexeme) → AreRulesOver Atom ts x rest → Made (Separated Plus (IsSequence Atom)) in_choice ts x rest
+  rules_part ts _ rest (either d) = made d
 
   pub rules_over_read : IsReadBy 1 (AreRulesOver Atom) EndsRules (rules_over_at atom)
-  rules_over_read = record { sound = rules_over_sound; complete = λ ts x rest d stop. rules_over_complete d stop; shorter = λ ts x rest d. rules_over_shorter d }
+  unfolding rules_over_at
+  rules_over_read = made_read 1 (Separated Plus (IsSequence Atom)) EndsRules (separated_at Plus (sequence_at atom)) sequences_read (AreRulesOver Atom) in_choice rules_made rules_part
 
 -- by how many brackets may be open at once
 open_atom_sound : (ts : List Lexeme) (x : SpeltRule) (rest : List Lexeme) → atom_at zero ts ≡ Ok (x, rest) → IsOpenAtom ts x rest

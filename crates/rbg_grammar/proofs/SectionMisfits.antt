@@ -2,12 +2,13 @@
 use Rattle.std.proofs.Common.{List, ◌++◌, Ok, refl, codes}
 use Rattle.rbg_tokens.specs.Token.{Lexeme}
 use Rattle.rbg_tokens.specs.declared.token.Symbol.TheVariants.{Comma, Colon, OpenParenthesis, CloseParenthesis, OpenBracket, CloseBracket, OpenBrace, CloseBrace}
+use Rattle.rbg_tokens.specs.Kinds.{is_name_kind, is_symbol}
 use Rattle.rbg_grammar.specs.Tree.{SpeltBoard}
 use Rattle.rbg_grammar.specs.Tree.{rectangle as four_ways, hexagon as six_ways, graph as graph_of}
 use Rattle.std.proofs.Common.{[], ◌∷◌, ℕ}
 use Rattle.rbg_grammar.specs.Phrase.{IsName, Repeated, Separated, Listed, WithComma}
 use Rattle.rbg_grammar.specs.Grammar.{IsBounded, bounded, IsRow, IsEdge, edge, IsVertex, vertex, IsRectangle, four, IsHexagon, six, IsGraph, vertices, IsGenerated, generated, IsBoard, rectangular, hexagonal, graphic}
-use Rattle.rbg_grammar.specs.Reading.{Reading, ◌>>=◌, next_word, is_name, is_symbol, name_at, number_at, after_at, separated_at, listed_at, within_at, bounded_at, row_at, edge_at, vertex_at, rows_at, direction_at, rectangle_at, hexagon_at, graph_at, generated_at, board_at}
+use Rattle.rbg_grammar.specs.Reading.{Reading, ◌>>=◌, next_word, name_at, number_at, after_at, separated_at, listed_at, within_at, bounded_at, row_at, edge_at, vertex_at, rows_at, direction_at, rectangle_at, hexagon_at, graph_at, generated_at, board_at}
 use Rattle.rbg_grammar.proofs.Misfits.{Judges, seen, given, bind, choose}
 use Rattle.rbg_grammar.proofs.MisfitCombinators.{name_judged, number_judged, word_judged, after_judged, within_judged, with_comma_judged, repeated_judged, separated_judged, listed_judged}
 use Rattle.rbg_grammar.proofs.PhraseLaws.{bounded_takes_some, name_takes_some, edge_takes_some, row_takes_some, vertex_takes_some}
@@ -21,14 +22,14 @@ bounded_judged =
 pub players_judged : Judges (Separated Comma IsBounded) (separated_at Comma bounded_at)
 players_judged = separated_judged Comma bounded_takes_some bounded_judged
 
-pub variables_judged : Judges (Listed IsBounded) (listed_at is_name bounded_at)
-variables_judged = listed_judged is_name bounded_takes_some bounded_judged
+pub variables_judged : Judges (Listed IsBounded) (listed_at is_name_kind bounded_at)
+variables_judged = listed_judged is_name_kind bounded_takes_some bounded_judged
 
 pub pieces_judged : Judges (Separated Comma IsName) (separated_at Comma name_at)
 pieces_judged = separated_judged Comma name_takes_some name_judged
 
-pub names_judged : Judges (Listed IsName) (listed_at is_name name_at)
-names_judged = listed_judged is_name name_takes_some name_judged
+pub names_judged : Judges (Listed IsName) (listed_at is_name_kind name_at)
+names_judged = listed_judged is_name_kind name_takes_some name_judged
 
 row_judged : Judges IsRow row_at
 unfolding row_at
@@ -43,9 +44,9 @@ edge_judged =
 vertex_judged : Judges IsVertex vertex_at
 unfolding vertex_at
 vertex_judged =
-    bind name_judged (λ n. within_at OpenBracket CloseBracket name_at n.1 >>= λ p. within_at OpenBrace CloseBrace (listed_at is_name edge_at) p.1 >>= λ es. Ok (record { name = n.0; piece = p.0; edges = es.0 }, es.1))
-    (λ n u d. bind (within_judged OpenBracket CloseBracket name_judged) (λ p. within_at OpenBrace CloseBrace (listed_at is_name edge_at) p.1 >>= λ es. Ok (record { name = n; piece = p.0; edges = es.0 }, es.1))
-    (λ p v e. bind (within_judged OpenBrace CloseBrace (listed_judged is_name edge_takes_some edge_judged)) (λ es. Ok (record { name = n; piece = p; edges = es.0 }, es.1))
+    bind name_judged (λ n. within_at OpenBracket CloseBracket name_at n.1 >>= λ p. within_at OpenBrace CloseBrace (listed_at is_name_kind edge_at) p.1 >>= λ es. Ok (record { name = n.0; piece = p.0; edges = es.0 }, es.1))
+    (λ n u d. bind (within_judged OpenBracket CloseBracket name_judged) (λ p. within_at OpenBrace CloseBrace (listed_at is_name_kind edge_at) p.1 >>= λ es. Ok (record { name = n; piece = p.0; edges = es.0 }, es.1))
+    (λ p v e. bind (within_judged OpenBrace CloseBrace (listed_judged is_name_kind edge_takes_some edge_judged)) (λ es. Ok (record { name = n; piece = p; edges = es.0 }, es.1))
     (λ es w f. given (λ tail. vertex (d (v ++ (w ++ tail))) (e (w ++ tail)) (f tail)))))
 
 rows_judged : Judges (Repeated IsRow) rows_at
@@ -83,7 +84,7 @@ hexagon_judged =
 
 graph_judged : Judges IsGraph graph_at
 unfolding graph_at
-graph_judged = bind (repeated_judged IsVertex vertex_at is_name vertex_takes_some vertex_judged) (λ vs. Ok (graph_of vs.0, vs.1)) (λ vs u d. given (λ tail. vertices (d tail)))
+graph_judged = bind (repeated_judged IsVertex vertex_at is_name_kind vertex_takes_some vertex_judged) (λ vs. Ok (graph_of vs.0, vs.1)) (λ vs u d. given (λ tail. vertices (d tail)))
 
 generated_judged : {P : List Lexeme → SpeltBoard → List Lexeme → Type 0} {read : List Lexeme → Reading SpeltBoard} (text : List ℕ) → Judges P read → Judges (IsGenerated text P) (generated_at text read)
 unfolding generated_at

@@ -5,10 +5,11 @@ use Rattle.rbg_tokens.specs.Token.{Lexeme}
 use Rattle.rbg_tokens.specs.declared.token.Symbol.{Symbol}
 use Rattle.rbg_tokens.specs.declared.token.Symbol.TheVariants.{Comma, Colon, OpenParenthesis, CloseParenthesis, OpenBracket, CloseBracket, OpenBrace, CloseBrace}
 use Rattle.rbg_tokens.specs.declared.token.TokenKind.TheVariants as kinds
+use Rattle.rbg_tokens.specs.Kinds.{is_name_kind, is_symbol}
 use Rattle.rbg_grammar.specs.Tree.{SpeltName, SpeltNumber, SpeltBounded, SpeltEdge, SpeltVertex, SpeltBoard}
 use Rattle.rbg_grammar.specs.Phrase.{IsName, IsNumber, IsWord, word, Repeated, After, Separated, Listed, Within, within, WithComma}
 use Rattle.rbg_grammar.specs.Grammar.{IsBounded, bounded, IsRow, IsEdge, edge, IsVertex, vertex, IsRectangle, four, IsHexagon, six, IsGraph, vertices, IsGenerated, generated, IsBoard, rectangular, hexagonal, graphic}
-use Rattle.rbg_grammar.specs.Reading.{Reading, next_is, next_word, is_name, is_symbol, name_at, number_at, after_at, separated_at, listed_at, within_at, with_comma_at, bounded_at, row_at, edge_at, vertex_at, rows_at, direction_at, rectangle_at, hexagon_at, graph_at, generated_at, board_at}
+use Rattle.rbg_grammar.specs.Reading.{Reading, next_is, next_word, name_at, number_at, after_at, separated_at, listed_at, within_at, with_comma_at, bounded_at, row_at, edge_at, vertex_at, rows_at, direction_at, rectangle_at, hexagon_at, graph_at, generated_at, board_at}
 use Rattle.rbg_grammar.proofs.Readers.{bind_ok, ok_one, IsReadBy, Always, symbol_next, name_read, name_next, number_read, word_read, next_test-symbol}
 use Rattle.rbg_grammar.proofs.Combinators.{FirstThen, first_then, both_read, Begins, Stops, EndsList, after_read, within_read, separated_read, listed_read, with_comma_read, repeated_sound, repeated_complete, repeated_shorter}
 
@@ -31,15 +32,15 @@ names_read = separated_read IsName Always name_at name_read Comma (λ ts e. tt)
 pub players_read : IsReadBy 1 (Separated Comma IsBounded) (Stops Always (is_symbol Comma)) (separated_at Comma bounded_at)
 players_read = separated_read IsBounded Always bounded_at bounded_read Comma (λ ts e. tt)
 
-pub name_list_read : IsReadBy 0 (Listed IsName) (EndsList Always is_name) (listed_at is_name name_at)
-name_list_read = listed_read IsName Always name_at is_name name_read name_next (λ ts e. tt)
+pub name_list_read : IsReadBy 0 (Listed IsName) (EndsList Always is_name_kind) (listed_at is_name_kind name_at)
+name_list_read = listed_read IsName Always name_at is_name_kind name_read name_next (λ ts e. tt)
 
 -- what ends a list whose parts begin with a name: a closing bracket
-pub ends_list : (c : Symbol) → is_symbol Comma (kinds.Symbol c) ≡ false → (ts : List Lexeme) → next_is (is_symbol c) ts ≡ true → EndsList Always is_name ts
-ends_list c other ts e = record { no_part = next_test-symbol c is_name ts e; no_comma = record { ends = next_test-symbol c (is_symbol Comma) ts e ∙ other; follows = tt } }
+pub ends_list : (c : Symbol) → is_symbol Comma (kinds.Symbol c) ≡ false → (ts : List Lexeme) → next_is (is_symbol c) ts ≡ true → EndsList Always is_name_kind ts
+ends_list c other ts e = record { no_part = next_test-symbol c is_name_kind ts e; no_comma = record { ends = next_test-symbol c (is_symbol Comma) ts e ∙ other; follows = tt } }
 
-row_within : IsReadBy 1 IsRow Always (within_at OpenBracket CloseBracket (listed_at is_name name_at))
-row_within = within_read 0 (Listed IsName) (EndsList Always is_name) (listed_at is_name name_at) name_list_read OpenBracket CloseBracket (ends_list CloseBracket refl)
+row_within : IsReadBy 1 IsRow Always (within_at OpenBracket CloseBracket (listed_at is_name_kind name_at))
+row_within = within_read 0 (Listed IsName) (EndsList Always is_name_kind) (listed_at is_name_kind name_at) name_list_read OpenBracket CloseBracket (ends_list CloseBracket refl)
 
 pub row_read : IsReadBy 1 IsRow Always row_at
 unfolding row_at
@@ -57,14 +58,14 @@ edge_read =
     both_read IsName Always name_at name_read 1 (After Colon IsName) Always (after_at Colon name_at) target_read (λ mid t rest d stop. tt)
     IsEdge (λ (d : SpeltName) (t : SpeltName). record { direction = d; target = t }) (λ ts x mid y rest d e. edge d e) edge_parts
 
-edge_next_at : {ts rest : List Lexeme} {x : SpeltEdge} → IsEdge ts x rest → next_is is_name ts ≡ true
+edge_next_at : {ts rest : List Lexeme} {x : SpeltEdge} → IsEdge ts x rest → next_is is_name_kind ts ≡ true
 edge_next_at {ts} (edge {mid = mid} {d = d} p q) = name_next ts d mid p
 
-pub edge_list_read : IsReadBy 0 (Listed IsEdge) (EndsList Always is_name) (listed_at is_name edge_at)
-edge_list_read = listed_read IsEdge Always edge_at is_name edge_read (λ ts x rest d. edge_next_at d) (λ ts e. tt)
+pub edge_list_read : IsReadBy 0 (Listed IsEdge) (EndsList Always is_name_kind) (listed_at is_name_kind edge_at)
+edge_list_read = listed_read IsEdge Always edge_at is_name_kind edge_read (λ ts x rest d. edge_next_at d) (λ ts e. tt)
 
-edges_read : IsReadBy 1 (Within OpenBrace CloseBrace (Listed IsEdge)) Always (within_at OpenBrace CloseBrace (listed_at is_name edge_at))
-edges_read = within_read 0 (Listed IsEdge) (EndsList Always is_name) (listed_at is_name edge_at) edge_list_read OpenBrace CloseBrace (ends_list CloseBrace refl)
+edges_read : IsReadBy 1 (Within OpenBrace CloseBrace (Listed IsEdge)) Always (within_at OpenBrace CloseBrace (listed_at is_name_kind edge_at))
+edges_read = within_read 0 (Listed IsEdge) (EndsList Always is_name_kind) (listed_at is_name_kind edge_at) edge_list_read OpenBrace CloseBrace (ends_list CloseBrace refl)
 
 pub piece_read : IsReadBy 1 (Within OpenBracket CloseBracket IsName) Always (within_at OpenBracket CloseBracket name_at)
 piece_read = within_read 1 IsName Always name_at name_read OpenBracket CloseBracket (λ ts e. tt)
@@ -90,10 +91,10 @@ vertex_shorter {ts} {rest} (vertex {after_name = t1} {after_piece = t2} {n = n} 
 pub vertex_read : IsReadBy 1 IsVertex Always vertex_at
 vertex_read = record { sound = vertex_sound; complete = λ ts x rest d stop. vertex_complete d; shorter = λ ts x rest d. vertex_shorter d }
 
-vertex_next_at : {ts rest : List Lexeme} {x : SpeltVertex} → IsVertex ts x rest → next_is is_name ts ≡ true
+vertex_next_at : {ts rest : List Lexeme} {x : SpeltVertex} → IsVertex ts x rest → next_is is_name_kind ts ≡ true
 vertex_next_at {ts} (vertex {after_name = t1} {n = n} d e f) = name_next ts n t1 d
 
-vertex_begins : Begins IsVertex Always is_name
+vertex_begins : Begins IsVertex Always is_name_kind
 vertex_begins = record { starts = λ ts x rest d. vertex_next_at d; goes_on = λ ts e. tt }
 
 row_next_at : {ts rest : List Lexeme} {x : List SpeltName} → IsRow ts x rest → next_is (is_symbol OpenBracket) ts ≡ true
@@ -125,7 +126,7 @@ abbrev NoRow : List Lexeme → Type 0
 NoRow rest = next_is (is_symbol OpenBracket) rest ≡ false
 
 abbrev NoName : List Lexeme → Type 0
-NoName rest = next_is is_name rest ≡ false
+NoName rest = next_is is_name_kind rest ≡ false
 
 rectangle_sound : (ts : List Lexeme) (x : SpeltBoard) (rest : List Lexeme) → rectangle_at ts ≡ Ok (x, rest) → IsRectangle ts x rest
 unfolding rectangle_at
@@ -199,14 +200,14 @@ unfolding graph_at
 graph_sound ts x rest e =
     let (vs, all, given) = bind_ok _ _ _ e in
     subst (λ (q : SpeltBoard × List Lexeme). IsGraph ts q.0 q.1) (ok_one _ (x, rest) given)
-    (vertices (repeated_sound IsVertex Always vertex_at is_name vertex_read vertex_begins ts vs.0 vs.1 all))
+    (vertices (repeated_sound IsVertex Always vertex_at is_name_kind vertex_read vertex_begins ts vs.0 vs.1 all))
 
 graph_complete : {ts rest : List Lexeme} {x : SpeltBoard} → IsGraph ts x rest → NoName rest → graph_at ts ≡ Ok (x, rest)
 unfolding graph_at
-graph_complete (vertices d) stop = rw (repeated_complete IsVertex Always vertex_at is_name vertex_read vertex_begins d (record { ends = stop; follows = tt }))
+graph_complete (vertices d) stop = rw (repeated_complete IsVertex Always vertex_at is_name_kind vertex_read vertex_begins d (record { ends = stop; follows = tt }))
 
 graph_shorter : {ts rest : List Lexeme} {x : SpeltBoard} → IsGraph ts x rest → 0 + length rest ≤ length ts
-graph_shorter (vertices d) = omega (arith, repeated_shorter IsVertex Always vertex_at is_name vertex_read vertex_begins d)
+graph_shorter (vertices d) = omega (arith, repeated_shorter IsVertex Always vertex_at is_name_kind vertex_read vertex_begins d)
 
 pub graph_read : IsReadBy 0 IsGraph NoName graph_at
 graph_read = record { sound = graph_sound; complete = λ ts x rest d stop. graph_complete d stop; shorter = λ ts x rest d. graph_shorter d }
@@ -239,7 +240,7 @@ pub hexagons_read : IsReadBy 1 (IsGenerated (codes "hexagon") IsHexagon) Always 
 hexagons_read = generated_read (codes "hexagon") 1 IsHexagon NoRow hexagon_at hexagon_read (λ ts e. next_test-symbol CloseParenthesis (is_symbol OpenBracket) ts e)
 
 pub graphs_read : IsReadBy 1 (IsGenerated (codes "graph") IsGraph) Always (generated_at (codes "graph") graph_at)
-graphs_read = generated_read (codes "graph") 0 IsGraph NoName graph_at graph_read (λ ts e. next_test-symbol CloseParenthesis is_name ts e)
+graphs_read = generated_read (codes "graph") 0 IsGraph NoName graph_at graph_read (λ ts e. next_test-symbol CloseParenthesis is_name_kind ts e)
 
 word_next_at : {text : List ℕ} {ts rest : List Lexeme} {at : ℕ} → IsWord text ts at rest → (other : List ℕ) → next_word other ts ≡ bytes_eq text other
 word_next_at (word k same) other = rw (k, same)

@@ -7,9 +7,9 @@ use Rattle.rbg_tokens.specs.declared.token.TokenKind.{TokenKind}
 use Rattle.rbg_tokens.specs.declared.token.TokenKind.TheVariants as kinds
 use Rattle.rbg_base.specs.Decimals.{number_of_digits}
 use Rattle.rbg_grammar.specs.Phrase.{IsSymbol, IsName, name, IsNumber, number, IsOneOf, one_of, Repeated, done, again as more_of, After, after, Separated, separated, Listed, nothing, listed}
-use Rattle.rbg_tokens.specs.Kinds.{opens, closes}
+use Rattle.rbg_tokens.specs.Kinds.{opens, closes, is_name_kind, is_number_kind, is_symbol}
 use Rattle.rbg_grammar.specs.Tree.{SpeltName, SpeltNumber}
-use Rattle.rbg_grammar.specs.Reading.{Fault, misfit, too_deep, Reading, ◌>>=◌, next_is, is_name, is_number, is_symbol, token_at, symbol_at, name_at, number_at, or_misfit, one_of_at, repeated_within, repeated_at, after_at, separated_at, listed_at}
+use Rattle.rbg_grammar.specs.Reading.{Fault, misfit, too_deep, Reading, ◌>>=◌, next_is, token_at, symbol_at, name_at, number_at, or_misfit, one_of_at, repeated_within, repeated_at, after_at, separated_at, listed_at}
 use Rattle.rbg_grammar.proofs.Nesting.{passed, plain_fits}
 use Rattle.rbg_grammar.proofs.Pieces.{Piece, Sample, Outcome, bind, seen_piece, seen_deep, pieces, second_deep, first_deep, symbol_piece, within_piece, within_deep}
 use Rattle.rbg_grammar.proofs.Readers.{symbol_read, name_read, number_read}
@@ -78,11 +78,11 @@ symbol_never s ts at e = never_bound (token_at (is_symbol s) ts) (λ (t : Lexeme
 
 pub name_never : (ts : List Lexeme) (at : ℕ) → name_at ts ≡ Err (too_deep at) → ⊥
 unfolding name_at
-name_never ts at e = never_bound (token_at is_name ts) (λ (t : Lexeme × List Lexeme). (record { text = t.0.text; at = t.0.at }, t.1)) at (token_never is_name ts at) e
+name_never ts at e = never_bound (token_at is_name_kind ts) (λ (t : Lexeme × List Lexeme). (record { text = t.0.text; at = t.0.at }, t.1)) at (token_never is_name_kind ts at) e
 
 pub number_never : (ts : List Lexeme) (at : ℕ) → number_at ts ≡ Err (too_deep at) → ⊥
 unfolding number_at
-number_never ts at e = never_bound (token_at is_number ts) (λ (t : Lexeme × List Lexeme). (record { value = number_of_digits t.0.text; at = t.0.at }, t.1)) at (token_never is_number ts at) e
+number_never ts at e = never_bound (token_at is_number_kind ts) (λ (t : Lexeme × List Lexeme). (record { value = number_of_digits t.0.text; at = t.0.at }, t.1)) at (token_never is_number_kind ts at) e
 
 token_piece : {A : Type 0} (P : List Lexeme → A → List Lexeme → Type 0) (n : ℕ) (t : Lexeme) (rest : List Lexeme) (x : A) → opens t.kind ≡ false → closes t.kind ≡ false → ((tail : List Lexeme) → P (t ∷ tail) x tail) → Piece P n (t ∷ rest) x rest
 token_piece P n t rest x no_opening no_closing again = record {
@@ -182,9 +182,9 @@ pub separated_outcome : {A : Type 0} (P : List Lexeme → A → List Lexeme → 
 separated_outcome = separated_outcome'
 
 -- names with commas between them
-pub names_outcome : (n : ℕ) (ts : List Lexeme) → Outcome (Listed IsName) n ts (listed_at is_name name_at ts) (listed_at is_name name_at ts)
+pub names_outcome : (n : ℕ) (ts : List Lexeme) → Outcome (Listed IsName) n ts (listed_at is_name_kind name_at ts) (listed_at is_name_kind name_at ts)
 unfolding listed_at
-names_outcome n ts = go (next_is is_name ts)
+names_outcome n ts = go (next_is is_name_kind ts)
   where
     no_names : Piece (Listed IsName) n ts [] ts
     no_names = record { used = []; whole = refl; again = λ tail. nothing; balanced = λ k. refl; fits = λ k. tt }

@@ -3,14 +3,14 @@ use Rattle.std.proofs.Common.{◌≡◌, ℕ, zero, suc, List, [], ◌∷◌, Bo
 use Rattle.rbg_tokens.specs.Token.{Lexeme}
 use Rattle.rbg_tokens.specs.declared.token.Symbol.TheVariants.{Minus, OpenParenthesis, CloseParenthesis}
 use Rattle.rbg_tokens.specs.declared.token.TokenKind.TheVariants as kinds
-use Rattle.rbg_grammar.specs.declared.expression.Operator.{Operator}
+use Rattle.rbg_base.specs.declared.operator.Operator.{Operator}
 use Rattle.rbg_grammar.specs.declared.expression.Rank.{Rank}
 use Rattle.rbg_grammar.specs.declared.expression.Rank.TheVariants as ranks
 use Rattle.rbg_grammar.specs.Tree.{SpeltExpression, SpeltOperand, first_of, in_chain}
 use Rattle.rbg_grammar.specs.Phrase.{IsName, name, IsNumber, symbol, Repeated, done, After, Within, within}
 use Rattle.rbg_grammar.specs.Grammar.{operator_of, IsOperator, IsFurtherOperand, further_operand, IsChain, chained, IsFactor, plain, minus, IsTerm, IsSumOver, IsNumberOrName, number as a_number, name as a_name, IsPrimary, IsSum}
-use Rattle.rbg_tokens.specs.Kinds.{opens}
-use Rattle.rbg_grammar.specs.Reading.{too_deep, Reading, ◌>>=◌, next_is, is_number, is_symbol, name_at, number_at, one_of_at, repeated_at, after_at, within_at}
+use Rattle.rbg_tokens.specs.Kinds.{opens, is_number_kind, is_symbol}
+use Rattle.rbg_grammar.specs.Reading.{too_deep, Reading, ◌>>=◌, next_is, name_at, number_at, one_of_at, repeated_at, after_at, within_at}
 use Rattle.rbg_grammar.specs.RuleReading.{is_operator, number_or_name_at, factor_at, further_operand_at, chain_at, operand_at, sum_over_at, primary_at, sum_at}
 use Rattle.rbg_grammar.proofs.Pieces.{Piece, Deep, Outcome}
 use Rattle.rbg_grammar.proofs.Readers.{kind_of-is_symbol, one_of_read}
@@ -56,7 +56,7 @@ module _ (Primary : List Lexeme → SpeltExpression → List Lexeme → Type 0) 
 
 number_or_name_outcome : (n : ℕ) (ts : List Lexeme) → Outcome IsNumberOrName n ts (number_or_name_at ts) (number_or_name_at ts)
 unfolding number_or_name_at
-number_or_name_outcome n ts = go (next_is is_number ts)
+number_or_name_outcome n ts = go (next_is is_number_kind ts)
   where
     go : (b : Bool) → Outcome IsNumberOrName n ts
         (cond {A = Reading SpeltExpression} b (number_at ts >>= λ n. Ok (SpeltExpression.number n.0, n.1)) (name_at ts >>= λ n. Ok (SpeltExpression.name n.0, n.1)))

@@ -5,13 +5,14 @@ use Rattle.rbg_tokens.specs.declared.token.Symbol.{Symbol}
 use Rattle.rbg_tokens.specs.declared.token.Symbol.TheVariants.{Plus, Minus, OpenParenthesis, CloseParenthesis}
 use Rattle.rbg_tokens.specs.declared.token.TokenKind.{TokenKind}
 use Rattle.rbg_tokens.specs.declared.token.TokenKind.TheVariants as kinds
-use Rattle.rbg_grammar.specs.declared.expression.Operator.{Operator}
+use Rattle.rbg_base.specs.declared.operator.Operator.{Operator}
+use Rattle.rbg_tokens.specs.Kinds.{is_name_kind, is_number_kind, is_symbol}
 use Rattle.rbg_grammar.specs.declared.expression.Rank.{Rank}
 use Rattle.rbg_grammar.specs.declared.expression.Rank.TheVariants as ranks
 use Rattle.rbg_grammar.specs.Tree.{SpeltName, SpeltNumber, SpeltExpression, SpeltOperand, first_of, in_chain}
 use Rattle.rbg_grammar.specs.Phrase.{IsSymbol, symbol, IsName, name, IsNumber, number, Repeated, After, after, Within, within}
 use Rattle.rbg_grammar.specs.Grammar.{operator_of, IsOperator, IsFurtherOperand, further_operand, IsChain, chained, IsFactor, plain, minus, IsTerm, IsSumOver, IsNumberOrName, number as a_number, name as a_name, IsPrimary, IsSum}
-use Rattle.rbg_grammar.specs.Reading.{misfit, Reading, TakesSome, ◌>>=◌, next_is, is_name, is_number, is_symbol, name_at, number_at, one_of_at, repeated_at, place_of, after_at, within_at}
+use Rattle.rbg_grammar.specs.Reading.{misfit, Reading, TakesSome, ◌>>=◌, next_is, name_at, number_at, one_of_at, repeated_at, place_of, after_at, within_at}
 use Rattle.rbg_grammar.specs.RuleReading.{too_deep_at, is_operator, number_or_name_at, factor_at, further_operand_at, chain_at, operand_at, sum_over_at, primary_at, sum_at}
 use Rattle.rbg_grammar.proofs.Readers.{bind_ok, ok_one, IsReadBy, Always, symbol_next, name_read, number_read, one_of_read, one_of_next, next_test-symbol}
 use Rattle.rbg_grammar.proofs.Combinators.{FirstThen, first_then, both_read, repeated_read, Begins, Stops, after_read, within_read, may_follow}
@@ -135,7 +136,7 @@ module _ (Primary : List Lexeme → SpeltExpression → List Lexeme → Type 0) 
 -- numbers and names
 number_or_name_sound : (ts : List Lexeme) (x : SpeltExpression) (rest : List Lexeme) → number_or_name_at ts ≡ Ok (x, rest) → IsNumberOrName ts x rest
 unfolding number_or_name_at
-number_or_name_sound ts x rest e = first (next_is is_number ts) e
+number_or_name_sound ts x rest e = first (next_is is_number_kind ts) e
   where
     first : (b : Bool) → cond {A = Reading SpeltExpression} b (number_at ts >>= λ n. Ok (SpeltExpression.number n.0, n.1)) (name_at ts >>= λ n. Ok (SpeltExpression.name n.0, n.1)) ≡ Ok (x, rest) → IsNumberOrName ts x rest
     first true e =
@@ -147,8 +148,8 @@ number_or_name_sound ts x rest e = first (next_is is_number ts) e
 
 number_or_name_complete : {ts rest : List Lexeme} {x : SpeltExpression} → IsNumberOrName ts x rest → number_or_name_at ts ≡ Ok (x, rest)
 unfolding number_or_name_at
-number_or_name_complete {ts} {rest} (a_number {n = n} d) = rw (number_test d is_number, number_read.complete ts n rest d tt)
-number_or_name_complete {ts} {rest} (a_name {n = n} d) = rw (name_test d is_number, name_read.complete ts n rest d tt)
+number_or_name_complete {ts} {rest} (a_number {n = n} d) = rw (number_test d is_number_kind, number_read.complete ts n rest d tt)
+number_or_name_complete {ts} {rest} (a_name {n = n} d) = rw (name_test d is_number_kind, name_read.complete ts n rest d tt)
 
 number_or_name_shorter : {ts rest : List Lexeme} {x : SpeltExpression} → IsNumberOrName ts x rest → 1 + length rest ≤ length ts
 number_or_name_shorter {ts} {rest} (a_number {n = n} d) = number_read.shorter ts n rest d
@@ -215,7 +216,7 @@ unfolding sum_at
 sum_read n = sums_read n
 
 -- neither a number nor a name
-pub no_number_or_name : (ts : List Lexeme) → next_is is_number ts ≡ false → next_is is_name ts ≡ false → number_or_name_at ts ≡ Err (misfit (place_of ts))
+pub no_number_or_name : (ts : List Lexeme) → next_is is_number_kind ts ≡ false → next_is is_name_kind ts ≡ false → number_or_name_at ts ≡ Err (misfit (place_of ts))
 unfolding number_or_name_at name_at
 no_number_or_name [] no_number no_name = refl
 no_number_or_name (t ∷ ts) no_number no_name = rw (no_number, no_name)

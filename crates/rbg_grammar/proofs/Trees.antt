@@ -5,7 +5,7 @@ use Rattle.rbg_grammar.specs.Reading.{in_sequence}
 use Rattle.rbg_grammar.specs.RuleReading.{in_choice}
 use Rattle.std.specs.declared.alloc.Global.{Global}
 use Rattle.std.specs.declared.boxed.Box.{Box}
-use Rattle.rbg_grammar.specs.Tree.{SpeltExpression, SpeltOperand, SpeltRule, SpeltAction, no_rules, no_operands, rules_after, operands_after, in_chain}
+use Rattle.rbg_grammar.specs.Tree.{SpeltExpression, SpeltRule, SpeltAction, no_rules, no_operands, rules_after, operands_after, in_chain}
 use Rattle.rbg_grammar.specs.Views.{name_of, number_of, expression_of, operand_of, action_of, rule_of}
 use Rattle.rbg_grammar.specs.declared.names.Name.{Name}
 use Rattle.rbg_grammar.specs.declared.names.Number.{Number}
@@ -94,32 +94,27 @@ pub ruleset stars = (rule_of-Star)
 -- expressions without parts that are lists
 pub ruleset leaves = (expression_of-Number, expression_of-Name, expression_of-Negated)
 
-many_in_sequence : (rs : List SpeltRule) → (length rs ≡ 1 → ⊥) → SpeltRule.sequence (rules_after no_rules rs) ≡ in_sequence rs
-many_in_sequence [] several = refl
-many_in_sequence (r ∷ []) several = absurd (several refl)
-many_in_sequence (r ∷ s ∷ rs) several = refl
+-- two functions of a list that are the same where it doesn't have one item
+not_one : {A B : Type 0} (f g : List A → B) → f [] ≡ g [] → ((x y : A) (xs : List A) → f (x ∷ y ∷ xs) ≡ g (x ∷ y ∷ xs)) → (xs : List A) → (length xs ≡ 1 → ⊥) → f xs ≡ g xs
+not_one f g none several [] other = none
+not_one f g none several (x ∷ []) other = absurd (other refl)
+not_one f g none several (x ∷ y ∷ xs) other = several x y xs
+
+views_not_one : {A B : Type 0} (f : A → B) (v : Vec A Global) → (vec_len v ≡ 1 → ⊥) → length (map f v.items) ≡ 1 → ⊥
+views_not_one f v other one = other (omega (arith, one, length-map v.items f, v.ok.0))
 
 pub rule_of-in_sequence : (v : Vec Rule Global) → (vec_len v ≡ 1 → ⊥) → rule_of (rules'.Then v) ≡ in_sequence (map rule_of v.items)
-rule_of-in_sequence v several = rule_of-Then v ∙ many_in_sequence (map rule_of v.items) (λ e. several (omega (arith, e, length-map v.items rule_of, v.ok.0)))
+rule_of-in_sequence v several = rule_of-Then v ∙ not_one (λ rs. SpeltRule.sequence (rules_after no_rules rs)) in_sequence refl (λ r s rs. refl) (map rule_of v.items) (views_not_one rule_of v several)
 
 pub ruleset sequences = (rule_of-in_sequence)
 
-many_in_chain : (os : List SpeltOperand) → (length os ≡ 1 → ⊥) → SpeltExpression.chain (operands_after no_operands os) ≡ in_chain os
-many_in_chain [] several = refl
-many_in_chain (o ∷ []) several = absurd (several refl)
-many_in_chain (o ∷ p ∷ os) several = refl
-
 pub expression_of-in_chain : (v : Vec Operand Global) → (vec_len v ≡ 1 → ⊥) → expression_of (expressions.Chain v) ≡ in_chain (map operand_of v.items)
-expression_of-in_chain v several = expression_of-Chain v ∙ many_in_chain (map operand_of v.items) (λ e. several (omega (arith, e, length-map v.items operand_of, v.ok.0)))
+expression_of-in_chain v several =
+    expression_of-Chain v ∙ not_one (λ os. SpeltExpression.chain (operands_after no_operands os)) in_chain refl (λ o p os. refl) (map operand_of v.items) (views_not_one operand_of v several)
 
 pub ruleset chains = (expression_of-in_chain)
 
-many_in_choice : (rs : List SpeltRule) → (length rs ≡ 1 → ⊥) → SpeltRule.choice (rules_after no_rules rs) ≡ in_choice rs
-many_in_choice [] several = refl
-many_in_choice (r ∷ []) several = absurd (several refl)
-many_in_choice (r ∷ s ∷ rs) several = refl
-
 pub rule_of-in_choice : (v : Vec Rule Global) → (vec_len v ≡ 1 → ⊥) → rule_of (rules'.Or v) ≡ in_choice (map rule_of v.items)
-rule_of-in_choice v several = rule_of-Or v ∙ many_in_choice (map rule_of v.items) (λ e. several (omega (arith, e, length-map v.items rule_of, v.ok.0)))
+rule_of-in_choice v several = rule_of-Or v ∙ not_one (λ rs. SpeltRule.choice (rules_after no_rules rs)) in_choice refl (λ r s rs. refl) (map rule_of v.items) (views_not_one rule_of v several)
 
 pub ruleset choices = (rule_of-in_choice)

@@ -4,8 +4,9 @@ use Rattle.std.proofs.lemmas.List.{map-append}
 use Rattle.rbg_tokens.specs.Token.{Lexeme}
 use Rattle.rbg_tokens.specs.declared.token.Symbol.{Symbol}
 use Rattle.rbg_tokens.specs.declared.token.TokenKind.{TokenKind}
+use Rattle.rbg_tokens.specs.Kinds.{is_symbol}
 use Rattle.rbg_grammar.proofs.Readers.{bind_ok, symbol_read}
-use Rattle.rbg_grammar.specs.Reading.{Fault, Takes, TakesSome, further_at, Reading, ◌>>=◌, next_is, is_symbol, symbol_at, repeated_within, repeated_at, after_at, separated_at}
+use Rattle.rbg_grammar.specs.Reading.{Fault, Takes, TakesSome, further_at, Reading, ◌>>=◌, next_is, symbol_at, repeated_within, repeated_at, after_at, separated_at}
 
 pub after_at-taken : {A : Type 0} (s : Symbol) (read : List Lexeme → Reading A) (ts : List Lexeme) → next_is (is_symbol s) ts ≡ true → after_at s read ts ≡ read (drop 1 ts)
 unfolding after_at symbol_at

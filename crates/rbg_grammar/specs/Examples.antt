@@ -5,7 +5,7 @@ use Rattle.rbg_tokens.specs.Token.{Lexeme}
 use Rattle.rbg_tokens.specs.declared.token.Symbol.{Symbol}
 use Rattle.rbg_tokens.specs.declared.token.Symbol.TheVariants as symbols
 use Rattle.rbg_tokens.specs.declared.token.TokenKind.TheVariants as kinds
-use Rattle.rbg_grammar.specs.declared.expression.Operator.TheVariants as operators
+use Rattle.rbg_base.specs.declared.operator.Operator.TheVariants as operators
 use Rattle.rbg_grammar.specs.Grammar.{IsSum, AreRules}
 use Rattle.rbg_grammar.specs.Spells.{max_brackets, IsTooDeep}
 use Rattle.rbg_grammar.specs.Tree.{SpeltName, SpeltExpression, chain, negated, no_operands, more_operands, SpeltRule, act, shift, assign, star, sequence, no_rules, more_rules}

@@ -1,7 +1,7 @@
 -- What holds of each description that the grammar can spell, whatever its names are.
 use Rattle.std.specs.Prelude.{◌≡◌, ◌<◌, ◌&&◌, ◌||◌, Bool, true, false, length, nat_eq}
-use Rattle.rbg_grammar.specs.declared.expression.Operator.{Operator}
-use Rattle.rbg_grammar.specs.declared.expression.Operator.TheVariants.{Plus, Minus, Times, Over}
+use Rattle.rbg_base.specs.declared.operator.Operator.{Operator}
+use Rattle.rbg_base.specs.declared.operator.Operator.TheVariants.{Plus, Minus, Times, Over}
 use Rattle.rbg_grammar.specs.declared.expression.Rank.{Rank}
 use Rattle.rbg_grammar.specs.declared.expression.Rank.TheVariants.{Sum, Product}
 use Rattle.rbg_grammar.specs.Tree.{SpeltExpression, SpeltOperands, no_operands, more_operands, SpeltRule, SpeltRules, no_rules, more_rules, SpeltAction, SpeltBoard, rectangle, hexagon, graph, SpeltDescription}

@@ -1,17 +1,15 @@
 -- What is read from the front of a list of tokens, phrase by phrase: a value and the tokens after it, or why there is
 -- none.
-use Rattle.std.specs.Prelude.{◌≡◌, ◌<◌, ◌&&◌, ℕ, zero, suc, List, [], ◌∷◌, Bool, true, false, codes, drop, length, Option, Some, None, is_some, Result, Ok, Err, if◌then◌else◌}
+use Rattle.std.specs.Prelude.{◌≡◌, ◌<◌, ◌&&◌, ℕ, zero, suc, List, [], ◌∷◌, Bool, false, codes, drop, length, Option, Some, None, is_some, Result, Ok, Err, if◌then◌else◌}
 use Rattle.std.specs.Str.{bytes_eq}
-use denote.Enum.Bare.{sameb}
 use Rattle.rbg_tokens.specs.Token.{Lexeme}
 use Rattle.rbg_macro.specs.Sections.{SectionTokens}
-use Rattle.rbg_tokens.specs.contracts.token.Symbol.{the_type}
 use Rattle.rbg_tokens.specs.declared.token.Symbol.{Symbol}
 use Rattle.rbg_tokens.specs.declared.token.Symbol.TheVariants.{DoubleArrow, Arrow, OpenParenthesis, CloseParenthesis, OpenBracket, CloseBracket, OpenBrace, CloseBrace, Comma, Colon}
 use Rattle.rbg_tokens.specs.declared.token.TokenKind.{TokenKind}
-use Rattle.rbg_tokens.specs.declared.token.TokenKind.TheVariants as kinds
 use Rattle.rbg_grammar.specs.Tree.{SpeltName, SpeltNumber, SpeltBounded, SpeltEdge, SpeltVertex, SpeltBoard, rectangle, hexagon, graph, SpeltRule, act, shift, on, off, switch, sequence, no_rules, sequence_of}
 use Rattle.rbg_base.specs.Decimals.{number_of_digits}
+use Rattle.rbg_tokens.specs.Kinds.{is_name_kind, is_number_kind, is_symbol}
 
 -- Why a piece isn't read: the token at this place doesn't fit, or the tokens end; or the bracket at this place is
 -- opened where none may be.
@@ -36,21 +34,6 @@ abbrev pub ◌>>=◌ : {A B : Type 0} → Result A Fault → (A → Result B Fau
 abbrev pub next_is : (TokenKind → Bool) → List Lexeme → Bool
 next_is test [] = false
 next_is test (t ∷ ts) = test t.kind
-
-abbrev pub is_name : TokenKind → Bool
-is_name kinds.Name = true
-is_name kinds.Number = false
-is_name (kinds.Symbol s) = false
-
-abbrev pub is_number : TokenKind → Bool
-is_number kinds.Name = false
-is_number kinds.Number = true
-is_number (kinds.Symbol s) = false
-
-abbrev pub is_symbol : Symbol → TokenKind → Bool
-is_symbol s kinds.Name = false
-is_symbol s kinds.Number = false
-is_symbol s (kinds.Symbol x) = sameb the_type x s
 
 -- the place of the next token, if there is one
 abbrev pub place_of : List Lexeme → Option ℕ
@@ -80,17 +63,17 @@ pub record Takes (s : Symbol) (taken : Bool) (old new : List Lexeme) : Type 0 wh
 
 unfoldable pub name_at : List Lexeme → Reading SpeltName
 name_at ts = do
-  t ← token_at is_name ts
+  t ← token_at is_name_kind ts
   Ok (record { text = t.0.text; at = t.0.at }, t.1)
 
 unfoldable pub number_at : List Lexeme → Reading SpeltNumber
 number_at ts = do
-  t ← token_at is_number ts
+  t ← token_at is_number_kind ts
   Ok (record { value = number_of_digits t.0.text; at = t.0.at }, t.1)
 
 unfoldable pub word_at : List ℕ → List Lexeme → Reading ℕ
 word_at text ts = do
-  t ← token_at is_name ts
+  t ← token_at is_name_kind ts
   if bytes_eq t.0.text text then Ok (t.0.at, t.1) else Err (misfit (Some t.0.at))
 
 -- the table gives tokens of this kind a value
@@ -168,7 +151,7 @@ bounded_at ts = do
   Ok (record { name = n.0; bound = b.0 }, b.1)
 
 unfoldable pub row_at : List Lexeme → Reading (List SpeltName)
-row_at ts = within_at OpenBracket CloseBracket (listed_at is_name name_at) ts
+row_at ts = within_at OpenBracket CloseBracket (listed_at is_name_kind name_at) ts
 
 unfoldable pub edge_at : List Lexeme → Reading SpeltEdge
 edge_at ts = do
@@ -180,7 +163,7 @@ unfoldable pub vertex_at : List Lexeme → Reading SpeltVertex
 vertex_at ts = do
   n ← name_at ts
   p ← within_at OpenBracket CloseBracket name_at n.1
-  es ← within_at OpenBrace CloseBrace (listed_at is_name edge_at) p.1
+  es ← within_at OpenBrace CloseBrace (listed_at is_name_kind edge_at) p.1
   Ok (record { name = n.0; piece = p.0; edges = es.0 }, es.1)
 
 unfoldable pub rows_at : List Lexeme → Reading (List (List SpeltName))
@@ -211,7 +194,7 @@ hexagon_at ts = do
 
 unfoldable pub graph_at : List Lexeme → Reading SpeltBoard
 graph_at ts = do
-  vs ← repeated_at is_name vertex_at ts
+  vs ← repeated_at is_name_kind vertex_at ts
   Ok (graph vs.0, vs.1)
 
 -- the contents of a board in its parentheses, after the name of its generator
@@ -223,7 +206,7 @@ generated_at text read ts = do
 -- the next token is this word
 abbrev pub next_word : List ℕ → List Lexeme → Bool
 next_word text [] = false
-next_word text (t ∷ ts) = is_name t.kind && bytes_eq t.text text
+next_word text (t ∷ ts) = is_name_kind t.kind && bytes_eq t.text text
 
 unfoldable pub board_at : List Lexeme → Reading SpeltBoard
 board_at ts =
@@ -245,7 +228,7 @@ whole_at read ts = do
 -- the variables, by the sections that are theirs: none where there is no section
 unfoldable pub variables_at : List SectionTokens → Result (List SpeltBounded) Fault
 variables_at [] = Ok []
-variables_at (s ∷ ss) = whole_at (listed_at is_name bounded_at) s.tokens
+variables_at (s ∷ ss) = whole_at (listed_at is_name_kind bounded_at) s.tokens
 
 -- the parts of a sequence as one rule
 abbrev pub in_sequence : List SpeltRule → SpeltRule
@@ -255,7 +238,7 @@ in_sequence (r ∷ rs) = sequence_of r rs
 -- the atoms without a bracket
 unfoldable pub open_atom_at : List Lexeme → Reading SpeltRule
 open_atom_at ts =
-    if next_is is_name ts then (do
+    if next_is is_name_kind ts then (do
       n ← name_at ts
       Ok (act (shift n.0), n.1))
     else (if next_is (is_symbol Arrow) ts then (do
@@ -268,7 +251,7 @@ open_atom_at ts =
 
 unfoldable pub on_at : List Lexeme → Reading SpeltRule
 on_at ts = do
-  ns ← within_at OpenBrace CloseBrace (listed_at is_name name_at) ts
+  ns ← within_at OpenBrace CloseBrace (listed_at is_name_kind name_at) ts
   Ok (act (on ns.0), ns.1)
 
 unfoldable pub off_at : List Lexeme → Reading SpeltRule

@@ -3,14 +3,14 @@ use Rattle.std.specs.Prelude.{ℕ, None, zero, suc, List, [], ◌∷◌, Bool, t
 use Rattle.rbg_tokens.specs.Token.{Lexeme}
 use Rattle.rbg_tokens.specs.declared.token.Symbol.{Symbol}
 use Rattle.rbg_tokens.specs.declared.token.Symbol.TheVariants.{DoubleArrow, Arrow, Equals, Plus, Minus, Star, OpenParenthesis, CloseParenthesis, OpenBracket, CloseBracket, OpenBrace, CloseBrace, Comma, Dollar, Question, Exclamation}
-use Rattle.rbg_tokens.specs.Kinds.{opens}
+use Rattle.rbg_tokens.specs.Kinds.{opens, is_number_kind, is_symbol}
 use Rattle.rbg_tokens.specs.declared.token.TokenKind.{TokenKind}
 use Rattle.rbg_tokens.specs.declared.token.TokenKind.TheVariants as kinds
 use Rattle.rbg_grammar.specs.declared.expression.Rank.{Rank}
 use Rattle.rbg_grammar.specs.declared.expression.Rank.TheVariants as ranks
 use Rattle.rbg_grammar.specs.Grammar.{operator_of, relation_of}
 use Rattle.rbg_grammar.specs.Tree.{SpeltExpression, SpeltOperand, SpeltRule, first_of, in_chain, act, assign, compare, positive, negative, star, choice, no_rules, sequence_of, choice_of}
-use Rattle.rbg_grammar.specs.Reading.{misfit, too_deep, Reading, ◌>>=◌, next_is, is_number, is_symbol, symbol_at, name_at, number_at, is_in, one_of_at, repeated_at, after_at, separated_at, within_at, open_atom_at, on_at, off_at, in_sequence}
+use Rattle.rbg_grammar.specs.Reading.{misfit, too_deep, Reading, ◌>>=◌, next_is, symbol_at, name_at, number_at, is_in, one_of_at, repeated_at, after_at, separated_at, within_at, open_atom_at, on_at, off_at, in_sequence}
 
 -- the bracket at the front is one too many
 abbrev pub too_deep_at : {A : Type 0} → List Lexeme → Reading A
@@ -23,7 +23,7 @@ is_operator rank k = is_in (operator_of rank) k
 
 unfoldable pub number_or_name_at : List Lexeme → Reading SpeltExpression
 number_or_name_at ts =
-    if next_is is_number ts then (do
+    if next_is is_number_kind ts then (do
       n ← number_at ts
       Ok (SpeltExpression.number n.0, n.1))
     else (do
@@ -102,17 +102,13 @@ pattern_at sign rules ts = do
 
 unfoldable pub positive_at : (List Lexeme → Reading SpeltRule) → List Lexeme → Reading SpeltRule
 positive_at rules ts = do
-  at ← symbol_at OpenBrace ts
-  r ← after_at Question rules at.1
-  end ← symbol_at CloseBrace r.1
-  Ok (act (positive at.0 r.0), end.1)
+  p ← pattern_at Question rules ts
+  Ok (act (positive p.0.0 p.0.1), p.1)
 
 unfoldable pub negative_at : (List Lexeme → Reading SpeltRule) → List Lexeme → Reading SpeltRule
 negative_at rules ts = do
-  at ← symbol_at OpenBrace ts
-  r ← after_at Exclamation rules at.1
-  end ← symbol_at CloseBrace r.1
-  Ok (act (negative at.0 r.0), end.1)
+  p ← pattern_at Exclamation rules ts
+  Ok (act (negative p.0.0 p.0.1), p.1)
 
 unfoldable pub in_braces_at :
     (List Lexeme → Reading SpeltRule) → (List Lexeme → Reading SpeltExpression) → List Lexeme → Reading SpeltRule

@@ -1,16 +1,12 @@
 -- The sections of one kind among the sections of a source.
-use Rattle.std.specs.Prelude.{◌≡◌, ◌≤◌, ◌<◌, ℕ, List, ◌∷◌, ◌++◌, Bool, true, false, filter, length}
+use Rattle.std.specs.Prelude.{◌≡◌, ◌≤◌, ◌<◌, ℕ, List, ◌∷◌, ◌++◌, Bool, filter, length}
+use denote.Enum.Bare.{sameb}
 use Rattle.rbg_macro.specs.Sections.{SectionTokens}
+use Rattle.rbg_macro.specs.contracts.source.SectionKind.{the_type}
 use Rattle.rbg_macro.specs.declared.source.SectionKind.{SectionKind}
-use Rattle.rbg_macro.specs.declared.source.SectionKind.TheVariants.{Players, Pieces, Variables, Board, Rules}
 
 abbrev pub same_kind : SectionKind → SectionKind → Bool
-same_kind Players Players = true
-same_kind Pieces Pieces = true
-same_kind Variables Variables = true
-same_kind Board Board = true
-same_kind Rules Rules = true
-same_kind _ _ = false
+same_kind kind other = sameb the_type kind other
 
 -- the sections of one kind, in order of the text
 abbrev pub sections_of : SectionKind → List SectionTokens → List SectionTokens

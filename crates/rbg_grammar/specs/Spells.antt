@@ -53,15 +53,19 @@ IsSpelt Rules ts = (brackets : ℕ) × ((r : SpeltRule) × AreRules brackets ts 
 abbrev pub CanGoOn : SectionKind → List Lexeme → Type 0
 CanGoOn kind ts = (more : List Lexeme) × IsSpelt kind (ts ++ more)
 
--- The token at this place is the first that doesn't fit: the tokens before it can go on, and with it they can't.
-pub record IsMisfit (kind : SectionKind) (ts : List Lexeme) (at : ℕ) : Type 0 where
+-- a token at this place, with the tokens before it and behind it
+pub record TokenAt (ts : List Lexeme) (at : ℕ) : Type 0 where
   pub before : List Lexeme
   pub token : Lexeme
   pub behind : List Lexeme
   pub whole : ts ≡ before ++ token ∷ behind
   pub place : token.at ≡ at
-  pub fits : CanGoOn kind before
-  pub refused : CanGoOn kind (before ++ token ∷ []) → ⊥
+
+-- The token at this place is the first that doesn't fit: the tokens before it can go on, and with it they can't.
+pub record IsMisfit (kind : SectionKind) (ts : List Lexeme) (at : ℕ) : Type 0 where
+  pub here : TokenAt ts at
+  pub fits : CanGoOn kind here.before
+  pub refused : CanGoOn kind (here.before ++ here.token ∷ []) → ⊥
 
 -- All tokens of the section fit, but more are needed behind them. The place is that of the section's `#`.
 pub record EndsEarly (kind : SectionKind) (section : SectionTokens) (at : ℕ) : Type 0 where
@@ -93,16 +97,12 @@ open_after n (t ∷ ts) = open_after (open_with n t.kind) ts
 -- with some other tokens after it they are spelt, if more brackets may be open. No other section nests brackets so
 -- deep.
 pub record IsTooDeep (ts : List Lexeme) (at : ℕ) : Type 0 where
-  pub before : List Lexeme
-  pub bracket : Lexeme
-  pub behind : List Lexeme
-  pub whole : ts ≡ before ++ bracket ∷ behind
-  pub place : bracket.at ≡ at
-  pub is_bracket : opens bracket.kind ≡ true
-  pub depth : open_after 0 before ≡ max_brackets
-  pub first : (front rest : List Lexeme) → before ≡ front ++ rest → open_after 0 front ≤ max_brackets
+  pub here : TokenAt ts at
+  pub is_bracket : opens here.token.kind ≡ true
+  pub depth : open_after 0 here.before ≡ max_brackets
+  pub first : (front rest : List Lexeme) → here.before ≡ front ++ rest → open_after 0 front ≤ max_brackets
   pub other : List Lexeme
-  pub fits : IsSpelt Rules (before ++ bracket ∷ other)
+  pub fits : IsSpelt Rules (here.before ++ here.token ∷ other)
 
 -- the bracket at this place of the rules is opened too deep
 pub record OpensTooDeep (sections : List SectionTokens) (at : ℕ) : Type 0 where

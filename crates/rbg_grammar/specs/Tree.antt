@@ -1,7 +1,7 @@
 -- A description as its text spells it: a tree whose names and numbers have their places in the text.
 use Rattle.std.specs.Prelude.{ℕ, List, [], ◌∷◌, Option}
-use Rattle.rbg_grammar.specs.declared.expression.Operator.{Operator}
-use Rattle.rbg_grammar.specs.declared.expression.Operator.TheVariants.{Plus, Times}
+use Rattle.rbg_base.specs.declared.operator.Operator.{Operator}
+use Rattle.rbg_base.specs.declared.operator.Operator.TheVariants.{Plus, Times}
 use Rattle.rbg_grammar.specs.declared.expression.Rank.{Rank}
 use Rattle.rbg_grammar.specs.declared.expression.Rank.TheVariants.{Sum, Product}
 use Rattle.rbg_base.specs.declared.relation.Relation.{Relation}

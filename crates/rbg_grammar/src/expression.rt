@@ -1,6 +1,7 @@
 //! Arithmetic as it is spelt. Sums and products are lists, so a tree is no deeper than its brackets.
 
 use crate::names::{Name, Number};
+use rbg_base::Operator;
 
 /// An arithmetic expression.
 #[cycle(expression)]
@@ -33,15 +34,6 @@ impl Drop for Expression<'_> {
 pub struct Operand<'a> {
     pub operator: Operator,
     pub value: Expression<'a>,
-}
-
-/// What is done with an operand.
-#[derive(Clone, Copy)]
-pub enum Operator {
-    Plus,
-    Minus,
-    Times,
-    Over,
 }
 
 /// How tightly operators bind.

@@ -12,6 +12,7 @@ pub use description::{
     Board, Bounded, Description, DescriptionParts, Edge, HexagonDirections, RectangleDirections,
     Vertex,
 };
-pub use expression::{Expression, Operand, Operator, Rank};
+pub use expression::{Expression, Operand, Rank};
 pub use names::{Name, Number};
+pub use rbg_base::Operator;
 pub use rule::{Action, Rule};

@@ -8,7 +8,8 @@ use Rattle.rbg_macro.specs.declared.read_token.ReadToken.{ReadToken}
 use Rattle.rbg_macro.specs.Call.{Arguments, arguments, arguments_by, nesting, Within, Cuts, Ends, Mismatched, closing, cutting, with_token, with_argument}
 use Rattle.rbg_macro.specs.internal.Calls.{AreArguments}
 use Rattle.rbg_tokens.specs.declared.token.TokenKind.{TokenKind}
-use Rattle.rbg_tokens.specs.Kinds.{opens, closes, is_semicolon, is_close_parenthesis}
+use Rattle.rbg_tokens.specs.Kinds.{opens, closes, is_symbol}
+use Rattle.rbg_tokens.specs.declared.token.Symbol.TheVariants as symbols
 use Rattle.rbg_macro.specs.internal.Template.{lists_in}
 use Rattle.rbg_macro.specs.internal.ReadTokens.{read_lexeme}
 use Rattle.rbg_tokens.specs.Token.{Lexeme}
@@ -87,11 +88,11 @@ arguments_at tokens at further d below =
 
 -- a token leaves at most one more bracket open
 nested_within : (kind : TokenKind) (further n : ℕ) → nesting kind further ≡ Within n → n ≤ further + 1
-nested_within kind further n is = by_tests (opens kind) (closes kind) (is_semicolon kind) (is_close_parenthesis kind) further is
+nested_within kind further n is = by_tests (opens kind) (closes kind) (is_symbol symbols.Semicolon kind) (is_symbol symbols.CloseParenthesis kind) further is
   where
     by_tests : (o c s p : Bool) (f : ℕ) → cond o (Within (f + 1)) (cond c (closing kind f) (cond s (cutting f) (Within f))) ≡ Within n → n ≤ f + 1
     by_tests true c s p f is = let same : f + 1 ≡ n = cc in omega arith
-    by_tests false true s p zero is = by_parenthesis (is_close_parenthesis kind) is
+    by_tests false true s p zero is = by_parenthesis (is_symbol symbols.CloseParenthesis kind) is
       where
         by_parenthesis : (b : Bool) → cond b Ends Mismatched ≡ Within n → n ≤ 0 + 1
         by_parenthesis true e = cc
@@ -104,7 +105,7 @@ nested_within kind further n is = by_tests (opens kind) (closes kind) (is_semico
 -- a token cuts only where no further bracket is open
 nested_cut : (kind : TokenKind) (further : ℕ) → nesting kind further ≡ Cuts → further ≡ 0
 nested_cut kind zero is = refl
-nested_cut kind (suc further) is = absurd (by_tests (opens kind) (closes kind) (is_semicolon kind) is)
+nested_cut kind (suc further) is = absurd (by_tests (opens kind) (closes kind) (is_symbol symbols.Semicolon kind) is)
   where
     by_tests : (o c s : Bool) → cond o (Within (suc further + 1)) (cond c (Within further) (cond s (Within (suc further)) (Within (suc further)))) ≡ Cuts → ⊥
     by_tests true c s is = cc

@@ -11,7 +11,8 @@ use Rattle.rbg_macro.specs.declared.source.SectionKind.{SectionKind}
 use Rattle.rbg_tokens.specs.declared.token.Token.{Token}
 use Rattle.rbg_macro.specs.internal.Defines.{AddsDefined, with_one_more, BeginsDefinition}
 use Rattle.rbg_macro.specs.Definition.{Definitions, Defined, A_Section, A_Macro, Part, expect, behind_equals, behind_name, section_named, defined, definitions, definitions_of, parts, part_of, is_hash_token, first_at, with_section}
-use Rattle.rbg_tokens.specs.Kinds.{is_name_kind, is_hash}
+use Rattle.rbg_tokens.specs.Kinds.{is_name_kind, is_symbol}
+use Rattle.rbg_tokens.specs.declared.token.Symbol.TheVariants as symbols
 use Rattle.rbg_macro.specs.Macro.{Macro, body_of}
 use Rattle.rbg_macro.specs.internal.Template.{macro_of, item_in}
 use Rattle.rbg_tokens.specs.Token.{Lexeme, lexeme_of}
@@ -32,27 +33,27 @@ defined_macro earlier part name ts body parameters t named is fresh behind many 
     rw (named, ← is, fresh, behind, ← many, ← filled) refl
 
 -- the tokens after a `#`, up to the next one
-pub part_len_is : (ts : List Token) → position_or_len (λ t. is_hash t.kind) ts ≡ position_or_len is_hash_token (map lexeme_of ts)
+pub part_len_is : (ts : List Token) → position_or_len (λ t. is_symbol symbols.Hash t.kind) ts ≡ position_or_len is_hash_token (map lexeme_of ts)
 part_len_is [] = refl
-part_len_is (t ∷ ts) = by_test (not (is_hash t.kind)) (part_len_is ts)
+part_len_is (t ∷ ts) = by_test (not (is_symbol symbols.Hash t.kind)) (part_len_is ts)
   where
-    by_test : (b : Bool) → position_or_len (λ u. is_hash u.kind) ts ≡ position_or_len is_hash_token (map lexeme_of ts) →
-        cond b (1 + position_or_len (λ u. is_hash u.kind) ts) 0 ≡ cond b (1 + position_or_len is_hash_token (map lexeme_of ts)) 0
+    by_test : (b : Bool) → position_or_len (λ u. is_symbol symbols.Hash u.kind) ts ≡ position_or_len is_hash_token (map lexeme_of ts) →
+        cond b (1 + position_or_len (λ u. is_symbol symbols.Hash u.kind) ts) 0 ≡ cond b (1 + position_or_len is_hash_token (map lexeme_of ts)) 0
     by_test true others = ap (λ (n : ℕ). 1 + n) others
     by_test false others = refl
 
 -- no part begins before the next `#`
 parts-skipped : (ts : List Lexeme) → parts ts ≡ parts (drop (position_or_len is_hash_token ts) ts)
 parts-skipped [] = refl
-parts-skipped (t ∷ ts) = by_test (is_hash t.kind) refl (parts-skipped ts)
+parts-skipped (t ∷ ts) = by_test (is_symbol symbols.Hash t.kind) refl (parts-skipped ts)
   where
-    by_test : (b : Bool) → is_hash t.kind ≡ b → parts ts ≡ parts (drop (position_or_len is_hash_token ts) ts) →
+    by_test : (b : Bool) → is_symbol symbols.Hash t.kind ≡ b → parts ts ≡ parts (drop (position_or_len is_hash_token ts) ts) →
         parts (t ∷ ts) ≡ parts (drop (cond (not b) (1 + position_or_len is_hash_token ts) 0) (t ∷ ts))
     by_test true e others = refl
     by_test false e others = rw (e, add_comm 1 (position_or_len is_hash_token ts), add-one) others
 
 -- the parts from a `#` on
-parts_at : (hash : Lexeme) (behind : List Lexeme) → is_hash hash.kind ≡ true →
+parts_at : (hash : Lexeme) (behind : List Lexeme) → is_symbol symbols.Hash hash.kind ≡ true →
     parts (hash ∷ behind) ≡ part_of hash behind ∷ parts (drop (position_or_len is_hash_token behind) behind)
 parts_at hash behind is = rw is (ap (λ (ps : List Part). part_of hash behind ∷ ps) (parts-skipped behind))
 
@@ -69,7 +70,7 @@ behind_one_section ss s (Err e) = refl
 -- how far definitions were read, and what is left
 pub record HasDefined (tokens : List Token) (at : ℕ) (ds : Definitions) : Type 0 where
   pub within : at ≤ length tokens
-  pub starts : (d : Token) → at < length tokens → is_hash (get_or tokens at d).kind ≡ true
+  pub starts : (d : Token) → at < length tokens → is_symbol symbols.Hash (get_or tokens at d).kind ≡ true
   pub goes_on : definitions_of (map lexeme_of tokens) ≡ behind_sections ds.sections (definitions ds.macros (parts (map lexeme_of (drop at tokens))))
 
 -- the first token, if there is one, is a `#`
@@ -91,8 +92,8 @@ one_more_defined old new part ps adds = by_what adds.what adds.defines adds.adde
     by_what (A_Macro m) defines added = rw (defines, added) refl
 
 -- the part as the code finds it
-found_part : (tokens : List Token) (at : ℕ) (d : Token) (behind : List Token) (len : ℕ) → at < length tokens → is_hash (get_or tokens at d).kind ≡ true →
-    behind ≡ drop (at + 1) tokens → len ≡ position_or_len (λ t. is_hash t.kind) behind →
+found_part : (tokens : List Token) (at : ℕ) (d : Token) (behind : List Token) (len : ℕ) → at < length tokens → is_symbol symbols.Hash (get_or tokens at d).kind ≡ true →
+    behind ≡ drop (at + 1) tokens → len ≡ position_or_len (λ t. is_symbol symbols.Hash t.kind) behind →
     parts (map lexeme_of (drop at tokens)) ≡
     record { at = (get_or tokens at d).at; tokens = map lexeme_of (take len behind); end = first_at (map lexeme_of (drop len behind)) (get_or tokens at d).at }
     ∷ parts (map lexeme_of (drop (at + (len + 1)) tokens))
@@ -112,7 +113,7 @@ found_part tokens at d behind len below is rest many =
 -- the definition of one more part
 pub defined_behind : (tokens : List Token) (at : ℕ) (d : Token) (behind part next : List Token) (len end : ℕ) (old new : Definitions) →
     HasDefined tokens at old → at < length tokens → behind ≡ drop (at + 1) tokens → len ≤ length behind →
-    len ≡ position_or_len (λ t. is_hash t.kind) behind →
+    len ≡ position_or_len (λ t. is_symbol symbols.Hash t.kind) behind →
     part ≡ take len behind → next ≡ drop len behind → end ≡ first_at (map lexeme_of next) (get_or tokens at d).at →
     AddsDefined old new (record { at = (get_or tokens at d).at; tokens = map lexeme_of part; end = end }) →
     HasDefined tokens (at + (len + 1)) new
@@ -120,12 +121,12 @@ defined_behind tokens at d behind part next len end old new so_far below rest sh
   within = omega (arith, short, ap length rest, length-drop (at + 1) tokens);
   starts = λ d' more.
       let room : len < length behind = omega (arith, more, ap length rest, length-drop (at + 1) tokens) in
-      let stops : not (is_hash (get_or behind len d').kind) ≡ false =
-      rw many (prefix_len_stops (λ t. not (is_hash t.kind)) behind d' (rw many at room)) in
+      let stops : not (is_symbol symbols.Hash (get_or behind len d').kind) ≡ false =
+      rw many (prefix_len_stops (λ t. not (is_symbol symbols.Hash t.kind)) behind d' (rw many at room)) in
       let further : at + 1 + len ≡ at + (len + 1) = omega arith in
       let same : get_or behind len d' ≡ get_or tokens (at + (len + 1)) d' =
       ap (λ ts. get_or ts len d') rest ∙ get_or-drop (at + 1) tokens len d' ∙ ap (λ (i : ℕ). get_or tokens i d') further in
-      rw (← same) (from_not (is_hash (get_or behind len d').kind) stops);
+      rw (← same) (from_not (is_symbol symbols.Hash (get_or behind len d').kind) stops);
   goes_on =
       let here = found_part tokens at d behind len below (so_far.starts d below) rest many in
       let part_is : map lexeme_of (take len behind) ≡ map lexeme_of part = ap (map lexeme_of) (sym is_part) in
@@ -142,7 +143,7 @@ defined_behind tokens at d behind part next len end old new so_far below rest sh
 -- a part's fault is the first
 pub faults_behind : (tokens : List Token) (at : ℕ) (d : Token) (behind part next : List Token) (len end : ℕ) (old : Definitions) (e : MacroError) →
     HasDefined tokens at old → at < length tokens → behind ≡ drop (at + 1) tokens →
-    len ≡ position_or_len (λ t. is_hash t.kind) behind →
+    len ≡ position_or_len (λ t. is_symbol symbols.Hash t.kind) behind →
     part ≡ take len behind → next ≡ drop len behind → end ≡ first_at (map lexeme_of next) (get_or tokens at d).at →
     defined old.macros (record { at = (get_or tokens at d).at; tokens = map lexeme_of part; end = end }) ≡ Err e →
     definitions_of (map lexeme_of tokens) ≡ Err e

@@ -9,7 +9,8 @@ use Rattle.rbg_macro.specs.declared.error.MacroError.TheVariants.{BadDefinition}
 use Rattle.rbg_tokens.specs.declared.token.Token.{Token}
 use Rattle.rbg_macro.specs.Definition.{parameter_list, is_new_name}
 use Rattle.rbg_macro.specs.internal.Defines.{AddsParameter}
-use Rattle.rbg_tokens.specs.Kinds.{is_name_kind, is_semicolon, is_close_parenthesis}
+use Rattle.rbg_tokens.specs.Kinds.{is_name_kind, is_symbol}
+use Rattle.rbg_tokens.specs.declared.token.Symbol.TheVariants as symbols
 use Rattle.rbg_macro.specs.internal.Template.{texts_in}
 use Rattle.rbg_tokens.specs.Token.{Lexeme, lexeme_of}
 
@@ -66,8 +67,8 @@ adds keys new_keys (t ∷ u ∷ ts) d some other name fresh added = record {
 -- what is listed from a parameter on
 listed_step : (end : ℕ) (earlier parameters : List (List ℕ)) (ts : List Lexeme) (next : Lexeme) → AddsParameter earlier parameters ts next →
     parameter_list end earlier ts ≡
-    cond (is_close_parenthesis next.kind) (Ok (parameters, drop 2 ts))
-    (cond (is_semicolon next.kind) (parameter_list end parameters (drop 2 ts)) (Err (BadDefinition next.at)))
+    cond (is_symbol symbols.CloseParenthesis next.kind) (Ok (parameters, drop 2 ts))
+    (cond (is_symbol symbols.Semicolon next.kind) (parameter_list end parameters (drop 2 ts)) (Err (BadDefinition next.at)))
 listed_step end earlier parameters ts next adds =
     ap (parameter_list end earlier) adds.tokens
     ∙ rw (adds.new, ← adds.added) refl
@@ -90,21 +91,21 @@ two_more earlier parameters ts at next within adds =
 listed_behind : (end : ℕ) (tokens : List Token) (at : ℕ) (keys new_keys : List (Bor (List ℕ))) (rest : List Token) (next : Lexeme) →
     HasListed end tokens at keys → rest ≡ drop at tokens → AddsParameter (texts_in keys) (texts_in new_keys) (map lexeme_of rest) next →
     parameter_list end [] (map lexeme_of tokens) ≡
-    cond (is_close_parenthesis next.kind) (Ok (texts_in new_keys, map lexeme_of (drop (at + 2) tokens)))
-    (cond (is_semicolon next.kind) (parameter_list end (texts_in new_keys) (map lexeme_of (drop (at + 2) tokens))) (Err (BadDefinition next.at)))
+    cond (is_symbol symbols.CloseParenthesis next.kind) (Ok (texts_in new_keys, map lexeme_of (drop (at + 2) tokens)))
+    (cond (is_symbol symbols.Semicolon next.kind) (parameter_list end (texts_in new_keys) (map lexeme_of (drop (at + 2) tokens))) (Err (BadDefinition next.at)))
 listed_behind end tokens at keys new_keys rest next so_far is adds =
     so_far.goes_on ∙ rw (← is, listed_step end (texts_in keys) (texts_in new_keys) (map lexeme_of rest) next adds, is, two_tokens lexeme_of tokens at) refl
 
 pub list_ends : (end : ℕ) (tokens : List Token) (at : ℕ) (keys new_keys : List (Bor (List ℕ))) (rest : List Token) (next : Lexeme) →
     HasListed end tokens at keys → rest ≡ drop at tokens → AddsParameter (texts_in keys) (texts_in new_keys) (map lexeme_of rest) next →
-    is_close_parenthesis next.kind ≡ true →
+    is_symbol symbols.CloseParenthesis next.kind ≡ true →
     parameter_list end [] (map lexeme_of tokens) ≡ Ok (texts_in new_keys, map lexeme_of (drop (at + 2) tokens))
 list_ends end tokens at keys new_keys rest next so_far is adds closes =
     listed_behind end tokens at keys new_keys rest next so_far is adds ∙ rw closes refl
 
 pub list_goes_on : (end : ℕ) (tokens : List Token) (at : ℕ) (keys new_keys : List (Bor (List ℕ))) (rest : List Token) (next : Lexeme) →
     HasListed end tokens at keys → rest ≡ drop at tokens → AddsParameter (texts_in keys) (texts_in new_keys) (map lexeme_of rest) next →
-    is_close_parenthesis next.kind ≡ false → is_semicolon next.kind ≡ true →
+    is_symbol symbols.CloseParenthesis next.kind ≡ false → is_symbol symbols.Semicolon next.kind ≡ true →
     HasListed end tokens (at + 2) new_keys
 list_goes_on end tokens at keys new_keys rest next so_far is adds no_close goes_on = record {
   within = two_more (texts_in keys) (texts_in new_keys) tokens at next so_far.within (rw is at adds);
@@ -113,7 +114,7 @@ list_goes_on end tokens at keys new_keys rest next so_far is adds no_close goes_
 
 pub list_fails : (end : ℕ) (tokens : List Token) (at : ℕ) (keys new_keys : List (Bor (List ℕ))) (rest : List Token) (next : Lexeme) →
     HasListed end tokens at keys → rest ≡ drop at tokens → AddsParameter (texts_in keys) (texts_in new_keys) (map lexeme_of rest) next →
-    is_close_parenthesis next.kind ≡ false → is_semicolon next.kind ≡ false →
+    is_symbol symbols.CloseParenthesis next.kind ≡ false → is_symbol symbols.Semicolon next.kind ≡ false →
     parameter_list end [] (map lexeme_of tokens) ≡ Err (BadDefinition next.at)
 list_fails end tokens at keys new_keys rest next so_far is adds no_close no_more =
     listed_behind end tokens at keys new_keys rest next so_far is adds ∙ rw (no_close, no_more) refl

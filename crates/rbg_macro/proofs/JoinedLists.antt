@@ -16,7 +16,8 @@ use Rattle.rbg_macro.specs.internal.Span.{lexeme_in}
 use Rattle.rbg_macro.specs.declared.buffer.Span.{Span}
 use Rattle.rbg_macro.specs.Macro.{Macro}
 use Rattle.rbg_macro.specs.Joining.{joined, joined_from, behind}
-use Rattle.rbg_tokens.specs.Kinds.{is_tilde}
+use Rattle.rbg_tokens.specs.Kinds.{is_symbol}
+use Rattle.rbg_tokens.specs.declared.token.Symbol.TheVariants as symbols
 use Rattle.rbg_macro.specs.internal.ReadTokens.{read_lexeme}
 use Rattle.rbg_tokens.specs.Token.{Lexeme}
 use Rattle.std.proofs.lemmas.List.Elements.{All-push}
@@ -167,13 +168,13 @@ begins_badly [] d tilde = cc
 begins_badly (t ∷ ts) d tilde = rw tilde refl
 
 -- a list without a `~` is joined already
-no_tilde_first : (ts : List ReadToken) → list_any (λ t. is_tilde t.kind) ts ≡ false → begins_with_tilde (map read_lexeme ts) ≡ false
+no_tilde_first : (ts : List ReadToken) → list_any (λ t. is_symbol symbols.Tilde t.kind) ts ≡ false → begins_with_tilde (map read_lexeme ts) ≡ false
 no_tilde_first [] none = refl
-no_tilde_first (t ∷ ts) none = (or_parts (is_tilde t.kind) (list_any (λ u. is_tilde u.kind) ts) none).0
+no_tilde_first (t ∷ ts) none = (or_parts (is_symbol symbols.Tilde t.kind) (list_any (λ u. is_symbol symbols.Tilde u.kind) ts) none).0
 
-pub joined_already : (ts : List ReadToken) → list_any (λ t. is_tilde t.kind) ts ≡ false → joined (map read_lexeme ts) ≡ Ok (map read_lexeme ts)
+pub joined_already : (ts : List ReadToken) → list_any (λ t. is_symbol symbols.Tilde t.kind) ts ≡ false → joined (map read_lexeme ts) ≡ Ok (map read_lexeme ts)
 joined_already [] none = refl
 joined_already (t ∷ ts) none =
-    let (first, others) = or_parts (is_tilde t.kind) (list_any (λ u. is_tilde u.kind) ts) none in
+    let (first, others) = or_parts (is_symbol symbols.Tilde t.kind) (list_any (λ u. is_symbol symbols.Tilde u.kind) ts) none in
     let rest = joined_already ts others in
     joined_first (read_lexeme t) (map read_lexeme ts) first ∙ joined_from-apart (read_lexeme t) (map read_lexeme ts) (no_tilde_first ts others) ∙ rw rest refl

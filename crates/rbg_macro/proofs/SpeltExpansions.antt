@@ -12,7 +12,8 @@ use Rattle.rbg_macro.specs.Call.{Arguments, Nesting, Within, Cuts, Ends, Mismatc
 use Rattle.rbg_macro.specs.Definition.{Part, parts, part_of, is_hash_token, expect, behind_equals, is_new_name, parameter_list, behind_name, section_named, Defined, A_Section, A_Macro, defined_as, defined, Definitions, with_section, with_defined, definitions, definitions_of}
 use Rattle.rbg_macro.specs.Expansion.{Expands, list, Reads, nothing, stays, call, ExpandsAll, none, one_more, HasSections}
 use Rattle.rbg_macro.specs.Steps.{◌>>=◌}
-use Rattle.rbg_tokens.specs.Kinds.{is_name_kind, is_hash, is_equals, is_semicolon, is_open_parenthesis, is_close_parenthesis}
+use Rattle.rbg_tokens.specs.Kinds.{is_name_kind, is_symbol}
+use Rattle.rbg_tokens.specs.declared.token.Symbol.TheVariants as symbols
 use Rattle.rbg_macro.specs.Macro.{BodyItem, Word, Place, Macro, parameter_named, word_or_place, body_of, filled, macro_named}
 use Rattle.rbg_macro.specs.internal.Span.{section_in, IsSectionWithin, IsSectionIn}
 use Rattle.rbg_tokens.specs.Spelling.{IsLexeme}
@@ -38,7 +39,7 @@ PartSpelt p = Spelt p.tokens
 
 parts_spelt : (ts : List Lexeme) → Spelt ts → AllByRecursion PartSpelt (parts ts)
 parts_spelt [] spelt = tt
-parts_spelt (t ∷ ts) spelt = by_hash (is_hash t.kind) (parts_spelt ts spelt.1)
+parts_spelt (t ∷ ts) spelt = by_hash (is_symbol symbols.Hash t.kind) (parts_spelt ts spelt.1)
   where
     by_hash : (hash : Bool) → AllByRecursion PartSpelt (parts ts) → AllByRecursion PartSpelt (cond hash (part_of t ts ∷ parts ts) (parts ts))
     by_hash true others = (front_of IsLexeme (position_or_len is_hash_token ts) ts spelt.1, others)
@@ -59,9 +60,9 @@ bound (Err e) f y is = cc
 
 body_behind_equals : (end : ℕ) (ts body : List Lexeme) → behind_equals end ts ≡ Ok body → Spelt ts → Spelt body
 body_behind_equals end ts body is spelt =
-    let (found, found_is, body_is) = bound (expect (λ e. is_equals e.kind) end ts) (λ found. Ok found.1) body is in
+    let (found, found_is, body_is) = bound (expect (λ e. is_symbol symbols.Equals e.kind) end ts) (λ found. Ok found.1) body is in
     let same : found.1 ≡ body = cc (body_is) in
-    subst Spelt same (expected (λ e. is_equals e.kind) end ts found found_is spelt)
+    subst Spelt same (expected (λ e. is_symbol symbols.Equals e.kind) end ts found found_is spelt)
 
 behind_parameters : (end : ℕ) (earlier : List (List ℕ)) (ts : List Lexeme) (found : List (List ℕ) × List Lexeme) →
     parameter_list end earlier ts ≡ Ok found → Spelt ts → Spelt found.1
@@ -72,7 +73,7 @@ behind_parameters end earlier (p ∷ []) found is spelt = by_new (is_new_name ea
     by_new true is = cc
     by_new false is = cc
 behind_parameters end earlier (p ∷ t ∷ ts) found is spelt =
-    by_tests (is_new_name earlier p) (is_close_parenthesis t.kind) (is_semicolon t.kind) is
+    by_tests (is_new_name earlier p) (is_symbol symbols.CloseParenthesis t.kind) (is_symbol symbols.Semicolon t.kind) is
     (λ more_is. behind_parameters end (earlier ++ p.text ∷ []) ts found more_is spelt.1.1)
   where
     by_tests : (new closes more : Bool) →
@@ -87,7 +88,7 @@ behind_parameters end earlier (p ∷ t ∷ ts) found is spelt =
 
 body_behind_name : (end : ℕ) (ts : List Lexeme) (found : List (List ℕ) × List Lexeme) → behind_name end ts ≡ Ok found → Spelt ts → Spelt found.1
 body_behind_name end [] found is spelt = cc
-body_behind_name end (t ∷ ts) found is spelt = by_tests (is_equals t.kind) (is_open_parenthesis t.kind) is
+body_behind_name end (t ∷ ts) found is spelt = by_tests (is_symbol symbols.Equals t.kind) (is_symbol symbols.OpenParenthesis t.kind) is
   where
     by_tests : (equals opens : Bool) →
         cond equals (Ok ([], ts)) (cond opens (parameter_list end [] ts >>= λ listed. behind_equals end listed.1 >>= λ body. Ok (listed.0, body)) (Err (BadDefinition t.at))) ≡ Ok found →
@@ -175,7 +176,7 @@ part_definitions_spelt earlier (p ∷ ps) ds is macros_spelt all_spelt =
 
 definitions_spelt : (ts : List Lexeme) (ds : Definitions) → definitions_of ts ≡ Ok ds → Spelt ts → DefinitionsSpelt ds
 definitions_spelt [] ds is spelt = let same : record { sections = []; macros = [] } ≡ ds = cc in subst DefinitionsSpelt same (tt, tt)
-definitions_spelt (t ∷ ts) ds is spelt = by_hash (is_hash t.kind) is
+definitions_spelt (t ∷ ts) ds is spelt = by_hash (is_symbol symbols.Hash t.kind) is
   where
     by_hash : (hash : Bool) → cond hash (definitions [] (parts (t ∷ ts))) (Err (BadDefinition t.at)) ≡ Ok ds → DefinitionsSpelt ds
     by_hash true is = part_definitions_spelt [] (parts (t ∷ ts)) ds is tt (parts_spelt (t ∷ ts) spelt)
@@ -225,7 +226,7 @@ MeetsSpelt NoCall = Unit {0}
 
 call_spelt : (m : Macro) (ts : List Lexeme) → MacroSpelt m → Spelt ts → MeetsSpelt (called m ts)
 call_spelt m [] m_spelt spelt = tt
-call_spelt m (t ∷ ts) m_spelt spelt = by_open (is_open_parenthesis t.kind)
+call_spelt m (t ∷ ts) m_spelt spelt = by_open (is_symbol symbols.OpenParenthesis t.kind)
   where
     by_count : (a : Arguments) (fits : Bool) → ArgumentsSpelt a → MeetsSpelt (cond fits (Calls (filled m.body (a.first ∷ a.others)) a.rest) NoCall)
     by_count a true all = (filled_spelt m.body (a.first ∷ a.others) m_spelt (all.0, all.1), all.2)

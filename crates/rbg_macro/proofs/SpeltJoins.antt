@@ -11,7 +11,8 @@ use Rattle.rbg_macro.specs.declared.limits.TheConstants.{MAX_JOINED}
 use Rattle.rbg_tokens.specs.declared.token.TokenKind.{TokenKind}
 use Rattle.rbg_tokens.specs.declared.token.TokenKind.TheVariants.{Name, Number, Symbol as A_Symbol}
 use Rattle.rbg_macro.specs.Joining.{joined_kind, joined_token, with_kind, behind, join_at, joined_from, joined}
-use Rattle.rbg_tokens.specs.Kinds.{is_tilde}
+use Rattle.rbg_tokens.specs.Kinds.{is_symbol}
+use Rattle.rbg_tokens.specs.declared.token.Symbol.TheVariants as symbols
 use Rattle.rbg_tokens.specs.Spelling.{is_number, Spells, IsLexeme}
 use Rattle.rbg_tokens.specs.Token.{Lexeme}
 use Rattle.rbg_tokens.proofs.Words.{name_parts, number_digits}
@@ -76,13 +77,13 @@ joined_token_spelt left right made is first second = by_kind (joined_kind left.k
 -- a list that was joined from tokens that are spelt is of tokens that are spelt
 joined_from_spelt : (t : Lexeme) (ts js : List Lexeme) → joined_from t ts ≡ Ok js → IsLexeme t → Spelt ts → Spelt js
 joined_from_spelt t [] js is first others = let same : t ∷ [] ≡ js = cc in rw (← same) (first, tt)
-joined_from_spelt t (s ∷ []) js is first others = by_tilde (is_tilde s.kind) is
+joined_from_spelt t (s ∷ []) js is first others = by_tilde (is_symbol symbols.Tilde s.kind) is
   where
     by_tilde : (tilde : Bool) → cond tilde (Err (BadJoin s.at)) (Ok (t ∷ s ∷ [])) ≡ Ok js → Spelt js
     by_tilde true is = cc
     by_tilde false is = let same : t ∷ s ∷ [] ≡ js = cc in rw (← same) (first, (others.0, tt))
 joined_from_spelt t (s ∷ u ∷ ts) js is first others =
-    by_tilde (is_tilde s.kind) is (λ v v_spelt ks v_is. joined_from_spelt v ts ks v_is v_spelt others.1.1)
+    by_tilde (is_symbol symbols.Tilde s.kind) is (λ v v_spelt ks v_is. joined_from_spelt v ts ks v_is v_spelt others.1.1)
     (λ ks s_is. joined_from_spelt s (u ∷ ts) ks s_is others.0 others.1)
   where
     by_tilde : (tilde : Bool) → cond tilde (join_at s.at (joined_token t u) (λ v. joined_from v ts)) (behind t (joined_from s (u ∷ ts))) ≡ Ok js →
@@ -101,7 +102,7 @@ joined_from_spelt t (s ∷ u ∷ ts) js is first others =
 
 pub joined_spelt : (ts js : List Lexeme) → joined ts ≡ Ok js → Spelt ts → Spelt js
 joined_spelt [] js is spelt = let same : [] ≡ js = cc in rw (← same) tt
-joined_spelt (t ∷ ts) js is spelt = by_tilde (is_tilde t.kind) is
+joined_spelt (t ∷ ts) js is spelt = by_tilde (is_symbol symbols.Tilde t.kind) is
   where
     by_tilde : (tilde : Bool) → cond tilde (Err (BadJoin t.at)) (joined_from t ts) ≡ Ok js → Spelt js
     by_tilde true is = cc

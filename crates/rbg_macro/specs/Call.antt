@@ -2,7 +2,8 @@
 use Rattle.std.specs.Prelude.{ℕ, ◌+◌, List, [], ◌∷◌, length, nat_eq, Option, None, Some, cond, zero, suc}
 use Rattle.std.specs.Option.{option_map}
 use Rattle.rbg_tokens.specs.declared.token.TokenKind.{TokenKind}
-use Rattle.rbg_tokens.specs.Kinds.{opens, closes, is_semicolon, is_open_parenthesis, is_close_parenthesis}
+use Rattle.rbg_tokens.specs.Kinds.{opens, closes, is_symbol}
+use Rattle.rbg_tokens.specs.declared.token.Symbol.TheVariants as symbols
 use Rattle.rbg_macro.specs.Macro.{Macro, filled, macro_named}
 use Rattle.rbg_tokens.specs.Token.{Lexeme}
 
@@ -31,7 +32,7 @@ pub data Nesting : Type 0 where
 
 -- a closing bracket closes the last one that is open, and the call's own if no further one is
 abbrev pub closing : TokenKind → ℕ → Nesting
-closing kind zero = cond (is_close_parenthesis kind) Ends Mismatched
+closing kind zero = cond (is_symbol symbols.CloseParenthesis kind) Ends Mismatched
 closing kind (suc further) = Within further
 
 -- a `;` cuts only where no further bracket is open
@@ -43,7 +44,7 @@ abbrev pub nesting : TokenKind → ℕ → Nesting
 nesting kind further =
     cond (opens kind) (Within (further + 1))
     (cond (closes kind) (closing kind further)
-    (cond (is_semicolon kind) (cutting further) (Within further)))
+    (cond (is_symbol symbols.Semicolon kind) (cutting further) (Within further)))
 
 -- the arguments from a token on, by what it does
 abbrev pub arguments_by : Nesting → Lexeme → List Lexeme → (ℕ → Option Arguments) → Option Arguments
@@ -74,7 +75,7 @@ with_arguments m (Some a) =
 -- the call of a macro with parameters
 abbrev pub called : Macro → List Lexeme → Meets
 called m [] = NoCall
-called m (t ∷ ts) = cond (is_open_parenthesis t.kind) (with_arguments m (arguments 0 ts)) NoCall
+called m (t ∷ ts) = cond (is_symbol symbols.OpenParenthesis t.kind) (with_arguments m (arguments 0 ts)) NoCall
 
 -- a macro without parameters is replaced by its body, whatever follows its name
 abbrev pub met : Option Macro → List Lexeme → Meets

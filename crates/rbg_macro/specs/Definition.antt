@@ -8,8 +8,8 @@ use Rattle.rbg_macro.specs.declared.error.MacroError.TheVariants.{BadDefinition,
 use Rattle.rbg_macro.specs.declared.source.SectionKind.{SectionKind}
 use Rattle.rbg_macro.specs.declared.source.SectionKind.TheVariants.{Players, Pieces, Variables, Board, Rules}
 use Rattle.rbg_macro.specs.Steps.{◌>>=◌}
-use Rattle.rbg_tokens.specs.Kinds.{is_name_kind, is_hash, is_equals, is_semicolon, is_open_parenthesis}
-use Rattle.rbg_tokens.specs.Kinds.{is_close_parenthesis}
+use Rattle.rbg_tokens.specs.Kinds.{is_name_kind, is_symbol}
+use Rattle.rbg_tokens.specs.declared.token.Symbol.TheVariants as symbols
 use Rattle.rbg_macro.specs.Macro.{Macro, body_of}
 use Rattle.rbg_tokens.specs.Token.{Lexeme}
 use Rattle.rbg_macro.specs.Sections.{SectionTokens}
@@ -24,7 +24,7 @@ pub record Part : Type 0 where
   pub end : ℕ
 
 abbrev pub is_hash_token : Lexeme → Bool
-is_hash_token t = is_hash t.kind
+is_hash_token t = is_symbol symbols.Hash t.kind
 
 -- the offset of the first token, if there is one
 abbrev pub first_at : List Lexeme → ℕ → ℕ
@@ -41,7 +41,7 @@ part_of t ts = record {
 
 abbrev pub parts : List Lexeme → List Part
 parts [] = []
-parts (t ∷ ts) = cond (is_hash t.kind) (part_of t ts ∷ parts ts) (parts ts)
+parts (t ∷ ts) = cond (is_symbol symbols.Hash t.kind) (part_of t ts ∷ parts ts) (parts ts)
 
 -- the next token of a head and what follows it, if the token passes the test; else the fault is at that token
 abbrev pub expect : (TokenTest : Lexeme → Bool) → ℕ → List Lexeme → Result (Lexeme × List Lexeme) MacroError
@@ -50,7 +50,7 @@ expect fits end (t ∷ ts) = cond (fits t) (Ok (t, ts)) (Err (BadDefinition t.at
 
 -- what follows the next token of a head, which is `=`
 abbrev pub behind_equals : ℕ → List Lexeme → Result (List Lexeme) MacroError
-behind_equals end ts = expect (λ e. is_equals e.kind) end ts >>= λ found. Ok found.1
+behind_equals end ts = expect (λ e. is_symbol symbols.Equals e.kind) end ts >>= λ found. Ok found.1
 
 -- a parameter: a name other than the earlier ones
 abbrev pub is_new_name : List (List ℕ) → Lexeme → Bool
@@ -62,16 +62,16 @@ parameter_list end earlier [] = Err (BadDefinition end)
 parameter_list end earlier (p ∷ []) = cond (is_new_name earlier p) (Err (BadDefinition end)) (Err (BadDefinition p.at))
 parameter_list end earlier (p ∷ t ∷ ts) =
     cond (is_new_name earlier p)
-    (cond (is_close_parenthesis t.kind) (Ok (earlier ++ p.text ∷ [], ts))
-    (cond (is_semicolon t.kind) (parameter_list end (earlier ++ p.text ∷ []) ts) (Err (BadDefinition t.at))))
+    (cond (is_symbol symbols.CloseParenthesis t.kind) (Ok (earlier ++ p.text ∷ [], ts))
+    (cond (is_symbol symbols.Semicolon t.kind) (parameter_list end (earlier ++ p.text ∷ []) ts) (Err (BadDefinition t.at))))
     (Err (BadDefinition p.at))
 
 -- a macro's parameters and body, after its name: `=` and the body, or parameters in parentheses before these
 abbrev pub behind_name : ℕ → List Lexeme → Result (List (List ℕ) × List Lexeme) MacroError
 behind_name end [] = Err (BadDefinition end)
 behind_name end (t ∷ ts) =
-    cond (is_equals t.kind) (Ok ([], ts))
-    (cond (is_open_parenthesis t.kind)
+    cond (is_symbol symbols.Equals t.kind) (Ok ([], ts))
+    (cond (is_symbol symbols.OpenParenthesis t.kind)
     (parameter_list end [] ts >>= λ listed. behind_equals end listed.1 >>= λ body. Ok (listed.0, body))
     (Err (BadDefinition t.at)))
 
@@ -126,4 +126,4 @@ definitions earlier (p ∷ ps) = with_defined earlier (defined earlier p) (λ ma
 -- what tokens define; a token before the first `#` belongs to no definition
 abbrev pub definitions_of : List Lexeme → Result Definitions MacroError
 definitions_of [] = Ok (record { sections = []; macros = [] })
-definitions_of (t ∷ ts) = cond (is_hash t.kind) (definitions [] (parts (t ∷ ts))) (Err (BadDefinition t.at))
+definitions_of (t ∷ ts) = cond (is_symbol symbols.Hash t.kind) (definitions [] (parts (t ∷ ts))) (Err (BadDefinition t.at))

@@ -5,7 +5,8 @@ use Rattle.rbg_macro.specs.declared.error.MacroError.TheVariants.{BadJoin}
 use Rattle.rbg_macro.specs.Limits.{longest_joined}
 use Rattle.rbg_tokens.specs.declared.token.TokenKind.{TokenKind}
 use Rattle.rbg_tokens.specs.declared.token.TokenKind.TheVariants.{Name, Number, Symbol as A_Symbol}
-use Rattle.rbg_tokens.specs.Kinds.{is_tilde}
+use Rattle.rbg_tokens.specs.Kinds.{is_symbol}
+use Rattle.rbg_tokens.specs.declared.token.Symbol.TheVariants as symbols
 use Rattle.rbg_tokens.specs.Token.{Lexeme}
 
 -- after a name a name or a number makes a name
@@ -51,11 +52,11 @@ join_at at (Some t) goes_on = goes_on t
 -- become one token, which is then followed by what is left; where they can't, the fault is at the `~`.
 abbrev pub joined_from : Lexeme → List Lexeme → Result (List Lexeme) MacroError
 joined_from t [] = Ok (t ∷ [])
-joined_from t (s ∷ []) = cond (is_tilde s.kind) (Err (BadJoin s.at)) (Ok (t ∷ s ∷ []))
+joined_from t (s ∷ []) = cond (is_symbol symbols.Tilde s.kind) (Err (BadJoin s.at)) (Ok (t ∷ s ∷ []))
 joined_from t (s ∷ u ∷ ts) =
-    cond (is_tilde s.kind) (join_at s.at (joined_token t u) (λ v. joined_from v ts)) (behind t (joined_from s (u ∷ ts)))
+    cond (is_symbol symbols.Tilde s.kind) (join_at s.at (joined_token t u) (λ v. joined_from v ts)) (behind t (joined_from s (u ∷ ts)))
 
 -- a list, joined over its whole length; a `~` at the front has no left neighbour
 abbrev pub joined : List Lexeme → Result (List Lexeme) MacroError
 joined [] = Ok []
-joined (t ∷ ts) = cond (is_tilde t.kind) (Err (BadJoin t.at)) (joined_from t ts)
+joined (t ∷ ts) = cond (is_symbol symbols.Tilde t.kind) (Err (BadJoin t.at)) (joined_from t ts)

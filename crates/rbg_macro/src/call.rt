@@ -14,7 +14,7 @@ use crate::macros::BodyItem;
 use crate::marking::MarkedMacros;
 use crate::read_token::ReadToken;
 use rbg_base::Memory;
-use rbg_tokens::TokenKind;
+use rbg_tokens::{Symbol, TokenKind};
 use smallvec::SmallVec;
 use std::alloc::Global;
 
@@ -62,7 +62,7 @@ fn effect_of(kind: TokenKind, further: usize) -> Effect
     if kind.closes() {
         return closing(kind, further);
     }
-    if further == 0 && kind.is_semicolon() {
+    if further == 0 && kind.is(Symbol::Semicolon) {
         return Effect::Cuts;
     }
     Effect::Within(further)
@@ -74,7 +74,7 @@ fn closing(kind: TokenKind, further: usize) -> Effect
     if further > 0 {
         return Effect::Within(further - 1);
     }
-    if kind.is_close_parenthesis() {
+    if kind.is(Symbol::CloseParenthesis) {
         Effect::Ends
     } else {
         Effect::Mismatched
@@ -160,7 +160,7 @@ fn begins_with_parenthesis(tokens: &[ReadToken<'_, '_>]) -> bool
     ensures { result ≡ begins_with_parenthesis (map read_lexeme tokens.now) }
 {
     match tokens.first() {
-        Some(token) => token.kind.is_open_parenthesis(),
+        Some(token) => token.kind.is(Symbol::OpenParenthesis),
         None => false,
     }
 }

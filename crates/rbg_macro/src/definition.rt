@@ -9,7 +9,8 @@ ghost use Rattle.rbg_macro.specs.Definition.{section_named, first_at, defined, d
 ghost use Rattle.rbg_macro.specs.internal.Defines.{BeginsDefinition};
 ghost use Rattle.rbg_macro.specs.internal.Gives.{Gives};
 ghost use Rattle.rbg_macro.specs.Errors.{UnlessMemory};
-ghost use Rattle.rbg_tokens.specs.Kinds.{is_name_kind, is_equals, is_hash};
+ghost use Rattle.rbg_tokens.specs.Kinds.{is_name_kind, is_symbol};
+ghost use Rattle.rbg_tokens.specs.declared.token.Symbol.TheVariants as symbols;
 ghost use Rattle.rbg_macro.specs.internal.Template.{macro_of, texts_in};
 ghost use Rattle.rbg_tokens.specs.Token.{Lexeme, lexeme_of};
 
@@ -17,7 +18,7 @@ use crate::error::MacroError;
 use crate::macros::{Macros, Template};
 use crate::source::SectionKind;
 use indexmap::IndexSet;
-use rbg_tokens::Token;
+use rbg_tokens::{Symbol, Token};
 use std::alloc::Global;
 
 /// A section with its own tokens.
@@ -61,7 +62,7 @@ fn expect_equals<'t, 's>(tokens: &'s [Token<'t>], end: usize) -> Result<&'s [Tok
     let Some((token, behind)) = tokens.split_first() else {
         return Err(MacroError::BadDefinition { at: end });
     };
-    if !token.kind.is_equals() {
+    if !token.kind.is(Symbol::Equals) {
         return Err(MacroError::BadDefinition { at: token.at });
     }
     Ok(behind)
@@ -112,10 +113,10 @@ fn parameter_list<'t, 's>(
     loop {
         let next = parameter(&mut names, &tokens[at..], end)?;
         at += 2;
-        if next.kind.is_close_parenthesis() {
+        if next.kind.is(Symbol::CloseParenthesis) {
             return Ok((names, &tokens[at..]));
         }
-        if !next.kind.is_semicolon() {
+        if !next.kind.is(Symbol::Semicolon) {
             return Err(MacroError::BadDefinition { at: next.at });
         }
     }
@@ -133,10 +134,10 @@ fn behind_name<'t, 's>(
     let Some((token, behind)) = tokens.split_first() else {
         return Err(MacroError::BadDefinition { at: end });
     };
-    if token.kind.is_equals() {
+    if token.kind.is(Symbol::Equals) {
         return Ok((IndexSet::new(alloc), behind));
     }
-    if !token.kind.is_open_parenthesis() {
+    if !token.kind.is(Symbol::OpenParenthesis) {
         return Err(MacroError::BadDefinition { at: token.at });
     }
     let (names, behind) = parameter_list(alloc, behind, end)?;
@@ -217,9 +218,12 @@ fn define<'t, 's>(
 /// How many tokens there are before the next `#`.
 fn part_len(tokens: &[Token<'_>]) -> usize
     ensures within { result ≤ length tokens.now }
-    ensures len { result ≡ position_or_len (λ t. is_hash t.kind) tokens.now }
+    ensures len { result ≡ position_or_len (λ t. is_symbol symbols.Hash t.kind) tokens.now }
 {
-    tokens.iter().take_while(|t| !t.kind.is_hash()).count()
+    tokens
+        .iter()
+        .take_while(|t| !t.kind.is(Symbol::Hash))
+        .count()
 }
 
 /// Refuses a token before the first `#`.
@@ -228,7 +232,9 @@ fn check_begin(tokens: &[Token<'_>]) -> Result<(), MacroError>
     ensures err { IfErr result (λ e. definitions_of (map lexeme_of tokens.now) ≡ Err e) }
 {
     match tokens.first() {
-        Some(token) if !token.kind.is_hash() => Err(MacroError::BadDefinition { at: token.at }),
+        Some(token) if !token.kind.is(Symbol::Hash) => Err(MacroError::BadDefinition {
+            at: token.at,
+        }),
         _ => Ok(()),
     }
 }

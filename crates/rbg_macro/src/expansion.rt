@@ -6,7 +6,8 @@ ghost use Rattle.rbg_macro.specs.Call.{Stays, meets};
 ghost use Rattle.rbg_macro.specs.Expansion.{ExpandsWithin, Fails, FailsReading, FailsAll, HasSections, HasMacroFault};
 ghost use Rattle.rbg_macro.specs.internal.Defines.{section_of};
 ghost use Rattle.rbg_macro.specs.Errors.{UnlessMemory};
-ghost use Rattle.rbg_tokens.specs.Kinds.{is_tilde};
+ghost use Rattle.rbg_tokens.specs.Kinds.{is_symbol};
+ghost use Rattle.rbg_tokens.specs.declared.token.Symbol.TheVariants as symbols;
 ghost use Rattle.rbg_macro.specs.internal.Marks.{IsMarked, IsMarkedWord};
 ghost use Rattle.rbg_macro.specs.internal.ExpandedTokens.{ReadsOn, ReadsJoined, ReadsSection, FailsJoined, GivesWay};
 ghost use Rattle.rbg_macro.specs.internal.ExpandedTokens.{IsTooMany, IsWithinLimits};
@@ -23,7 +24,7 @@ use crate::limits::{MAX_KEPT, MAX_LEVEL, MAX_READ};
 use crate::marking::MarkedMacros;
 use crate::read_token::ReadToken;
 use crate::source::{SectionSpan, Source};
-use rbg_tokens::Tokens;
+use rbg_tokens::{Symbol, Tokens};
 use std::alloc::Global;
 
 /// How far an expansion has come: how many tokens were read, and which were kept.
@@ -96,9 +97,9 @@ fn body_of_call<'t, 'j>(
 
 /// Whether the list has a `~`. A list without one is joined already.
 fn has_tilde(list: &[ReadToken<'_, '_>]) -> bool
-    ensures { result ≡ list_any (λ t. is_tilde t.kind) list.now }
+    ensures { result ≡ list_any (λ t. is_symbol symbols.Tilde t.kind) list.now }
 {
-    list.iter().any(|t| t.kind.is_tilde())
+    list.iter().any(|t| t.kind.is(Symbol::Tilde))
 }
 
 /// Joins a list that was counted, and reads it.

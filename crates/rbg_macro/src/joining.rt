@@ -9,7 +9,7 @@ ghost use Rattle.rbg_macro.specs.internal.Marks.{IsMarked, IsMarkedWord, word_of
 ghost use Rattle.rbg_macro.specs.internal.ReadTokens.{read_lexeme};
 ghost use Rattle.rbg_macro.specs.internal.Span.{lexeme_in, IsSpanWithin};
 ghost use Rattle.rbg_macro.specs.Joining.{joined, joined_from, joined_kind};
-ghost use Rattle.rbg_tokens.specs.Kinds.{is_tilde};
+ghost use Rattle.rbg_tokens.specs.Kinds.{is_symbol};
 ghost use Rattle.rbg_tokens.specs.Token.{Lexeme};
 
 use crate::buffer::Span;
@@ -18,7 +18,7 @@ use crate::limits::MAX_JOINED;
 use crate::marking::MarkedMacros;
 use crate::read_token::{Bytes, ReadToken};
 use rbg_base::Memory;
-use rbg_tokens::TokenKind;
+use rbg_tokens::{Symbol, TokenKind};
 use std::alloc::Global;
 use std::marker::Model;
 
@@ -66,7 +66,7 @@ pub(crate) fn begins_with_tilde(tokens: &[ReadToken<'_, '_>]) -> bool
     ensures { result ≡ begins_with_tilde (map read_lexeme tokens.now) }
 {
     match tokens.first() {
-        Some(token) => token.kind.is_tilde(),
+        Some(token) => token.kind.is(Symbol::Tilde),
         None => false,
     }
 }

@@ -15,8 +15,7 @@ use Rattle.rbg_grammar.specs.declared.names.Name.{Name}
 use Rattle.rbg_grammar.specs.declared.names.Number.{Number}
 use Rattle.rbg_grammar.proofs.Trees.{expression_of-Number, expression_of-Name, expression_of-Negated, expression_of-Chain}
 use Rattle.rbg_rules.specs.Expression.{AbstractArithmetic, negated}
-use Rattle.rbg_rules.specs.Translation.{Change, operated, changed, arithmetic_of, operation_of}
-use Rattle.rbg_rules.specs.declared.arithmetic.Operator.{Operator}
+use Rattle.rbg_rules.specs.Translation.{Change, changed, arithmetic_of, operation_of}
 use Rattle.rbg_rules.specs.declared.arithmetic.Arithmetic.TheViews.{roll-Operation}
 use Rattle.rbg_rules.specs.declared.arithmetic.Arithmetic.{Arithmetic}
 use Rattle.rbg_rules.specs.declared.arithmetic.Arithmetic.TheVariants as arithmetics
@@ -25,7 +24,7 @@ use Rattle.rbg_rules.proofs.Bridge.{arithmetic_of-Negated, arithmetic_of-Chain, 
 use Rattle.rbg_numbering.specs.declared.error.NumberingError.{NumberingError}
 use Rattle.rbg_numbering.specs.declared.error.NumberingError.TheVariants.{NumberTooGreat}
 use Rattle.rbg_numbering.specs.Names.{Names}
-use Rattle.rbg_numbering.specs.Rules.{combined, ArithmeticIs, ChainIs}
+use Rattle.rbg_numbering.specs.Rules.{ArithmeticIs, ChainIs}
 use Rattle.rbg_numbering.specs.Faults.{HasPart, itself, in_negated, in_chain, SomeOperandHasPart, earlier_operand, last_operand, HasArithmeticFault, unknown_value, great_number, arithmetic_memory}
 use Rattle.rbg_numbering.specs.NameTables.{HasLookUpFault, not_there, no_memory}
 use Rattle.rbg_numbering.specs.internal.Arithmetic.{Combines}
@@ -195,6 +194,6 @@ chain_made names operands i first box rest some done holds is =
 
 -- One operation.
 
-pub combines_operand : (names : Names) (t : Operand) (operator : Operator) (operand : Arithmetic) → ((b c : AbstractArithmetic) → operated operator b c ≡ combined t.operator b c) → ArithmeticIs names (expression_of t.value) (arithmetic_of operand) → Combines names (operand_of t) (roll-Operation (record { operator = operator; operand = operand }))
-combines_operand names t operator operand same is =
-    record { operand = arithmetic_of operand; is_operand = is; does = λ b. ap (λ (change : Change). change b) (operation_of_roll (record { operator = operator; operand = operand })) ∙ same b (arithmetic_of operand) }
+pub combines_operand : (names : Names) (t : Operand) (operand : Arithmetic) → ArithmeticIs names (expression_of t.value) (arithmetic_of operand) → Combines names (operand_of t) (roll-Operation (record { operator = t.operator; operand = operand }))
+combines_operand names t operand is =
+    record { operand = arithmetic_of operand; is_operand = is; does = λ b. ap (λ (change : Change). change b) (operation_of_roll (record { operator = t.operator; operand = operand })) }

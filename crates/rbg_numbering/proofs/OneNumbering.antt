@@ -4,10 +4,11 @@ use Rattle.std.proofs.Common.{◌≡◌, ℕ, zero, suc, ◌+◌, List, [], ◌�
 use Rattle.std.specs.List.{range_with_len}
 use Rattle.std.proofs.lemmas.Option.{same_Some}
 use Rattle.rbg_grammar.specs.Tree.{SpeltExpression, SpeltOperands, no_operands, more_operands, SpeltRule, SpeltRules, no_rules, more_rules, SpeltAction}
-use Rattle.rbg_rules.specs.Expression.{AbstractArithmetic, number, variable, piece_count, negated, AbstractAction, shift, on, off, assignment, comparison, switch, positive, negative, Expression, act, sequence, choice, star}
+use Rattle.rbg_rules.specs.Expression.{AbstractArithmetic, number, variable, piece_count, negated, AbstractAction, shift, on, off, assignment, comparison, switch, positive, negative, Expression, act, skip, sequence, fail, choice, star}
 use Rattle.rbg_rules.specs.Positions.{positions_of, positions_inside, IsNumbered}
+use Rattle.rbg_rules.specs.Translation.{operated}
 use Rattle.rbg_numbering.specs.Names.{Names, IsNumberOf, HasDifferentNames}
-use Rattle.rbg_numbering.specs.Rules.{combined, ArithmeticIs, ChainIs, ActionIs, RuleIs, SequenceIs, ChoiceIs}
+use Rattle.rbg_numbering.specs.Rules.{ArithmeticIs, ChainIs, ActionIs, RuleIs, PartsAre}
 use Rattle.rbg_base.proofs.CallerLemmas.{Contains-from_get}
 use Rattle.rbg_numbering.proofs.Lists.{AllZip-once}
 
@@ -27,7 +28,7 @@ mutual
   chain_once names differ (more_operands _ _ _) a b (inl (none, _)) (inr (y, _, some, _, _)) = absurd (subst (λ os. ChainIs names os y) none some)
   chain_once names differ (more_operands _ _ _) a b (inr (x, _, some, _, _)) (inl (none, _)) = absurd (subst (λ os. ChainIs names os x) none some)
   chain_once names differ (more_operands operands operator spelt) a b (inr (x, z, x_is, z_is, e)) (inr (y, w, y_is, w_is, f)) =
-      e ∙ ap (λ l. combined operator l z) (chain_once names differ operands x y x_is y_is) ∙ ap (combined operator y) (arithmetic_once names differ spelt z w z_is w_is) ∙ sym f
+      e ∙ ap (λ l. operated operator l z) (chain_once names differ operands x y x_is y_is) ∙ ap (operated operator y) (arithmetic_once names differ spelt z w z_is w_is) ∙ sym f
 
 -- the list is n, n + 1, ..
 abbrev CountsFrom : ℕ → List ℕ → Type 0
@@ -90,22 +91,18 @@ mutual
       let at_x = subst (IsCounted n) e counted in
       let at_y = subst (IsCounted n) f counted' in
       e ∙ ap (λ z. act z b) (at_x.0 ∙ sym at_y.0) ∙ ap (act q) (action_once names differ a (n + 1) b c b_is c_is at_x.1 at_y.1) ∙ sym f
-  rule_once names differ (SpeltRule.sequence parts) n x y x_is y_is counted counted' = sequence_once names differ parts n x y x_is y_is counted counted'
-  rule_once names differ (SpeltRule.choice parts) n x y x_is y_is counted counted' = choice_once names differ parts n x y x_is y_is counted counted'
+  rule_once names differ (SpeltRule.sequence parts) n x y x_is y_is counted counted' = parts_once names differ sequence skip (λ m v w is. is) parts n x y x_is y_is counted counted'
+  rule_once names differ (SpeltRule.choice parts) n x y x_is y_is counted counted' = parts_once names differ choice fail (λ m v w is. is) parts n x y x_is y_is counted counted'
   rule_once names differ (SpeltRule.star r) n x y (z, z_is, e) (w, w_is, f) counted counted' =
       e ∙ ap star (rule_once names differ r n z w z_is w_is (subst (IsCounted n) e counted) (subst (IsCounted n) f counted')) ∙ sym f
 
-  sequence_once : (names : Names) → HasDifferentNames names → (parts : SpeltRules) (n : ℕ) (x y : Expression) → SequenceIs names parts x → SequenceIs names parts y → IsCounted n x → IsCounted n y → x ≡ y
-  sequence_once names differ no_rules n x y e f counted counted' = e ∙ sym f
-  sequence_once names differ (more_rules parts r) n x y (v, w, v_is, w_is, e) (v', w', v'_is, w'_is, f) counted counted' =
-      pair_once sequence n x y v v' w w' e f (subst (IsCounted n) e counted) (subst (IsCounted n) f counted')
-      (sequence_once names differ parts n v v' v_is v'_is) (λ m. rule_once names differ r m w w' w_is w'_is)
-
-  choice_once : (names : Names) → HasDifferentNames names → (parts : SpeltRules) (n : ℕ) (x y : Expression) → ChoiceIs names parts x → ChoiceIs names parts y → IsCounted n x → IsCounted n y → x ≡ y
-  choice_once names differ no_rules n x y e f counted counted' = e ∙ sym f
-  choice_once names differ (more_rules parts r) n x y (v, w, v_is, w_is, e) (v', w', v'_is, w'_is, f) counted counted' =
-      pair_once choice n x y v v' w w' e f (subst (IsCounted n) e counted) (subst (IsCounted n) f counted')
-      (choice_once names differ parts n v v' v_is v'_is) (λ m. rule_once names differ r m w w' w_is w'_is)
+  parts_once : (names : Names) → HasDifferentNames names → (joined : Expression → Expression → Expression) (none : Expression)
+      → ((n : ℕ) (y z : Expression) → IsCounted n (joined y z) → CountsFrom n (positions_of y ++ positions_of z))
+      → (parts : SpeltRules) (n : ℕ) (x y : Expression) → PartsAre names joined none parts x → PartsAre names joined none parts y → IsCounted n x → IsCounted n y → x ≡ y
+  parts_once names differ joined none both no_rules n x y e f counted counted' = e ∙ sym f
+  parts_once names differ joined none both (more_rules parts r) n x y (v, w, v_is, w_is, e) (v', w', v'_is, w'_is, f) counted counted' =
+      pair_once joined n x y v v' w w' e f (both n v w (subst (IsCounted n) e counted)) (both n v' w' (subst (IsCounted n) f counted'))
+      (parts_once names differ joined none both parts n v v' v_is v'_is) (λ m. rule_once names differ r m w w' w_is w'_is)
 
 numbered_counts : (x : Expression) → IsNumbered x → IsCounted 1 x
 numbered_counts x numbered = subst (CountsFrom 1) (sym numbered.in_order) (count_counts 1 (length (positions_of x)))

@@ -1,17 +1,17 @@
 -- Where a rule has a fault there are no rules by numbers.
-use Rattle.std.proofs.Common.{◌≡◌, ◌≢◌, ℕ, suc, ◌+◌, ◌≤◌, refl, List, [], ◌∷◌, Option, Some, None, inl, inr, length, get_or, ap, sym, ◌∙◌, subst, arith}
+use Rattle.std.proofs.Common.{◌≡◌, ◌≢◌, ℕ, suc, ◌+◌, ◌≤◌, refl, List, [], ◌∷◌, ◌++◌, Option, Some, None, ◌⊎◌, inl, inr, length, get_or, ap, sym, ◌∙◌, subst, arith}
 use Rattle.std.specs.Prelude.{Contains}
 use Rattle.std.specs.List.{AllZip}
 use Rattle.std.proofs.lemmas.List.{length-append}
 use Rattle.rbg_grammar.specs.Tree.{SpeltName, SpeltExpression, SpeltOperands, no_operands, SpeltRule, SpeltRules, no_rules, more_rules, SpeltAction}
-use Rattle.rbg_rules.specs.Expression.{AbstractArithmetic, AbstractAction, switch, Expression}
+use Rattle.rbg_rules.specs.Expression.{AbstractArithmetic, AbstractAction, switch, Expression, skip, sequence, fail, choice}
 use Rattle.rbg_rules.specs.Games.{NestsWithin, InsideNestsWithin}
 use Rattle.rbg_rules.specs.Positions.{HasAction, HasInside, positions_of, positions_inside, IsPatternOf, IsLevel, inside as level_of}
 use Rattle.rbg_rules.specs.Limits.{most_positions, most_nested_patterns}
 use Rattle.rbg_numbering.specs.declared.error.NumberingError.{NumberingError}
 use Rattle.rbg_numbering.specs.declared.error.NumberingError.TheVariants.{Memory}
 use Rattle.rbg_numbering.specs.Names.{Names, IsNumberOf}
-use Rattle.rbg_numbering.specs.Rules.{ArithmeticIs, ChainIs, ActionIs, RuleIs, SequenceIs, ChoiceIs}
+use Rattle.rbg_numbering.specs.Rules.{ArithmeticIs, ChainIs, ActionIs, RuleIs, PartsAre}
 use Rattle.rbg_numbering.specs.Faults.{HasUnknown, Purpose, as_piece, as_variable, names_for, Uses, shifts, stands_on, puts, assigns, gives_turn}
 use Rattle.rbg_numbering.specs.Faults.{HasPart, itself, in_negated, in_chain, SomeOperandHasPart, earlier_operand, last_operand}
 use Rattle.rbg_numbering.specs.Faults.{HasArithmeticFault, unknown_value, great_number, arithmetic_memory, HasExpression, assigned, left_side, right_side}
@@ -33,8 +33,8 @@ mutual
   -- Each action that is spelt in a rule is one by numbers.
   action_in_rule : (names : Names) (r : SpeltRule) (x : Expression) (s : SpeltAction) → HasSpeltAction r s → RuleIs names r x → (p : ℕ) × (b : AbstractAction) × ActionIs names s b × HasAction x p b
   action_in_rule names _ x s this (p, b, is, e) = (p, b, is, subst (λ z. HasAction z p b) (sym e) (inl (refl, refl)))
-  action_in_rule names _ x s (in_sequence {rs = rs} h) is = action_in_sequence names rs x s h is
-  action_in_rule names _ x s (in_choice {rs = rs} h) is = action_in_choice names rs x s h is
+  action_in_rule names _ x s (in_sequence {rs = rs} h) is = action_in_parts names sequence skip (λ y z p b has. has) rs x s h is
+  action_in_rule names _ x s (in_choice {rs = rs} h) is = action_in_parts names choice fail (λ y z p b has. has) rs x s h is
   action_in_rule names _ x s (in_star {r = r} h) (y, is, e) =
       let (p, b, named, has) = action_in_rule names r y s h is in
       (p, b, named, subst (λ z. HasAction z p b) (sym e) has)
@@ -45,21 +45,15 @@ mutual
       let (q, b, named, has) = action_in_rule names r y s h is in
       (q, b, named, subst (λ z. HasAction z q b) (sym e) (inr (subst (λ d. HasInside d q b) (sym f) has)))
 
-  action_in_sequence : (names : Names) (rs : SpeltRules) (x : Expression) (s : SpeltAction) → SomeHasSpeltAction rs s → SequenceIs names rs x → (p : ℕ) × (b : AbstractAction) × ActionIs names s b × HasAction x p b
-  action_in_sequence names _ x s (earlier {rs = rs} h) (y, z, before, one, e) =
-      let (p, b, named, has) = action_in_sequence names rs y s h before in
-      (p, b, named, subst (λ w. HasAction w p b) (sym e) (inl has))
-  action_in_sequence names _ x s (last {r = r} h) (y, z, before, one, e) =
+  action_in_parts : (names : Names) (joined : Expression → Expression → Expression) (none : Expression)
+      → ((y z : Expression) (p : ℕ) (b : AbstractAction) → HasAction y p b ⊎ HasAction z p b → HasAction (joined y z) p b)
+      → (rs : SpeltRules) (x : Expression) (s : SpeltAction) → SomeHasSpeltAction rs s → PartsAre names joined none rs x → (p : ℕ) × (b : AbstractAction) × ActionIs names s b × HasAction x p b
+  action_in_parts names joined none either _ x s (earlier {rs = rs} h) (y, z, before, one, e) =
+      let (p, b, named, has) = action_in_parts names joined none either rs y s h before in
+      (p, b, named, subst (λ w. HasAction w p b) (sym e) (either y z p b (inl has)))
+  action_in_parts names joined none either _ x s (last {r = r} h) (y, z, before, one, e) =
       let (p, b, named, has) = action_in_rule names r z s h one in
-      (p, b, named, subst (λ w. HasAction w p b) (sym e) (inr has))
-
-  action_in_choice : (names : Names) (rs : SpeltRules) (x : Expression) (s : SpeltAction) → SomeHasSpeltAction rs s → ChoiceIs names rs x → (p : ℕ) × (b : AbstractAction) × ActionIs names s b × HasAction x p b
-  action_in_choice names _ x s (earlier {rs = rs} h) (y, z, before, one, e) =
-      let (p, b, named, has) = action_in_choice names rs y s h before in
-      (p, b, named, subst (λ w. HasAction w p b) (sym e) (inl has))
-  action_in_choice names _ x s (last {r = r} h) (y, z, before, one, e) =
-      let (p, b, named, has) = action_in_rule names r z s h one in
-      (p, b, named, subst (λ w. HasAction w p b) (sym e) (inr has))
+      (p, b, named, subst (λ w. HasAction w p b) (sym e) (either y z p b (inr has)))
 
 one_fails : (known : List (List ℕ)) (n : SpeltName) (number at : ℕ) → HasUnknown known (n ∷ []) at → ¬ IsNumberOf known n number
 one_fails known n number at h is =
@@ -78,8 +72,8 @@ mutual
   -- a rule by numbers has as many positions as actions are spelt
   pub positions_spelt : (names : Names) (r : SpeltRule) (x : Expression) → RuleIs names r x → length (positions_of x) ≡ actions_in r
   positions_spelt names (SpeltRule.act s) x (p, b, is, e) = ap (λ y. length (positions_of y)) e ∙ positions_spelt_inside names s b is
-  positions_spelt names (SpeltRule.sequence rs) x is = positions_in_sequence names rs x is
-  positions_spelt names (SpeltRule.choice rs) x is = positions_in_choice names rs x is
+  positions_spelt names (SpeltRule.sequence rs) x is = positions_in_parts names sequence skip refl (λ y z. refl) rs x is
+  positions_spelt names (SpeltRule.choice rs) x is = positions_in_parts names choice fail refl (λ y z. refl) rs x is
   positions_spelt names (SpeltRule.star r) x (y, is, e) = ap (λ z. length (positions_of z)) e ∙ positions_spelt names r y is
 
   positions_spelt_inside : (names : Names) (s : SpeltAction) (b : AbstractAction) → ActionIs names s b → suc (length (positions_inside b)) ≡ actions_of s
@@ -93,21 +87,15 @@ mutual
   positions_spelt_inside names (SpeltAction.positive at r) b (x, is, e) = ap (λ c. suc (length (positions_inside c))) e ∙ ap suc (positions_spelt names r x is)
   positions_spelt_inside names (SpeltAction.negative at r) b (x, is, e) = ap (λ c. suc (length (positions_inside c))) e ∙ ap suc (positions_spelt names r x is)
 
-  positions_in_sequence : (names : Names) (rs : SpeltRules) (x : Expression) → SequenceIs names rs x → length (positions_of x) ≡ actions_in_all rs
-  positions_in_sequence names no_rules x e = ap (λ z. length (positions_of z)) e
-  positions_in_sequence names (more_rules rs r) x (y, z, before, one, e) =
-      let first = positions_in_sequence names rs y before in
+  positions_in_parts : (names : Names) (joined : Expression → Expression → Expression) (none : Expression)
+      → length (positions_of none) ≡ 0 → ((y z : Expression) → positions_of (joined y z) ≡ positions_of y ++ positions_of z)
+      → (rs : SpeltRules) (x : Expression) → PartsAre names joined none rs x → length (positions_of x) ≡ actions_in_all rs
+  positions_in_parts names joined none no_positions both no_rules x e = ap (λ z. length (positions_of z)) e ∙ no_positions
+  positions_in_parts names joined none no_positions both (more_rules rs r) x (y, z, before, one, e) =
+      let first = positions_in_parts names joined none no_positions both rs y before in
       let second = positions_spelt names r z one in
-      let both = length-append (positions_of y) (positions_of z) in
-      rw e (omega arith)
-
-  positions_in_choice : (names : Names) (rs : SpeltRules) (x : Expression) → ChoiceIs names rs x → length (positions_of x) ≡ actions_in_all rs
-  positions_in_choice names no_rules x e = ap (λ z. length (positions_of z)) e
-  positions_in_choice names (more_rules rs r) x (y, z, before, one, e) =
-      let first = positions_in_choice names rs y before in
-      let second = positions_spelt names r z one in
-      let both = length-append (positions_of y) (positions_of z) in
-      rw e (omega arith)
+      let sum = length-append (positions_of y) (positions_of z) in
+      rw (e, both y z) (omega arith)
 
 -- Arithmetic.
 

@@ -6,8 +6,8 @@ use Rattle.std.proofs.lemmas.Bool.{and_parts}
 use Rattle.std.proofs.lemmas.List.FromFn.{length-range_with_len}
 use Rattle.std.proofs.lemmas.List.Elements.{All-nil, All-cons}
 use Rattle.std.proofs.lemmas.Option.{slice_get_within}
-use Rattle.rbg_grammar.specs.declared.expression.Operator.{Operator}
-use Rattle.rbg_grammar.specs.declared.expression.Operator.TheVariants.{Plus, Minus, Times, Over}
+use Rattle.rbg_base.specs.declared.operator.Operator.{Operator}
+use Rattle.rbg_base.specs.declared.operator.Operator.TheVariants.{Plus, Minus, Times, Over}
 use Rattle.rbg_grammar.specs.Formed.{is_formed, are_formed, is_formed_action, has_two_rules}
 use Rattle.rbg_grammar.specs.Tree.{SpeltName, SpeltExpression, SpeltOperands, no_operands, more_operands, SpeltRule, SpeltRules, no_rules, more_rules, SpeltAction}
 use Rattle.rbg_rules.specs.Expression.{AbstractArithmetic, AbstractAction, shift, on, off, assignment, comparison, switch, positive, negative, Expression, act, skip, sequence, fail, choice, star}
@@ -15,11 +15,11 @@ use Rattle.rbg_rules.specs.Games.{HasNoEmptySum, HasNoEmptySumInside, NestsWithi
 use Rattle.rbg_rules.specs.Limits.{most_nested_patterns}
 use Rattle.rbg_rules.specs.Positions.{HasAction, HasInside, positions_of}
 use Rattle.rbg_rules.specs.State.{AbstractGame}
-use Rattle.rbg_rules.specs.Translation.{expression_of}
+use Rattle.rbg_rules.specs.Translation.{operated, expression_of}
 use Rattle.rbg_rules.specs.declared.rule.Action.{Action}
 use Rattle.rbg_rules.specs.declared.rule.Rule.{Rule}
 use Rattle.rbg_numbering.specs.Names.{Names, IsNumberOf}
-use Rattle.rbg_numbering.specs.Rules.{combined, ArithmeticIs, ChainIs, ActionIs, RuleIs, SequenceIs, ChoiceIs}
+use Rattle.rbg_numbering.specs.Rules.{ArithmeticIs, ChainIs, ActionIs, RuleIs, PartsAre}
 use Rattle.rbg_numbering.specs.Faults.{actions_in}
 use Rattle.rbg_numbering.specs.Numbered.{HasAsMany, HasNoSwitchInPattern, IsRuleByNumbers}
 use Rattle.rbg_numbering.specs.internal.Steps.{IsLawful, IsLawfulAction, AddsRule}
@@ -48,13 +48,13 @@ mutual
   no_empty_sum_inside names (SpeltAction.positive at r) b (x, is, e) formed = subst HasNoEmptySumInside (sym e) (no_empty_sum names r x is formed)
   no_empty_sum_inside names (SpeltAction.negative at r) b (x, is, e) formed = subst HasNoEmptySumInside (sym e) (no_empty_sum names r x is formed)
 
-  no_empty_sum_in_sequence : (names : Names) (rs : SpeltRules) (x : Expression) → SequenceIs names rs x → are_formed rs ≡ true → HasNoEmptySum x
+  no_empty_sum_in_sequence : (names : Names) (rs : SpeltRules) (x : Expression) → PartsAre names sequence skip rs x → are_formed rs ≡ true → HasNoEmptySum x
   no_empty_sum_in_sequence names no_rules x e formed = subst HasNoEmptySum (sym e) tt
   no_empty_sum_in_sequence names (more_rules rs r) x (y, z, before, one, e) formed =
       let (first, here) = and_parts (are_formed rs) (is_formed r) formed in
       subst HasNoEmptySum (sym e) (no_empty_sum_in_sequence names rs y before first, no_empty_sum names r z one here)
 
-  no_empty_sum_in_choice : (names : Names) (rs : SpeltRules) (x : Expression) → ChoiceIs names rs x → are_formed rs ≡ true → (x ≡ fail) ⊎ HasNoEmptySum x
+  no_empty_sum_in_choice : (names : Names) (rs : SpeltRules) (x : Expression) → PartsAre names choice fail rs x → are_formed rs ≡ true → (x ≡ fail) ⊎ HasNoEmptySum x
   no_empty_sum_in_choice names no_rules x e formed = inl e
   no_empty_sum_in_choice names (more_rules rs r) x (y, z, before, one, e) formed =
       let (first, here) = and_parts (are_formed rs) (is_formed r) formed in
@@ -62,11 +62,11 @@ mutual
 
 -- Names are those of the game.
 module _ (names : Names) (game : AbstractGame) (many : HasAsMany names game) where
-  combined_names : (operator : Operator) (a b : AbstractArithmetic) → HasNamesOf game a → HasNamesOf game b → HasNamesOf game (combined operator a b)
-  combined_names Plus a b left right = (left, right)
-  combined_names Minus a b left right = (left, right)
-  combined_names Times a b left right = (left, right)
-  combined_names Over a b left right = (left, right)
+  operated_names : (operator : Operator) (a b : AbstractArithmetic) → HasNamesOf game a → HasNamesOf game b → HasNamesOf game (operated operator a b)
+  operated_names Plus a b left right = (left, right)
+  operated_names Minus a b left right = (left, right)
+  operated_names Times a b left right = (left, right)
+  operated_names Over a b left right = (left, right)
 
   mutual
     arithmetic_names : (e : SpeltExpression) (a : AbstractArithmetic) → ArithmeticIs names e a → HasNamesOf game a
@@ -83,7 +83,7 @@ module _ (names : Names) (game : AbstractGame) (many : HasAsMany names game) whe
     chain_names : (os : SpeltOperands) (a : AbstractArithmetic) → ChainIs names os a → HasNamesOf game a
     chain_names no_operands a is = absurd is
     chain_names (more_operands os operator e) a (inl (none, is)) = arithmetic_names e a is
-    chain_names (more_operands os operator e) a (inr (b, c, before, is, f)) = subst (HasNamesOf game) (sym f) (combined_names operator b c (chain_names os b before) (arithmetic_names e c is))
+    chain_names (more_operands os operator e) a (inr (b, c, before, is, f)) = subst (HasNamesOf game) (sym f) (operated_names operator b c (chain_names os b before) (arithmetic_names e c is))
 
   pieces_within : (ns : List SpeltName) (xs : List ℕ) → AllZip (IsNumberOf names.pieces) ns xs → All (λ x. x < length game.pieces) xs
   pieces_within [] [] all = All-nil (λ x. x < length game.pieces)
@@ -121,8 +121,8 @@ module _ (names : Names) (game : AbstractGame) (many : HasAsMany names game) whe
           | inl here ↦ subst (IsActionOf game) (sym here.1) (action_names s b is)
           | inr deeper ↦ names_inside s b is p a deeper
         ]
-    rule_names (SpeltRule.sequence rs) x is p a has = sequence_names rs x is p a has
-    rule_names (SpeltRule.choice rs) x is p a has = choice_names rs x is p a has
+    rule_names (SpeltRule.sequence rs) x is p a has = parts_names sequence skip (λ q b none. none) (λ y z q b h. h) rs x is p a has
+    rule_names (SpeltRule.choice rs) x is p a has = parts_names choice fail (λ q b none. none) (λ y z q b h. h) rs x is p a has
     rule_names (SpeltRule.star r) x (y, is, e) p a has = rule_names r y is p a (subst (λ z. HasAction z p a) e has)
 
     names_inside : (s : SpeltAction) (b : AbstractAction) → ActionIs names s b → (p : ℕ) (a : AbstractAction) → HasInside b p a → IsActionOf game a
@@ -136,19 +136,13 @@ module _ (names : Names) (game : AbstractGame) (many : HasAsMany names game) whe
     names_inside (SpeltAction.positive at r) b (x, is, e) p a has = rule_names r x is p a (subst (λ c. HasInside c p a) e has)
     names_inside (SpeltAction.negative at r) b (x, is, e) p a has = rule_names r x is p a (subst (λ c. HasInside c p a) e has)
 
-    sequence_names : (rs : SpeltRules) (x : Expression) → SequenceIs names rs x → (p : ℕ) (a : AbstractAction) → HasAction x p a → IsActionOf game a
-    sequence_names no_rules x e p a has = absurd (subst (λ z. HasAction z p a) e has)
-    sequence_names (more_rules rs r) x (y, z, before, one, e) p a has =
-        elim (subst (λ w. HasAction w p a) e has) [
-          | inl first ↦ sequence_names rs y before p a first
-          | inr here ↦ rule_names r z one p a here
-        ]
-
-    choice_names : (rs : SpeltRules) (x : Expression) → ChoiceIs names rs x → (p : ℕ) (a : AbstractAction) → HasAction x p a → IsActionOf game a
-    choice_names no_rules x e p a has = absurd (subst (λ z. HasAction z p a) e has)
-    choice_names (more_rules rs r) x (y, z, before, one, e) p a has =
-        elim (subst (λ w. HasAction w p a) e has) [
-          | inl first ↦ choice_names rs y before p a first
+    parts_names : (joined : Expression → Expression → Expression) (none : Expression)
+        → ((p : ℕ) (a : AbstractAction) → ¬ HasAction none p a) → ((y z : Expression) (p : ℕ) (a : AbstractAction) → HasAction (joined y z) p a → HasAction y p a ⊎ HasAction z p a)
+        → (rs : SpeltRules) (x : Expression) → PartsAre names joined none rs x → (p : ℕ) (a : AbstractAction) → HasAction x p a → IsActionOf game a
+    parts_names joined none empty either no_rules x e p a has = absurd (empty p a (subst (λ z. HasAction z p a) e has))
+    parts_names joined none empty either (more_rules rs r) x (y, z, before, one, e) p a has =
+        elim (either y z p a (subst (λ w. HasAction w p a) e has)) [
+          | inl first ↦ parts_names joined none empty either rs y before p a first
           | inr here ↦ rule_names r z one p a here
         ]
 

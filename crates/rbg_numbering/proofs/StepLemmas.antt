@@ -18,7 +18,7 @@ use Rattle.rbg_rules.specs.declared.rule.Rule.TheVariants.{Pattern, Then, Or, St
 use Rattle.rbg_rules.proofs.Bridge.{expression_of-Then, expression_of-Or, expression_of-Star}
 use Rattle.rbg_rules.proofs.TreeLemmas.{pattern_is, within_Pattern, within_Then, within_Or, within_Star, all_within_more, all_same_with_more}
 use Rattle.rbg_numbering.specs.Names.{Names}
-use Rattle.rbg_numbering.specs.Rules.{RuleIs, SequenceIs, ChoiceIs}
+use Rattle.rbg_numbering.specs.Rules.{RuleIs, PartsAre}
 use Rattle.rbg_numbering.specs.Faults.{actions_in, actions_in_all, actions_of, IsSpeltPattern, positive_pattern, negative_pattern}
 use Rattle.rbg_numbering.specs.internal.Actions.{OpensPattern}
 use Rattle.rbg_numbering.specs.internal.Steps.{IsLawful, actions_in_list, Numbers, AddsRule, AreNumbered, AddsParts}
@@ -152,12 +152,12 @@ module _ (names : Names) (left : ℕ) (make : Expression → Expression → Expr
 
 pub sequence_added : (names : Names) (left : ℕ) (rs : List SpeltRule) (old new : List Action) (xs : Vec Rule Global) → AddsParts names left rs old new xs.items → AddsRule names left (SpeltRule.sequence (rules_after no_rules rs)) old new (Then xs)
 sequence_added names left rs old new xs h =
-    parts_added names left sequence (SequenceIs names) (λ first r y z is_first is_rule. (y, z, is_first, is_rule, refl)) (λ y z. refl) (λ y z one two. (one, two)) skip (λ before. record { means = refl; positions = refl; lawful = tt })
+    parts_added names left sequence (PartsAre names sequence skip) (λ first r y z is_first is_rule. (y, z, is_first, is_rule, refl)) (λ y z. refl) (λ y z one two. (one, two)) skip (λ before. record { means = refl; positions = refl; lawful = tt })
     rs old new xs.items h (SpeltRule.sequence (rules_after no_rules rs)) (Then xs) refl (within_Then (length new) xs h.within) (expression_of-Then new xs) (λ e is. is)
 
 pub choice_added : (names : Names) (left : ℕ) (rs : List SpeltRule) (old new : List Action) (xs : Vec Rule Global) → AddsParts names left rs old new xs.items → AddsRule names left (SpeltRule.choice (rules_after no_rules rs)) old new (Or xs)
 choice_added names left rs old new xs h =
-    parts_added names left choice (ChoiceIs names) (λ first r y z is_first is_rule. (y, z, is_first, is_rule, refl)) (λ y z. refl) (λ y z one two. (one, two)) fail (λ before. record { means = refl; positions = refl; lawful = tt })
+    parts_added names left choice (PartsAre names choice fail) (λ first r y z is_first is_rule. (y, z, is_first, is_rule, refl)) (λ y z. refl) (λ y z one two. (one, two)) fail (λ before. record { means = refl; positions = refl; lawful = tt })
     rs old new xs.items h (SpeltRule.choice (rules_after no_rules rs)) (Or xs) refl (within_Or (length new) xs h.within) (expression_of-Or new xs) (λ e is. is)
 
 pub star_added : (names : Names) (left : ℕ) (r : SpeltRule) (old new : List Action) (x : Rule) (box : Box Rule Global) → box.value ≡ x → AddsRule names left r old new x → AddsRule names left (SpeltRule.star r) old new (Star box)

@@ -2,7 +2,7 @@
 use Rattle.std.specs.Prelude.{◌≡◌, ℕ, zero, suc, ◌+◌, ◌<◌, ◌≤◌, ◌^◌, List, [], ◌∷◌, Option, Some, Contains}
 use Rattle.rbg_grammar.specs.Tree.{SpeltName, SpeltNumber, SpeltExpression, SpeltOperands, more_operands}
 use Rattle.rbg_grammar.specs.Tree.{SpeltRule, SpeltRules, no_rules, more_rules, SpeltAction}
-use Rattle.rbg_grammar.specs.declared.expression.Operator.{Operator}
+use Rattle.rbg_base.specs.declared.operator.Operator.{Operator}
 use Rattle.rbg_base.specs.declared.relation.Relation.{Relation}
 use Rattle.rbg_rules.specs.Limits.{most_positions, most_nested_patterns}
 use Rattle.rbg_numbering.specs.declared.error.NumberingError.{NumberingError}

@@ -4,21 +4,12 @@ use Rattle.std.specs.Prelude.{◌≡◌, ℕ, ◌+◌, ◌<◌, ◌^◌, ◌⊎�
 use Rattle.std.specs.List.{AllZip}
 use Rattle.rbg_grammar.specs.Tree.{SpeltExpression, SpeltOperands, no_operands, more_operands}
 use Rattle.rbg_grammar.specs.Tree.{SpeltRule, SpeltRules, no_rules, more_rules, SpeltAction}
-use Rattle.rbg_grammar.specs.declared.expression.Operator.{Operator}
-use Rattle.rbg_grammar.specs.declared.expression.Operator.TheVariants.{Plus, Minus, Times, Over}
 use Rattle.rbg_rules.specs.Expression.{AbstractArithmetic, number, variable, piece_count, negated}
-use Rattle.rbg_rules.specs.Expression.{sum, difference, product, quotient}
 use Rattle.rbg_rules.specs.Expression.{AbstractAction, shift, on, off, assignment, comparison, switch}
 use Rattle.rbg_rules.specs.Expression.{positive, negative}
 use Rattle.rbg_rules.specs.Expression.{Expression, act, skip, sequence, fail, choice, star}
+use Rattle.rbg_rules.specs.Translation.{operated}
 use Rattle.rbg_numbering.specs.Names.{Names, IsNumberOf}
-
--- what an operator makes of a value and of its operand
-abbrev pub combined : Operator → AbstractArithmetic → AbstractArithmetic → AbstractArithmetic
-combined Plus b c = sum b c
-combined Minus b c = difference b c
-combined Times b c = product b c
-combined Over b c = quotient b c
 
 abbrev mutual
   -- What an arithmetic expression is. A number fits signed 64 bits. A name is a variable if there is one of that name,
@@ -35,8 +26,8 @@ abbrev mutual
   ArithmeticIs names (SpeltExpression.negated e) a = (b : AbstractArithmetic) × ArithmeticIs names e b × (a ≡ negated b)
   ArithmeticIs names (SpeltExpression.chain operands) a = ChainIs names operands a
 
-  -- A sum or a product from the left: its first operand, or what stands before the last one, combined with the last one by
-  -- its operator.
+  -- A sum or a product from the left: its first operand, or what stands before the last one, and what its operator makes of
+  -- it and the last one.
   pub ChainIs : Names → SpeltOperands → AbstractArithmetic → Type 0
   ChainIs names no_operands a = ⊥
   ChainIs names (more_operands operands operator e) a =
@@ -45,7 +36,7 @@ abbrev mutual
       × (c : AbstractArithmetic)
       × ChainIs names operands b
       × ArithmeticIs names e c
-      × (a ≡ combined operator b c))
+      × (a ≡ operated operator b c))
 
 abbrev mutual
   -- What an action is. The keeper's switch is that to player 0; players are numbered from 1.
@@ -73,26 +64,17 @@ abbrev mutual
   -- What a rule is, whatever the positions of its actions.
   pub RuleIs : Names → SpeltRule → Expression → Type 0
   RuleIs names (SpeltRule.act a) x = (p : ℕ) × (b : AbstractAction) × ActionIs names a b × (x ≡ act p b)
-  RuleIs names (SpeltRule.sequence parts) x = SequenceIs names parts x
-  RuleIs names (SpeltRule.choice parts) x = ChoiceIs names parts x
+  RuleIs names (SpeltRule.sequence parts) x = PartsAre names sequence skip parts x
+  RuleIs names (SpeltRule.choice parts) x = PartsAre names choice fail parts x
   RuleIs names (SpeltRule.star r) x = (y : Expression) × RuleIs names r y × (x ≡ star y)
 
-  -- the parts of a sequence, one after the other
-  pub SequenceIs : Names → SpeltRules → Expression → Type 0
-  SequenceIs names no_rules x = x ≡ skip
-  SequenceIs names (more_rules parts r) x =
+  -- The parts of a sequence or a sum, from the left: `joined` puts what stands before the last one and the last one
+  -- together, and `none` is what no part is.
+  pub PartsAre : Names → (joined : Expression → Expression → Expression) → (none : Expression) → SpeltRules → Expression → Type 0
+  PartsAre names joined none no_rules x = x ≡ none
+  PartsAre names joined none (more_rules parts r) x =
       (y : Expression)
       × (z : Expression)
-      × SequenceIs names parts y
+      × PartsAre names joined none parts y
       × RuleIs names r z
-      × (x ≡ sequence y z)
-
-  -- one of the parts of a sum
-  pub ChoiceIs : Names → SpeltRules → Expression → Type 0
-  ChoiceIs names no_rules x = x ≡ fail
-  ChoiceIs names (more_rules parts r) x =
-      (y : Expression)
-      × (z : Expression)
-      × ChoiceIs names parts y
-      × RuleIs names r z
-      × (x ≡ choice y z)
+      × (x ≡ joined y z)

@@ -13,7 +13,7 @@ ghost use Rattle.rbg_numbering.specs.internal.Arithmetic.{Combines};
 use crate::error::NumberingError;
 use crate::tables::NameTables;
 use rbg_grammar::{Expression, Name, Number, Operand};
-use rbg_rules::{Arithmetic, Operation, Operator};
+use rbg_rules::{Arithmetic, Operation};
 use std::alloc::Global;
 
 /// An expression by numbers.
@@ -82,12 +82,7 @@ fn number_operand(
         (expression_of operand.now.value)) }
 {
     Ok(Operation {
-        operator: match operand.operator {
-            rbg_grammar::Operator::Plus => Operator::Plus,
-            rbg_grammar::Operator::Minus => Operator::Minus,
-            rbg_grammar::Operator::Times => Operator::Times,
-            rbg_grammar::Operator::Over => Operator::Over,
-        },
+        operator: operand.operator,
         operand: number_expression(alloc, names, &operand.value)?,
     })
 }

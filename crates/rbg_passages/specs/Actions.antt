@@ -1,33 +1,26 @@
 -- How the tokens of rules are cut into actions.
-use Rattle.std.specs.Prelude.{◌≡◌, ◌≢◌, ℕ, ◌+◌, ◌<◌, Bool, true, false, List, [], ◌∷◌, ◌++◌, length, take, drop, slice_get, Some, All}
+use Rattle.std.specs.Prelude.{◌≡◌, ◌≢◌, ℕ, ◌+◌, ◌<◌, ◌||◌, Bool, true, false, List, [], ◌∷◌, ◌++◌, length, take, drop, slice_get, Some, All}
+use Rattle.rbg_tokens.specs.Kinds.{is_name_kind, is_symbol}
 use Rattle.rbg_tokens.specs.declared.token.Token.{Token}
 use Rattle.rbg_tokens.specs.declared.token.TokenKind.{TokenKind}
-use Rattle.rbg_tokens.specs.declared.token.TokenKind.TheVariants.{Name, Number, Symbol}
+use Rattle.rbg_tokens.specs.declared.token.TokenKind.TheVariants.{Symbol}
 use Rattle.rbg_tokens.specs.declared.token.Symbol.TheVariants.{DoubleArrow, Arrow, OpenBracket, CloseBracket, OpenBrace, CloseBrace, Comma, Question, Exclamation}
 
 -- what begins an action that is a single token: a shift, or the switch to the keeper
 abbrev pub is_single : TokenKind → Bool
-is_single Name = true
-is_single (Symbol DoubleArrow) = true
-is_single _ = false
+is_single kind = is_name_kind kind || is_symbol DoubleArrow kind
 
 -- what begins an off or an assignment: the bracket, or the comma behind another assignment
 abbrev pub is_change : TokenKind → Bool
-is_change (Symbol OpenBracket) = true
-is_change (Symbol Comma) = true
-is_change _ = false
+is_change kind = is_symbol OpenBracket kind || is_symbol Comma kind
 
 -- what ends one
 abbrev pub ends_change : TokenKind → Bool
-ends_change (Symbol CloseBracket) = true
-ends_change (Symbol Comma) = true
-ends_change _ = false
+ends_change kind = is_symbol CloseBracket kind || is_symbol Comma kind
 
 -- what stands behind the `{` of a pattern
 abbrev pub is_mark : TokenKind → Bool
-is_mark (Symbol Question) = true
-is_mark (Symbol Exclamation) = true
-is_mark _ = false
+is_mark kind = is_symbol Question kind || is_symbol Exclamation kind
 
 -- whether tokens begin with such a mark
 abbrev pub marks_pattern : List Token → Bool

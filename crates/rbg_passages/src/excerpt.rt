@@ -23,36 +23,85 @@ pub struct Excerpt<'a> {
     pub width: usize,
 }
 
-impl Excerpt<'_> {
+impl<'a> Excerpt<'a> {
     /// Writes the line's number and the line, and below them the carets. Of a long line the part around the place is
     /// written.
     pub fn write(&self, alloc: Global, output: &mut Vec<u8>) -> Result<(), AllocError> {
-        let first = self.offset.saturating_sub(MOST_BEFORE);
-        let before = self.bytes.get(first..self.offset).unwrap_or(&[]);
-        let rest = self.bytes.get(self.offset..).unwrap_or(&[]);
-        let after = rest.get(..MOST_AFTER).unwrap_or(rest);
-        let mark = cut_mark(first > 0);
         let number = self.number.to_string(alloc)?;
-        output.extend_from_slice(number.as_bytes())?;
+        self.write_line(alloc, number.as_bytes(), output)?;
+        self.write_carets(alloc, number.len(), output)
+    }
+
+    fn write_line(
+        &self,
+        alloc: Global,
+        number: &[u8],
+        output: &mut Vec<u8>,
+    ) -> Result<(), AllocError> {
+        output.extend_from_slice(number)?;
         output.extend_from_slice(b" | ")?;
-        output.extend_from_slice(mark)?;
-        output.extend_from_slice(shown_bytes(alloc, before)?.as_slice())?;
-        output.extend_from_slice(shown_bytes(alloc, after)?.as_slice())?;
-        output.extend_from_slice(cut_mark(after.len() < rest.len()))?;
-        output.push(b'\n')?;
-        push_repeated(output, b' ', number.len())?;
+        output.extend_from_slice(self.mark())?;
+        push_shown(alloc, self.before(), output)?;
+        let after = self.after();
+        push_shown(alloc, after, output)?;
+        output.extend_from_slice(cut_mark(after.len() < self.rest().len()))?;
+        output.extend_from_slice(b"\n")
+    }
+
+    /// The carets stand behind as many blanks as the number has digits.
+    fn write_carets(
+        &self,
+        alloc: Global,
+        digits: usize,
+        output: &mut Vec<u8>,
+    ) -> Result<(), AllocError> {
+        push_repeated(output, b' ', digits)?;
         output.extend_from_slice(b" | ")?;
-        push_repeated(output, b' ', mark.len())?;
-        output.extend_from_slice(padding(alloc, before)?.as_slice())?;
-        push_repeated(output, b'^', self.width.min(after.len()).max(1))?;
-        output.push(b'\n')?;
-        Ok(())
+        push_repeated(output, b' ', self.mark().len())?;
+        push_padding(alloc, self.before(), output)?;
+        push_repeated(output, b'^', self.width.min(self.after().len()).max(1))?;
+        output.extend_from_slice(b"\n")
+    }
+
+    /// What is shown of the line before the place.
+    fn before(&self) -> &'a [u8] {
+        let first = self.offset.saturating_sub(MOST_BEFORE);
+        let before = self.bytes.get(first..self.offset);
+        before.unwrap_or(&[])
+    }
+
+    /// The line from the place on.
+    fn rest(&self) -> &'a [u8] {
+        let rest = self.bytes.get(self.offset..);
+        rest.unwrap_or(&[])
+    }
+
+    /// What is shown of it.
+    fn after(&self) -> &'a [u8] {
+        let rest = self.rest();
+        let after = rest.get(..MOST_AFTER);
+        after.unwrap_or(rest)
+    }
+
+    /// What is written before the part of the line that is shown.
+    fn mark(&self) -> &'static [u8] {
+        cut_mark(self.offset > MOST_BEFORE)
     }
 }
 
 /// What stands where a part of the line is left out.
 fn cut_mark(is_cut: bool) -> &'static [u8] {
     if is_cut { b".." } else { b"" }
+}
+
+fn push_shown(alloc: Global, bytes: &[u8], output: &mut Vec<u8>) -> Result<(), AllocError> {
+    let shown = shown_bytes(alloc, bytes)?;
+    output.extend_from_slice(shown.as_slice())
+}
+
+fn push_padding(alloc: Global, bytes: &[u8], output: &mut Vec<u8>) -> Result<(), AllocError> {
+    let blanks = padding(alloc, bytes)?;
+    output.extend_from_slice(blanks.as_slice())
 }
 
 /// The bytes as they are written: a control byte other than a tab is a `?`.

@@ -85,16 +85,13 @@ fn part_of(token: &Token<'_>, behind: &[Token<'_>]) -> Part
 fn is_single(kind: TokenKind) -> bool
     ensures { result ≡ is_single_kind kind }
 {
-    matches!(
-        kind,
-        TokenKind::Name | TokenKind::Symbol(Symbol::DoubleArrow)
-    )
+    kind.is_name() || kind.is(Symbol::DoubleArrow)
 }
 
 fn begins_change(kind: TokenKind) -> bool
     ensures { result ≡ is_change kind }
 {
-    matches!(kind, TokenKind::Symbol(Symbol::OpenBracket | Symbol::Comma))
+    kind.is(Symbol::OpenBracket) || kind.is(Symbol::Comma)
 }
 
 fn player_part(behind: &[Token<'_>]) -> Part
@@ -127,10 +124,7 @@ fn begins_pattern(behind: &[Token<'_>]) -> bool
     ensures { result ≡ marks_pattern behind.now }
 {
     match behind {
-        [mark, ..] => matches!(
-            mark.kind,
-            TokenKind::Symbol(Symbol::Question | Symbol::Exclamation)
-        ),
+        [mark, ..] => mark.kind.is(Symbol::Question) || mark.kind.is(Symbol::Exclamation),
         [] => false,
     }
 }
@@ -162,10 +156,7 @@ fn change_end(tokens: &[Token<'_>]) -> Option<usize>
 fn is_change_end(kind: TokenKind) -> bool
     ensures { result ≡ ends_change kind }
 {
-    matches!(
-        kind,
-        TokenKind::Symbol(Symbol::Comma | Symbol::CloseBracket)
-    )
+    kind.is(Symbol::CloseBracket) || kind.is(Symbol::Comma)
 }
 
 fn is_pattern_mark(token: &Token<'_>) -> bool {

@@ -16,7 +16,8 @@ use Rattle.rbg_macro.specs.declared.error.MacroError.{MacroError}
 use Rattle.rbg_macro.specs.declared.error.MacroError.TheVariants.{BadDefinition, Twice}
 use Rattle.rbg_macro.specs.declared.source.SectionKind.{SectionKind}
 use Rattle.rbg_macro.specs.declared.source.SectionKind.TheVariants.{Players, Pieces, Variables, Board, Rules}
-use Rattle.rbg_tokens.specs.Kinds.{is_hash, is_name_kind}
+use Rattle.rbg_tokens.specs.Kinds.{is_name_kind, is_symbol}
+use Rattle.rbg_tokens.specs.declared.token.Symbol.TheVariants as symbols
 use Rattle.rbg_tokens.specs.Token.{Lexeme}
 use Rattle.rbg_position.specs.Boards.{BeginsBoard}
 
@@ -141,18 +142,18 @@ first_taken zero ts name is = absurd (none-some name is)
 first_taken (suc n) [] name is = is
 first_taken (suc n) (t ∷ ts) name is = is
 
-here_begins : (t : Lexeme) (ts : List Lexeme) → is_hash t.kind ≡ true → BeginsPart (part_of t ts).tokens → Begins (t ∷ ts)
+here_begins : (t : Lexeme) (ts : List Lexeme) → is_symbol symbols.Hash t.kind ≡ true → BeginsPart (part_of t ts).tokens → Begins (t ∷ ts)
 here_begins t ts hash b =
     (0, record { hash = t; name = b.name; at_hash = refl; at_name = first_taken (position_or_len is_hash_token ts) ts b.name (ap (λ us. slice_get us 0) b.whole); is_hash = hash; is_board = b.is_board })
 
-hash_or : (t : Lexeme) (ts : List Lexeme) (test : Bool) → is_hash t.kind ≡ test → (SomeBegins (parts ts) → Begins ts) → SomeBegins (cond test (part_of t ts ∷ parts ts) (parts ts)) → Begins (t ∷ ts)
+hash_or : (t : Lexeme) (ts : List Lexeme) (test : Bool) → is_symbol symbols.Hash t.kind ≡ test → (SomeBegins (parts ts) → Begins ts) → SomeBegins (cond test (part_of t ts ∷ parts ts) (parts ts)) → Begins (t ∷ ts)
 hash_or t ts true hash others (inl here) = here_begins t ts hash here
 hash_or t ts true hash others (inr later) = later_begins t ts (others later)
 hash_or t ts false hash others later = later_begins t ts (others later)
 
 begins_in : (ts : List Lexeme) → SomeBegins (parts ts) → Begins ts
 begins_in [] some = absurd some
-begins_in (t ∷ ts) some = hash_or t ts (is_hash t.kind) refl (begins_in ts) some
+begins_in (t ∷ ts) some = hash_or t ts (is_symbol symbols.Hash t.kind) refl (begins_in ts) some
 
 defined_begins : (t : Lexeme) (ts : List Lexeme) (test : Bool) → has_defined (cond test (definitions [] (parts (t ∷ ts))) (Err (BadDefinition t.at))) ≡ true → Begins (t ∷ ts)
 defined_begins t ts true is = begins_in (t ∷ ts) (some_begins [] (parts (t ∷ ts)) is)
@@ -160,7 +161,7 @@ defined_begins t ts false is = absurd (false≢true is)
 
 begins_of : (tokens : List Lexeme) → has_defined (definitions_of tokens) ≡ true → Begins tokens
 begins_of [] is = absurd (false≢true is)
-begins_of (t ∷ ts) is = defined_begins t ts (is_hash t.kind) is
+begins_of (t ∷ ts) is = defined_begins t ts (is_symbol symbols.Hash t.kind) is
 
 pub board_begins : (tokens ts : List Lexeme) (sections : List SectionTokens) → HasSections tokens sections → HasSection sections Board ts → Begins tokens
 board_begins tokens ts sections expanded has =

@@ -1,7 +1,6 @@
 -- What a refusal says.
 use Rattle.std.proofs.Common.{◌≡◌, ◌≢◌, ℕ, List, Bool, true, false, not, sym, subst}
-use Rattle.std.specs.Prelude.{Result, Ok, Err, IfErr, bytes_eq}
-use Rattle.std.specs.Result.{IsErrAnd}
+use Rattle.std.specs.Prelude.{Result, Ok, Err, bytes_eq}
 use Rattle.std.proofs.lemmas.Slice.Eq.{bytes_eq-Decides}
 use Rattle.rbg_rules.specs.State.{AbstractGame}
 use Rattle.rbg_rules.specs.Moves.{AbstractPlace}
@@ -12,11 +11,6 @@ use Rattle.rbg_position.specs.Refusals.{IsUnsettled}
 use Rattle.rbg_position.specs.Refusals.IsUnsettled.{heavy, endless, no_memory}
 use Rattle.rbg_position.specs.declared.error.PositionError.{PositionError}
 use Rattle.rbg_position.specs.internal.Texts.{error_of}
-
--- An error that is passed on.
-pub passed_on : {T : Type 0} (result : Result T PositionError) (error : PositionError) (P : PositionError → Type 0) → IsErrAnd result (λ e. e ≡ error) → P error → IfErr result P
-passed_on (Ok x) error P is p = absurd is
-passed_on (Err e) error P is p = subst P (sym is) p
 
 differ : (t : Bool) → true ≡ not t → t ≡ true → ⊥
 differ true test here = let apart : true ≡ false = test in cc

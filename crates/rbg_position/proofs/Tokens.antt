@@ -4,7 +4,8 @@ use Rattle.std.proofs.lemmas.Bool.{cases_lt}
 use Rattle.std.proofs.lemmas.List.{length-map}
 use Rattle.std.proofs.lemmas.Option.{slice_get_within, slice_get-get_or}
 use Rattle.rbg_base.proofs.CallerLemmas.{slice_get-map_at}
-use Rattle.rbg_tokens.specs.Kinds.{is_hash}
+use Rattle.rbg_tokens.specs.Kinds.{is_symbol}
+use Rattle.rbg_tokens.specs.declared.token.Symbol.TheVariants as symbols
 use Rattle.rbg_tokens.specs.Token.{Lexeme, lexeme_of}
 use Rattle.rbg_tokens.specs.declared.token.Token.{Token}
 use Rattle.rbg_position.specs.Boards.{BeginsBoard}
@@ -23,8 +24,8 @@ token_within ts i t at = let within = slice_get_within (map lexeme_of ts) i t at
 
 -- `#board` stands where the two tokens are these
 pub begins_here : (ts : List Token) (at : ℕ) (d e : Token) (test : Bool) → at + 1 < length ts
-    → (IsTrue test → (is_hash (get_or ts at d).kind ≡ true) × ((get_or ts (at + 1) e).text.now ≡ codes "board"))
-    × ((is_hash (get_or ts at d).kind ≡ true) × ((get_or ts (at + 1) e).text.now ≡ codes "board") → IsTrue test)
+    → (IsTrue test → (is_symbol symbols.Hash (get_or ts at d).kind ≡ true) × ((get_or ts (at + 1) e).text.now ≡ codes "board"))
+    × ((is_symbol symbols.Hash (get_or ts at d).kind ≡ true) × ((get_or ts (at + 1) e).text.now ≡ codes "board") → IsTrue test)
     → (IsTrue test → BeginsBoard (map lexeme_of ts) at) × (BeginsBoard (map lexeme_of ts) at → IsTrue test)
 begins_here ts at d e test within told = (
   λ h. (let both = told.0 h in record {
@@ -36,7 +37,7 @@ begins_here ts at d e test within told = (
     is_board = both.1;
   }),
   λ b. told.1 (
-    ap (λ (t : Lexeme). is_hash t.kind) (sym (same_token ts at d b.hash (omega (arith, within)) b.at_hash)) ∙ b.is_hash,
+    ap (λ (t : Lexeme). is_symbol symbols.Hash t.kind) (sym (same_token ts at d b.hash (omega (arith, within)) b.at_hash)) ∙ b.is_hash,
     ap (λ (t : Lexeme). t.text) (sym (same_token ts (at + 1) e b.name within b.at_name)) ∙ b.is_board,
   ),
 )
@@ -48,16 +49,16 @@ begins_nowhere ts count all before at b =
     before at (omega (arith, within, all)) b
 
 -- one token more is no `#`
-pub no_hash_more : (ts : List Token) (start end : ℕ) (d : Token) → end < length ts → is_hash (get_or ts end d).kind ≡ false
-    → ((k : ℕ) (token : Lexeme) → start + 2 ≤ k → k < end → slice_get (map lexeme_of ts) k ≡ Some token → is_hash token.kind ≡ false)
-    → (k : ℕ) (token : Lexeme) → start + 2 ≤ k → k < end + 1 → slice_get (map lexeme_of ts) k ≡ Some token → is_hash token.kind ≡ false
+pub no_hash_more : (ts : List Token) (start end : ℕ) (d : Token) → end < length ts → is_symbol symbols.Hash (get_or ts end d).kind ≡ false
+    → ((k : ℕ) (token : Lexeme) → start + 2 ≤ k → k < end → slice_get (map lexeme_of ts) k ≡ Some token → is_symbol symbols.Hash token.kind ≡ false)
+    → (k : ℕ) (token : Lexeme) → start + 2 ≤ k → k < end + 1 → slice_get (map lexeme_of ts) k ≡ Some token → is_symbol symbols.Hash token.kind ≡ false
 no_hash_more ts start end d within none before k token after below at = cases (cases_lt k end)
   where
-    here : k ≡ end → is_hash token.kind ≡ false
+    here : k ≡ end → is_symbol symbols.Hash token.kind ≡ false
     here same =
         let at_end : slice_get (map lexeme_of ts) end ≡ Some token = subst (λ n. slice_get (map lexeme_of ts) n ≡ Some token) same at in
-        ap (λ (t : Lexeme). is_hash t.kind) (same_token ts end d token within at_end) ∙ none
+        ap (λ (t : Lexeme). is_symbol symbols.Hash t.kind) (same_token ts end d token within at_end) ∙ none
 
-    cases : (k < end) ⊎ (end ≤ k) → is_hash token.kind ≡ false
+    cases : (k < end) ⊎ (end ≤ k) → is_symbol symbols.Hash token.kind ≡ false
     cases (inl earlier) = before k token after earlier at
     cases (inr later) = here (omega (arith, later, below))

@@ -1,6 +1,7 @@
 -- The section of the board among the tokens of a text, and the text with another one in its place.
 use Rattle.std.specs.Prelude.{◌≡◌, ℕ, ◌+◌, ◌-◌, ◌<◌, ◌≤◌, true, false, List, ◌++◌, length, take, drop, slice_get, Some, codes}
-use Rattle.rbg_tokens.specs.Kinds.{is_hash}
+use Rattle.rbg_tokens.specs.Kinds.{is_symbol}
+use Rattle.rbg_tokens.specs.declared.token.Symbol.TheVariants as symbols
 use Rattle.rbg_tokens.specs.Text.{HasTokens}
 use Rattle.rbg_tokens.specs.Token.{Lexeme}
 
@@ -10,7 +11,7 @@ pub record BeginsBoard (tokens : List Lexeme) (at : ℕ) : Type 0 where
   pub name : Lexeme
   pub at_hash : slice_get tokens at ≡ Some hash
   pub at_name : slice_get tokens (at + 1) ≡ Some name
-  pub is_hash : is_hash hash.kind ≡ true
+  pub is_hash : is_symbol symbols.Hash hash.kind ≡ true
   pub is_board : name.text ≡ codes "board"
 
 -- The tokens from this one up to that one are the section of the board: `#board`, and what stands before the next `#`.
@@ -21,8 +22,8 @@ pub record IsBoardSection (tokens : List Lexeme) (start end : ℕ) : Type 0 wher
   pub inside : (k : ℕ) (token : Lexeme) →
       start + 2 ≤ k →
       k < end →
-      slice_get tokens k ≡ Some token → is_hash token.kind ≡ false
-  pub ends : (token : Lexeme) → slice_get tokens end ≡ Some token → is_hash token.kind ≡ true
+      slice_get tokens k ≡ Some token → is_symbol symbols.Hash token.kind ≡ false
+  pub ends : (token : Lexeme) → slice_get tokens end ≡ Some token → is_symbol symbols.Hash token.kind ≡ true
 
 -- The new text is the old one with this section in place of that of its board. What stands before the first token of
 -- that section, and behind its last one, is the same.

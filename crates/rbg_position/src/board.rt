@@ -10,11 +10,8 @@ ghost use Rattle.rbg_position.specs.Sections.{ExpandsBoard, name_of, section_tex
 ghost use Rattle.rbg_position.specs.internal.Walking.{
   IsSectionAt,
   begins_line,
-  ends_row,
-  ends_vertex,
   is_inside_behind,
   is_spaced,
-  opens_row,
 };
 
 use rbg_base::{Memory, Piece};
@@ -199,32 +196,13 @@ fn space_between(last: TokenKind, next: TokenKind) -> &'static [u8]
 fn begins_line(last: TokenKind, next: TokenKind) -> bool
     ensures { result ≡ begins_line last next }
 {
-    ends_row(last) && opens_row(next) || ends_vertex(last) && next.is_name()
-}
-
-fn opens_row(kind: TokenKind) -> bool
-    ensures { result ≡ opens_row kind }
-{
-    matches!(kind, TokenKind::Symbol(Symbol::OpenBracket))
-}
-
-fn ends_row(kind: TokenKind) -> bool
-    ensures { result ≡ ends_row kind }
-{
-    matches!(
-        kind,
-        TokenKind::Symbol(Symbol::Comma | Symbol::CloseBracket)
-    )
-}
-
-fn ends_vertex(kind: TokenKind) -> bool
-    ensures { result ≡ ends_vertex kind }
-{
-    matches!(kind, TokenKind::Symbol(Symbol::CloseBrace))
+    let ends_row = last.is(Symbol::Comma) || last.is(Symbol::CloseBracket);
+    let ends_vertex = last.is(Symbol::CloseBrace);
+    ends_row && next.is(Symbol::OpenBracket) || ends_vertex && next.is_name()
 }
 
 fn is_spaced(kind: TokenKind) -> bool
     ensures { result ≡ is_spaced kind }
 {
-    matches!(kind, TokenKind::Symbol(Symbol::Comma | Symbol::Colon))
+    kind.is(Symbol::Comma) || kind.is(Symbol::Colon)
 }

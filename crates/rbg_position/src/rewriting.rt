@@ -1,13 +1,14 @@
 //! The text with another section of its board.
 ghost use Rattle.std.specs.Prelude.{◌≡◌, ◌↔◌, ◌+◌, ◌<◌, ◌≤◌, ◌++◌, ℕ, IfNone, IfOk, IfSome, IsTrue, codes, drop, length, map, take, true};
-ghost use Rattle.rbg_tokens.specs.Kinds.{is_hash};
+ghost use Rattle.rbg_tokens.specs.Kinds.{is_symbol};
+ghost use Rattle.rbg_tokens.specs.declared.token.Symbol.TheVariants as symbols;
 ghost use Rattle.rbg_tokens.specs.Text.{HasTokens};
 ghost use Rattle.rbg_tokens.specs.Token.{lexeme_of};
 ghost use Rattle.rbg_position.specs.Boards.{BeginsBoard, IsBoardSection, IsRewritten};
 ghost use Rattle.rbg_position.specs.internal.Missing.{HasNoBoard};
 
 use rbg_base::Memory;
-use rbg_tokens::{Token, TokenKind, Tokens};
+use rbg_tokens::{Symbol, Token, TokenKind, Tokens};
 use std::alloc::Global;
 
 /// The text with this section in place of that of its board, or None if it has no such section.
@@ -82,9 +83,9 @@ fn begins_board(tokens: &[Token<'_>], at: usize) -> bool
 
 /// Whether the kind is that of `#`, and the name is `board`.
 fn is_board(kind: TokenKind, name: &[u8]) -> bool
-    ensures { IsTrue result ↔ ((is_hash kind ≡ true) × (name.now ≡ codes "board")) }
+    ensures { IsTrue result ↔ ((is_symbol symbols.Hash kind ≡ true) × (name.now ≡ codes "board")) }
 {
-    kind.is_hash() && name == b"board".as_slice()
+    kind.is(Symbol::Hash) && name == b"board".as_slice()
 }
 
 /// The index of the next `#` behind `#board`, or the number of tokens if there is none.
@@ -94,7 +95,7 @@ fn find_end(tokens: &[Token<'_>], start: usize) -> usize
     ensures { IsBoardSection (map lexeme_of tokens.now) start result }
 {
     for end in start + 2..tokens.len() {
-        if tokens[end].kind.is_hash() {
+        if tokens[end].kind.is(Symbol::Hash) {
             return end;
         }
     }

@@ -5,8 +5,8 @@ use Rattle.rbg_rules.specs.declared.arithmetic.Arithmetic.{Arithmetic}
 use Rattle.rbg_rules.specs.declared.arithmetic.Arithmetic.TheOpen.{Arithmetic-F, Operation-F}
 use Rattle.rbg_rules.specs.declared.arithmetic.Arithmetic.TheFolds.{fold-Arithmetic, fold-Operation}
 use Rattle.rbg_rules.specs.declared.arithmetic.Operation.{Operation}
-use Rattle.rbg_rules.specs.declared.arithmetic.Operator.{Operator}
-use Rattle.rbg_rules.specs.declared.arithmetic.Operator.TheVariants.{Plus, Minus, Times, Over}
+use Rattle.rbg_base.specs.declared.operator.Operator.{Operator}
+use Rattle.rbg_base.specs.declared.operator.Operator.TheVariants.{Plus, Minus, Times, Over}
 use Rattle.rbg_rules.specs.declared.rule.Action.{Action}
 use Rattle.rbg_rules.specs.declared.rule.Rule.{Rule}
 use Rattle.rbg_rules.specs.declared.rule.Rules.{Rules}

@@ -1,6 +1,6 @@
 //! Arithmetic over whole numbers, variables and counts of pieces.
 
-use rbg_base::{Piece, Variable};
+use rbg_base::{Operator, Piece, Variable};
 
 /// Operations of one rank form a list, so the depth of an expression is that of its brackets.
 #[cycle(arithmetic)]
@@ -38,12 +38,4 @@ impl Drop for Arithmetic {
 pub struct Operation {
     pub operator: Operator,
     pub operand: Arithmetic,
-}
-
-#[derive(Clone, Copy, Debug, PartialEq, Eq)]
-pub enum Operator {
-    Plus,
-    Minus,
-    Times,
-    Over,
 }

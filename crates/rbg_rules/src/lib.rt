@@ -7,7 +7,7 @@ pub mod laws;
 pub mod limits;
 pub mod rule;
 
-pub use arithmetic::{Arithmetic, Operation, Operator};
+pub use arithmetic::{Arithmetic, Operation};
 pub use game::{Game, Parts};
-pub use rbg_base::Relation;
+pub use rbg_base::{Operator, Relation};
 pub use rule::{Action, Rule, Rules};

@@ -7,7 +7,6 @@ use rbg_base::{Direction, Piece, Player, Position, Relation, Variable};
 
 /// A regular expression over positions.
 #[cycle(rule)]
-#[derive(Debug)]
 pub enum Rule {
     /// The action at this position, which isn't a pattern.
     Act(Position),

@@ -10,8 +10,8 @@ use Rattle.rbg_rules.specs.Translation.{arithmetic_of, operation_of, operated, c
 use Rattle.rbg_rules.specs.declared.arithmetic.Arithmetic.{Arithmetic}
 use Rattle.rbg_rules.specs.declared.arithmetic.Arithmetic.TheVariants.{Chain}
 use Rattle.rbg_rules.specs.declared.arithmetic.Operation.{Operation}
-use Rattle.rbg_rules.specs.declared.arithmetic.Operator.{Operator}
-use Rattle.rbg_rules.specs.declared.arithmetic.Operator.TheVariants.{Plus, Minus, Times, Over}
+use Rattle.rbg_base.specs.declared.operator.Operator.{Operator}
+use Rattle.rbg_base.specs.declared.operator.Operator.TheVariants.{Plus, Minus, Times, Over}
 use Rattle.rbg_rules.proofs.Bridge.{arithmetic_of-Chain}
 use Rattle.rbg_state.proofs.Reading.{operation_of_is}
 use Rattle.rbg_state.specs.Evaluation.{result_of, value_after}

@@ -4,8 +4,8 @@ use Rattle.rbg_rules.specs.State.{AbstractState}
 use Rattle.rbg_rules.specs.Values.{if_fits, on_values, divided, value_of}
 use Rattle.rbg_rules.specs.Translation.{arithmetic_of}
 use Rattle.rbg_rules.specs.declared.arithmetic.Operation.{Operation}
-use Rattle.rbg_rules.specs.declared.arithmetic.Operator.{Operator}
-use Rattle.rbg_rules.specs.declared.arithmetic.Operator.TheVariants.{Plus, Minus, Times, Over}
+use Rattle.rbg_base.specs.declared.operator.Operator.{Operator}
+use Rattle.rbg_base.specs.declared.operator.Operator.TheVariants.{Plus, Minus, Times, Over}
 
 -- the sum, the difference, the product or the quotient of two values, if it has one
 abbrev pub result_of : Operator → ℤ → ℤ → Option ℤ

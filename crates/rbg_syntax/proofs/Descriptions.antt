@@ -6,13 +6,14 @@ use Rattle.rbg_macro.specs.Sections.{SectionTokens}
 use Rattle.rbg_macro.specs.declared.source.SectionKind.{SectionKind}
 use Rattle.rbg_macro.specs.declared.source.SectionKind.TheVariants.{Players, Pieces, Variables, Board, Rules}
 use Rattle.rbg_tokens.specs.declared.token.Symbol.TheVariants.{Comma}
+use Rattle.rbg_tokens.specs.Kinds.{is_name_kind, is_symbol}
 use Rattle.rbg_syntax.specs.declared.error.ReadError.{ReadError}
 use Rattle.rbg_syntax.specs.declared.error.ReadError.TheVariants as faults
 use Rattle.rbg_syntax.specs.declared.error.SyntaxError.{SyntaxError}
 use Rattle.rbg_syntax.specs.declared.error.SyntaxError.TheVariants as errors
 use Rattle.rbg_grammar.specs.Tree.{SpeltBounded, SpeltName, SpeltBoard, SpeltRule}
 use Rattle.rbg_grammar.specs.Grammar.{ArePlayers, AreVariables, ArePieces, IsBoard, AreRules}
-use Rattle.rbg_grammar.specs.Reading.{Fault, misfit, Reading, is_name, is_symbol, bounded_at, name_at, separated_at, listed_at, board_at, whole_at, variables_at}
+use Rattle.rbg_grammar.specs.Reading.{Fault, misfit, Reading, bounded_at, name_at, separated_at, listed_at, board_at, whole_at, variables_at}
 use Rattle.rbg_syntax.specs.internal.Giving.{Gives, GivesWithin, GivesAt, Fails, FailsWithin, error_in, placed, start_of}
 use Rattle.rbg_grammar.specs.RuleReading.{rules_at}
 use Rattle.rbg_grammar.specs.Sections.{sections_of, AreDifferent}
@@ -65,9 +66,9 @@ pieces_refuted ts place e s = err_no_ok _ (misfit place) s.0 e (whole_complete 1
 board_refuted : (ts : List Lexeme) (place : Option ℕ) → whole_at board_at ts ≡ Err (misfit place) → IsSpelt Board ts → ⊥
 board_refuted ts place e s = err_no_ok _ (misfit place) s.0 e (whole_complete 1 IsBoard Always board_at board_read tt ts s.0 s.1)
 
-variables_refuted : (ts : List Lexeme) (place : Option ℕ) → whole_at (listed_at is_name bounded_at) ts ≡ Err (misfit place) → IsSpelt Variables ts → ⊥
+variables_refuted : (ts : List Lexeme) (place : Option ℕ) → whole_at (listed_at is_name_kind bounded_at) ts ≡ Err (misfit place) → IsSpelt Variables ts → ⊥
 variables_refuted ts place e s =
-    err_no_ok _ (misfit place) s.0 e (whole_complete 0 AreVariables (EndsList Always is_name) (listed_at is_name bounded_at) variables_read (record { no_part = refl; no_comma = record { ends = refl; follows = tt } }) ts s.0 s.1)
+    err_no_ok _ (misfit place) s.0 e (whole_complete 0 AreVariables (EndsList Always is_name_kind) (listed_at is_name_kind bounded_at) variables_read (record { no_part = refl; no_comma = record { ends = refl; follows = tt } }) ts s.0 s.1)
 
 rules_refuted : (ts : List Lexeme) (place : Option ℕ) → whole_at (rules_at 128) ts ≡ Err (misfit place) → IsSpelt Rules ts → ⊥
 rules_refuted ts place e s = spells_nothing 128 s.0 ts s.1.0 place e s.1.1
@@ -141,7 +142,7 @@ spelt_variables {A} all view x different h = go (sections_of Variables all) refl
   where
     go : (xs : List SectionTokens) → sections_of Variables all ≡ xs → Gives view (Ok x) (variables_at xs) → MayHaveVariables all (view x)
     go [] is h = inl (is, sym (ok_value [] (view x) h))
-    go (s ∷ ss) is h = inr (record { ts = s.tokens; has = record { section = s; only = only_variables all s ss different is; tokens = refl }; spells = whole_sound 0 AreVariables (EndsList Always is_name) (listed_at is_name bounded_at) variables_read (record { no_part = refl; no_comma = record { ends = refl; follows = tt } }) s.tokens (view x) h })
+    go (s ∷ ss) is h = inr (record { ts = s.tokens; has = record { section = s; only = only_variables all s ss different is; tokens = refl }; spells = whole_sound 0 AreVariables (EndsList Always is_name_kind) (listed_at is_name_kind bounded_at) variables_read (record { no_part = refl; no_comma = record { ends = refl; follows = tt } }) s.tokens (view x) h })
 
 pub variables_spelt : {A : Type 0} (all : List SectionTokens) (view : A → List SpeltBounded) (x : A) → AreDifferent all
     → GivesAt (start_of (sections_of Variables all)) view (Ok x) (variables_at (sections_of Variables all)) → MayHaveVariables all (view x)
@@ -162,16 +163,16 @@ variables_fault {A} all view e different h = go (sections_of Variables all) refl
     go : (xs : List SectionTokens) → sections_of Variables all ≡ xs → (r : Result A ReadError) → placed (start_of xs) r ≡ Err e → Gives view r (variables_at xs) → HasFault all e
     go [] is r same h = none_refused all view r e h same
     go (s ∷ ss) is r same h =
-        fault_of AreVariables (listed_at is_name bounded_at) variables_judged Variables (λ ts x d. (x, d)) variables_refuted all view s (only_variables all s ss different is) r e h same
+        fault_of AreVariables (listed_at is_name_kind bounded_at) variables_judged Variables (λ ts x d. (x, d)) variables_refuted all view s (only_variables all s ss different is) r e h same
 
 pub variables_start : (xs : List SectionTokens) (s : SectionTokens) → Some s ≡ slice_get xs 0 → s.at ≡ start_of xs
 variables_start [] s e = cc
 variables_start (x ∷ xs) s e = let same : s ≡ x = cc in ap (λ (y : SectionTokens). y.at) same
 
-pub variables_first : (xs : List SectionTokens) (s : SectionTokens) → Some s ≡ slice_get xs 0 → variables_at xs ≡ whole_at (listed_at is_name bounded_at) s.tokens
+pub variables_first : (xs : List SectionTokens) (s : SectionTokens) → Some s ≡ slice_get xs 0 → variables_at xs ≡ whole_at (listed_at is_name_kind bounded_at) s.tokens
 unfolding variables_at
 variables_first [] s e = cc
-variables_first (x ∷ xs) s e = let same : s ≡ x = cc in ap (λ (y : SectionTokens). whole_at (listed_at is_name bounded_at) y.tokens) (sym same)
+variables_first (x ∷ xs) s e = let same : s ≡ x = cc in ap (λ (y : SectionTokens). whole_at (listed_at is_name_kind bounded_at) y.tokens) (sym same)
 
 pub variables_none : (xs : List SectionTokens) → None ≡ slice_get xs 0 → variables_at xs ≡ Ok []
 unfolding variables_at

@@ -2,12 +2,12 @@
 use Rattle.std.proofs.Common.{◌≡◌, ◌-◌, ℕ, zero, suc, List, [], ◌∷◌, Bool, true, false, None, Result, Ok, Err, refl, ap, ◌∙◌, arith}
 use Rattle.rbg_tokens.specs.Token.{Lexeme}
 use Rattle.rbg_tokens.specs.declared.token.Symbol.{Symbol}
-use Rattle.rbg_tokens.specs.declared.token.Symbol.TheVariants.{Plus, OpenParenthesis, CloseParenthesis, OpenBrace, CloseBrace, Question, Exclamation}
+use Rattle.rbg_tokens.specs.declared.token.Symbol.TheVariants.{Plus, OpenParenthesis, CloseParenthesis, Question, Exclamation}
 use Rattle.rbg_tokens.specs.declared.token.TokenKind.{TokenKind}
 use Rattle.rbg_grammar.specs.declared.expression.Rank.{Rank}
 use Rattle.rbg_grammar.specs.Tree.{SpeltExpression, SpeltOperand, SpeltRule, first_of, in_chain, act, positive, negative, sequence_of}
-use Rattle.rbg_grammar.specs.Reading.{Fault, misfit, too_deep, Reading, ◌>>=◌, next_is, is_symbol, symbol_at, repeated_at, after_at, separated_at, within_at, further_at, in_sequence, open_atom_at}
-use Rattle.rbg_tokens.specs.Kinds.{opens}
+use Rattle.rbg_grammar.specs.Reading.{Fault, misfit, too_deep, Reading, ◌>>=◌, next_is, symbol_at, repeated_at, after_at, separated_at, within_at, further_at, in_sequence, open_atom_at}
+use Rattle.rbg_tokens.specs.Kinds.{opens, is_symbol}
 use Rattle.rbg_grammar.specs.RuleReading.{too_deep_at, chain_at, further_operand_at, in_choice, is_operator, number_or_name_at, primary_at, sum_at, atom_at, begins_atom, bracket_atom_at, item_at, sequence_at, rules_over_at, rules_at, pattern_at, positive_at, negative_at}
 use Rattle.rbg_grammar.proofs.Turns.{repeated_ends}
 
@@ -110,38 +110,13 @@ pub rules_more_fail : (n : ℕ) (ts : List Lexeme) (x : SpeltRule) (rest : List 
 rules_more_fail n ts = parts_more_fail (rules_at n ts) (sequence_at (atom_at n) ts) (λ (x : SpeltRule). x) (is_symbol Plus) (after_at Plus (sequence_at (atom_at n))) in_choice (rules_parts n ts) (λ x. refl)
 
 -- a pattern, by its rules
-module _ (f : ℕ → SpeltRule → SpeltRule) (sign : Symbol) (rules' : List Lexeme → Reading SpeltRule) where
-  abbrev pair_of : ℕ → SpeltRule → ℕ × List Lexeme → Reading (ℕ × SpeltRule)
-  pair_of at x end = Ok ((at, x), end.1)
-
-  abbrev made : (ℕ × SpeltRule) × List Lexeme → Reading SpeltRule
-  made p = Ok (f p.0.0 p.0.1, p.1)
-
-  closed : (at : ℕ) (x : SpeltRule) (r : Reading ℕ) → ◌≡◌ {A = Reading SpeltRule} (r >>= λ end. Ok (f at x, end.1)) ((r >>= pair_of at x) >>= made)
-  closed at x (Ok end) = refl
-  closed at x (Err g) = refl
-
-  abbrev closes_pair : ℕ → SpeltRule × List Lexeme → Reading (ℕ × SpeltRule)
-  closes_pair at x = symbol_at CloseBrace x.1 >>= pair_of at x.0
-
-  within : (at : ℕ) (r : Reading SpeltRule) → ◌≡◌ {A = Reading SpeltRule} (r >>= λ x. symbol_at CloseBrace x.1 >>= λ end. Ok (f at x.0, end.1)) ((r >>= closes_pair at) >>= made)
-  within at (Ok x) = closed at x.0 (symbol_at CloseBrace x.1)
-  within at (Err g) = refl
-
-  abbrev opens_pair : ℕ × List Lexeme → Reading (ℕ × SpeltRule)
-  opens_pair at = after_at sign rules' at.1 >>= closes_pair at.0
-
-  opened : (r : Reading ℕ) → ◌≡◌ {A = Reading SpeltRule} (r >>= λ at. after_at sign rules' at.1 >>= λ x. symbol_at CloseBrace x.1 >>= λ end. Ok (f at.0 x.0, end.1)) ((r >>= opens_pair) >>= made)
-  opened (Ok at) = within at.0 (after_at sign rules' at.1)
-  opened (Err g) = refl
-
 pub positive_pattern : (rules' : List Lexeme → Reading SpeltRule) (ts : List Lexeme) → positive_at rules' ts ≡ (pattern_at Question rules' ts >>= λ p. Ok (act (positive p.0.0 p.0.1), p.1))
-unfolding positive_at pattern_at
-positive_pattern rules' ts = opened (λ (at : ℕ) (r : SpeltRule). act (positive at r)) Question rules' (symbol_at OpenBrace ts)
+unfolding positive_at
+positive_pattern rules' ts = refl
 
 pub negative_pattern : (rules' : List Lexeme → Reading SpeltRule) (ts : List Lexeme) → negative_at rules' ts ≡ (pattern_at Exclamation rules' ts >>= λ p. Ok (act (negative p.0.0 p.0.1), p.1))
-unfolding negative_at pattern_at
-negative_pattern rules' ts = opened (λ (at : ℕ) (r : SpeltRule). act (negative at r)) Exclamation rules' (symbol_at OpenBrace ts)
+unfolding negative_at
+negative_pattern rules' ts = refl
 
 pub ruleset patterns = (positive_pattern, negative_pattern)
 

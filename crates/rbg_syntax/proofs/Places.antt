@@ -10,62 +10,50 @@ use Rattle.rbg_syntax.specs.declared.error.SyntaxError.{SyntaxError}
 use Rattle.rbg_grammar.specs.Reading.{Fault, misfit, too_deep, Reading, ◌>>=◌, ended_at, whole_at}
 use Rattle.rbg_syntax.specs.internal.Giving.{Gives, GivesWithin, error_in, placed}
 use Rattle.rbg_grammar.specs.Sections.{sections_of}
-use Rattle.rbg_grammar.specs.Spells.{IsSpelt}
+use Rattle.rbg_grammar.specs.Spells.{IsSpelt, TokenAt}
 use Rattle.rbg_syntax.specs.Faults.{HasFault}
 use Rattle.rbg_grammar.proofs.Misfits.{Taken, Stuck, Judged, Judges}
 
 -- the tokens before the one at this place may begin such a phrase, and with it they don't fit, whatever follows
-pub record Stops {B : Type 0} (P : List Lexeme → B → List Lexeme → Type 0) (read : List Lexeme → Reading B) (ts : List Lexeme) (at : ℕ) : Type 0 where
-  pub before : List Lexeme
-  pub token : Lexeme
-  pub behind : List Lexeme
-  pub whole : ts ≡ before ++ token ∷ behind
-  pub place : token.at ≡ at
+pub record MisfitAt {B : Type 0} (P : List Lexeme → B → List Lexeme → Type 0) (read : List Lexeme → Reading B) (ts : List Lexeme) (at : ℕ) : Type 0 where
+  pub here : TokenAt ts at
   pub more : List Lexeme
   pub value : B
-  pub fits : P (before ++ more) value []
-  pub never : (other : List Lexeme) → whole_at read (before ++ token ∷ other) ≡ Err (misfit (Some at))
+  pub fits : P (here.before ++ more) value []
+  pub never : (other : List Lexeme) → whole_at read (here.before ++ here.token ∷ other) ≡ Err (misfit (Some at))
 
 module _ {B : Type 0} (P : List Lexeme → B → List Lexeme → Type 0) (read : List Lexeme → Reading B) (j : Judges P read) where
-  left_over : (ts : List Lexeme) (x : B) (rest : List Lexeme) (at : ℕ) → Taken P read ts x rest → ended_at x rest ≡ Err (misfit (Some at)) → Stops P read ts at
+  left_over : (ts : List Lexeme) (x : B) (rest : List Lexeme) (at : ℕ) → Taken P read ts x rest → ended_at x rest ≡ Err (misfit (Some at)) → MisfitAt P read ts at
   unfolding whole_at
   left_over ts x [] at k e = cc
   left_over ts x (t ∷ us) at k e =
       let same : t.at ≡ at = cc in
       record {
-        before = k.used;
-        token = t;
-        behind = us;
-        whole = k.whole;
-        place = same;
+        here = record { before = k.used; token = t; behind = us; whole = k.whole; place = same };
         more = [];
         value = x;
         fits = k.spells [];
         never = λ other. ap (λ r. r >>= λ q. ended_at q.0 q.1) (k.same t us other refl) ∙ ap (λ (b : ℕ). Err (misfit (Some b))) same;
       }
 
-  stuck : (ts : List Lexeme) (at : ℕ) → Stuck P read ts at → Stops P read ts at
+  stuck : (ts : List Lexeme) (at : ℕ) → Stuck P read ts at → MisfitAt P read ts at
   unfolding whole_at
   stuck ts at k = record {
-    before = k.before;
-    token = k.token;
-    behind = k.behind;
-    whole = k.whole;
-    place = k.place;
+    here = k.here;
     more = k.begun.other ++ [];
     value = k.begun.value;
     fits = k.begun.spells [];
     never = λ other. ap (λ r. r >>= λ q. ended_at q.0 q.1) (k.same other);
   }
 
-  stops_at : (ts : List Lexeme) (at : ℕ) → whole_at read ts ≡ Err (misfit (Some at)) → Stops P read ts at
+  stops_at : (ts : List Lexeme) (at : ℕ) → whole_at read ts ≡ Err (misfit (Some at)) → MisfitAt P read ts at
   unfolding whole_at
   stops_at ts at e = go (read ts) (j.at ts) e
     where
-      go : (r : Reading B) → Judged P read ts r → (r >>= λ q. ended_at q.0 q.1) ≡ Err (misfit (Some at)) → Stops P read ts at
+      go : (r : Reading B) → Judged P read ts r → (r >>= λ q. ended_at q.0 q.1) ≡ Err (misfit (Some at)) → MisfitAt P read ts at
       go (Ok q) k e = left_over ts q.0 q.1 at k e
       go (Err (misfit None)) k e = cc
-      go (Err (misfit (Some b))) k e = let same : b ≡ at = cc in subst (λ a. Stops P read ts a) same (stuck ts b k)
+      go (Err (misfit (Some b))) k e = let same : b ≡ at = cc in subst (λ a. MisfitAt P read ts a) same (stuck ts b k)
       go (Err (too_deep b)) k e = cc
 
   never_ends : (x : B) (rest : List Lexeme) → ended_at x rest ≡ Err (misfit None) → ⊥
@@ -94,13 +82,9 @@ module _ {B : Type 0} (P : List Lexeme → B → List Lexeme → Type 0) (read :
           has = record { section = s; only = only; tokens = refl };
           spells_nothing = refuted s.tokens (Some at) e;
           place = inl (record {
-            before = k.before;
-            token = k.token;
-            behind = k.behind;
-            whole = k.whole;
-            place = k.place;
-            fits = (k.more, see (k.before ++ k.more) k.value k.fits);
-            refused = λ c. refuted (k.before ++ k.token ∷ c.0) (Some at) (k.never c.0) (subst (λ us. IsSpelt kind us) (append_assoc k.before (k.token ∷ []) c.0) c.1);
+            here = k.here;
+            fits = (k.more, see (k.here.before ++ k.more) k.value k.fits);
+            refused = λ c. refuted (k.here.before ++ k.here.token ∷ c.0) (Some at) (k.never c.0) (subst (λ us. IsSpelt kind us) (append_assoc k.here.before (k.here.token ∷ []) c.0) c.1);
           });
         }
     misspelt None what e =

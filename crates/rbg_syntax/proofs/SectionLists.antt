@@ -3,35 +3,21 @@ use Rattle.std.proofs.Common.{◌≡◌, ◌≤◌, ◌+◌, ℕ, zero, suc, Lis
 use Rattle.std.specs.Prelude.{slice_get, IfErr}
 use Rattle.std.specs.Option.{ok_or}
 use Rattle.rbg_syntax.specs.declared.error.SyntaxError.{SyntaxError}
-use denote.Enum.Bare.{sameb, same_true, true_same}
+use denote.Enum.Bare.{same_true, true_same}
 use Rattle.rbg_macro.specs.Sections.{SectionTokens}
 use Rattle.rbg_macro.specs.contracts.source.SectionKind.{the_type}
 use Rattle.rbg_macro.specs.declared.source.SectionKind.{SectionKind}
-use Rattle.rbg_macro.specs.declared.source.SectionKind.TheVariants.{Players, Pieces, Variables, Board, Rules}
 use Rattle.rbg_grammar.specs.Sections.{same_kind, sections_of, count_of, AreDifferent, IsFirstTwice}
 
--- the test of the code
-pub same_kind-sameb : (a b : SectionKind) → sameb the_type a b ≡ same_kind a b
-same_kind-sameb Players Players = refl
-same_kind-sameb Players _ = refl
-same_kind-sameb Pieces Pieces = refl
-same_kind-sameb Pieces _ = refl
-same_kind-sameb Variables Variables = refl
-same_kind-sameb Variables _ = refl
-same_kind-sameb Board Board = refl
-same_kind-sameb Board _ = refl
-same_kind-sameb Rules Rules = refl
-same_kind-sameb Rules _ = refl
-
-pub same_kind-same : (a b : SectionKind) → a ≡ b → same_kind a b ≡ true
-same_kind-same a b e = sym (same_kind-sameb a b) ∙ true_same the_type a b e
+same_kind-same : (a b : SectionKind) → a ≡ b → same_kind a b ≡ true
+same_kind-same a b e = true_same the_type a b e
 
 pub kind_from-same : (a b : SectionKind) → same_kind a b ≡ true → a ≡ b
-kind_from-same a b e = same_true the_type tt a b (same_kind-sameb a b ∙ e)
+kind_from-same a b e = same_true the_type tt a b e
 
 -- the test of the code, at a section's kind
-pub tested : (a b c : SectionKind) (flag t : Bool) → flag ≡ sameb the_type a c → a ≡ b → flag ≡ t → same_kind b c ≡ t
-tested a b c flag t is same e = ap (λ k. same_kind k c) (sym same) ∙ sym (same_kind-sameb a c) ∙ sym is ∙ e
+pub tested : (a b c : SectionKind) (flag t : Bool) → flag ≡ same_kind a c → a ≡ b → flag ≡ t → same_kind b c ≡ t
+tested a b c flag t is same e = ap (λ k. same_kind k c) (sym same) ∙ sym is ∙ e
 
 -- one more section, by whether it is of the kind
 pub sections_of-drop : (kind : SectionKind) (sections : List SectionTokens) (i : ℕ) (s : SectionTokens) → slice_get sections i ≡ Some s

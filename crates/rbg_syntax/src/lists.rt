@@ -1,8 +1,9 @@
 //! The phrases of which the sections of players, variables, pieces and boards are lists.
-ghost use Rattle.rbg_grammar.specs.Reading.{bounded_at, edge_at, is_name, is_symbol, name_at, row_at, vertex_at};
+ghost use Rattle.rbg_grammar.specs.Reading.{bounded_at, edge_at, name_at, row_at, vertex_at};
 ghost use Rattle.rbg_grammar.specs.Tree.{SpeltBounded, SpeltEdge, SpeltName, SpeltVertex};
 ghost use Rattle.rbg_grammar.specs.Views.{bounded_of, edge_of, name_of, names_of, vertex_of};
 ghost use Rattle.rbg_tokens.specs.declared.token.Symbol.TheVariants.{OpenBracket};
+ghost use Rattle.rbg_tokens.specs.Kinds.{is_name_kind, is_symbol};
 ghost use Rattle.std.specs.Prelude.{◌≡◌, List};
 
 use crate::error::{Expectation, Reading};
@@ -19,14 +20,14 @@ impl<'a> Phrase<'a> for Name<'a> {
 
     ghost read = { name_at };
 
-    ghost begins = { is_name };
+    ghost begins = { is_name_kind };
 
     fn read_from(parser: &mut Parser<'a>, _alloc: Global) -> Reading<Name<'a>> {
         parser.name()
     }
 
     fn begins_with(kind: TokenKind) -> bool
-        ensures { result ≡ is_name kind }
+        ensures { result ≡ is_name_kind kind }
     {
         kind == TokenKind::Name
     }
@@ -39,7 +40,7 @@ impl<'a> Phrase<'a> for Bounded<'a> {
 
     ghost read = { bounded_at };
 
-    ghost begins = { is_name };
+    ghost begins = { is_name_kind };
 
     /// A player or a variable with its bound.
     #[tactic(auto, unfolding(rbg_grammar::specs::Reading::bounded_at, rbg_grammar::specs::Reading::within_at))]
@@ -52,7 +53,7 @@ impl<'a> Phrase<'a> for Bounded<'a> {
     }
 
     fn begins_with(kind: TokenKind) -> bool
-        ensures { result ≡ is_name kind }
+        ensures { result ≡ is_name_kind kind }
     {
         kind == TokenKind::Name
     }
@@ -90,7 +91,7 @@ impl<'a> Phrase<'a> for Edge<'a> {
 
     ghost read = { edge_at };
 
-    ghost begins = { is_name };
+    ghost begins = { is_name_kind };
 
     /// An edge to a vertex.
     #[tactic(auto, unfolding(rbg_grammar::specs::Reading::edge_at, rbg_grammar::specs::Reading::after_at))]
@@ -102,7 +103,7 @@ impl<'a> Phrase<'a> for Edge<'a> {
     }
 
     fn begins_with(kind: TokenKind) -> bool
-        ensures { result ≡ is_name kind }
+        ensures { result ≡ is_name_kind kind }
     {
         kind == TokenKind::Name
     }
@@ -115,7 +116,7 @@ impl<'a> Phrase<'a> for Vertex<'a> {
 
     ghost read = { vertex_at };
 
-    ghost begins = { is_name };
+    ghost begins = { is_name_kind };
 
     /// A vertex of a graph.
     #[tactic(auto, using(rbg_grammar::proofs::PhraseLaws::edge_takes_some), unfolding(rbg_grammar::specs::Reading::vertex_at, rbg_grammar::specs::Reading::within_at))]
@@ -131,7 +132,7 @@ impl<'a> Phrase<'a> for Vertex<'a> {
     }
 
     fn begins_with(kind: TokenKind) -> bool
-        ensures { result ≡ is_name kind }
+        ensures { result ≡ is_name_kind kind }
     {
         kind == TokenKind::Name
     }

@@ -2,8 +2,9 @@
 ghost use Rattle.std.specs.Prelude.{◌≡◌, [], ◌∷◌, drop, List, IfErr, IfOk, IfSome, IsTrue, MatchOption};
 ghost use Rattle.rbg_base.specs.Names.{is_name as is_a_name};
 ghost use Rattle.rbg_tokens.specs.Token.{Lexeme, lexeme_of};
+ghost use Rattle.rbg_tokens.specs.Kinds.{is_name_kind, is_number_kind, is_symbol};
 ghost use Rattle.rbg_syntax.specs.internal.Giving.{FailsWithin, Gives};
-ghost use Rattle.rbg_grammar.specs.Reading.{Takes, ended_at, front_at, next_is, next_word, is_name, is_number, is_symbol, name_at, number_at, place_of, symbol_at, word_at};
+ghost use Rattle.rbg_grammar.specs.Reading.{Takes, ended_at, front_at, next_is, next_word, name_at, number_at, place_of, symbol_at, word_at};
 ghost use Rattle.rbg_syntax.specs.declared.error.ReadError.TheVariants as errors;
 ghost use Rattle.rbg_grammar.specs.RuleReading.{too_deep_at};
 ghost use Rattle.rbg_grammar.specs.Views.{name_of, number_of};
@@ -95,7 +96,7 @@ impl<'a> Parser<'a> {
 
     /// Whether the next token is a name.
     pub(crate) fn next_is_name(&self) -> bool
-        ensures { result ≡ next_is is_name self.now }
+        ensures { result ≡ next_is is_name_kind self.now }
     {
         match self.peek() {
             Some(token) => token.kind == TokenKind::Name,
@@ -105,7 +106,7 @@ impl<'a> Parser<'a> {
 
     /// Whether the next token is a number.
     pub(crate) fn next_is_number(&self) -> bool
-        ensures { result ≡ next_is is_number self.now }
+        ensures { result ≡ next_is is_number_kind self.now }
     {
         match self.peek() {
             Some(token) => token.kind == TokenKind::Number,

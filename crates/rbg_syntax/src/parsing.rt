@@ -2,9 +2,10 @@
 ghost use Rattle.std.specs.Prelude.{◌≡◌, slice_get, IfErr, IfOk};
 ghost use Rattle.rbg_macro.specs.declared.source.SectionKind.TheVariants.{Variables};
 ghost use Rattle.rbg_tokens.specs.declared.token.Symbol.TheVariants.{Comma};
+ghost use Rattle.rbg_tokens.specs.Kinds.{is_name_kind};
 ghost use Rattle.rbg_grammar.specs.Descriptions.{description_of, description_of_parts};
 ghost use Rattle.rbg_syntax.specs.internal.Giving.{Gives, GivesAt, GivesWithin, placed, start_of};
-ghost use Rattle.rbg_grammar.specs.Reading.{board_at, bounded_at, is_name, listed_at, name_at, separated_at, variables_at, whole_at};
+ghost use Rattle.rbg_grammar.specs.Reading.{board_at, bounded_at, listed_at, name_at, separated_at, variables_at, whole_at};
 ghost use Rattle.rbg_grammar.specs.RuleReading.{rules_at};
 ghost use Rattle.rbg_syntax.specs.Faults.{IsMissing};
 ghost use Rattle.rbg_grammar.specs.Sections.{sections_of};
@@ -120,7 +121,7 @@ fn variables_of<'a>(alloc: Global, source: &'a Source<'_>) -> Result<Vec<Bounded
 #[tactic(auto, using(crate::proofs::Answers::endings, rbg_grammar::proofs::PhraseLaws::bounded_takes_some), unfolding(rbg_grammar::specs::Reading::whole_at))]
 fn read_variables(alloc: Global, section: Section<'_>) -> Reading<Vec<Bounded<'_>>>
     ensures { Gives bounded_list_of result
-        (whole_at (listed_at is_name bounded_at) section.entry.tokens) }
+        (whole_at (listed_at is_name_kind bounded_at) section.entry.tokens) }
 {
     let mut parser = Parser::new(section);
     let variables = parser.listed(alloc)?;

@@ -3,8 +3,8 @@
 ghost use Rattle.std.specs.Prelude.{◌≡◌, map};
 ghost use Rattle.rbg_tokens.specs.declared.token.Symbol.TheVariants as symbols;
 ghost use Rattle.rbg_syntax.specs.internal.Giving.{GivesWithin};
-ghost use Rattle.rbg_grammar.specs.Reading.{after_at, further_at, is_symbol, next_is};
-ghost use Rattle.rbg_tokens.specs.Kinds.{opens};
+ghost use Rattle.rbg_grammar.specs.Reading.{after_at, further_at, next_is};
+ghost use Rattle.rbg_tokens.specs.Kinds.{opens, is_symbol};
 ghost use Rattle.rbg_grammar.specs.RuleReading.{atom_at, begins_atom, bracket_atom_at, in_braces_at, in_choice, item_at, pattern_at, rules_at, sequence_at, sum_at};
 ghost use Rattle.rbg_grammar.specs.Views.{rule_of};
 

@@ -1,38 +1,27 @@
 -- Tests on the kinds of tokens.
 use Rattle.std.specs.Prelude.{Bool, true, false}
-use Rattle.rbg_tokens.specs.declared.token.Symbol.TheVariants.{Equals, OpenParenthesis, CloseParenthesis, OpenBracket}
-use Rattle.rbg_tokens.specs.declared.token.Symbol.TheVariants.{CloseBracket, OpenBrace, CloseBrace, Semicolon, Tilde}
-use Rattle.rbg_tokens.specs.declared.token.Symbol.TheVariants.{Hash}
+use denote.Enum.Bare.{sameb}
+use Rattle.rbg_tokens.specs.contracts.token.Symbol.{the_type}
+use Rattle.rbg_tokens.specs.declared.token.Symbol.{Symbol}
+use Rattle.rbg_tokens.specs.declared.token.Symbol.TheVariants.{OpenParenthesis, CloseParenthesis, OpenBracket}
+use Rattle.rbg_tokens.specs.declared.token.Symbol.TheVariants.{CloseBracket, OpenBrace, CloseBrace}
 use Rattle.rbg_tokens.specs.declared.token.TokenKind.{TokenKind}
-use Rattle.rbg_tokens.specs.declared.token.TokenKind.TheVariants.{Name, Symbol as A_Symbol}
+use Rattle.rbg_tokens.specs.declared.token.TokenKind.TheVariants.{Name, Number, Symbol as A_Symbol}
 
 abbrev pub is_name_kind : TokenKind → Bool
 is_name_kind Name = true
-is_name_kind _ = false
+is_name_kind Number = false
+is_name_kind (A_Symbol s) = false
 
-abbrev pub is_hash : TokenKind → Bool
-is_hash (A_Symbol Hash) = true
-is_hash _ = false
+abbrev pub is_number_kind : TokenKind → Bool
+is_number_kind Name = false
+is_number_kind Number = true
+is_number_kind (A_Symbol s) = false
 
-abbrev pub is_equals : TokenKind → Bool
-is_equals (A_Symbol Equals) = true
-is_equals _ = false
-
-abbrev pub is_tilde : TokenKind → Bool
-is_tilde (A_Symbol Tilde) = true
-is_tilde _ = false
-
-abbrev pub is_semicolon : TokenKind → Bool
-is_semicolon (A_Symbol Semicolon) = true
-is_semicolon _ = false
-
-abbrev pub is_open_parenthesis : TokenKind → Bool
-is_open_parenthesis (A_Symbol OpenParenthesis) = true
-is_open_parenthesis _ = false
-
-abbrev pub is_close_parenthesis : TokenKind → Bool
-is_close_parenthesis (A_Symbol CloseParenthesis) = true
-is_close_parenthesis _ = false
+abbrev pub is_symbol : Symbol → TokenKind → Bool
+is_symbol s Name = false
+is_symbol s Number = false
+is_symbol s (A_Symbol own) = sameb the_type own s
 
 -- `(`, `[` and `{`
 abbrev pub opens : TokenKind → Bool

@@ -4,7 +4,7 @@ ghost use Rattle.std.specs.Prelude.{◌≡◌, ◌↔◌, IsTrue};
 use std::marker::Model;
 
 /// The symbols, each a token of its own.
-#[derive(Clone, Copy, Debug, PartialEq, Eq)]
+#[derive(Clone, Copy, PartialEq, Eq)]
 pub enum Symbol {
     /// `->>`
     DoubleArrow,
@@ -83,7 +83,7 @@ impl Symbol {
 }
 
 /// The kind of a token.
-#[derive(Clone, Copy, Debug, PartialEq, Eq)]
+#[derive(Clone, Copy, PartialEq, Eq)]
 pub enum TokenKind {
     /// A letter or `_`, followed by letters, digits or `_`.
     Name,
@@ -94,8 +94,7 @@ pub enum TokenKind {
 
 impl TokenKind {
     ghost use Rattle.std.specs.Prelude.{◌≡◌};
-    ghost use Rattle.rbg_tokens.specs.Kinds.{is_name_kind, is_hash, is_equals, is_tilde, is_semicolon};
-    ghost use Rattle.rbg_tokens.specs.Kinds.{is_open_parenthesis, is_close_parenthesis, opens, closes};
+    ghost use Rattle.rbg_tokens.specs.Kinds.{is_name_kind, is_symbol, opens, closes};
 
     /// Whether it is that of a name.
     pub fn is_name(self) -> bool
@@ -104,46 +103,14 @@ impl TokenKind {
         matches!(self, TokenKind::Name)
     }
 
-    /// Whether it is that of `#`.
-    pub fn is_hash(self) -> bool
-        ensures { result ≡ is_hash self }
+    /// Whether it is that of this symbol.
+    pub fn is(self, symbol: Symbol) -> bool
+        ensures { result ≡ is_symbol symbol self }
     {
-        matches!(self, TokenKind::Symbol(Symbol::Hash))
-    }
-
-    /// Whether it is that of `=`.
-    pub fn is_equals(self) -> bool
-        ensures { result ≡ is_equals self }
-    {
-        matches!(self, TokenKind::Symbol(Symbol::Equals))
-    }
-
-    /// Whether it is that of `~`.
-    pub fn is_tilde(self) -> bool
-        ensures { result ≡ is_tilde self }
-    {
-        matches!(self, TokenKind::Symbol(Symbol::Tilde))
-    }
-
-    /// Whether it is that of `;`.
-    pub fn is_semicolon(self) -> bool
-        ensures { result ≡ is_semicolon self }
-    {
-        matches!(self, TokenKind::Symbol(Symbol::Semicolon))
-    }
-
-    /// Whether it is that of `(`.
-    pub fn is_open_parenthesis(self) -> bool
-        ensures { result ≡ is_open_parenthesis self }
-    {
-        matches!(self, TokenKind::Symbol(Symbol::OpenParenthesis))
-    }
-
-    /// Whether it is that of `)`.
-    pub fn is_close_parenthesis(self) -> bool
-        ensures { result ≡ is_close_parenthesis self }
-    {
-        matches!(self, TokenKind::Symbol(Symbol::CloseParenthesis))
+        match self {
+            TokenKind::Symbol(own) => own == symbol,
+            TokenKind::Name | TokenKind::Number => false,
+        }
     }
 
     /// Whether it opens brackets: `(`, `[` or `{`.

@@ -5,7 +5,8 @@ use Rattle.rbg_macro.specs.declared.call.Effect.{Effect}
 use Rattle.rbg_macro.specs.declared.call.Effect.TheVariants as effects
 use Rattle.rbg_macro.specs.declared.error.MacroError.{MacroError}
 use Rattle.rbg_macro.specs.declared.error.MacroError.TheVariants.{ArgumentCount}
-use Rattle.rbg_tokens.specs.Kinds.{is_open_parenthesis}
+use Rattle.rbg_tokens.specs.Kinds.{is_symbol}
+use Rattle.rbg_tokens.specs.declared.token.Symbol.TheVariants as symbols
 use Rattle.rbg_macro.specs.Call.{Arguments, arguments, Nesting, Within, Cuts, Ends, Mismatched, Calls, NoCall, meets}
 use Rattle.rbg_macro.specs.Macro.{Macro, filled}
 use Rattle.rbg_macro.specs.internal.Template.{item_in, lists_in}
@@ -39,4 +40,4 @@ pub record IsNoCall (macros : List Macro) (t : Lexeme) (ts : List Lexeme) (e : M
 -- whether the first token is `(`
 abbrev pub begins_with_parenthesis : List Lexeme → Bool
 begins_with_parenthesis [] = false
-begins_with_parenthesis (t ∷ ts) = is_open_parenthesis t.kind
+begins_with_parenthesis (t ∷ ts) = is_symbol symbols.OpenParenthesis t.kind

@@ -6,7 +6,8 @@ use Rattle.rbg_macro.specs.declared.macros.Template.{Template}
 use Rattle.rbg_macro.specs.Definition.{Definitions, Defined, A_Section, A_Macro, Part, behind_name, defined, is_new_name}
 use Rattle.rbg_macro.specs.Macro.{body_of}
 use Rattle.rbg_macro.specs.internal.Template.{item_in}
-use Rattle.rbg_tokens.specs.Kinds.{is_hash}
+use Rattle.rbg_tokens.specs.Kinds.{is_symbol}
+use Rattle.rbg_tokens.specs.declared.token.Symbol.TheVariants as symbols
 use Rattle.rbg_tokens.specs.Token.{Lexeme, lexeme_of}
 use Rattle.rbg_macro.specs.Sections.{SectionTokens}
 
@@ -45,4 +46,4 @@ pub record IsTemplateBehind (end : ℕ) (ts : List Lexeme) (template : Template)
 -- the first token, if there is one, is a `#`
 abbrev pub BeginsDefinition : List Lexeme → Type 0
 BeginsDefinition [] = Unit {0}
-BeginsDefinition (t ∷ ts) = IsTrue (is_hash t.kind)
+BeginsDefinition (t ∷ ts) = IsTrue (is_symbol symbols.Hash t.kind)

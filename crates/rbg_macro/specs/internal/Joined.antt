@@ -6,7 +6,8 @@ use Rattle.rbg_macro.specs.declared.joining.JoinedToken.{JoinedToken}
 use Rattle.rbg_macro.specs.declared.joining.JoinedToken.TheVariants.{Single, Joined}
 use Rattle.rbg_tokens.specs.declared.token.TokenKind.{TokenKind}
 use Rattle.rbg_macro.specs.Joining.{joined_from, joined_token}
-use Rattle.rbg_tokens.specs.Kinds.{is_tilde}
+use Rattle.rbg_tokens.specs.Kinds.{is_symbol}
+use Rattle.rbg_tokens.specs.declared.token.Symbol.TheVariants as symbols
 use Rattle.rbg_macro.specs.internal.Marks.{Word, word_of}
 use Rattle.rbg_macro.specs.internal.Span.{lexeme_in, IsSpanWithin}
 use Rattle.rbg_tokens.specs.Token.{Lexeme}
@@ -22,7 +23,7 @@ IsJoinedWithin texts (Joined s number) = IsSpanWithin texts s
 -- whether the first token is `~`
 abbrev pub begins_with_tilde : List Lexeme → Bool
 begins_with_tilde [] = false
-begins_with_tilde (t ∷ ts) = is_tilde t.kind
+begins_with_tilde (t ∷ ts) = is_symbol symbols.Tilde t.kind
 
 -- a token that is joined so far
 abbrev pub word_at : ℕ → TokenKind → List ℕ → Lexeme
@@ -33,7 +34,7 @@ pub record JoinsNext (kind new_kind : TokenKind) (word new_word : List ℕ) (ts 
   pub tilde : Lexeme
   pub right : Lexeme
   pub tokens : ts ≡ tilde ∷ right ∷ drop 2 ts
-  pub is_tilde : IsTrue (is_tilde tilde.kind)
+  pub is_tilde : IsTrue (is_symbol symbols.Tilde tilde.kind)
   pub joins : (at : ℕ) → joined_token (word_at at kind word) right ≡ Some (word_at at new_kind new_word)
 
 -- the first n tokens become one word of this kind

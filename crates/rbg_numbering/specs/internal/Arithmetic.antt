@@ -2,13 +2,13 @@
 use Rattle.std.specs.Prelude.{◌≡◌}
 use Rattle.rbg_grammar.specs.Tree.{SpeltOperand}
 use Rattle.rbg_rules.specs.Expression.{AbstractArithmetic}
-use Rattle.rbg_rules.specs.Translation.{operation_of}
+use Rattle.rbg_rules.specs.Translation.{operated, operation_of}
 use Rattle.rbg_rules.specs.declared.arithmetic.Operation.{Operation}
 use Rattle.rbg_numbering.specs.Names.{Names}
-use Rattle.rbg_numbering.specs.Rules.{combined, ArithmeticIs}
+use Rattle.rbg_numbering.specs.Rules.{ArithmeticIs}
 
 -- The operation combines a value with the operand.
 pub record Combines (names : Names) (spelt : SpeltOperand) (operation : Operation) : Type 0 where
   pub operand : AbstractArithmetic
   pub is_operand : ArithmeticIs names spelt.1 operand
-  pub does : (b : AbstractArithmetic) → operation_of operation b ≡ combined spelt.0 b operand
+  pub does : (b : AbstractArithmetic) → operation_of operation b ≡ operated spelt.0 b operand

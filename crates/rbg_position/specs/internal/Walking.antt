@@ -1,7 +1,7 @@
 -- How the section of a board is written from its first token to its last.
 use Rattle.std.specs.Prelude.{◌≡◌, ℕ, ◌&&◌, ◌||◌, Bool, true, false, List, Some, slice_get}
 use Rattle.rbg_macro.specs.Sections.{SectionTokens}
-use Rattle.rbg_tokens.specs.Kinds.{is_name_kind}
+use Rattle.rbg_tokens.specs.Kinds.{is_name_kind, is_symbol}
 use Rattle.rbg_tokens.specs.Token.{Lexeme}
 use Rattle.rbg_tokens.specs.declared.token.Symbol.TheVariants.{OpenBracket, CloseBracket, CloseBrace, Comma, Colon}
 use Rattle.rbg_tokens.specs.declared.token.TokenKind.{TokenKind}
@@ -13,31 +13,17 @@ is_inside_behind inside (Symbol OpenBracket) = true
 is_inside_behind inside (Symbol CloseBracket) = false
 is_inside_behind inside _ = inside
 
--- what a row begins with
-abbrev pub opens_row : TokenKind → Bool
-opens_row (Symbol OpenBracket) = true
-opens_row _ = false
-
 -- what stands before a row: another one, or the comma behind it
 abbrev pub ends_row : TokenKind → Bool
-ends_row (Symbol Comma) = true
-ends_row (Symbol CloseBracket) = true
-ends_row _ = false
-
--- what a vertex of a graph ends with
-abbrev pub ends_vertex : TokenKind → Bool
-ends_vertex (Symbol CloseBrace) = true
-ends_vertex _ = false
+ends_row kind = is_symbol Comma kind || is_symbol CloseBracket kind
 
 -- what has a space behind it
 abbrev pub is_spaced : TokenKind → Bool
-is_spaced (Symbol Comma) = true
-is_spaced (Symbol Colon) = true
-is_spaced _ = false
+is_spaced kind = is_symbol Comma kind || is_symbol Colon kind
 
 -- whether a row or a vertex of a graph begins between two tokens
 abbrev pub begins_line : (last next : TokenKind) → Bool
-begins_line last next = (ends_row last && opens_row next) || (ends_vertex last && is_name_kind next)
+begins_line last next = (ends_row last && is_symbol OpenBracket next) || (is_symbol CloseBrace last && is_name_kind next)
 
 -- A section with these tokens has this index.
 pub record IsSectionAt (sections : List SectionTokens) (ts : List Lexeme) (index : ℕ) : Type 0 where

@@ -1,5 +1,5 @@
 use Rattle.rbg_grammar.specs.Descriptions.{description_of}
-use Rattle.rbg_numbering.proofs.LookUps.{passed_on}
+use Rattle.rbg_base.proofs.Errors.{passed_on}
 use Rattle.rbg_game.specs.declared.game_error.GameError.TheVariants.{Memory}
 use Rattle.rbg_game.specs.Faults.{HasFault, memory}
 use Rattle.rbg_game.proofs.loading.check_with_layout.Goals as goal

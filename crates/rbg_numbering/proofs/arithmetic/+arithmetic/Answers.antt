@@ -7,9 +7,8 @@ use Rattle.rbg_rules.specs.Translation.{arithmetic_of}
 use Rattle.rbg_numbering.specs.declared.error.NumberingError.TheVariants.{Memory}
 use Rattle.rbg_numbering.specs.Numbered.{names_of}
 use Rattle.rbg_numbering.specs.Faults.{HasArithmeticFault, arithmetic_memory}
-use Rattle.rbg_numbering.proofs.LookUps.{passed_on}
+use Rattle.rbg_base.proofs.Errors.{passed_on}
 use Rattle.rbg_numbering.proofs.ArithmeticLemmas.{fault_of_operand, one_operand, is_chain, operands_formed, is_number, is_name, negated_formed, fault_of_negated, negated_made, item_behind, take_first, chain_step, chain_made, combines_operand}
-use Rattle.rbg_numbering.proofs.arithmetic.+arithmetic.Goals.{number_operand-in-Plus, number_operand-in-Minus, number_operand-in-Times, number_operand-in-Over}
 use Rattle.rbg_numbering.proofs.arithmetic.+arithmetic.Goals as goal
 
 pub number_expression-number_expression-requires : goal.number_expression-number_expression-requires
@@ -98,11 +97,4 @@ number_operands-returns-clause-value t c =
 
 pub number_operand-returns-clause-value : goal.number_operand-returns-clause-value
 number_operand-returns-clause-value t c =
-    combines_operand (names_of c.args.names.now) c.args.operand.now c.match-operand.result c.in_ok-number_expression.field-0
-    (λ b d. elim c.match-operand.branch [
-      | number_operand-in-Plus w ↦ rw (w.result-is, w.in-Plus.is) refl
-      | number_operand-in-Minus w ↦ rw (w.result-is, w.in-Minus.is) refl
-      | number_operand-in-Times w ↦ rw (w.result-is, w.in-Times.is) refl
-      | number_operand-in-Over w ↦ rw (w.result-is, w.in-Over.is) refl
-    ])
-    c.in_ok-number_expression.ensures.value
+    combines_operand (names_of c.args.names.now) c.args.operand.now c.in_ok-number_expression.field-0 c.in_ok-number_expression.ensures.value

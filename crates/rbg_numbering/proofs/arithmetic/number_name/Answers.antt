@@ -4,7 +4,7 @@ use Rattle.rbg_rules.proofs.Bridge.{arithmetic_of-Variable, arithmetic_of-PieceC
 use Rattle.rbg_numbering.specs.Numbered.{names_of}
 use Rattle.rbg_grammar.specs.Tree.{SpeltExpression}
 use Rattle.rbg_numbering.specs.Faults.{HasArithmeticFault}
-use Rattle.rbg_numbering.proofs.LookUps.{passed_on}
+use Rattle.rbg_base.proofs.Errors.{passed_on}
 use Rattle.rbg_numbering.proofs.ArithmeticLemmas.{unknown_alone}
 use Rattle.rbg_numbering.proofs.arithmetic.number_name.Goals as goal
 

@@ -9,7 +9,7 @@ use Rattle.rbg_numbering.specs.declared.error.NumberingError.TheVariants.{Memory
 use Rattle.rbg_numbering.specs.Numbered.{names_of}
 use Rattle.rbg_numbering.specs.internal.Actions.{is_spelt_pattern}
 use Rattle.rbg_numbering.specs.internal.Steps.{HasFaultFrom, from_memory}
-use Rattle.rbg_numbering.proofs.LookUps.{passed_on}
+use Rattle.rbg_base.proofs.Errors.{passed_on}
 use Rattle.rbg_numbering.proofs.StepLemmas.{no_parts, sequence_added, choice_added, star_added, pattern_added, spelt_pattern_of}
 use Rattle.rbg_numbering.proofs.StepFaults.{fault_in_star, fault_in_choice, opening_fault}
 use Rattle.rbg_numbering.proofs.RuleNumbering.{is_act, is_then, is_or, is_star, positive_opens, negative_opens, opens_formed, then_formed, or_formed, part_formed, next_part, fault_of_next, all_parts, fault_of_inside}

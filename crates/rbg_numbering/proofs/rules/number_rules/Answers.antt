@@ -4,7 +4,7 @@ use Rattle.rbg_rules.specs.Limits.{most_nested_patterns}
 use Rattle.rbg_numbering.specs.Numbered.{names_of}
 use Rattle.rbg_numbering.specs.Faults.{HasRuleFault}
 use Rattle.rbg_numbering.specs.internal.Steps.{AddsRule, HasFaultFrom}
-use Rattle.rbg_numbering.proofs.LookUps.{passed_on}
+use Rattle.rbg_base.proofs.Errors.{passed_on}
 use Rattle.rbg_numbering.proofs.StepFaults.{fault_of_rules}
 use Rattle.rbg_numbering.proofs.RuleLaws.{rules_made, one_each}
 use Rattle.rbg_numbering.proofs.rules.number_rules.Goals as goal

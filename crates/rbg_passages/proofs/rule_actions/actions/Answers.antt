@@ -10,6 +10,11 @@ overflow_add-end-in-loop-at c =
     let there : c.loop-at.at + 1 + c.part_of-part.result.further ≤ length c.args.rules.now = within_rest _ _ _ _ _ c.loop-at-test.true c.part_of-part.ensures in
     omega (arith, there)
 
+pub slice_bounds-push_part-end : goal.slice_bounds-push_part-end
+slice_bounds-push_part-end c =
+    let there : c.loop-at.at + 1 + c.part_of-part.result.further ≤ length c.args.rules.now = within_rest _ _ _ _ _ c.loop-at-test.true c.part_of-part.ensures in
+    omega (arith, there)
+
 pub loop-at-preserved : goal.loop-at-preserved
 loop-at-preserved c =
     step_at c.args.rules.now c.loop-at.at c.part_of-part.result.further c.part_of-part.result.is_action _ _

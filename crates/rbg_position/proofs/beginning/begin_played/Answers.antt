@@ -5,7 +5,7 @@ use Rattle.rbg_position.specs.Refusals.{IsUnsettled}
 use Rattle.rbg_position.specs.Refusals.BeginsOtherwise.{otherwise, unsettled}
 use Rattle.rbg_position.specs.Refusals.IsUnsettled.{no_memory}
 use Rattle.rbg_position.specs.declared.error.PositionError.TheVariants.{Memory}
-use Rattle.rbg_position.proofs.Faults.{passed_on}
+use Rattle.rbg_base.proofs.Errors.{passed_on}
 use Rattle.rbg_position.proofs.beginning.begin_played.Goals as goal
 
 pub returns-in_err-first-clause-otherwise : goal.returns-in_err-first-clause-otherwise

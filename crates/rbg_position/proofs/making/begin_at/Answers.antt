@@ -2,7 +2,7 @@
 use Rattle.std.proofs.Common.{subst}
 use Rattle.rbg_position.specs.Refusals.{BeginsOtherwise}
 use Rattle.rbg_position.specs.internal.Texts.IsNoBeginning.{no_text, otherwise}
-use Rattle.rbg_position.proofs.Faults.{passed_on}
+use Rattle.rbg_base.proofs.Errors.{passed_on}
 use Rattle.rbg_position.proofs.making.begin_at.Goals as goal
 
 pub returns-in_err-other-clause-refused : goal.returns-in_err-other-clause-refused

@@ -19,7 +19,7 @@ use Rattle.rbg_position.specs.internal.Texts.{IsNoBeginning}
 use Rattle.rbg_position.specs.internal.Texts.IsNoBeginning.{no_text, otherwise as game_otherwise}
 use Rattle.rbg_position.specs.internal.Texts.IsNoText.{refused as text_refused, other_game as text_other, no_memory as text_memory}
 use Rattle.rbg_position.specs.Sections.{ExpandsBoard, section_text}
-use Rattle.rbg_position.proofs.Faults.{passed_on}
+use Rattle.rbg_base.proofs.Errors.{passed_on}
 use Rattle.rbg_position.proofs.Missing.{board_of, no_board_missing}
 use Rattle.rbg_position.proofs.Narrow.{narrow}
 use Rattle.rbg_position.proofs.making.describe.Goals as goal

@@ -5,7 +5,7 @@ use Rattle.rbg_rules.specs.State.{AbstractGame}
 use Rattle.rbg_same.specs.Same.{IsNarrow, game_with}
 use Rattle.rbg_position.specs.declared.error.PositionError.TheVariants.{Memory}
 use Rattle.rbg_position.specs.internal.Texts.IsNoText.{other_game, no_memory}
-use Rattle.rbg_position.proofs.Faults.{passed_on}
+use Rattle.rbg_base.proofs.Errors.{passed_on}
 use Rattle.rbg_position.proofs.making.judge.Goals as goal
 
 differs : (other game lent : AbstractGame) (pieces standing : List ℕ) (is : Bool) → lent ≡ game → pieces ≡ standing → IsNarrow game.board → is ≡ false

@@ -4,7 +4,7 @@ use Rattle.rbg_position.specs.Positions.{IsDescription}
 use Rattle.rbg_position.specs.Refusals.{IsUndescribed}
 use Rattle.rbg_position.specs.Refusals.IsNoPosition.{wrong, undescribed}
 use Rattle.rbg_position.specs.declared.error.PositionError.TheVariants.{Record}
-use Rattle.rbg_position.proofs.Faults.{passed_on}
+use Rattle.rbg_base.proofs.Errors.{passed_on}
 use Rattle.rbg_position.proofs.making.position.Goals as goal
 
 pub returns-in_err-telling-clause-refused : goal.returns-in_err-telling-clause-refused

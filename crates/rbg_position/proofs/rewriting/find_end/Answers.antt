@@ -7,7 +7,7 @@ use Rattle.rbg_position.proofs.rewriting.find_end.Goals as goal
 
 pub loop-end-preserved : goal.loop-end-preserved
 loop-end-preserved c =
-    no_hash_more c.args.tokens.now c.args.start c.loop-end.end _ (omega (arith, c.loop-end-test.true)) (sym c.is_hash.ensures ∙ c.if-is_hash.false) c.loop-end.invariant
+    no_hash_more c.args.tokens.now c.args.start c.loop-end.end _ (omega (arith, c.loop-end-test.true)) (sym c.is.ensures ∙ c.if-is.false) c.loop-end.invariant
 
 pub returns : goal.returns
 returns c = record {

@@ -1,6 +1,7 @@
 -- No `#` stands before this index.
 use Rattle.std.proofs.Common.{◌≡◌, ℕ, ◌+◌, ◌<◌, ◌≤◌, false, map, slice_get, Some}
-use Rattle.rbg_tokens.specs.Kinds.{is_hash}
+use Rattle.rbg_tokens.specs.Kinds.{is_symbol}
+use Rattle.rbg_tokens.specs.declared.token.Symbol.TheVariants as symbols
 use Rattle.rbg_tokens.specs.Token.{Lexeme, lexeme_of}
 use Rattle.rbg_position.proofs.rewriting.find_end.Given as goal
 
@@ -9,4 +10,4 @@ invariant-loop-end l =
     (k : ℕ) (token : Lexeme) →
     l.start + 2 ≤ k →
     k < l.end →
-    slice_get (map lexeme_of l.tokens) k ≡ Some token → is_hash token.kind ≡ false
+    slice_get (map lexeme_of l.tokens) k ≡ Some token → is_symbol symbols.Hash token.kind ≡ false

@@ -14,8 +14,8 @@ both h t a b hash test = (
 neither : (h t : Bool) (P : Type 0) → t ≡ h → t ≡ false → (IsTrue t → (h ≡ true) × P) × ((h ≡ true) × P → IsTrue t)
 neither h t P is none = (λ e. absurd (false≢true (sym none ∙ e)), λ p. is ∙ p.0)
 
-pub returns-then-is_hash : goal.returns-then-is_hash
-returns-then-is_hash c = rw (← c.as_slice.ensures) (both _ _ _ _ (sym c.is_hash.ensures ∙ c.if-is_hash.true) c.eq.ensures)
+pub returns-then-is : goal.returns-then-is
+returns-then-is c = rw (← c.as_slice.ensures) (both _ _ _ _ (sym c.is.ensures ∙ c.if-is.true) c.eq.ensures)
 
-pub returns-else-is_hash : goal.returns-else-is_hash
-returns-else-is_hash c = neither _ _ _ c.is_hash.ensures c.if-is_hash.false
+pub returns-else-is : goal.returns-else-is
+returns-else-is c = neither _ _ _ c.is.ensures c.if-is.false

@@ -8,7 +8,7 @@ use Rattle.rbg_grammar.specs.Views.{name_of, names_of}
 use Rattle.rbg_grammar.specs.Tree.{rectangle, hexagon}
 use Rattle.rbg_game.specs.GameErrors.{game_error_of}
 use Rattle.rbg_game.specs.Faults.{HasBoardFault, no_rectangle, no_hexagon}
-use Rattle.rbg_numbering.proofs.LookUps.{passed_on}
+use Rattle.rbg_base.proofs.Errors.{passed_on}
 use Rattle.rbg_game.proofs.NamedRows.{cells_fault, rows_made, rows_refused}
 use Rattle.rbg_game.proofs.checking.boards.make_board.Goals as goal
 

@@ -3,7 +3,7 @@ use Rattle.std.specs.Prelude.{flat_map}
 use Rattle.rbg_grammar.specs.Views.{names_of}
 use Rattle.rbg_numbering.specs.declared.error.NumberingError.{NumberingError}
 use Rattle.rbg_numbering.specs.NameTables.{HasLookUpFault, no_memory}
-use Rattle.rbg_numbering.proofs.LookUps.{passed_on}
+use Rattle.rbg_base.proofs.Errors.{passed_on}
 use Rattle.rbg_game.proofs.checking.boards.number_parts.Goals as goal
 
 pub returns-in_err-directions-clause-fault : goal.returns-in_err-directions-clause-fault

@@ -8,7 +8,8 @@ use Rattle.rbg_numbering.specs.declared.error.NumberingError.TheVariants.{Memory
 use Rattle.rbg_numbering.specs.Names.{IsNumberOf}
 use Rattle.rbg_numbering.specs.NameTables.{HasLookUpFault, no_memory}
 use Rattle.rbg_numbering.proofs.Lists.{AllZip-step, Contains-flat_map, Contains-map_read}
-use Rattle.rbg_numbering.proofs.LookUps.{look_up_within, passed_on}
+use Rattle.rbg_numbering.proofs.LookUps.{look_up_within}
+use Rattle.rbg_base.proofs.Errors.{passed_on}
 use Rattle.rbg_game.proofs.checking.boards.number_rows.Goals as goal
 
 pub returns-in_err-find_all-clause-fault : goal.returns-in_err-find_all-clause-fault

@@ -18,7 +18,7 @@ use Rattle.rbg_game.specs.declared.checking.boards.NamedBoard.{NamedBoard}
 use Rattle.rbg_game.specs.declared.game_error.GameError.{GameError}
 use Rattle.rbg_game.specs.internal.Boards.{MakesBoard}
 use Rattle.rbg_numbering.specs.Names.{IsNumberOf}
-use Rattle.rbg_numbering.proofs.LookUps.{passed_on}
+use Rattle.rbg_base.proofs.Errors.{passed_on}
 use Rattle.rbg_game.specs.Descriptions.{vertex_names}
 use Rattle.rbg_game.specs.Faults.{board_pieces, HasBoardFault, many_directions, no_graph, many_vertices, board_memory}
 use Rattle.rbg_game.specs.internal.Graphs.{IsCell}

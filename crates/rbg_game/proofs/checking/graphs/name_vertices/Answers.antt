@@ -3,7 +3,7 @@ use Rattle.rbg_grammar.specs.Tree.{graph}
 use Rattle.rbg_grammar.specs.Views.{vertex_of}
 use Rattle.rbg_game.specs.GameErrors.{game_error_of}
 use Rattle.rbg_game.specs.declared.game_error.GameError.{GameError}
-use Rattle.rbg_numbering.proofs.LookUps.{passed_on}
+use Rattle.rbg_base.proofs.Errors.{passed_on}
 use Rattle.rbg_game.specs.Faults.{HasBoardFault, board_memory, no_graph}
 use Rattle.rbg_game.proofs.GraphSteps.{name_again, name_new}
 use Rattle.rbg_game.proofs.Joining.{still_differ}

@@ -7,7 +7,8 @@ use Rattle.rbg_numbering.specs.declared.error.NumberingError.TheVariants.{Memory
 use Rattle.rbg_numbering.specs.Names.{IsNumberOf}
 use Rattle.rbg_numbering.specs.NameTables.{HasLookUpFault, no_memory}
 use Rattle.rbg_numbering.proofs.Lists.{Contains-map_read}
-use Rattle.rbg_numbering.proofs.LookUps.{passed_on, look_up_one}
+use Rattle.rbg_numbering.proofs.LookUps.{look_up_one}
+use Rattle.rbg_base.proofs.Errors.{passed_on}
 use Rattle.rbg_game.specs.Faults.{board_pieces}
 use Rattle.rbg_game.proofs.GraphSteps.{pieces_more}
 use Rattle.rbg_game.proofs.checking.graphs.number_pieces.Goals as goal

@@ -5,7 +5,7 @@ use Rattle.rbg_game.specs.declared.game_error.GameError.{GameError}
 use Rattle.rbg_game.specs.declared.game_error.GameError.TheVariants.{Memory}
 use Rattle.rbg_numbering.specs.NameTables.{no_memory}
 use Rattle.rbg_game.specs.internal.Holders.{HasHolderFault, by_name, by_bound}
-use Rattle.rbg_numbering.proofs.LookUps.{passed_on}
+use Rattle.rbg_base.proofs.Errors.{passed_on}
 use Rattle.rbg_game.proofs.checking.names.add_holder.Goals as goal
 
 pub returns-in_err-insert-clause-fault : goal.returns-in_err-insert-clause-fault

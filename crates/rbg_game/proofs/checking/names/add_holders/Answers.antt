@@ -5,7 +5,7 @@ use Rattle.rbg_grammar.specs.Tree.{SpeltBounded}
 use Rattle.rbg_game.specs.Descriptions.{holder_names}
 use Rattle.rbg_game.specs.internal.Holders.{HasHolderFault}
 use Rattle.rbg_game.specs.internal.Things.{AddsBounds}
-use Rattle.rbg_numbering.proofs.LookUps.{passed_on}
+use Rattle.rbg_base.proofs.Errors.{passed_on}
 use Rattle.rbg_game.proofs.NameFaults.{holder_fault_in_loop, AddsBounds-append}
 use Rattle.rbg_game.proofs.checking.names.add_holders.Goals as goal
 

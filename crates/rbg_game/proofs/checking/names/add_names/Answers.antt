@@ -5,7 +5,8 @@ use Rattle.rbg_grammar.specs.Tree.{SpeltName}
 use Rattle.rbg_numbering.specs.Names.{texts_of}
 use Rattle.rbg_numbering.specs.NameTables.{HasNameFault}
 use Rattle.rbg_numbering.proofs.Lists.{slice_get-map_read}
-use Rattle.rbg_numbering.proofs.LookUps.{name_fault_at, passed_on}
+use Rattle.rbg_numbering.proofs.LookUps.{name_fault_at}
+use Rattle.rbg_base.proofs.Errors.{passed_on}
 use Rattle.rbg_game.proofs.checking.names.add_names.Goals as goal
 
 pub returns-in_err-insert-clause-fault : goal.returns-in_err-insert-clause-fault

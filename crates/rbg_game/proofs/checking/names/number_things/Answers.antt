@@ -14,7 +14,7 @@ use Rattle.rbg_numbering.specs.NameTables.{HasNameFault}
 use Rattle.rbg_game.specs.internal.Holders.{HasHolderFault}
 use Rattle.rbg_game.specs.internal.Things.{AddsBounds}
 use Rattle.rbg_game.specs.Faults.{HasFault, many_players, many_pieces, many_variables}
-use Rattle.rbg_numbering.proofs.LookUps.{passed_on}
+use Rattle.rbg_base.proofs.Errors.{passed_on}
 use Rattle.rbg_game.proofs.NameFaults.{AddsBounds-append, players_fault, variables_fault, pieces_fault}
 use Rattle.rbg_game.proofs.checking.names.number_things.Goals as goal
 

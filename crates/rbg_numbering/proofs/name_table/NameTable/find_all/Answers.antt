@@ -4,7 +4,8 @@ use Rattle.rbg_numbering.specs.declared.error.NumberingError.TheVariants.{Memory
 use Rattle.rbg_numbering.specs.Names.{IsNumberOf}
 use Rattle.rbg_numbering.specs.NameTables.{HasLookUpFault, no_memory}
 use Rattle.rbg_numbering.proofs.Lists.{AllZip-step, Contains-map_read}
-use Rattle.rbg_numbering.proofs.LookUps.{look_up_one, passed_on}
+use Rattle.rbg_numbering.proofs.LookUps.{look_up_one}
+use Rattle.rbg_base.proofs.Errors.{passed_on}
 use Rattle.rbg_numbering.proofs.name_table.NameTable.find_all.Goals as goal
 
 pub returns-in_err-find-clause-fault : goal.returns-in_err-find-clause-fault

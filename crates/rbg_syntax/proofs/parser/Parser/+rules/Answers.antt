@@ -1,7 +1,7 @@
 use Rattle.std.proofs.Common.{rules, ◌≡◌, [], ◌∷◌, map, true, false, sym, ◌∙◌}
 use Rattle.rbg_tokens.specs.declared.token.Symbol.TheVariants as symbols
-use Rattle.rbg_grammar.specs.Reading.{after_at, is_symbol, next_is}
-use Rattle.rbg_tokens.specs.Kinds.{opens}
+use Rattle.rbg_grammar.specs.Reading.{after_at, next_is}
+use Rattle.rbg_tokens.specs.Kinds.{opens, is_symbol}
 use Rattle.rbg_grammar.specs.RuleReading.{atom_at, begins_atom, item_at, sequence_at, too_deep_at}
 use Rattle.rbg_grammar.specs.Views.{rule_of}
 use Rattle.rbg_syntax.proofs.Parts.{atom_inside, atom_open, atom_none, same_deep, rules_fail, rules_alone, rules_more, rules_more_fail, sequence_fail, sequence_alone, sequence_more, sequence_more_fail}

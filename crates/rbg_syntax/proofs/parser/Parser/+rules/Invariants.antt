@@ -1,7 +1,8 @@
 -- Each atom in brackets has one bracket less to open. What a loop has read stands before what it will read.
 use Rattle.std.proofs.Common.{◌+◌, ◌*◌, length, map}
 use Rattle.rbg_tokens.specs.declared.token.Symbol.TheVariants as symbols
-use Rattle.rbg_grammar.specs.Reading.{after_at, is_symbol}
+use Rattle.rbg_tokens.specs.Kinds.{is_symbol}
+use Rattle.rbg_grammar.specs.Reading.{after_at}
 use Rattle.rbg_grammar.specs.RuleReading.{atom_at, begins_atom, item_at, sequence_at}
 use Rattle.rbg_grammar.specs.Views.{rule_of}
 use Rattle.rbg_grammar.proofs.Turns.{ReadsOn}

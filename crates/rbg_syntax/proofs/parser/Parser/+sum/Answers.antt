@@ -1,6 +1,7 @@
 use Rattle.std.proofs.Common.{rules, ◌≡◌, [], ◌∷◌, map, true, false, sym, ◌∙◌, ◌-◌}
 use Rattle.rbg_tokens.specs.declared.token.Symbol.TheVariants.{OpenParenthesis, CloseParenthesis}
-use Rattle.rbg_grammar.specs.Reading.{is_symbol, next_is}
+use Rattle.rbg_tokens.specs.Kinds.{is_symbol}
+use Rattle.rbg_grammar.specs.Reading.{next_is}
 use Rattle.rbg_grammar.specs.RuleReading.{further_operand_at, is_operator, operand_at, primary_at, sum_at, too_deep_at}
 use Rattle.rbg_grammar.specs.Tree.{first_of}
 use Rattle.rbg_grammar.specs.Views.{expression_of, operand_of}
