@@ -8,6 +8,15 @@ use rbg_base::{Memory, Pair, Piece};
 use rbg_game::Layout;
 use rbg_rules::Game;
 
+/// What is drawn on a board: the piece on each vertex, and which vertices are marked.
+#[derive(Clone, Copy)]
+struct Drawn<'a> {
+    game: &'a Game,
+    /// The vertices of these pairs are marked.
+    marked: &'a [Pair],
+    standing: &'a [Piece],
+}
+
 /// A cell of a rectangle, of a hexagon and of a graph.
 const SQUARE: &[u8] = b"<path id='cell' d='M-5-5h10v10h-10z'/>";
 
@@ -78,14 +87,15 @@ pub(crate) fn put_drawing(
     ensures { OnOk result (out.new.items ≡ out.old.items
         ++ drawing_text layout.now game.now.pieces marked.now standing.now) }
 {
+    let drawn = Drawn {
+        game,
+        marked,
+        standing,
+    };
     match layout {
-        Layout::Rectangle { rows } => {
-            put_rows(b"square", SQUARE, game, rows, marked, standing, out)
-        }
-        Layout::Hexagon { rows } => {
-            put_rows(b"hexagon", SIX_SIDES, game, rows, marked, standing, out)
-        }
-        Layout::Graph { names } => put_graph(game, names, marked, standing, out),
+        Layout::Rectangle { rows } => put_rows(b"square", SQUARE, &drawn, rows, out),
+        Layout::Hexagon { rows } => put_rows(b"hexagon", SIX_SIDES, &drawn, rows, out),
+        Layout::Graph { names } => put_graph(&drawn, names, out),
     }
 }
 
@@ -93,36 +103,30 @@ pub(crate) fn put_drawing(
 fn put_rows(
     kind: &[u8],
     cell: &[u8],
-    game: &Game,
+    drawn: &Drawn<'_>,
     lengths: &[usize],
-    marked: &[Pair],
-    standing: &[Piece],
     out: &mut Vec<u8>,
 ) -> Result<(), Memory>
-    requires { All (λ piece. piece < length game.now.pieces) standing.now }
+    requires { All (λ piece. piece < length drawn.now.game.now.pieces) drawn.now.standing.now }
     ensures { OnOk result (out.new.items ≡ out.old.items
-        ++ rows_text kind.now cell.now game.now.pieces lengths.now marked.now standing.now) }
+        ++ rows_text kind.now cell.now drawn.now.game.now.pieces lengths.now drawn.now.marked.now
+        drawn.now.standing.now) }
 {
     let width = widest_of(lengths);
     put_frame(kind, width, lengths.len(), cell, out)?;
-    put_vertices(game, lengths, marked, standing, out)?;
+    put_vertices(drawn, lengths, out)?;
     Ok(())
 }
 
-fn put_graph(
-    game: &Game,
-    names: &[Vec<u8>],
-    marked: &[Pair],
-    standing: &[Piece],
-    out: &mut Vec<u8>,
-) -> Result<(), Memory>
-    requires { All (λ piece. piece < length game.now.pieces) standing.now }
+fn put_graph(drawn: &Drawn<'_>, names: &[Vec<u8>], out: &mut Vec<u8>) -> Result<(), Memory>
+    requires { All (λ piece. piece < length drawn.now.game.now.pieces) drawn.now.standing.now }
     ensures { OnOk result (out.new.items ≡ out.old.items
-        ++ graph_text game.now.pieces names.now marked.now standing.now) }
+        ++ graph_text drawn.now.game.now.pieces names.now drawn.now.marked.now
+        drawn.now.standing.now) }
 {
     let count = names.len();
     put_frame(b"graph", count, count, ROUND, out)?;
-    put_vertices(game, &[count], marked, standing, out)?;
+    put_vertices(drawn, &[count], out)?;
     put_labels(names, out)?;
     Ok(())
 }
@@ -155,21 +159,16 @@ fn put_size(width: usize, height: usize, out: &mut Vec<u8>) -> Result<(), Memory
     put_field(b"0 ", height as u64, out)
 }
 
-fn put_vertices(
-    game: &Game,
-    lengths: &[usize],
-    marked: &[Pair],
-    standing: &[Piece],
-    out: &mut Vec<u8>,
-) -> Result<(), Memory>
-    requires { All (λ piece. piece < length game.now.pieces) standing.now }
+fn put_vertices(drawn: &Drawn<'_>, lengths: &[usize], out: &mut Vec<u8>) -> Result<(), Memory>
+    requires { All (λ piece. piece < length drawn.now.game.now.pieces) drawn.now.standing.now }
     ensures { OnOk result (out.new.items ≡ out.old.items
-        ++ vertices_text game.now.pieces lengths.now marked.now standing.now) }
+        ++ vertices_text drawn.now.game.now.pieces lengths.now drawn.now.marked.now
+        drawn.now.standing.now) }
 {
-    for (vertex, piece) in standing.iter().enumerate() {
-        let name = game.piece_name(*piece).as_bytes();
+    for (vertex, piece) in drawn.standing.iter().enumerate() {
+        let name = drawn.game.piece_name(*piece).as_bytes();
         let spot = Spot::of(lengths, vertex);
-        let is_marked = is_marked_at(marked, vertex);
+        let is_marked = is_marked_at(drawn.marked, vertex);
         put_vertex(name, spot, is_marked, *piece, out)?;
     }
     Ok(())

@@ -7,4 +7,4 @@ use Rattle.rbg_page.proofs.Writing.{joined3}
 use Rattle.rbg_page.proofs.drawing.put_graph.Goals as goal
 
 pub returns : goal.returns
-returns c = rw (graph_is c.args.game.now.pieces c.args.names.now c.args.marked.now c.args.standing.now) (joined3 c.args.out.now.items _ _ _ (frame_text (codes "graph") (length c.args.names.now) (length c.args.names.now) (codes "<circle id='cell' r='5'/>")) (vertices_text c.args.game.now.pieces (length c.args.names.now ∷ []) c.args.marked.now c.args.standing.now) (labels_text (bytes_of c.args.names.now)) c.in_ok-put_frame.ensures c.in_ok-put_vertices.ensures c.in_ok-put_labels.ensures)
+returns c = rw (graph_is c.args.drawn.now.game.now.pieces c.args.names.now c.args.drawn.now.marked.now c.args.drawn.now.standing.now) (joined3 c.args.out.now.items _ _ _ (frame_text (codes "graph") (length c.args.names.now) (length c.args.names.now) (codes "<circle id='cell' r='5'/>")) (vertices_text c.args.drawn.now.game.now.pieces (length c.args.names.now ∷ []) c.args.drawn.now.marked.now c.args.drawn.now.standing.now) (labels_text (bytes_of c.args.names.now)) c.in_ok-put_frame.ensures c.in_ok-put_vertices.ensures c.in_ok-put_labels.ensures)

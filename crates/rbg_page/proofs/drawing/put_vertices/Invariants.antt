@@ -4,4 +4,4 @@ use Rattle.rbg_page.specs.Boards.{vertices_text}
 use Rattle.rbg_page.proofs.drawing.put_vertices.Given as goal
 
 abbrev pub invariant-loop-vertex : goal.invariant-loop-vertex
-invariant-loop-vertex l = l.out.items ≡ l.fn.out.items ++ vertices_text l.game.pieces l.lengths l.marked (take l.vertex l.standing)
+invariant-loop-vertex l = l.out.items ≡ l.fn.out.items ++ vertices_text l.drawn.game.now.pieces l.lengths l.drawn.marked.now (take l.vertex l.drawn.standing.now)
