@@ -1,6 +1,5 @@
 -- Why a move isn't made, and why it isn't told how play stands.
-use Rattle.std.proofs.Common.{◌≡◌, ℕ, ◌⊎◌, List, Result, Ok, Err, Option, inl, inr, sym, subst, refl, length, take}
-use Rattle.std.specs.Prelude.{IfErr, IsErrAnd}
+use Rattle.std.proofs.Common.{◌≡◌, ℕ, ◌⊎◌, List, Result, Err, Option, inl, inr, sym, subst, refl, length, take}
 use Rattle.rbg_rules.specs.State.{AbstractGame}
 use Rattle.rbg_rules.specs.Moves.{AbstractPlace, Legal, IsLegal, Finished}
 use Rattle.rbg_rules.specs.Questions.{list_moves}
@@ -18,11 +17,6 @@ use Rattle.rbg_ask.specs.Answering.{IsRefused, StandsAt, goes_on, is_over}
 use Rattle.rbg_ask.specs.Answering as faults
 use Rattle.rbg_ask.specs.internal.Places.{IsUnmade, IsUntold, heavy, memory, illegal, heavy_to_try, heavy_to_settle, endless, no_memory}
 use Rattle.rbg_ask.specs.internal.Refusing.{refusal_of_over, refusal_of_unsettled}
-
--- An error that is passed on.
-pub passed_on : {T : Type 0} (result : Result T Refusal) (refusal : Refusal) (P : Refusal → Type 0) → IsErrAnd result (λ e. e ≡ refusal) → P refusal → IfErr result P
-passed_on (Ok x) refusal P is p = absurd is
-passed_on (Err e) refusal P is p = subst P (sym is) p
 
 -- a question that was given up
 pub try_unmade : (T : Type 0) (game : AbstractGame) (place : AbstractPlace) (pairs : List (ℕ × ℕ)) (over : Over) → (◌≡◌ {A = Result T Over} (Err over) (Err Deep) ⊎ ◌≡◌ {A = Result T Over} (Err over) (Err Wide) → IsHeavyToTry game place pairs) → IsUnmade game place pairs (refusal_of_over over)

@@ -4,5 +4,6 @@ mod Answering
 mod Naming
 mod Places
 pub mod Faults
+mod OutOfMemory
 mod Matches
 pub mod Tallies

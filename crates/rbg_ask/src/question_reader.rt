@@ -47,6 +47,7 @@ pub fn read_question(line: &[u8]) -> Option<Question>
 }
 
 /// The question that is a single word.
+#[tactic(auto, using(rbg_wire::proofs::ByteLemmas::same_bytes), unfolding(crate::specs::Questions::question_text))]
 fn plain_question(line: &[u8]) -> Option<Question>
     ensures found { IfSome result (SpellsQuestion line.now) }
     ensures none { IfNone result ((question : AnyQuestion)

@@ -29,11 +29,7 @@ impl From<Over> for Refusal {
     ghost from_gives = { λ over refusal. refusal ≡ refusal_of_over over };
 
     fn from(over: Over) -> Refusal {
-        match over {
-            Over::Deep => Refusal::Over,
-            Over::Wide => Refusal::Over,
-            Over::Memory => Refusal::Memory,
-        }
+        Refusal::from(Unsettled::from(over))
     }
 }
 

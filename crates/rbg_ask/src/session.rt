@@ -164,6 +164,7 @@ impl Session {
     }
 
     /// Lists the legal moves: so many of them, or all.
+    #[tactic(auto, using(crate::proofs::OutOfMemory::memory_refused))]
     fn list_moves(&self, max: Option<u64>, out: &mut Vec<u8>) -> Result<(), Refusal>
         requires { QuestionHasSpelling (questions.Moves max) }
         ensures answers { OnOk result (AnswersIn self.now (questions.Moves max) self.now
@@ -178,6 +179,7 @@ impl Session {
     }
 
     /// Makes a move, and the keeper's moves behind it.
+    #[tactic(auto, using(crate::proofs::OutOfMemory::memory_refused))]
     fn make(&mut self, pairs: &Move, out: &mut Vec<u8>) -> Result<(), Refusal>
         ensures answers { OnOk result (AnswersIn self.old (questions.Make pairs.now) self.new
             out.old.items out.new.items) }
@@ -194,6 +196,7 @@ impl Session {
     }
 
     /// Undoes moves.
+    #[tactic(auto, using(crate::proofs::OutOfMemory::memory_refused))]
     fn go_back(&mut self, moves: Option<u64>, out: &mut Vec<u8>) -> Result<(), Refusal>
         requires { QuestionHasSpelling (questions.Back moves) }
         ensures answers { OnOk result (AnswersIn self.old (questions.Back moves) self.new
@@ -246,6 +249,7 @@ impl Session {
         }
     }
 
+    #[tactic(auto, using(crate::proofs::OutOfMemory::memory_refused))]
     fn tell_place(&mut self, out: &mut Vec<u8>) -> Result<(), Refusal>
         ensures answers { OnOk result (AnswersIn self.old questions.Place self.new out.old.items
             out.new.items) }
@@ -258,6 +262,7 @@ impl Session {
         Ok(())
     }
 
+    #[tactic(auto, using(crate::proofs::OutOfMemory::memory_refused))]
     fn tell_values(&self, out: &mut Vec<u8>) -> Result<(), Refusal>
         ensures answers { OnOk result (AnswersIn self.now questions.Values self.now out.old.items
             out.new.items) }
@@ -269,6 +274,7 @@ impl Session {
         Ok(())
     }
 
+    #[tactic(auto, using(crate::proofs::OutOfMemory::memory_refused))]
     fn tell_board(&self, out: &mut Vec<u8>) -> Result<(), Refusal>
         ensures answers { OnOk result (AnswersIn self.now questions.Board self.now out.old.items
             out.new.items) }
@@ -279,6 +285,7 @@ impl Session {
         Ok(())
     }
 
+    #[tactic(auto, using(crate::proofs::OutOfMemory::memory_refused))]
     fn tell_names(&self, out: &mut Vec<u8>) -> Result<(), Refusal>
         ensures answers { OnOk result (AnswersIn self.now questions.Names self.now out.old.items
             out.new.items) }
@@ -290,6 +297,7 @@ impl Session {
     }
 
     /// Plays matches by chance from where play stands.
+    #[tactic(auto, using(crate::proofs::OutOfMemory::memory_refused))]
     fn play_by_chance(&mut self, seed: u64, count: u64, out: &mut Vec<u8>) -> Result<(), Refusal>
         requires { QuestionHasSpelling (questions.Random seed count) }
         ensures answers { OnOk result (AnswersIn self.old (questions.Random seed count) self.new

@@ -1,8 +1,8 @@
 -- Questions of one word, and of matches by chance.
-use Rattle.std.specs.Prelude.{◌≡◌, ℕ, ◌++◌, List, codes, decimal, Some, None}
+use Rattle.std.specs.Prelude.{◌≡◌, ℕ, ◌++◌, List, codes, decimal, Some}
 use Rattle.rbg_ask.specs.Limits.{IsCount, IsSeed}
 use Rattle.rbg_ask.specs.declared.question.Question.{Question}
-use Rattle.rbg_ask.specs.declared.question.Question.TheVariants.{Moves, Make, Back, Place, Values, Board, Names, Random, Quit}
+use Rattle.rbg_ask.specs.declared.question.Question.TheVariants.{Moves, Make, Back, Random}
 
 -- the question is a single word
 abbrev pub IsPlain : Question → Type 0
@@ -10,13 +10,7 @@ IsPlain (Moves (Some max)) = ⊥
 IsPlain (Make pairs) = ⊥
 IsPlain (Back (Some moves)) = ⊥
 IsPlain (Random seed count) = ⊥
-IsPlain (Moves None) = Unit {0}
-IsPlain (Back None) = Unit {0}
-IsPlain Place = Unit {0}
-IsPlain Values = Unit {0}
-IsPlain Board = Unit {0}
-IsPlain Names = Unit {0}
-IsPlain Quit = Unit {0}
+IsPlain _ = Unit {0}
 
 -- the text is the question for so many matches by chance, which begins with this seed
 pub record SpellsChance (text : List ℕ) (seed count : ℕ) : Type 0 where

@@ -4,7 +4,7 @@ use Rattle.rbg_ask.specs.declared.refusal.Refusal.TheVariants.{Memory}
 use Rattle.rbg_ask.specs.Chance.{no_memory}
 use Rattle.rbg_ask.specs.internal.Moving.{rests}
 use Rattle.rbg_ask.specs.internal.Refusing.{refusal_of_over, refusal_of_unsettled}
-use Rattle.rbg_ask.proofs.Faults.{passed_on}
+use Rattle.rbg_base.proofs.Errors.{passed_on}
 use Rattle.rbg_ask.proofs.Matches.{legal_at, list_unmoved, moves_on, nothing_listed, settle_unmoved}
 use Rattle.rbg_ask.proofs.chance.move_on.Goals as goal
 

@@ -4,7 +4,7 @@ use Rattle.rbg_rules.specs.Moves.{AbstractPlace}
 use Rattle.rbg_rules.specs.Places.{IsPlaceOf}
 use Rattle.rbg_ask.specs.declared.refusal.Refusal.TheVariants.{Memory}
 use Rattle.rbg_ask.specs.internal.Moving.{MovesOn}
-use Rattle.rbg_ask.proofs.Faults.{passed_on}
+use Rattle.rbg_base.proofs.Errors.{passed_on}
 use Rattle.rbg_ask.proofs.Matches.{ends_over, ends_stopped, played_none, played_one, unplayed_memory}
 use Rattle.rbg_ask.proofs.chance.play_match.Goals as goal
 

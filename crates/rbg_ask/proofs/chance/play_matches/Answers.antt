@@ -1,7 +1,7 @@
 -- The matches so far are counted, and one more is, or it isn't played to its end.
 use Rattle.std.proofs.Common.{arith}
 use Rattle.rbg_ask.specs.declared.refusal.Refusal.TheVariants.{Memory}
-use Rattle.rbg_ask.proofs.Faults.{passed_on}
+use Rattle.rbg_base.proofs.Errors.{passed_on}
 use Rattle.rbg_ask.proofs.Matches.{few_played, unplayed_memory}
 use Rattle.rbg_ask.proofs.Tallies.{small_tallies, tallied_more}
 use Rattle.rbg_ask.proofs.chance.play_matches.Goals as goal

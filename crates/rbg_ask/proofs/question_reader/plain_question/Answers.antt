@@ -1,37 +1,8 @@
 -- Each question of one word has its own text.
 use Rattle.std.proofs.Common.{◌∙◌, sym}
-use Rattle.rbg_wire.proofs.ByteLemmas.{same_bytes, other_bytes}
-use Rattle.rbg_ask.specs.Questions.{question_text}
+use Rattle.rbg_wire.proofs.ByteLemmas.{other_bytes}
 use Rattle.rbg_ask.proofs.Reading.{no_plain}
 use Rattle.rbg_ask.proofs.question_reader.plain_question.Goals as goal
-
-pub returns-then-eq-clause-found : goal.returns-then-eq-clause-found
-unfolding question_text
-returns-then-eq-clause-found c = record { has = tt; is = same_bytes _ _ c.if-eq.ensures ∙ c.as_slice.ensures }
-
-pub returns-then-eq-2-clause-found : goal.returns-then-eq-2-clause-found
-unfolding question_text
-returns-then-eq-2-clause-found c = record { has = tt; is = same_bytes _ _ c.if-eq-2.ensures ∙ c.as_slice-else-eq.ensures }
-
-pub returns-then-eq-3-clause-found : goal.returns-then-eq-3-clause-found
-unfolding question_text
-returns-then-eq-3-clause-found c = record { has = tt; is = same_bytes _ _ c.if-eq-3.ensures ∙ c.as_slice-else-eq-2.ensures }
-
-pub returns-then-eq-4-clause-found : goal.returns-then-eq-4-clause-found
-unfolding question_text
-returns-then-eq-4-clause-found c = record { has = tt; is = same_bytes _ _ c.if-eq-4.ensures ∙ c.as_slice-else-eq-3.ensures }
-
-pub returns-then-eq-5-clause-found : goal.returns-then-eq-5-clause-found
-unfolding question_text
-returns-then-eq-5-clause-found c = record { has = tt; is = same_bytes _ _ c.if-eq-5.ensures ∙ c.as_slice-else-eq-4.ensures }
-
-pub returns-then-eq-6-clause-found : goal.returns-then-eq-6-clause-found
-unfolding question_text
-returns-then-eq-6-clause-found c = record { has = tt; is = same_bytes _ _ c.if-eq-6.ensures ∙ c.as_slice-else-eq-5.ensures }
-
-pub returns-then-eq-7-clause-found : goal.returns-then-eq-7-clause-found
-unfolding question_text
-returns-then-eq-7-clause-found c = record { has = tt; is = same_bytes _ _ c.if-eq-7.ensures ∙ c.as_slice-else-eq-6.ensures }
 
 pub returns-else-eq-7-clause-none : goal.returns-else-eq-7-clause-none
 returns-else-eq-7-clause-none c =

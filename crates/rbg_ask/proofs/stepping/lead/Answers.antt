@@ -1,7 +1,8 @@
 -- The move isn't legal, or a question was given up, or the keeper's moves don't end.
 use Rattle.rbg_ask.specs.internal.Places.{illegal}
 use Rattle.rbg_ask.specs.internal.Refusing.{refusal_of_over, refusal_of_unsettled}
-use Rattle.rbg_ask.proofs.Faults.{passed_on, try_unmade, settle_unmade}
+use Rattle.rbg_ask.proofs.Faults.{try_unmade, settle_unmade}
+use Rattle.rbg_base.proofs.Errors.{passed_on}
 use Rattle.rbg_ask.proofs.stepping.lead.Goals as goal
 
 pub returns-in_err-to-clause-unmade : goal.returns-in_err-to-clause-unmade

@@ -3,7 +3,8 @@ use Rattle.std.proofs.Common.{ap, ◌∙◌}
 use Rattle.rbg_ask.specs.declared.refusal.Refusal.TheVariants.{Memory}
 use Rattle.rbg_ask.specs.internal.Places.{memory}
 use Rattle.rbg_ask.specs.internal.Refusing.{refusal_of_over}
-use Rattle.rbg_ask.proofs.Faults.{passed_on, find_untold, stands_on, stands_over}
+use Rattle.rbg_ask.proofs.Faults.{find_untold, stands_on, stands_over}
+use Rattle.rbg_base.proofs.Errors.{passed_on}
 use Rattle.rbg_moves.proofs.Asked.{finds_at}
 use Rattle.rbg_ask.proofs.stepping.standing_at.Goals as goal
 

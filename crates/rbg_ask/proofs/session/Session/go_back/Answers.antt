@@ -1,17 +1,12 @@
 -- Fewer moves were made, or there was no memory, or the session goes back.
 use Rattle.std.proofs.Common.{subst, ◌∙◌}
-use Rattle.rbg_ask.specs.declared.refusal.Refusal.TheVariants.{Memory}
 use Rattle.rbg_ask.specs.Answers.{to_move}
-use Rattle.rbg_ask.specs.Answering.{GoesBack, no_memory, too_far}
+use Rattle.rbg_ask.specs.Answering.{GoesBack, too_far}
 use Rattle.rbg_ask.proofs.Answering.{undoes_moves}
-use Rattle.rbg_ask.proofs.Faults.{passed_on}
 use Rattle.rbg_ask.proofs.session.Session.go_back.Goals as goal
 
 pub returns-in_default-clause-refused : goal.returns-in_default-clause-refused
 returns-in_default-clause-refused c = too_far (rw c.count_of-many.ensures.count at c.in_default.ensures.none)
-
-pub returns-in_err-write_standing-clause-refused : goal.returns-in_err-write_standing-clause-refused
-returns-in_err-write_standing-clause-refused c = passed_on c.from_residual.result Memory _ c.from_residual.ensures.1 no_memory
 
 pub returns-clause-answers : goal.returns-clause-answers
 returns-clause-answers c =

@@ -1,18 +1,13 @@
 -- The moves are listed, or the question was given up, or there was no memory.
-use Rattle.rbg_ask.specs.declared.refusal.Refusal.TheVariants.{Memory}
-use Rattle.rbg_ask.specs.Answering.{no_memory}
 use Rattle.rbg_ask.specs.internal.Refusing.{refusal_of_over}
 use Rattle.rbg_ask.proofs.Answering.{lists_legal}
-use Rattle.rbg_ask.proofs.Faults.{passed_on, list_refused}
+use Rattle.rbg_ask.proofs.Faults.{list_refused}
+use Rattle.rbg_base.proofs.Errors.{passed_on}
 use Rattle.rbg_ask.proofs.session.Session.list_moves.Goals as goal
 
 pub returns-in_err-listed-clause-refused : goal.returns-in_err-listed-clause-refused
 returns-in_err-listed-clause-refused c =
     rw (← c.self.view_is) (passed_on c.from_residual.result (refusal_of_over c.in_err-listed.field-0.0) _ c.from_residual.ensures.1 (list_refused _ _ _ c.in_err-listed.field-0.0 c.in_err-listed.ensures.given_up.heavy))
-
-pub returns-in_err-write_moves-clause-refused : goal.returns-in_err-write_moves-clause-refused
-returns-in_err-write_moves-clause-refused c =
-    passed_on c.from_residual-in_err-write_moves.result Memory _ c.from_residual-in_err-write_moves.ensures.1 no_memory
 
 pub returns-clause-answers : goal.returns-clause-answers
 returns-clause-answers c =

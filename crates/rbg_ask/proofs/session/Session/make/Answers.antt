@@ -1,8 +1,7 @@
 -- The move isn't made, or it isn't told how play stands behind it, or there was no memory, or the session goes on.
-use Rattle.rbg_ask.specs.declared.refusal.Refusal.TheVariants.{Memory}
-use Rattle.rbg_ask.specs.Answering.{no_memory}
 use Rattle.rbg_ask.proofs.Answering.{made_move}
-use Rattle.rbg_ask.proofs.Faults.{passed_on, make_refused, untold_behind}
+use Rattle.rbg_ask.proofs.Faults.{make_refused, untold_behind}
+use Rattle.rbg_base.proofs.Errors.{passed_on}
 use Rattle.rbg_ask.proofs.Places.{reached_made}
 use Rattle.rbg_ask.proofs.session.Session.make.Goals as goal
 
@@ -14,13 +13,6 @@ pub returns-in_err-standing-clause-refused : goal.returns-in_err-standing-clause
 returns-in_err-standing-clause-refused c =
     rw (← c.self.view_is)
     (passed_on c.from_residual-in_err-standing.result c.in_err-standing.field-0.0 _ c.from_residual-in_err-standing.ensures.1 (untold_behind _ _ _ _ c.in_ok-to.ensures.leads c.in_err-standing.ensures.untold))
-
-pub returns-in_err-reserve-clause-refused : goal.returns-in_err-reserve-clause-refused
-returns-in_err-reserve-clause-refused c = passed_on c.from_residual-in_err-reserve.result Memory _ c.from_residual-in_err-reserve.ensures.1 no_memory
-
-pub returns-in_err-write_standing-clause-refused : goal.returns-in_err-write_standing-clause-refused
-returns-in_err-write_standing-clause-refused c =
-    passed_on c.from_residual-in_err-write_standing.result Memory _ c.from_residual-in_err-write_standing.ensures.1 no_memory
 
 pub invariant_of-self-2 : goal.invariant_of-self-2
 invariant_of-self-2 c =

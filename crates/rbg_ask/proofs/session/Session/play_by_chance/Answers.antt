@@ -1,17 +1,12 @@
 -- The matches are told, or one of them isn't played to its end, or there was no memory.
-use Rattle.rbg_ask.specs.declared.refusal.Refusal.TheVariants.{Memory}
-use Rattle.rbg_ask.specs.Answering.{no_memory, unplayed}
+use Rattle.rbg_ask.specs.Answering.{unplayed}
 use Rattle.rbg_ask.proofs.Answering.{plays_matches}
-use Rattle.rbg_ask.proofs.Faults.{passed_on}
+use Rattle.rbg_base.proofs.Errors.{passed_on}
 use Rattle.rbg_ask.proofs.session.Session.play_by_chance.Goals as goal
 
 pub returns-in_err-tallies-clause-refused : goal.returns-in_err-tallies-clause-refused
 returns-in_err-tallies-clause-refused c =
     rw (← c.self.view_is) (passed_on c.from_residual.result c.in_err-tallies.field-0.0 _ c.from_residual.ensures.1 (unplayed c.in_err-tallies.ensures.unplayed))
-
-pub returns-in_err-write_matches-clause-refused : goal.returns-in_err-write_matches-clause-refused
-returns-in_err-write_matches-clause-refused c =
-    passed_on c.from_residual-in_err-write_matches.result Memory _ c.from_residual-in_err-write_matches.ensures.1 no_memory
 
 pub returns-clause-answers : goal.returns-clause-answers
 returns-clause-answers c =
