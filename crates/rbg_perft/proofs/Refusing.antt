@@ -1,6 +1,6 @@
 -- Why sequences are not counted: an error of a question, of the keeper's moves, of what is behind a move, of a sum.
-use Rattle.std.proofs.Common.{◌≡◌, ℕ, zero, suc, ◌-◌, ◌<◌, ◌⊎◌, List, length, get_or, take, Option, Some, None, Result, Ok, Err, inl, inr, refl, subst, sym, arith}
-use Rattle.std.specs.Prelude.{AllPairs, IfErr, IsErrAnd}
+use Rattle.std.proofs.Common.{◌≡◌, ℕ, zero, suc, ◌-◌, ◌<◌, ◌⊎◌, List, length, get_or, take, Option, Some, None, Result, Err, inl, inr, refl, subst, sym, arith}
+use Rattle.std.specs.Prelude.{AllPairs}
 use Rattle.std.specs.Option.{ok_or}
 use Rattle.std.proofs.lemmas.List.{length-take, get_or-take}
 use Rattle.rbg_rules.specs.State.{AbstractGame}
@@ -20,11 +20,6 @@ use Rattle.rbg_perft.specs.Refusals.{IsAsked, IsNotCounted, IsNotCountedFrom}
 use Rattle.rbg_perft.specs.Refusals.Meets.{here, behind}
 use Rattle.rbg_perft.specs.Refusals.AsksTooMuch.{keeper, player}
 use Rattle.rbg_perft.specs.internal.Refusing.{error_of_over, error_of_unsettled}
-
--- an error that is passed on
-pub passed_on : {T : Type 0} (result : Result T CountError) (error : CountError) (P : CountError → Type 0) → IsErrAnd result (λ e. e ≡ error) → P error → IfErr result P
-passed_on (Ok x) error P is p = absurd is
-passed_on (Err e) error P is p = subst P (sym is) p
 
 pub over_to_find : (T : Type 0) (game : AbstractGame) (to : AbstractPlace) (over : Over) → (◌≡◌ {A = Result T Over} (Err over) (Err Deep) ⊎ ◌≡◌ {A = Result T Over} (Err over) (Err Wide) → IsHeavyToFind game to) → IsNotCountedFrom game 0 Ends to (error_of_over over)
 over_to_find T game to Deep hard = λ place settles. here tt (player settles (hard (inl refl)))

@@ -23,10 +23,7 @@ impl From<Over> for CountError {
     ghost from_gives = { λ over error. error ≡ error_of_over over };
 
     fn from(over: Over) -> CountError {
-        match over {
-            Over::Deep | Over::Wide => CountError::Heavy,
-            Over::Memory => CountError::Memory,
-        }
+        CountError::from(Unsettled::from(over))
     }
 }
 

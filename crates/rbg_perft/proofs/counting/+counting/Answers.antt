@@ -13,7 +13,8 @@ use Rattle.rbg_perft.specs.Counting.{Sums}
 use Rattle.rbg_perft.specs.Refusals.{IsNotCounted, most_counted}
 use Rattle.rbg_perft.specs.Refusals.Meets.{here}
 use Rattle.rbg_perft.specs.Refusals.AreTooMany.{sum}
-use Rattle.rbg_perft.proofs.Refusing.{no_sum, different_take, passed_on, behind_first, unsettled_refused, refused_next, asked_of_some}
+use Rattle.rbg_perft.proofs.Refusing.{no_sum, different_take, behind_first, unsettled_refused, refused_next, asked_of_some}
+use Rattle.rbg_base.proofs.Errors.{passed_on}
 use Rattle.rbg_perft.proofs.Sums.{sums_more, sums_end, counted_from, all_at, all_going}
 use Rattle.rbg_perft.proofs.counting.+counting.Goals as goal
 

@@ -3,7 +3,8 @@ use Rattle.std.proofs.Common.{inr, refl, subst}
 use Rattle.std.specs.Prelude.{IfSome}
 use Rattle.rbg_rules.specs.Moves.{IsLegal}
 use Rattle.rbg_perft.specs.internal.Refusing.{error_of_over}
-use Rattle.rbg_perft.proofs.Refusing.{passed_on, over_to_find}
+use Rattle.rbg_perft.proofs.Refusing.{over_to_find}
+use Rattle.rbg_base.proofs.Errors.{passed_on}
 use Rattle.rbg_perft.proofs.counting.count_here.Goals as goal
 
 pub returns-in_err-pairs-clause-refused : goal.returns-in_err-pairs-clause-refused

@@ -3,7 +3,8 @@ use Rattle.std.proofs.Common.{subst, sym}
 use Rattle.rbg_perft.specs.Refusals.{IsNotCounted}
 use Rattle.rbg_perft.specs.declared.extent.Extent.TheVariants.{Ends}
 use Rattle.rbg_perft.specs.internal.Refusing.{error_of_unsettled}
-use Rattle.rbg_perft.proofs.Refusing.{passed_on, unsettled_refused}
+use Rattle.rbg_perft.proofs.Refusing.{unsettled_refused}
+use Rattle.rbg_base.proofs.Errors.{passed_on}
 use Rattle.rbg_perft.proofs.counting.count_none.Goals as goal
 
 pub returns-in_err-settle-in-Ends-clause-refused : goal.returns-in_err-settle-in-Ends-clause-refused

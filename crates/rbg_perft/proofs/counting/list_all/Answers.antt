@@ -1,6 +1,7 @@
 -- The question for all legal moves was given up.
 use Rattle.rbg_perft.specs.internal.Refusing.{error_of_over}
-use Rattle.rbg_perft.proofs.Refusing.{passed_on, over_to_list}
+use Rattle.rbg_perft.proofs.Refusing.{over_to_list}
+use Rattle.rbg_base.proofs.Errors.{passed_on}
 use Rattle.rbg_perft.proofs.counting.list_all.Goals as goal
 
 pub returns-in_err-gathered-clause-refused : goal.returns-in_err-gathered-clause-refused
