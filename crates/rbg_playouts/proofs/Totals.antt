@@ -1,5 +1,5 @@
 -- Sums over tallies, one after the other.
-use Rattle.std.proofs.Common.{◌≡◌, ℕ, ◌+◌, ◌*◌, ◌<◌, ◌≤◌, List, [], ◌∷◌, ◌++◌, length, take, map, get_or, Option, Some, None, refl, ap, ◌∙◌, arith}
+use Rattle.std.proofs.Common.{◌≡◌, ℕ, ◌+◌, ◌*◌, ◌<◌, ◌≤◌, ◌^◌, List, [], ◌∷◌, ◌++◌, length, take, map, get_or, Option, Some, None, refl, ap, ◌∙◌, arith}
 use Rattle.std.specs.List.{sum_by}
 use Rattle.std.proofs.Math.Nat.{mul-le-mul_right}
 use Rattle.std.proofs.lemmas.List.{take-map}
@@ -8,6 +8,9 @@ use Rattle.rbg_base.proofs.CallerLemmas.{map-take_more}
 use Rattle.rbg_ask.specs.declared.tally.Tally.{Tally}
 use Rattle.rbg_ask.specs.Chance.{Counted, counted_by, scores_of}
 use Rattle.rbg_playouts.specs.internal.Bounds.{AreFew}
+use Rattle.rbg_playouts.specs.internal.Counts.{number_in, sum_in}
+use Rattle.rbg_playouts.specs.declared.sums.Counting.{Counting}
+use Rattle.rbg_playouts.specs.declared.sums.Counting.TheVariants.{Moves, Finished, Stopped}
 use Rattle.rbg_playouts.specs.Summary.{finished_in, finished_of, score_of, stopped_in, stopped_of, total_of}
 
 -- the sum over the first tallies, and over the next one too
@@ -42,24 +45,26 @@ its_sum f x all =
 abbrev pub its_matches : Counted → ℕ
 its_matches counted = counted.matches
 
-abbrev pub its_moves : Counted → ℕ
-its_moves counted = counted.moves
-
-abbrev pub its_finished : Counted → ℕ
-its_finished counted = finished_of counted.scores counted.matches
-
-abbrev pub its_stopped : Counted → ℕ
-its_stopped counted = stopped_of counted.scores counted.matches
-
 pub finished_few : (all : List Counted) → finished_in all ≤ sum_by (λ counted. counted.matches) all
 finished_few [] = omega arith
 finished_few (x ∷ all) =
-    omega (arith, its_sum its_finished x all, its_sum its_matches x all, few_finished x.scores x.matches, finished_few all)
+    omega (arith, its_sum (number_in Finished) x all, its_sum its_matches x all, few_finished x.scores x.matches, finished_few all)
 
-pub stopped_few : (all : List Counted) → stopped_in all ≤ sum_by (λ counted. counted.matches) all
+stopped_few : (all : List Counted) → stopped_in all ≤ sum_by (λ counted. counted.matches) all
 stopped_few [] = omega arith
 stopped_few (x ∷ all) =
-    omega (arith, its_sum its_stopped x all, its_sum its_matches x all, few_stopped x.scores x.matches, stopped_few all)
+    omega (arith, its_sum (number_in Stopped) x all, its_sum its_matches x all, few_stopped x.scores x.matches, stopped_few all)
+
+-- what is counted fits a number of the code
+pub sum_fits : (counting : Counting) (tallies : List Tally) → AreFew tallies → sum_by (number_in counting) (map counted_by tallies) < 2 ^ 64
+sum_fits Moves tallies few = omega (arith, few.moves)
+sum_fits Finished tallies few = omega (arith, finished_few (map counted_by tallies), few.matches)
+sum_fits Stopped tallies few = omega (arith, stopped_few (map counted_by tallies), few.matches)
+
+pub sum_is : (counting : Counting) (all : List Counted) → sum_by (number_in counting) all ≡ sum_in counting all
+sum_is Moves all = refl
+sum_is Finished all = refl
+sum_is Stopped all = refl
 
 -- what is scored in the matches of one ending
 pub scored_few : (player : ℕ) (scores : Option (List ℕ)) (matches score : ℕ) → score ≡ score_of player scores → score ≤ 18446744073709551615 → score_of player scores * matches ≤ 18446744073709551615 * finished_of scores matches
@@ -85,11 +90,11 @@ pub next_bound : (player : ℕ) (tallies : List Tally) (i total score : ℕ) (t 
 next_bound player tallies i total score t within is scored small so_far =
     let here : score_of player (scores_of t.ending) * t.matches ≤ 18446744073709551615 * finished_of (scores_of t.ending) t.matches = scored_few player (scores_of t.ending) t.matches score scored small in
     let same : score * t.matches ≡ score_of player (scores_of t.ending) * t.matches = ap (λ s. s * t.matches) scored in
-    let more : finished_in (map counted_by (take (i + 1) tallies)) ≡ finished_in (map counted_by (take i tallies)) + finished_of (scores_of t.ending) t.matches = sum_more its_finished tallies i t within is in
+    let more : finished_in (map counted_by (take (i + 1) tallies)) ≡ finished_in (map counted_by (take i tallies)) + finished_of (scores_of t.ending) t.matches = sum_more (number_in Finished) tallies i t within is in
     omega (arith, so_far, here, same, more)
 
 pub next_small : (player : ℕ) (tallies : List Tally) (i total score : ℕ) (t : Tally) → AreFew tallies → i < length tallies → t ≡ get_or tallies i t → score ≡ score_of player (scores_of t.ending) → score ≤ 18446744073709551615 → total ≤ 18446744073709551615 * finished_in (map counted_by (take i tallies)) → total + score * t.matches ≤ 18446744073709551615 * 1000000
 next_small player tallies i total score t few within is scored small so_far =
     let next = next_bound player tallies i total score t within is scored small so_far in
-    let part : finished_in (map counted_by (take (i + 1) tallies)) ≤ finished_in (map counted_by tallies) = sum_part its_finished tallies (i + 1) in
+    let part : finished_in (map counted_by (take (i + 1) tallies)) ≤ finished_in (map counted_by tallies) = sum_part (number_in Finished) tallies (i + 1) in
     omega (arith, next, part, finished_few (map counted_by tallies), few.matches)

@@ -1,2 +1,3 @@
 -- Definitions that only this crate's own proofs and private contracts use.
 pub mod Bounds
+pub mod Counts

@@ -9,7 +9,7 @@ ghost use Rattle.rbg_ask.specs.Limits.{most_counted};
 ghost use Rattle.rbg_playouts.specs.Summary.{ended_line, finished_in, hundredths_text, mean_line, mean_lines, mean_text, number_line, summary_text, total_of};
 ghost use Rattle.rbg_playouts.specs.internal.Bounds.{AreFew, highest};
 
-use crate::sums::{add_scores, count_finished, count_moves, count_stopped};
+use crate::sums::{Counting, add_scores, sum_of};
 use rbg_ask::{Ending, Tally};
 use rbg_base::{Memory, Player};
 use rbg_rules::Game;
@@ -28,10 +28,10 @@ pub(crate) fn put_summary(
         (summary_text game.now.players count (map counted_by tallies.now)) result }
 {
     put_number_line(b"matches ", count, out)?;
-    put_number_line(b"moves ", count_moves(tallies), out)?;
+    put_number_line(b"moves ", sum_of(Counting::Moves, tallies), out)?;
     put_means(game, tallies, out)?;
     put_endings(tallies, out)?;
-    put_number_line(b"stopped ", count_stopped(tallies), out)
+    put_number_line(b"stopped ", sum_of(Counting::Stopped, tallies), out)
 }
 
 /// Appends a line of a head and a number.
@@ -70,7 +70,7 @@ fn put_mean_of(
         (finished_in (map counted_by tallies.now))) result }
 {
     let total = add_scores(player, tallies);
-    let finished = count_finished(tallies);
+    let finished = sum_of(Counting::Finished, tallies);
     put_mean_line(name, total, finished, out)
 }
 

@@ -1,68 +1,45 @@
 //! Sums over all the matches that were counted.
 ghost use Rattle.std.specs.Prelude.{◌≡◌, ◌*◌, ◌≤◌, get_or, map};
 ghost use Rattle.rbg_ask.specs.Chance.{counted_by, scores_of};
-ghost use Rattle.rbg_playouts.specs.Summary.{finished_in, finished_of, moves_of, score_of, stopped_in, stopped_of, total_of};
+ghost use Rattle.rbg_playouts.specs.Summary.{finished_in, score_of, total_of};
+ghost use Rattle.rbg_playouts.specs.internal.Counts.{number_in, sum_in};
 ghost use Rattle.rbg_playouts.specs.internal.Bounds.{AreFew, highest};
 
 use rbg_ask::{Ending, Tally};
 
-/// How many moves were made.
-pub(crate) fn count_moves(tallies: &[Tally]) -> u64
+/// What is counted of the matches that a tally holds.
+#[derive(Clone, Copy)]
+pub(crate) enum Counting {
+    Moves,
+    Finished,
+    Stopped,
+}
+
+/// How many there are in all matches together.
+pub(crate) fn sum_of(counting: Counting, tallies: &[Tally]) -> u64
     requires { AreFew tallies.now }
-    ensures { result ≡ moves_of (map counted_by tallies.now) }
+    ensures { result ≡ sum_in counting (map counted_by tallies.now) }
 {
-    let mut moves: u64 = 0;
+    let mut sum: u64 = 0;
     for tally in tallies {
-        moves += moves_by(tally);
+        sum += number_in(counting, tally);
     }
-    moves
+    sum
 }
 
-fn moves_by(tally: &Tally) -> u64
-    ensures { result ≡ tally.now.moves }
+fn number_in(counting: Counting, tally: &Tally) -> u64
+    ensures { result ≡ number_in counting (counted_by tally.now) }
 {
-    tally.moves
-}
-
-/// How many matches were finished.
-pub(crate) fn count_finished(tallies: &[Tally]) -> u64
-    requires { AreFew tallies.now }
-    ensures { result ≡ finished_in (map counted_by tallies.now) }
-{
-    let mut finished: u64 = 0;
-    for tally in tallies {
-        finished += finished_by(tally);
-    }
-    finished
-}
-
-fn finished_by(tally: &Tally) -> u64
-    ensures { result ≡ finished_of (scores_of tally.now.ending) tally.now.matches }
-{
-    match &tally.ending {
-        Ending::Finished { .. } => tally.matches,
-        Ending::Stopped => 0,
-    }
-}
-
-/// How many matches were stopped.
-pub(crate) fn count_stopped(tallies: &[Tally]) -> u64
-    requires { AreFew tallies.now }
-    ensures { result ≡ stopped_in (map counted_by tallies.now) }
-{
-    let mut stopped: u64 = 0;
-    for tally in tallies {
-        stopped += stopped_by(tally);
-    }
-    stopped
-}
-
-fn stopped_by(tally: &Tally) -> u64
-    ensures { result ≡ stopped_of (scores_of tally.now.ending) tally.now.matches }
-{
-    match &tally.ending {
-        Ending::Finished { .. } => 0,
-        Ending::Stopped => tally.matches,
+    match counting {
+        Counting::Moves => tally.moves,
+        Counting::Finished => match &tally.ending {
+            Ending::Finished { .. } => tally.matches,
+            Ending::Stopped => 0,
+        },
+        Counting::Stopped => match &tally.ending {
+            Ending::Finished { .. } => 0,
+            Ending::Stopped => tally.matches,
+        },
     }
 }
 

@@ -1,7 +1,7 @@
 -- The matches are counted, or the keeper's first moves or a match isn't played to its end, or there was no memory.
 use Rattle.rbg_ask.specs.declared.refusal.Refusal.TheVariants.{Memory}
 use Rattle.rbg_ask.specs.internal.Refusing.{refusal_of_unsettled}
-use Rattle.rbg_ask.proofs.Faults.{passed_on}
+use Rattle.rbg_base.proofs.Errors.{passed_on}
 use Rattle.rbg_playouts.specs.Playing.{no_memory}
 use Rattle.rbg_playouts.proofs.Beginning.{played_behind, unplayed_behind, unsettled_unplayed}
 use Rattle.rbg_playouts.proofs.playing.play_on.Goals as goal

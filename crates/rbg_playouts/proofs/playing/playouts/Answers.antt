@@ -1,6 +1,6 @@
 -- The lines tell of the matches, or none were played, or there was no memory.
 use Rattle.rbg_ask.specs.declared.refusal.Refusal.TheVariants.{Memory}
-use Rattle.rbg_ask.proofs.Faults.{passed_on}
+use Rattle.rbg_base.proofs.Errors.{passed_on}
 use Rattle.rbg_playouts.specs.Playing.{no_memory}
 use Rattle.rbg_playouts.proofs.Beginning.{few_playouts, tells_so}
 use Rattle.rbg_playouts.proofs.playing.playouts.Goals as goal
