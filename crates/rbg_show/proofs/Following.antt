@@ -68,11 +68,6 @@ move_unsettled lead text readings from to result HeavyQuestion has was hard tire
 move_unsettled lead text readings from to result Endless has was hard tires = (readings, has, tires was)
 move_unsettled lead text readings from to result NoMemory has was hard tires = tt
 
--- an error that is passed on
-pub passed_on : {T : Type 0} (result : Result T Stop) (stop : Stop) (P : Stop → Type 0) → IsErrAnd result (λ s. s ≡ stop) → P stop → IfErr result P
-passed_on (Ok x) stop P is p = absurd is
-passed_on (Err s) stop P is p = subst P (sym is) p
-
 -- readings that are some
 pub has_readings : (lead : Option Lead) (text : List ℕ) (items readings : List Reading) → readings ≡ items → AreReadings text lead items → (items ≡ [] → ⊥) → HasReadings lead text readings
 has_readings lead text items readings same are some = record {
