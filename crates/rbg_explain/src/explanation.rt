@@ -16,6 +16,14 @@ use rbg_syntax::SyntaxError;
 use rbg_tokens::{Symbol, TextError, TextLine, Token, Tokens};
 use std::alloc::{AllocError, Global};
 
+/// A text that is refused: its file, its tokens where it can be cut into them, and why.
+#[derive(Clone, Copy)]
+struct Refused<'a> {
+    file: File<'a>,
+    tokens: Option<&'a Tokens<'a>>,
+    error: LoadError,
+}
+
 /// What an author is told of a refused text: the file, the line and the column, what was expected and what stands
 /// there, the line itself with carets below the place, and the printed line of the refusal. The tokens are those of the
 /// text, where it can be cut into tokens.
@@ -27,8 +35,12 @@ pub fn explain(
     error: LoadError,
 ) -> Result<Vec<u8>, AllocError> {
     let mut output = Vec::new(alloc);
-    let file = File { name: file, text };
-    push_explanation(alloc, &mut output, file, tokens, error)?;
+    let refused = Refused {
+        file: File { name: file, text },
+        tokens,
+        error,
+    };
+    push_explanation(alloc, &mut output, &refused)?;
     push_refusal(alloc, &mut output, error)?;
     Ok(output)
 }
@@ -43,12 +55,12 @@ fn push_refusal(alloc: Global, output: &mut Vec<u8>, error: LoadError) -> Result
 fn push_explanation(
     alloc: Global,
     output: &mut Vec<u8>,
-    file: File<'_>,
-    tokens: Option<&Tokens<'_>>,
-    error: LoadError,
+    refused: &Refused<'_>,
 ) -> Result<(), AllocError> {
-    if let Some(at) = find_place(alloc, &error, file.text, tokens)? {
-        return push_refused(alloc, output, file, tokens, error, at);
+    let file = refused.file;
+    let error = refused.error;
+    if let Some(at) = find_place(alloc, &error, file.text, refused.tokens)? {
+        return push_refused(alloc, output, refused, at);
     }
     let message = Message {
         error,
@@ -64,20 +76,19 @@ fn push_explanation(
 fn push_refused(
     alloc: Global,
     output: &mut Vec<u8>,
-    file: File<'_>,
-    tokens: Option<&Tokens<'_>>,
-    error: LoadError,
+    refused: &Refused<'_>,
     at: usize,
 ) -> Result<(), AllocError> {
-    let joined = joined_text(alloc, &error, tokens, at)?;
-    let cut = slice_of(tokens);
+    let error = refused.error;
+    let joined = joined_text(alloc, &error, refused.tokens, at)?;
+    let cut = slice_of(refused.tokens);
     let message = Message {
         error,
         spot: Spot::find(cut, at),
         joined: joined.as_deref(),
-        has_mark: begins_with_mark(file.text, &error),
+        has_mark: begins_with_mark(refused.file.text, &error),
     };
-    push_message(alloc, output, file, cut, at, message)
+    push_message(alloc, output, refused.file, cut, at, message)
 }
 
 /// The place with the message, where its token is joined, and what else is told of it.
