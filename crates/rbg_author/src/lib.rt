@@ -3,16 +3,16 @@
 //! place.
 #![tactic(auto)]
 
-mod explained;
+mod explain;
 mod listing;
-mod paged;
+mod page;
 mod perft;
-mod played;
-mod positioned;
+mod playouts;
+mod position;
 mod program;
 mod reading;
 mod report;
-mod shown;
+mod show;
 
 pub use program::run;
 pub use report::{Report, print};

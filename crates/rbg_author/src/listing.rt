@@ -19,33 +19,44 @@ pub fn listing(alloc: Global, game: &Game) -> Result<String, AllocError> {
 fn push_players(lines: &mut String, game: &Game) -> Result<(), AllocError> {
     for index in 0..game.players() {
         let player = index as u16 + 1;
-        let name = game.player_name(player);
-        writeln!(lines, "player {player} {name}")?;
+        push_thing(lines, "player", player, game.player_name(player))?;
     }
     Ok(())
 }
 
 fn push_pieces(lines: &mut String, game: &Game) -> Result<(), AllocError> {
-    for piece in 0..game.pieces() {
-        let name = game.piece_name(piece as u16);
-        writeln!(lines, "piece {piece} {name}")?;
+    for index in 0..game.pieces() {
+        let piece = index as u16;
+        push_thing(lines, "piece", piece, game.piece_name(piece))?;
     }
     Ok(())
 }
 
 fn push_variables(lines: &mut String, game: &Game) -> Result<(), AllocError> {
-    for variable in 0..game.variables() {
-        let name = game.variable_name(variable as u16);
-        let bound = game.bound(variable as u16);
+    for index in 0..game.variables() {
+        let variable = index as u16;
+        let name = game.variable_name(variable);
+        let bound = game.bound(variable);
         writeln!(lines, "variable {variable} {name} {bound}")?;
     }
     Ok(())
 }
 
 fn push_directions(lines: &mut String, game: &Game) -> Result<(), AllocError> {
-    for direction in 0..game.directions() {
-        let name = game.direction_name(direction as u16);
-        writeln!(lines, "direction {direction} {name}")?;
+    for index in 0..game.directions() {
+        let direction = index as u16;
+        push_thing(
+            lines,
+            "direction",
+            direction,
+            game.direction_name(direction),
+        )?;
     }
+    Ok(())
+}
+
+/// Adds the line of a thing that has a number and a name.
+fn push_thing(lines: &mut String, kind: &str, number: u16, name: &str) -> Result<(), AllocError> {
+    writeln!(lines, "{kind} {number} {name}")?;
     Ok(())
 }

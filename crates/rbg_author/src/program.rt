@@ -1,19 +1,19 @@
 //! What the author's program does with its words and the file that they name.
 ghost use Rattle.rbg_ask.specs.Limits.{IsCount};
 
-use crate::explained::{Lists, check_file, explain_file};
-use crate::paged::page_file;
+use crate::explain::{Lists, check_file, explain_file};
+use crate::page::page_file;
 use crate::perft::perft;
-use crate::played::playouts_file;
-use crate::positioned::position_file;
+use crate::playouts::playouts_file;
+use crate::position::position_file;
 use crate::reading::{Read, read_game};
 use crate::report::{Report, print};
-use crate::shown::show_file;
+use crate::show::show_file;
 use clap::{ArgMatches, Command};
 use rbg_console::{Files, Status, WordsError, match_words};
 use rbg_perft::Extent;
 use rbg_playouts::MAX_COUNT;
-use rbg_words::{Argument, CommandWords, Kind, Value, add_commands};
+use rbg_words::{Argument, CommandWords, GAME, Kind, RECORD, Value, add_commands};
 use std::alloc::{AllocError, Global};
 use std::io::{self, Write};
 
@@ -116,13 +116,6 @@ fn count_of(words: &ArgMatches<'_>) -> u64
     }
 }
 
-const GAME: Argument = Argument {
-    name: "FILE",
-    kind: Kind::Needed,
-    value: Value::Text,
-    help: "The description of a game",
-};
-
 /// The commands, in the order in which help lists them.
 const COMMANDS: &[CommandWords] = &[
     CommandWords {
@@ -208,15 +201,7 @@ const COMMANDS: &[CommandWords] = &[
     CommandWords {
         name: "position",
         about: "Prints the description with the board as it stands after the moves of a record, or says why not",
-        arguments: &[
-            GAME,
-            Argument {
-                name: "RECORD",
-                kind: Kind::Needed,
-                value: Value::Text,
-                help: "The record of a match of this game",
-            },
-        ],
+        arguments: &[GAME, RECORD],
     },
 ];
 

@@ -46,6 +46,22 @@ pub enum Value {
     AnyNumber,
 }
 
+/// The file of a game.
+pub const GAME: Argument = Argument {
+    name: "FILE",
+    kind: Kind::Needed,
+    value: Value::Text,
+    help: "The description of a game",
+};
+
+/// The file of a record.
+pub const RECORD: Argument = Argument {
+    name: "RECORD",
+    kind: Kind::Needed,
+    value: Value::Text,
+    help: "The record of a match",
+};
+
 /// The argument that is told of.
 pub(crate) fn argument_of<'a>(alloc: Global, told: Argument) -> Result<Arg<'a>, AllocError> {
     let argument = with_value(Arg::new(alloc, told.name).help(told.help), told.value);

@@ -5,5 +5,5 @@
 mod argument;
 mod command;
 
-pub use argument::{Argument, Kind, Value};
+pub use argument::{Argument, GAME, Kind, RECORD, Value};
 pub use command::{CommandWords, add_commands};

@@ -2,7 +2,7 @@
 ghost use Rattle.rbg_game.specs.Loading.{Loads};
 ghost use Rattle.rbg_tokens.specs.Text.{HasTokens};
 
-use crate::paged::refused;
+use crate::page::refused;
 use crate::reading::{Read, read_text, refuse, unreadable};
 use crate::report::Report;
 use rbg_console::{Files, Input, Status, read_record};
