@@ -210,3 +210,9 @@ module _ (words room : List ℕ) (many : ℕ) (are : AreListed words room many) 
         let within = there.1 in
         absurd (omega (arith, none, length_is, within))
   ]
+
+-- The last place leaves the list where its word is cleared.
+pub taken_last : (words room : List ℕ) (many : ℕ) → AreListed words room many → (p : ℕ) → IsLastOf (take many room) p → (x : ℕ) → x ≡ 0 → AreListed (slice_set words p x) room (many - 1)
+taken_last words room many are p last x none =
+    let at = last_is words room many are p last in
+    subst (λ (q : ℕ). AreListed (slice_set words q x) room (many - 1)) at.1 (listed_less words room many are at.0 x none)

@@ -4,6 +4,7 @@ use Rattle.std.specs.Prelude.{Contains, All, AllPairs}
 use Rattle.std.proofs.lemmas.List.{length-append, length-map, get_or-map}
 use Rattle.std.proofs.lemmas.List.Elements.{All-head, All-tail, All-append, Contains-append_cases, Contains-append_left, Contains-append_right, Contains-get_or}
 use Rattle.std.proofs.lemmas.List.Kept.{AllPairs-cons}
+use Rattle.rbg_base.proofs.CallerLemmas.{Contains-map}
 use Rattle.rbg_flat.specs.internal.Gathering.{Lists}
 
 no_index : (k : ℕ) → k < 0 → ⊥
@@ -133,10 +134,7 @@ lists_map {Y} f one_each P Q xs lists of to = record {
         subst Q (sym (get_or-map f xs i 0 y at) ∙ is) (to x ((lists.all x).0 (Contains-get_or xs i 0 at)))
 
     into : (y : Y) → ((x : ℕ) × P x × (f x ≡ y)) → Contains (map f xs) y
-    into y (x, is, same) = subst (λ (z : Y). Contains (map f xs) z) same (mapped xs x ((lists.all x).1 is))
-      where
-        mapped : (zs : List ℕ) (z : ℕ) → Contains zs z → Contains (map f zs) (f z)
-        mapped zs z (i, below, at) = (i, subst (λ (k : ℕ). i < k) (sym (length-map zs f)) below, get_or-map f zs i z (f z) below ∙ ap f at)
+    into y (x, is, same) = subst (λ (z : Y). Contains (map f xs) z) same (Contains-map f xs x ((lists.all x).1 is))
 
     differ : AllPairs (λ a b. a ≢ b) (map f xs)
     differ = λ i j d less within same.

@@ -1,12 +1,12 @@
 -- What stands at a place of sets.
-use Rattle.std.proofs.Common.{◌≡◌, ◌≢◌, ℕ, zero, suc, ◌+◌, ◌*◌, ◌/◌, ◌%◌, ◌<◌, List, length, get_or, sym, ap, ◌∙◌, slice_set, arith}
+use Rattle.std.proofs.Common.{◌≡◌, ◌≢◌, ℕ, zero, suc, ◌+◌, ◌*◌, ◌/◌, ◌%◌, ◌<◌, List, length, get_or, sym, ap, subst, ◌∙◌, slice_set, arith}
 use Rattle.std.specs.Int.{bit_at}
 use Rattle.std.proofs.Math.Nat.{mul_comm, div-add-mod, div-lt_iff_lt-mul}
 use Rattle.std.proofs.lemmas.List.{length-set, get_or-set_same, get_or-set_other}
 use Rattle.std.proofs.lemmas.Nat.Bits.{bit_at-zero}
 use native.Mathlib.Decide.{ℕ_discrete}
 use Rattle.rbg_flat.specs.internal.Places.{AreSetsByPlace, ForgetsPlace}
-use Rattle.rbg_flat.specs.internal.Sets.{SetsOfVertices, sets_of, HasBitAt}
+use Rattle.rbg_flat.specs.internal.Sets.{SetsOfVertices, HasBitAt}
 use Rattle.rbg_flat.proofs.WordLemmas.{bit_there}
 
 -- The word at a place is cleared.
@@ -37,39 +37,47 @@ marked_some columns words v p has none =
 pub none_there : (columns : ℕ) (words : List ℕ) → ((p : ℕ) → get_or words p 0 ≡ 0) → (v p : ℕ) → ¬ HasBitAt columns words v p
 none_there columns words clear v p has = marked_some columns words v p has (clear (p * columns + v / 64))
 
-module _
-    (size columns : ℕ) (marks pending waiting touched : List ℕ) (place : ℕ)
-    (in_marks : place < length marks)
-  where
-    abbrev old : SetsOfVertices
-    old = sets_of size columns marks pending waiting touched
+-- The word at a place of sets is cleared, which are seen as `old`, and are now.
+module _ {old now : SetsOfVertices} (view : old ≡ now) (place : ℕ) (there : place < length now.marks) where
+  abbrev unmarked : List ℕ
+  unmarked = slice_set old.marks place 0
 
-    abbrev unmarked : List ℕ
-    unmarked = slice_set marks place 0
+  -- What was met there is forgotten, where nothing is open.
+  pub sets_forgotten : ((v p : ℕ) → ¬ HasBitAt now.columns now.pending v p) → (touched' : List ℕ) → AreSetsByPlace old → AreSetsByPlace (record old { marks = unmarked; touched = touched' })
+  sets_forgotten none touched' are = record {
+    marks = length-set old.marks place 0 ∙ are.marks;
+    pendings = are.pendings;
+    small = are.small;
+    under = λ v p has. absurd (none v p (subst (λ (s : SetsOfVertices). HasBitAt s.columns s.pending v p) view has));
+  }
 
-    -- What was met at a place is forgotten, where nothing is open.
-    pub sets_forgotten : ((v p : ℕ) → ¬ HasBitAt columns pending v p) → (touched' : List ℕ) → AreSetsByPlace old → AreSetsByPlace (sets_of size columns unmarked pending waiting touched')
-    sets_forgotten none touched' are = record {
-      marks = length-set marks place 0 ∙ are.marks;
-      pendings = are.pendings;
-      small = are.small;
-      under = λ v p has. absurd (none v p has);
-    }
-
-    pub forgets : (touched' : List ℕ) → ForgetsPlace old (sets_of size columns unmarked pending waiting touched') place
-    forgets touched' = record {
-      gone = gone_there columns marks place in_marks;
-      only = λ v p has. (was_elsewhere columns marks place in_marks v p has).0;
-      still = still_elsewhere columns marks place in_marks;
-    }
+  pub forgets : (touched' : List ℕ) → ForgetsPlace now (record old { marks = unmarked; touched = touched' }) place
+  forgets touched' =
+      let in_marks : place < length old.marks = subst (λ (s : SetsOfVertices). place < length s.marks) (sym view) there in
+      subst (λ (s : SetsOfVertices). ForgetsPlace s (record old { marks = unmarked; touched = touched' }) place) view (record {
+        gone = gone_there old.columns old.marks place in_marks;
+        only = λ v p has. (was_elsewhere old.columns old.marks place in_marks v p has).0;
+        still = still_elsewhere old.columns old.marks place in_marks;
+      })
 
 -- The bits of a word are open, and marked.
-pub taken_there : (size columns : ℕ) (marks pending waiting touched : List ℕ) (place q c : ℕ) → place ≡ q * columns + c → c < columns → AreSetsByPlace (sets_of size columns marks pending waiting touched) → (b : ℕ) → b < 64 → bit_at (get_or pending place 0) b ≡ 1 → HasBitAt columns marks (c * 64 + b) q
-taken_there size columns marks pending waiting touched place q c is below are b small set = are.under (c * 64 + b) q (bit_there columns pending q c (get_or pending place 0) b below (ap (λ (k : ℕ). get_or pending k 0) is) small set)
+pub taken_there : {old now : SetsOfVertices} → old ≡ now → (place q c : ℕ) → place ≡ q * now.columns + c → c < now.columns → AreSetsByPlace old → (word b : ℕ) → b < 64 → bit_at word b ≡ 1 → word ≡ get_or old.pending place 0 → HasBitAt now.columns now.pending (c * 64 + b) q × HasBitAt now.columns now.marks (c * 64 + b) q
+taken_there {old = old} view place q c at column are word b small set read =
+    let is = subst (λ (s : SetsOfVertices). place ≡ q * s.columns + c) (sym view) at in
+    let below = subst (λ (s : SetsOfVertices). c < s.columns) (sym view) column in
+    let waits : HasBitAt old.columns old.pending (c * 64 + b) q = bit_there old.columns old.pending q c word b below (read ∙ ap (λ (k : ℕ). get_or old.pending k 0) is) small set in
+    subst (λ (s : SetsOfVertices). HasBitAt s.columns s.pending (c * 64 + b) q × HasBitAt s.columns s.marks (c * 64 + b) q) view (waits, are.under (c * 64 + b) q waits)
 
 -- A place is that of its position and column.
 pub of_parts : (columns place : ℕ) → place ≡ place / columns * columns + place % columns
 of_parts columns place = sym (div-add-mod place columns) ∙ ap (λ (k : ℕ). k + place % columns) (mul_comm columns (place / columns))
+
+pub parts_of : (columns place c : ℕ) → c ≡ place % columns → place ≡ place / columns * columns + c
+parts_of columns place c is = of_parts columns place ∙ ap (λ (k : ℕ). place / columns * columns + k) (sym is)
+
+-- The same of the word at a place in its own column.
+pub first_there : {old now : SetsOfVertices} → old ≡ now → (place c : ℕ) → c ≡ place % now.columns → c < now.columns → AreSetsByPlace old → (word b : ℕ) → b < 64 → bit_at word b ≡ 1 → word ≡ get_or old.pending place 0 → HasBitAt now.columns now.pending (c * 64 + b) (place / now.columns) × HasBitAt now.columns now.marks (c * 64 + b) (place / now.columns)
+first_there {now = now} view place c is below = taken_there view place (place / now.columns) c (parts_of now.columns place c is) below
 
 pub some_columns : (size columns place : ℕ) → place < size * columns → 0 < columns
 some_columns size zero place below = let none : size * 0 ≡ 0 = omega arith in absurd (omega (arith, below, none))

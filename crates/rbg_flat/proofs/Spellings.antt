@@ -1,5 +1,6 @@
 -- Words of vertices, as lists of pairs.
-use Rattle.std.proofs.Common.{◌≡◌, ◌≢◌, ℕ, zero, suc, ◌+◌, ◌*◌, ◌/◌, ◌%◌, ◌^◌, ◌<◌, ◌≤◌, inl, inr, List, [], ◌∷◌, ◌++◌, length, map, take, drop, set, get_or, slice_get, Some, All, Contains, refl, sym, ap, subst, ◌∙◌, append_assoc, append-nil, arith, add-one}
+use Rattle.std.proofs.Common.{◌≡◌, ◌≢◌, ℕ, zero, suc, ◌+◌, ◌*◌, ◌/◌, ◌%◌, ◌^◌, ◌<◌, ◌≤◌, inl, inr, List, [], ◌∷◌, ◌++◌, length, map, take, drop, set, get_or, slice_get, Some, All, Contains, Bool, true, false, refl, sym, ap, subst, ◌∙◌, append_assoc, append-nil, arith, add-one}
+use Rattle.std.specs.Prelude.{IsTrue, ◌↔◌}
 use Rattle.std.specs.Int.{bit_at, trailing_zeros, w64}
 use Rattle.std.specs.List.Sorted.{IsPermutation}
 use Rattle.std.proofs.lemmas.List.{take-append-drop, drop_more, take-set, drop-set}
@@ -16,6 +17,16 @@ use Rattle.rbg_flat.specs.internal.Bits.{with_first, next, bits, pairs_of, pairs
 use Rattle.rbg_flat.specs.internal.Gathering.{at_position, PushesWord}
 use Rattle.rbg_flat.specs.declared.found.Word.{Word}
 use Rattle.rbg_flat.proofs.Ones.{bits_list, place, word_lists}
+
+-- What stands for a word where there is none.
+abbrev pub no_word : Word
+no_word = record { base = 0; position = 0; bits = 0 }
+
+pub not_told : (b : Bool) (P : Type 0) → IsTrue b ↔ P → b ≡ false → ¬ P
+not_told b P tells is holds = absurd (true_not_false (sym (tells.1 holds) ∙ is))
+  where
+    true_not_false : true ≡ false → ⊥
+    true_not_false e = cc
 
 -- ---- the bits of a number
 

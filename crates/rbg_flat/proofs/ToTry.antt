@@ -89,3 +89,7 @@ holds_to_try game lawful s fits f v p met holds = record {
   where
     passes : Passes game s v p
     passes = record { to = v; quiet = holds.quiet; applies = holds.applies }
+
+-- What tells that one of an on's pieces stands there tells that it is to be tried.
+pub on_told : (game : AbstractGame) → IsNumbered game.rules → (s : AbstractState) (p : ℕ) (wanted : List ℕ) → HasAction game.rules p (on wanted) → (v : ℕ) (B : Type 0) → B ↔ IsOneOf wanted s.pieces v → B ↔ IsToTry game s v p
+on_told game numbered s p wanted stands v B told = let try = on_to_try game numbered s p wanted stands v in ((λ b. try.0 (told.0 b)), (λ is. told.1 (try.1 is)))

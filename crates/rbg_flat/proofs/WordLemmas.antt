@@ -1,36 +1,15 @@
 -- Words of rows: bits that are set and cleared.
 use Rattle.std.proofs.Common.{◌≡◌, ◌≢◌, ℕ, zero, suc, ◌+◌, ◌*◌, ◌/◌, ◌%◌, ◌<◌, ◌≤◌, ◌^◌, ◌-◌, ◌⊎◌, inl, inr, List, length, get_or, refl, sym, ap, subst, ◌∙◌, slice_set, arith}
-use Rattle.std.specs.Prelude.{bit_or, bit_and, max, min}
+use Rattle.std.specs.Prelude.{bit_or, bit_and, min}
 use Rattle.std.specs.Int.{bit_at, bit_not, w64}
 use Rattle.std.proofs.lemmas.Nat.{div-mul-add, or_disjoint, or_lt, and_le_l}
 use Rattle.std.specs.Int.Bits.{or_add_and}
 use Rattle.std.proofs.lemmas.Bool.{cases_lt}
-use Rattle.std.proofs.lemmas.Nat.Bits.{bit_at-zero, bit_at-lt, bit_at_and, bit_at_or, bit_at_not, bit_at_above, same_from_bits}
+use Rattle.std.proofs.lemmas.Nat.Bits.{bit_at-zero, bit_at-lt, bit_at_and, bit_at_not, bit_at_above, same_from_bits}
 use Rattle.std.proofs.lemmas.List.{get_or-set_same, get_or-set_other}
 use native.Mathlib.Decide.{ℕ_discrete}
-use native.Mathlib.Numerals.{unary_clauses}
+use Rattle.rbg_leaps.proofs.Bits.{either_bit, first_bit, second_bit}
 use Rattle.rbg_flat.specs.internal.Sets.{HasBitAt, IsInWord}
-
--- A bit of two numbers joined is a bit of one of them.
-pub either_bit : (a b k : ℕ) → bit_at (bit_or a b) k ≡ 1 → (bit_at a k ≡ 1) ⊎ (bit_at b k ≡ 1)
-either_bit a b k is =
-    let most : max (bit_at a k) (bit_at b k) ≡ 1 = sym (bit_at_or a b k) ∙ is in
-    by_first (bit_at a k) (bit_at b k) (bit_at-lt a k) most
-  where
-    by_first : (x y : ℕ) → x < 2 → max x y ≡ 1 → (x ≡ 1) ⊎ (y ≡ 1)
-    by_first zero y small most = inr (simp unary_clauses at most)
-    by_first (suc zero) y small most = inl refl
-    by_first (suc (suc x)) y small most = absurd (omega (arith, small))
-
-pub first_bit : (a b k : ℕ) → bit_at a k ≡ 1 → bit_at (bit_or a b) k ≡ 1
-first_bit a b k is =
-    let small = bit_at-lt b k in
-    bit_at_or a b k ∙ grind (arith, is, small)
-
-pub second_bit : (a b k : ℕ) → bit_at b k ≡ 1 → bit_at (bit_or a b) k ≡ 1
-second_bit a b k is =
-    let small = bit_at-lt a k in
-    bit_at_or a b k ∙ grind (arith, is, small)
 
 -- A bit of what two numbers share is a bit of both.
 pub bit_of_first : (a b k : ℕ) → bit_at (bit_and a b) k ≡ 1 → bit_at a k ≡ 1

@@ -6,10 +6,7 @@ use Rattle.rbg_rules.specs.State.{AbstractGame, AbstractState}
 use Rattle.rbg_rules.specs.Actions.{Applies}
 use Rattle.rbg_leaps.specs.Leaps.{IsShiftAt, IsLeap, EndsAcross}
 use Rattle.rbg_flat.specs.Candidates.{IsCandidate, MayEnd}
-
--- the semi-state with this current vertex
-abbrev pub at_vertex : AbstractState → ℕ → AbstractState
-at_vertex s v = record s { vertex = v }
+pub use Rattle.rbg_state.specs.Trials.{at_vertex}
 
 -- The action at position q is neither a modifier nor a shift, and holds at vertex v.
 pub record Holds (game : AbstractGame) (s : AbstractState) (v q : ℕ) : Type 0 where

@@ -1,4 +1,5 @@
 -- Lemmas, by topic.
+pub mod Bits
 pub mod Cases
 pub mod Fillings
 pub mod Layings

@@ -23,7 +23,7 @@ use Rattle.rbg_leaps.specs.internal.Steps.{AreDirections, AreDirectionsUpTo, Com
 use Rattle.rbg_leaps.proofs.Cases.{no_some}
 
 -- An action of a level stands in the rules.
-level_stands : (rules : Expression) (level : Level) (x : Expression) → IsLevel rules level x → (p : ℕ) (a : AbstractAction) → HasAction x p a → HasAction rules p a
+pub level_stands : (rules : Expression) (level : Level) (x : Expression) → IsLevel rules level x → (p : ℕ) (a : AbstractAction) → HasAction x p a → HasAction rules p a
 level_stands rules outermost x same p a h = subst (λ (y : Expression). HasAction y p a) same h
 level_stands rules (inside q) x (inl stands) p a h = stands_inside rules q (positive x) stands p a h
 level_stands rules (inside q) x (inr stands) p a h = stands_inside rules q (negative x) stands p a h

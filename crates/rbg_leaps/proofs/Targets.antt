@@ -9,38 +9,8 @@ use Rattle.rbg_rules.specs.State.{AbstractGame}
 use Rattle.rbg_leaps.specs.declared.target.Target.{Target}
 use Rattle.rbg_leaps.specs.Asked.{IsEndOf}
 use Rattle.rbg_leaps.specs.internal.Tables.{no_target, target_at, Tells, IsTargetOf, AreSound, IsTargetBy, AreSoundBy, Keeps, AddsTarget, AddsUpTo, AddsAll}
+use Rattle.rbg_leaps.proofs.Bits.{either_bit, first_bit, second_bit}
 use Rattle.rbg_leaps.proofs.Places.{same_or_not, LastPlace, before, last, last_place}
-
--- A bit of two numbers joined is a bit of one of them.
-either_bit : (a b k : ℕ) → bit_at (bit_or a b) k ≡ 1 → (bit_at a k ≡ 1) ⊎ (bit_at b k ≡ 1)
-either_bit a b k is =
-    let most : max (bit_at a k) (bit_at b k) ≡ 1 = sym (bit_at_or a b k) ∙ is in
-    by_first (bit_at a k) (bit_at b k) (bit_at-lt a k) most
-  where
-    by_first : (x y : ℕ) → x < 2 → max x y ≡ 1 → (x ≡ 1) ⊎ (y ≡ 1)
-    by_first zero y small most = inr (simp unary_clauses at most)
-    by_first (suc zero) y small most = inl refl
-    by_first (suc (suc x)) y small most = absurd (omega (arith, small))
-
-first_bit : (a b k : ℕ) → bit_at a k ≡ 1 → bit_at (bit_or a b) k ≡ 1
-first_bit a b k is =
-    let small = bit_at-lt b k in
-    bit_at_or a b k ∙ ap (λ (x : ℕ). max x (bit_at b k)) is ∙ one_most (bit_at b k) small
-  where
-    one_most : (y : ℕ) → y < 2 → max 1 y ≡ 1
-    one_most zero small = refl
-    one_most (suc zero) small = refl
-    one_most (suc (suc y)) small = absurd (omega (arith, small))
-
-second_bit : (a b k : ℕ) → bit_at b k ≡ 1 → bit_at (bit_or a b) k ≡ 1
-second_bit a b k is =
-    let small = bit_at-lt a k in
-    bit_at_or a b k ∙ ap (λ (x : ℕ). max (bit_at a k) x) is ∙ one_most (bit_at a k) small
-  where
-    one_most : (x : ℕ) → x < 2 → max x 1 ≡ 1
-    one_most zero small = refl
-    one_most (suc zero) small = refl
-    one_most (suc (suc x)) small = absurd (omega (arith, small))
 
 -- Where joining changes nothing, each bit was there.
 under_bit : (a b k : ℕ) → bit_or a b ≡ b → bit_at a k ≡ 1 → bit_at b k ≡ 1

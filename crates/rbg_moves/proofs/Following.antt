@@ -1,5 +1,5 @@
 -- Pairs are followed one after another, and what is counted meanwhile is counted of the question whether they are a move.
-use Rattle.std.proofs.Common.{◌≡◌, ℕ, suc, ◌<◌, List, [], ◌∷◌, length, Bool, false, refl, ◌∙◌, subst, arith}
+use Rattle.std.proofs.Common.{◌≡◌, ℕ, suc, ◌<◌, List, [], ◌∷◌, length, Bool, false, refl, sym, ◌∙◌, subst, arith}
 use Rattle.std.specs.Prelude.{Option, Some, None, Result, Ok, Err, IfOk, IfSome, OnOk}
 use Rattle.std.proofs.lemmas.Result.{IfOk-weaker}
 use Rattle.rbg_rules.specs.Positions.{IsNumbered, IsSwitchAt}
@@ -25,6 +25,10 @@ use Rattle.rbg_moves.proofs.Tallies.{more_takes}
 -- The same error of a call that answers something else.
 as_err : {e other : Over} → (let r : Result (Option ℕ) Over = Err e in r ≡ Err other) → (let r : Result Bool Over = Err e in r ≡ Err other)
 as_err is = cc
+
+-- The pairs are the same, told another way.
+pub followed_as : {old new : Searching} {place : AbstractPlace} {ps qs : List (ℕ × ℕ)} {to : AbstractState} {result : Result (Option ℕ) Over} → ps ≡ qs → IsFollowed old new place qs to result → IsFollowed old new place ps to result
+followed_as {old = old} {new = new} {place = place} {to = to} {result = result} is followed = subst (λ (rs : List (ℕ × ℕ)). IsFollowed old new place rs to result) (sym is) followed
 
 -- There are no pairs to follow.
 pub follows_none : (old : Searching) (place : AbstractPlace) {to : AbstractState} → IsNumbered old.game.rules → IsFollowed old old place [] to (Ok None)

@@ -17,7 +17,7 @@ use Rattle.rbg_search.specs.Forced.{CountsForced, TakesBehind}
 use Rattle.rbg_search.specs.Passing.{Passes, finding, listing}
 use Rattle.rbg_search.proofs.Forcing.{ForcesOn, all_counted, none_deep, takes_none, takes_more, forced_at_once, forced_behind}
 use Rattle.rbg_moves.specs.Limits.{FitsLimits}
-use Rattle.rbg_moves.specs.internal.Stepping.{standing_at, place_behind}
+use Rattle.rbg_moves.specs.internal.Stepping.{at_vertex, place_behind}
 use Rattle.rbg_moves.specs.internal.Asking.{question_of, is_cut}
 use Rattle.rbg_moves.specs.internal.Gathering.{Gathers, IsLegalBy, IsSwitchOr}
 use Rattle.rbg_moves.proofs.Steps.{legal_on}
@@ -73,7 +73,7 @@ pub record TakenSoFar (game : AbstractGame) (question : Question) (s : AbstractS
   pub behind_it : TakesBehind game false question s done middle b left most
 
 module _ (game : AbstractGame) (numbered : IsNumbered game.rules) where
-  pub so_far_one : (question : Question) (s : AbstractState) (f : Start) (done : List (ℕ × ℕ)) (q : ℕ × ℕ) (later : AbstractState) (a b c left most : ℕ) → Applies game q.1 (standing_at s q.0) later → 1 < left → TakenSoFar game question s f done a b left most → CountsForced game false question later (after q.1) b c (left - 1) most → TakenSoFar game question s f (done ++ q ∷ []) a c left most
+  pub so_far_one : (question : Question) (s : AbstractState) (f : Start) (done : List (ℕ × ℕ)) (q : ℕ × ℕ) (later : AbstractState) (a b c left most : ℕ) → Applies game q.1 (at_vertex s q.0) later → 1 < left → TakenSoFar game question s f done a b left most → CountsForced game false question later (after q.1) b c (left - 1) most → TakenSoFar game question s f (done ++ q ∷ []) a c left most
   so_far_one question s f done q later a b c left most applies more_left taken more = record {
     middle = taken.middle;
     at_once = taken.at_once;
@@ -205,7 +205,7 @@ module _ (game : AbstractGame) (numbered : IsNumbered game.rules) where
   heads x y xs ys e = (cc, cc)
 
   -- Another pair is followed, and the rest is a move behind it.
-  pub tried_forced : (s later : AbstractState) (f : Start) (v p : ℕ) (rest : List (ℕ × ℕ)) (a b c most : ℕ) → Applies game p (standing_at s v) later → IsMove game later (after p) rest → 0 < length rest → CountsForced game false reach s f a b (suc (length rest)) most → CountsForced game false (try_move rest) later (after p) b c (length rest) most → CountsForced game false (try_move ((v, p) ∷ rest)) s f a c (suc (length rest)) most
+  pub tried_forced : (s later : AbstractState) (f : Start) (v p : ℕ) (rest : List (ℕ × ℕ)) (a b c most : ℕ) → Applies game p (at_vertex s v) later → IsMove game later (after p) rest → 0 < length rest → CountsForced game false reach s f a b (suc (length rest)) most → CountsForced game false (try_move rest) later (after p) b c (length rest) most → CountsForced game false (try_move ((v, p) ∷ rest)) s f a c (suc (length rest)) most
   tried_forced s later f v p rest a b c most applies move some counts more =
       forced_behind game numbered false (try_move ((v, p) ∷ rest)) (try_move rest) s f ((v, p) ∷ []) a b c (suc (length rest)) most onward among counts takes
     where
@@ -222,7 +222,7 @@ module _ (game : AbstractGame) (numbered : IsNumbered game.rules) where
       onward : ForcesOn game false (try_move ((v, p) ∷ rest)) (try_move rest) s f
       onward w q later' ps next applied plain (more_pairs, some_more, e) forced =
           let (head, tail) = heads (v, p) (w, q) rest (ps ++ more_pairs) e in
-          let applied' : Applies game p (standing_at s v) later' = subst (λ (x : ℕ × ℕ). Applies game x.1 (standing_at s x.0) later') (sym head) applied in
+          let applied' : Applies game p (at_vertex s v) later' = subst (λ (x : ℕ × ℕ). Applies game x.1 (at_vertex s x.0) later') (sym head) applied in
           let one : later ≡ later' = Applies_one game numbered p applies applied' in
           let move' : IsMove game later' (after p) rest = subst (λ (u : AbstractState). IsMove game u (after p) rest) one move in
           let same : p ≡ q = ap (λ (x : ℕ × ℕ). x.1) head in

@@ -31,7 +31,7 @@ use Rattle.rbg_search.proofs.Takings.{any_part, is_answer, takes_as, takes_part_
 use Rattle.rbg_search.proofs.Turns.{turned, turn_under, turn_at, turn_front, turn_rest, none_left}
 use Rattle.rbg_moves.specs.internal.Asking.{question_of, IsGivenUp}
 use Rattle.rbg_moves.specs.internal.Gathering.{Gathers, IsLegalBy, IsSwitchOr, ListsSwitches, LeavesOthers, IsWalked}
-use Rattle.rbg_moves.specs.internal.Stepping.{standing_at, place_behind, Behind, IsValidAt}
+use Rattle.rbg_moves.specs.internal.Stepping.{at_vertex, place_behind, Behind, IsValidAt}
 use Rattle.rbg_moves.proofs.Steps.{next_applies, next_there, valid_next, modifier_position}
 use Rattle.rbg_moves.proofs.Gathering.{gathers_behind}
 use Rattle.rbg_moves.proofs.Listing.{switches_cut, others_begin, others_more, others_cut, others_end}
@@ -62,9 +62,9 @@ switches_as {game' = game'} {pairs} {front} {front'} {max} {had} {has} {first} {
     (subst (λ (ps : List (ℕ × ℕ)). ListsSwitches game' pairs pairs ps max had has first cut) same_front
     (subst (λ (g : AbstractGame). ListsSwitches g pairs pairs front max had has first cut) same lists))
 
-applied_back : (game game' : AbstractGame) (s s' t : AbstractState) (v p : ℕ) → game' ≡ game → s' ≡ s → Applies game p (standing_at s v) t → Applies game' p (standing_at s' v) t
+applied_back : (game game' : AbstractGame) (s s' t : AbstractState) (v p : ℕ) → game' ≡ game → s' ≡ s → Applies game p (at_vertex s v) t → Applies game' p (at_vertex s' v) t
 applied_back game game' s s' t v p same there applied =
-    subst (λ (g : AbstractGame). Applies g p (standing_at s' v) t) (sym same) (subst (λ (u : AbstractState). Applies game p (standing_at u v) t) (sym there) applied)
+    subst (λ (g : AbstractGame). Applies g p (at_vertex s' v) t) (sym same) (subst (λ (u : AbstractState). Applies game p (at_vertex u v) t) (sym there) applied)
 
 -- The pairs are those of a whole flat part.
 pub record IsWhole (game : AbstractGame) (s : AbstractState) (f : Start) (xs : List (ℕ × ℕ)) : Type 0 where
@@ -298,11 +298,11 @@ too_many old later p left max lawful modifies none wide =
     }
 
 -- What holds where the program stands holds wherever the modifier leads.
-pub made : (Is : List (ℕ × ℕ) → AbstractState → ℕ → Type 0) (game game' : AbstractGame) → IsNumbered game.rules → (s here : AbstractState) (q : ℕ × ℕ) (p : ℕ) (front front' : List (ℕ × ℕ)) → game' ≡ game → p ≡ q.1 → front' ≡ front → Applies game' q.1 (standing_at s q.0) here → Is front' here p → Behind game s q (λ later. Is front later q.1)
+pub made : (Is : List (ℕ × ℕ) → AbstractState → ℕ → Type 0) (game game' : AbstractGame) → IsNumbered game.rules → (s here : AbstractState) (q : ℕ × ℕ) (p : ℕ) (front front' : List (ℕ × ℕ)) → game' ≡ game → p ≡ q.1 → front' ≡ front → Applies game' q.1 (at_vertex s q.0) here → Is front' here p → Behind game s q (λ later. Is front later q.1)
 made Is game game' numbered s here q p front front' same same_position pushed applied holds later applied' =
-    let here' : Applies game q.1 (standing_at s q.0) here = subst (λ (g : AbstractGame). Applies g q.1 (standing_at s q.0) here) same applied in
+    let here' : Applies game q.1 (at_vertex s q.0) here = subst (λ (g : AbstractGame). Applies g q.1 (at_vertex s q.0) here) same applied in
     subst (λ (x : AbstractState). Is front x q.1) (Applies_one game numbered q.1 here' applied') (subst (λ (n : ℕ). Is front here n) same_position (subst (λ (ps : List (ℕ × ℕ)). Is ps here p) pushed holds))
 
-pub made_given_up : (old : Searching) (max : ℕ) (game' : AbstractGame) → IsNumbered old.game.rules → (s here : AbstractState) (q : ℕ × ℕ) (p : ℕ) (front front' : List (ℕ × ℕ)) {D W : Type 0} → game' ≡ old.game → p ≡ q.1 → front' ≡ front → Applies game' q.1 (standing_at s q.0) here → IsGivenUp old (question_of max) here (after p) (most_pairs - length front') D W → Behind old.game s q (λ later. IsGivenUp old (question_of max) later (after q.1) (most_pairs - length front) D W)
+pub made_given_up : (old : Searching) (max : ℕ) (game' : AbstractGame) → IsNumbered old.game.rules → (s here : AbstractState) (q : ℕ × ℕ) (p : ℕ) (front front' : List (ℕ × ℕ)) {D W : Type 0} → game' ≡ old.game → p ≡ q.1 → front' ≡ front → Applies game' q.1 (at_vertex s q.0) here → IsGivenUp old (question_of max) here (after p) (most_pairs - length front') D W → Behind old.game s q (λ later. IsGivenUp old (question_of max) later (after q.1) (most_pairs - length front) D W)
 made_given_up old max game' numbered s here q p front front' {D} {W} same same_position pushed applied given =
     made (λ ps t n. IsGivenUp old (question_of max) t (after n) (most_pairs - length ps) D W) old.game game' numbered s here q p front front' same same_position pushed applied given

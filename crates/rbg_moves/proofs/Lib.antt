@@ -1,7 +1,6 @@
 -- Lemmas, by topic.
 pub mod Gathering
 pub mod Steps
-pub mod Switches
 pub mod Order
 pub mod Listing
 pub mod Outcome

@@ -17,7 +17,7 @@ use Rattle.rbg_search.proofs.Orders.{still_differ}
 use Rattle.rbg_search.proofs.Turns.{turned, turn_under, turn_at, turn_front}
 use Rattle.rbg_moves.specs.internal.Gathering.{Gathers, IsBehind, IsLegalBy, IsSwitchAmong, IsSwitchOr, ListsSwitches}
 use Rattle.rbg_moves.proofs.Gathering.{gathers_none, gathers_one, gathers_full, gathers_both, gathers_as, gathers_more}
-use Rattle.rbg_moves.specs.internal.Stepping.{standing_at, place_behind}
+use Rattle.rbg_moves.specs.internal.Stepping.{at_vertex, place_behind}
 use Rattle.rbg_moves.proofs.Steps.{Onward, ended, going, legal_cut, legal_end, legal_on, legal_some, next_applies}
 
 no_pair : (q : ℕ × ℕ) → ¬ Contains [] q
@@ -185,7 +185,7 @@ others_begin game numbered place pairs ends part done front max old now first sw
     from (q ∷ qs) h = record { legal = h.legal; begins = (switches_at q h.begins, first_there game numbered place pairs ends part q qs h.legal) }
 
 -- What is legal behind a pair that is no switch is what is legal behind its modifier.
-behind_legal : (game : AbstractGame) → IsNumbered game.rules → (place : AbstractPlace) (q : ℕ × ℕ) (later : AbstractState) → ¬ IsSwitchAt game.rules q.1 → Applies game q.1 (standing_at place.state q.0) later → (qs : List (ℕ × ℕ)) → IsLegal game place (q ∷ qs) → IsLegal game (place_behind later q.1) qs
+behind_legal : (game : AbstractGame) → IsNumbered game.rules → (place : AbstractPlace) (q : ℕ × ℕ) (later : AbstractState) → ¬ IsSwitchAt game.rules q.1 → Applies game q.1 (at_vertex place.state q.0) later → (qs : List (ℕ × ℕ)) → IsLegal game place (q ∷ qs) → IsLegal game (place_behind later q.1) qs
 behind_legal game numbered place (v, p) later plain applied qs (to, legal) =
     let cut = legal_cut game numbered place v p qs to legal in
     by_onward cut.later (Applies_one game numbered p cut.applies applied) cut.onward
@@ -194,7 +194,7 @@ behind_legal game numbered place (v, p) later plain applied qs (to, legal) =
     by_onward here same (ended switches _ _) = absurd (plain switches)
     by_onward here same (going _ legal) = (to, subst (λ (s : AbstractState). Legal game (place_behind s p) qs to) same legal)
 
-pub others_more : (game : AbstractGame) → IsNumbered game.rules → (place : AbstractPlace) (done front : List (ℕ × ℕ)) (max : ℕ) (old now new : List (List (ℕ × ℕ))) (none first : List (ℕ × ℕ)) (cut : Bool) (q : ℕ × ℕ) (later : AbstractState) → IsNext game place.state (stand_of place.last) q.0 q.1 → ¬ Contains done q → ¬ IsSwitchAt game.rules q.1 → Applies game q.1 (standing_at place.state q.0) later → Gathers (IsLegalBy game place (IsSwitchOr game.rules done)) front max old now none false → Gathers (IsBehind q (IsLegal game (place_behind later q.1))) front max now new first cut → Gathers (IsLegalBy game place (IsSwitchOr game.rules (done ++ q ∷ []))) front max old new first cut
+pub others_more : (game : AbstractGame) → IsNumbered game.rules → (place : AbstractPlace) (done front : List (ℕ × ℕ)) (max : ℕ) (old now new : List (List (ℕ × ℕ))) (none first : List (ℕ × ℕ)) (cut : Bool) (q : ℕ × ℕ) (later : AbstractState) → IsNext game place.state (stand_of place.last) q.0 q.1 → ¬ Contains done q → ¬ IsSwitchAt game.rules q.1 → Applies game q.1 (at_vertex place.state q.0) later → Gathers (IsLegalBy game place (IsSwitchOr game.rules done)) front max old now none false → Gathers (IsBehind q (IsLegal game (place_behind later q.1))) front max now new first cut → Gathers (IsLegalBy game place (IsSwitchOr game.rules (done ++ q ∷ []))) front max old new first cut
 others_more game numbered place done front max old now new none first cut q later next fresh plain applied so_far behind =
     gathers_as (λ ps. IsLegalBy game place (IsSwitchOr game.rules done) ps ⊎ IsBehind q (IsLegal game (place_behind later q.1)) ps) (IsLegalBy game place (IsSwitchOr game.rules (done ++ q ∷ []))) front max old new first cut
     (λ ps. (to ps, from ps))

@@ -18,7 +18,7 @@ use Rattle.rbg_rules.proofs.TableLemmas.{plain_stands, numbered_action}
 use Rattle.rbg_rules.proofs.PlaceLemmas.{RunPairs_join}
 use Rattle.rbg_rules.proofs.LocalityLemmas.{locality_law}
 use Rattle.rbg_pairs.specs.Flat.{IsNext}
-use Rattle.rbg_moves.specs.internal.Stepping.{standing_at, place_behind, IsStep, IsValidAt, IsTried, IsMadeFrom, made, goes_on}
+use Rattle.rbg_moves.specs.internal.Stepping.{at_vertex, place_behind, IsStep, IsValidAt, IsTried, IsMadeFrom, made, goes_on}
 use Rattle.rbg_search.specs.Passing.{GoesOn, trying}
 use Rattle.rbg_pairs.specs.Start.{IsPositionOf}
 use Rattle.rbg_pairs.proofs.Starts.{action_position}
@@ -79,20 +79,20 @@ one_pair game numbered p s t modifier applied = by_kind (is_modifier applied.act
     by_kind false quiet = absurd (quiet_place game numbered p applied quiet modifier)
 
 -- A modifier that comes next is applied with the pair's vertex as the current one, where nothing else is new.
-pub next_here : (game : AbstractGame) → IsNumbered game.rules → (s : AbstractState) (f : Start) (v p : ℕ) (next : IsNext game s f v p) → next.here ≡ standing_at s v
-next_here game numbered s f v p next = ends_at game numbered s next.here next.before next.no_modifier next.runs ∙ ap (λ (x : ℕ). standing_at s x) next.vertex
+pub next_here : (game : AbstractGame) → IsNumbered game.rules → (s : AbstractState) (f : Start) (v p : ℕ) (next : IsNext game s f v p) → next.here ≡ at_vertex s v
+next_here game numbered s f v p next = ends_at game numbered s next.here next.before next.no_modifier next.runs ∙ ap (λ (x : ℕ). at_vertex s x) next.vertex
 
-pub next_applies : (game : AbstractGame) → IsNumbered game.rules → (s : AbstractState) (f : Start) (v p : ℕ) (next : IsNext game s f v p) → Applies game p (standing_at s v) next.later
+pub next_applies : (game : AbstractGame) → IsNumbered game.rules → (s : AbstractState) (f : Start) (v p : ℕ) (next : IsNext game s f v p) → Applies game p (at_vertex s v) next.later
 next_applies game numbered s f v p next = subst (λ (u : AbstractState). Applies game p u next.later) (next_here game numbered s f v p next) next.applies
 
 -- A modifier that comes next makes a run with its pair.
-next_runs : (game : AbstractGame) → IsNumbered game.rules → (s : AbstractState) (f : Start) (v p : ℕ) (next : IsNext game s f v p) (later : AbstractState) → Applies game p (standing_at s v) later → RunPairs game (next.before ++ p ∷ []) s later ((v, p) ∷ [])
+next_runs : (game : AbstractGame) → IsNumbered game.rules → (s : AbstractState) (f : Start) (v p : ℕ) (next : IsNext game s f v p) (later : AbstractState) → Applies game p (at_vertex s v) later → RunPairs game (next.before ++ p ∷ []) s later ((v, p) ∷ [])
 next_runs game numbered s f v p next later applied =
-    let here : Run game next.before s (standing_at s v) = subst (λ (u : AbstractState). Run game next.before s u) (next_here game numbered s f v p next) next.runs in
-    RunPairs_join (quiet_pairs game next.before next.no_modifier here) (one_pair game numbered p (standing_at s v) later next.modifies applied)
+    let here : Run game next.before s (at_vertex s v) = subst (λ (u : AbstractState). Run game next.before s u) (next_here game numbered s f v p next) next.runs in
+    RunPairs_join (quiet_pairs game next.before next.no_modifier here) (one_pair game numbered p (at_vertex s v) later next.modifies applied)
 
 -- A switch that comes next is a legal move.
-pub legal_end : (game : AbstractGame) → IsNumbered game.rules → (place : AbstractPlace) (v p : ℕ) (later : AbstractState) → IsNext game place.state (stand_of place.last) v p → IsSwitchAt game.rules p → Applies game p (standing_at place.state v) later → Legal game place ((v, p) ∷ []) (place_behind later p)
+pub legal_end : (game : AbstractGame) → IsNumbered game.rules → (place : AbstractPlace) (v p : ℕ) (later : AbstractState) → IsNext game place.state (stand_of place.last) v p → IsSwitchAt game.rules p → Applies game p (at_vertex place.state v) later → Legal game place ((v, p) ∷ []) (place_behind later p)
 legal_end game numbered place v p later next switches applied = record {
   before = next.before;
   last = p;
@@ -104,7 +104,7 @@ legal_end game numbered place v p later next switches applied = record {
 }
 
 -- What is legal behind another modifier that comes next, is legal with its pair in front.
-pub legal_on : (game : AbstractGame) → IsNumbered game.rules → (place : AbstractPlace) (v p : ℕ) (later : AbstractState) (qs : List (ℕ × ℕ)) (to : AbstractPlace) → IsNext game place.state (stand_of place.last) v p → ¬ IsSwitchAt game.rules p → Applies game p (standing_at place.state v) later → Legal game (place_behind later p) qs to → Legal game place ((v, p) ∷ qs) to
+pub legal_on : (game : AbstractGame) → IsNumbered game.rules → (place : AbstractPlace) (v p : ℕ) (later : AbstractState) (qs : List (ℕ × ℕ)) (to : AbstractPlace) → IsNext game place.state (stand_of place.last) v p → ¬ IsSwitchAt game.rules p → Applies game p (at_vertex place.state v) later → Legal game (place_behind later p) qs to → Legal game place ((v, p) ∷ qs) to
 legal_on game numbered place v p later qs to next plain applied legal =
     let joined : (next.before ++ p ∷ legal.before) ++ legal.last ∷ [] ≡ next.before ++ (p ∷ (legal.before ++ legal.last ∷ [])) = append_assoc next.before (p ∷ legal.before) (legal.last ∷ []) in
     let joined' : (next.before ++ p ∷ []) ++ (legal.before ++ legal.last ∷ []) ≡ next.before ++ (p ∷ (legal.before ++ legal.last ∷ [])) = append_assoc next.before (p ∷ []) (legal.before ++ legal.last ∷ []) in
@@ -198,7 +198,7 @@ pub data Onward (game : AbstractGame) (later : AbstractState) (p : ℕ) (qs : Li
 pub record CutLegal (game : AbstractGame) (place : AbstractPlace) (v p : ℕ) (qs : List (ℕ × ℕ)) (to : AbstractPlace) : Type 0 where
   pub next : IsNext game place.state (stand_of place.last) v p
   pub later : AbstractState
-  pub applies : Applies game p (standing_at place.state v) later
+  pub applies : Applies game p (at_vertex place.state v) later
   pub onward : Onward game later p qs to
 
 no_pairs : {game : AbstractGame} {s t : AbstractState} {qs : List (ℕ × ℕ)} → RunPairs game [] s t qs → (qs ≡ []) × (t ≡ s)
@@ -274,7 +274,7 @@ next_there game lawful s f v p fits next =
     subst (λ (n : ℕ). v < n) here.vertices (subst (λ (n : ℕ). n < length next.here.pieces) next.vertex here.vertex)
 
 -- Only what the step leads to is behind it.
-step_one : (game : AbstractGame) → IsNumbered game.rules → (place : AbstractPlace) (v p : ℕ) (qs : List (ℕ × ℕ)) (to : AbstractPlace) (later : AbstractState) → Applies game p (standing_at place.state v) later → CutLegal game place v p qs to → Onward game later p qs to
+step_one : (game : AbstractGame) → IsNumbered game.rules → (place : AbstractPlace) (v p : ℕ) (qs : List (ℕ × ℕ)) (to : AbstractPlace) (later : AbstractState) → Applies game p (at_vertex place.state v) later → CutLegal game place v p qs to → Onward game later p qs to
 step_one game numbered place v p qs to later applied cut =
     subst (λ (u : AbstractState). Onward game u p qs to) (Applies_one game numbered p cut.applies applied) cut.onward
 
@@ -313,7 +313,7 @@ step_goes_on game s f v p qs later taken plain = record { next = taken.next; app
 pub made_next : (game : AbstractGame) → IsNumbered game.rules → (place : AbstractPlace) (v p : ℕ) (qs : List (ℕ × ℕ)) (to : AbstractPlace) → IsMadeFrom game place ((v, p) ∷ qs) to → IsNext game place.state (stand_of place.last) v p
 made_next game numbered place v p qs to (goes_on legal) = (legal_cut game numbered place v p qs to legal).next
 
-pub made_on : (game : AbstractGame) → IsNumbered game.rules → (place : AbstractPlace) (v p : ℕ) (qs : List (ℕ × ℕ)) (to : AbstractPlace) (later : AbstractState) → Applies game p (standing_at place.state v) later → IsMadeFrom game place ((v, p) ∷ qs) to → IsMadeFrom game (place_behind later p) qs to
+pub made_on : (game : AbstractGame) → IsNumbered game.rules → (place : AbstractPlace) (v p : ℕ) (qs : List (ℕ × ℕ)) (to : AbstractPlace) (later : AbstractState) → Applies game p (at_vertex place.state v) later → IsMadeFrom game place ((v, p) ∷ qs) to → IsMadeFrom game (place_behind later p) qs to
 made_on game numbered place v p qs to later applied (goes_on legal) =
     by_onward (step_one game numbered place v p qs to later applied (legal_cut game numbered place v p qs to legal))
   where

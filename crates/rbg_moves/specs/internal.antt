@@ -1,5 +1,4 @@
 -- What only the proofs and the private contracts of this crate cite.
 pub mod Asking
 pub mod Gathering
-pub mod Shown
 pub mod Stepping

@@ -7,7 +7,7 @@ ghost use Rattle.rbg_rules.specs.Moves.{stand_of};
 ghost use Rattle.rbg_flat.specs.Paths.{ArePathsOf};
 ghost use Rattle.rbg_pairs.specs.Start.{start_of, IsPositionOf};
 ghost use Rattle.rbg_moves.specs.internal.Asking.{begun_in};
-ghost use Rattle.rbg_moves.specs.internal.Shown.{shows_switch};
+ghost use Rattle.rbg_flat.specs.internal.Shown.{shows_switch};
 
 use rbg_auto::{Expr, Steps};
 use rbg_base::{Memory, Move, Pair, Position};

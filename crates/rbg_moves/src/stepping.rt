@@ -11,7 +11,7 @@ ghost use Rattle.rbg_pairs.specs.Flat.{IsNext};
 ghost use Rattle.rbg_search.specs.Counting.{CountsOpenings, IsOverBudget};
 ghost use Rattle.rbg_search.specs.Forced.{CountsForced};
 ghost use Rattle.rbg_search.specs.Taken.{CountsPairs};
-ghost use Rattle.rbg_moves.specs.internal.Stepping.{standing_at, IsStep, IsValidAt};
+ghost use Rattle.rbg_moves.specs.internal.Stepping.{at_vertex, IsStep, IsValidAt};
 
 use crate::asking::origin_after;
 use rbg_auto::Steps;
@@ -26,7 +26,7 @@ pub(crate) fn apply_at(game: &Game, state: &mut SemiState, pair: Pair)
     requires fits { IsStateOf game.now state.old.state }
     requires valid { IsValidAt game.now state.old.state pair.0 pair.1 }
     requires room { 2 ≤ state.old.room }
-    ensures applied { Applies game.now pair.1 (standing_at state.old.state pair.0) state.new.state }
+    ensures applied { Applies game.now pair.1 (at_vertex state.old.state pair.0) state.new.state }
     ensures fits { IsStateOf game.now state.new.state }
     ensures after { IsAfter state.old state.new }
     ensures capacity { capacity_of state.new ≡ capacity_of state.old }

@@ -3,7 +3,7 @@ use Rattle.std.proofs.Common.{◌≡◌, ◌≢◌, ℕ, ◌+◌, ◌*◌, ◌/�
 use Rattle.std.proofs.lemmas.Bool.Decides.{Decides-eqb}
 use Rattle.std.specs.Prelude.{◌==◌, Decides, All, AllPairs, Contains}
 use Rattle.std.proofs.lemmas.Nat.{div-mul-add, mod-mul-add, rows as products}
-use Rattle.std.proofs.lemmas.List.{get_or-set_same, get_or-set_other, length-set, length-take, get_or-take, append-nil, take_more_set}
+use Rattle.std.proofs.lemmas.List.{get_or-set_same, get_or-set_other, length-set, length-take, get_or-take, append-nil, take_more, take_more_set}
 use Rattle.std.proofs.Math.Nat.{mul-le-mul_right}
 use Rattle.std.proofs.lemmas.List.Elements.{All-nil, All-push, Contains-append_left, Contains-push, Contains-push_cases, Contains-get_or, All-contains, All-weaker}
 use Rattle.std.proofs.lemmas.List.Quantifiers.{all_pairs_push}
@@ -177,6 +177,14 @@ unfolding is_marked
 unmarked_here words k below =
     let there : k / 64 < length words = omega (arith, below) in
     ap (λ (n : ℕ). bit_at n (k % 64) == 1) (get_or-set_same words (k / 64) 0 0 there) ∙ ap (λ (n : ℕ). n == 1) (bit_at-zero (k % 64))
+
+-- The marks of one pair more are taken away with their word.
+pub gone_more : (mark : ℕ × ℕ → ℕ) (pairs : List (ℕ × ℕ)) (k : ℕ) (item : ℕ × ℕ) (words : List ℕ) (word : ℕ) → k < length pairs → word < length words → mark (get_or pairs k item) / 64 ≡ word → All (λ q. is_marked words (mark q) ≡ false) (take k pairs) → All (λ q. is_marked (set words word 0) (mark q) ≡ false) (take (k + 1) pairs)
+gone_more mark pairs k item words word under within place gone =
+    subst (λ (qs : List (ℕ × ℕ)). All (λ q. is_marked (set words word 0) (mark q) ≡ false) qs) (sym (take_more pairs k item under))
+    (All-push (λ q. is_marked (set words word 0) (mark q) ≡ false) (take k pairs) (get_or pairs k item)
+    (All-weaker (λ q. is_marked words (mark q) ≡ false) (λ q. is_marked (set words word 0) (mark q) ≡ false) (λ q is. still_unmarked words word (mark q) within is) (take k pairs) gone)
+    (subst (λ (i : ℕ). is_marked (set words i 0) (mark (get_or pairs k item)) ≡ false) place (unmarked_here words (mark (get_or pairs k item)) (omega (arith, within, place)))))
 
 -- Where the marks of the pairs are taken away and none is set, none is left.
 pub all_unmarked : (n size c : ℕ) (marks left : List ℕ) (pairs : List (ℕ × ℕ)) → AreMarked n size c marks pairs → length left ≡ length marks → All (λ q. is_marked left (mark_at c q) ≡ false) pairs → ((k : ℕ) → is_marked left k ≡ true → is_marked marks k ≡ true) → AreMarked n size c left []

@@ -217,3 +217,22 @@ pub done_grown : (xs ys more : List (ℕ × ℕ)) (k v q : ℕ) → slice_get xs
 done_grown xs ys more k v q is grown =
     let under = slice_get_within xs k (v, q) is in
     ap (λ (zs : List (ℕ × ℕ)). take (k + 1) zs) grown ∙ take-append-le (k + 1) xs more (omega (arith, under)) ∙ done_more xs k v q is
+
+-- The pair that is next is taken.
+module _ (game : AbstractGame) (s : AbstractState) (f : Start) (xs found : List (ℕ × ℕ)) (ends : Bool) (k : ℕ) (pair : ℕ × ℕ) (at : slice_get xs k ≡ Some pair) (part : IsPart game s f xs (take k xs) found ends) where
+  there : Contains xs pair
+  there = (k, slice_get_within xs k pair at, get_or_from_slice_get xs k pair pair at)
+
+  pub takes_invalid : IsTrialAt game s pair.0 pair.1 Invalid → IsPart game s f xs (take (k + 1) xs) found ends
+  takes_invalid trial = subst (λ (ds : List (ℕ × ℕ)). IsPart game s f xs ds found ends) (sym (done_more xs k pair.0 pair.1 at)) (invalid_part game s f xs (take k xs) found ends pair.0 pair.1 part trial)
+
+  pub takes_modifier : (new : List (ℕ × ℕ)) → new ≡ found ++ pair ∷ [] → ¬ Contains (take k xs) pair → IsTrialAt game s pair.0 pair.1 Modifies → IsPart game s f xs (take (k + 1) xs) new ends
+  takes_modifier new is once trial =
+      subst (λ (ds : List (ℕ × ℕ)). IsPart game s f xs ds new ends) (sym (done_more xs k pair.0 pair.1 at))
+      (subst (λ (fs : List (ℕ × ℕ)). IsPart game s f xs (take k xs ++ pair ∷ []) fs ends) (sym is)
+      (modifier_part game s f xs (take k xs) found ends pair.0 pair.1 part there once trial))
+
+  pub takes_lead : (ys : List (ℕ × ℕ)) (last : Bool) (u : ℕ) (ps : List ℕ) → MeetsAll xs ys u ps → AreAllThatFollow game.rules (after pair.1) ps → Decides last (Ends game.rules (after pair.1) []) → IsTrialAt game s pair.0 pair.1 (LeadsTo u) → IsPart game s f ys (take (k + 1) ys) found (ends || last)
+  takes_lead ys last u ps meets follow decides trial =
+      subst (λ (ds : List (ℕ × ℕ)). IsPart game s f ys ds found (ends || last)) (sym (done_grown xs ys meets.more k pair.0 pair.1 at meets.grown))
+      (leads_part game s f xs ys (take k xs) found ends last pair.0 pair.1 u ps part there trial follow meets decides)

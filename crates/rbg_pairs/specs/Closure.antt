@@ -5,10 +5,7 @@ use Rattle.rbg_rules.specs.Words.{Start, after, Follows, Ends}
 use Rattle.rbg_rules.specs.State.{AbstractGame, AbstractState}
 use Rattle.rbg_rules.specs.Actions.{Applies}
 use Rattle.rbg_rules.specs.Questions.{SomeWordRuns}
-
--- the semi-state with this current vertex
-abbrev pub at_vertex : AbstractState → ℕ → AbstractState
-at_vertex s v = record s { vertex = v }
+pub use Rattle.rbg_state.specs.Trials.{at_vertex}
 
 -- An action that is no modifier leads from one vertex to the other.
 pub record Leads (game : AbstractGame) (s : AbstractState) (v q u : ℕ) : Type 0 where

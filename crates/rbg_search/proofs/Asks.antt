@@ -152,3 +152,10 @@ asked_same {h = h} {s = s} {l = l} {question = question} {here = here} {f = f} {
 
 pub answer_same : {X : Type 0} {h k : Searching} {s l : History} {question : Question} {f : Start} {r : Result X Over} → IsAnswered h k s l question f r → (k' : Searching) → k' ≡ k → IsAnswered h k' s l question f r
 answer_same {h = h} {s = s} {l = l} {question = question} {f = f} {r = r} is k' same = subst (λ (x : Searching). IsAnswered h x s l question f r) (sym same) is
+
+-- .. or was the same once before.
+pub asked_since : {X : Type 0} {h h' k : Searching} {s l : History} {f : Start} {r : Result X Over} → h' ≡ h → IsAsked h' k s l reach s.state f h'.modifiers r → IsAsked h k s l reach s.state f h.modifiers r
+asked_since {k = k} {s = s} {l = l} {f = f} {r = r} same is = subst (λ (x : Searching). IsAsked x k s l reach s.state f x.modifiers r) same is
+
+pub found_since : {h h' k : Searching} {s l : History} {f : Start} {nested : ℕ} {pairs : List (ℕ × ℕ)} {ends : Bool} → h' ≡ h → HasFound h' k s l f nested pairs ends → HasFound h k s l f nested pairs ends
+found_since {k = k} {s = s} {l = l} {f = f} {nested = nested} {pairs = pairs} {ends = ends} same is = subst (λ (x : Searching). HasFound x k s l f nested pairs ends) same is

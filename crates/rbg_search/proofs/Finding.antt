@@ -1,14 +1,16 @@
 -- A search that finds a flat part, step by step.
-use Rattle.std.proofs.Common.{◌≡◌, ℕ, ◌+◌, ◌≤◌, List, [], ◌∷◌, ◌++◌, Bool, take, sym, ap, ◌∙◌, subst, arith}
+use Rattle.std.proofs.Common.{◌≡◌, ℕ, suc, ◌+◌, ◌<◌, ◌≤◌, length, List, [], ◌∷◌, ◌++◌, Bool, take, sym, ap, ◌∙◌, subst, arith}
 use Rattle.std.specs.Prelude.{Contains, Result, Ok, Err, IsOk, IsErrAnd, Some, slice_get, IsTrue, ◌↔◌}
 use Rattle.rbg_rules.specs.Games.{IsGame}
 use Rattle.rbg_rules.specs.Laws.{IsStart}
 use Rattle.rbg_rules.specs.Positions.{IsPatternAt, inside}
+use Rattle.rbg_rules.specs.State.{IsStateOf}
 use Rattle.rbg_rules.specs.Words.{Start, beginning}
 use Rattle.rbg_rules.specs.Actions.{Applies}
 use Rattle.rbg_rules.specs.Questions.{reach, pattern}
 use Rattle.rbg_state.specs.History.{History}
 use Rattle.rbg_pairs.specs.Closure.{at_vertex, Reached}
+use Rattle.rbg_pairs.specs.Nesting.{NestsFrom}
 use Rattle.rbg_pairs.specs.Plain.{HasPlain}
 use Rattle.rbg_pairs.specs.declared.flat.Flat.{Flat}
 use Rattle.rbg_search.specs.Forced.{CountsForced}
@@ -20,13 +22,13 @@ use Rattle.rbg_search.specs.internal.Finding.{Finds, FindsByPairs}
 use Rattle.rbg_search.specs.internal.Spent.{IsSpent, IsSpentButOne, CountsPart}
 use Rattle.rbg_search.specs.declared.over.Over.{Over}
 use Rattle.rbg_search.specs.declared.over.Over.TheVariants.{Deep, Wide, Memory}
-use Rattle.rbg_search.proofs.Asking.{room_twice}
+use Rattle.rbg_search.proofs.Asking.{room_twice, reached_nests, some_nested}
 use Rattle.rbg_search.proofs.Counted.{memory_not_deep, memory_not_wide, counted_as, asked_only, onward_search, search_before}
 use Rattle.rbg_search.proofs.CountedSteps.{AskStep, ask_step_at, given_up, not_memory, taken_reached}
 use Rattle.rbg_search.proofs.Countings.{asked_begin, asked_weaker}
 use Rattle.rbg_search.proofs.Forcing.{asks_begin, asks_end, asks_still}
 use Rattle.rbg_search.proofs.ForcingSteps.{ask_forced}
-use Rattle.rbg_search.proofs.Kept.{kept_same, kept_twice}
+use Rattle.rbg_search.proofs.Kept.{onward, onward_rules, rules_before, kept_same, kept_twice}
 use Rattle.rbg_search.proofs.Takings.{takes_none_yet, takes_own, takes_unfinished, takes_as, room_for_own, not_ok, is_answer}
 use Rattle.rbg_search.proofs.TakingSteps.{asked_takes_at, whole_takes}
 
@@ -96,6 +98,16 @@ module _ {h k : Searching} {s l : History} {f : Start} {done : List (ℕ × ℕ)
           (takes_as k.game pattern (at_vertex l.state v) (beginning (inside p)) k.opened k'.opened k.taken k'.taken (IsOk callee) (Unit {0}) asked.taken (λ _. is_answer callee x was));
     }
 
+  -- What one owes who asks a vertex about a pattern.
+  pub asks_within : IsStateOf h.game s.state → (nested : ℕ) → NestsFrom h.game.rules nested f → (v p : ℕ) → Reached h.game s.state f v p → v < length k.game.board.first → IsPatternAt k.game.rules p → IsStateOf k.game l.state × ((1 ≤ l.room) × ((v < length l.state.pieces) × (IsPatternAt k.game.rules p × ((0 < nested) × ((n : ℕ) → nested ≡ suc n → NestsFrom k.game.rules n (beginning (inside p)))))))
+  asks_within fits nested nests v p reached vertex there =
+      let fits_now : IsStateOf k.game l.state = onward IsStateOf h k s l is.kept is.given_back fits in
+      let inner =
+      onward_rules (λ x. (0 < nested) × ((n : ℕ) → nested ≡ suc n → NestsFrom x.rules n (beginning (inside p)))) h k is.kept
+      (some_nested h.game.rules nested p (reached_nests h.game is.lawful.numbered s.state f nested nests v p reached (rules_before (λ x. IsPatternAt x.rules p) h k is.kept there))) in
+      let size = fits_now.vertices in
+      (fits_now, (omega (arith, is.enough), (omega (arith, size, vertex), (there, inner))))
+
   -- All patterns that are reached were asked.
   pub finds_forced : ((v p : ℕ) → Reached h.game s.state f v p → IsPatternAt h.game.rules p → Contains done (v, p)) → (b : ℕ) → b ≡ k.opened → (cut : Bool) (left : ℕ) → CountsForced h.game cut reach s.state f h.opened b left h.modifiers
   finds_forced met b same cut left =
@@ -152,27 +164,38 @@ module _ {h k : Searching} {s l : History} {f : Start} {flat : Flat} (is : Finds
     begun = search_before (λ y z. IsBegun y.game z f flat') h k s l is.finds.kept is.finds.given_back (begun begun_now);
   }
 
--- A vertex is asked about a pattern: the pair that is next.
-module _ {h k : Searching} {s l : History} {f : Start} {flat : Flat} (is : FindsByPairs h k s l f flat) (v p : ℕ) (at : slice_get flat.queue.pairs flat.taken ≡ Some (v, p)) (there : IsPatternAt k.game.rules p) (fresh : ¬ Contains (take flat.taken flat.queue.pairs) (v, p)) {X : Type 0} {k' : Searching} {l' : History} {callee : Result X Over} (asked : IsAsked k k' l l' pattern (at_vertex l.state v) (beginning (inside p)) k.modifiers callee) where
+-- The pair that is next is at a pattern, and isn't done.
+pub record IsNextPair (k : Searching) (flat : Flat) (v p : ℕ) : Type 0 where
+  pub at : slice_get flat.queue.pairs flat.taken ≡ Some (v, p)
+  pub vertex : v < length k.game.board.first
+  pub pattern : IsPatternAt k.game.rules p
+  pub fresh : ¬ Contains (take flat.taken flat.queue.pairs) (v, p)
+
+-- It is asked about the pattern.
+module _ {h k : Searching} {s l : History} {f : Start} {flat : Flat} (is : FindsByPairs h k s l f flat) (v p : ℕ) (next : IsNextPair k flat v p) where
   there_here : IsPatternAt h.game.rules p
-  there_here = search_before (λ y z. IsPatternAt y.game.rules p) h k s l is.finds.kept is.finds.given_back there
+  there_here = search_before (λ y z. IsPatternAt y.game.rules p) h k s l is.finds.kept is.finds.given_back next.pattern
 
-  pub pairs_failed : {Y : Type 0} (r : Result Y Over) (e : Over) → callee ≡ Err e → IsErrAnd r (λ y. y ≡ e) → IsAsked h k' s l' reach s.state f h.modifiers r
-  pairs_failed r e was gives = finds_failed is.finds v p (taken_reached h.game s.state f flat v p is.begun at) there_here fresh asked r e was gives
+  pub reached_next : Reached h.game s.state f v p
+  reached_next = taken_reached h.game s.state f flat v p is.begun next.at
 
-  module _ (x : X) (was : callee ≡ Ok x) (forced : (cut : Bool) → CountsForced k.game cut pattern (at_vertex l.state v) (beginning (inside p)) k.opened k'.opened k.modifiers k.modifiers) where
-    pub pairs_asked : Finds h k' s l' f (take flat.taken flat.queue.pairs ++ (v, p) ∷ [])
-    pairs_asked = finds_more is.finds v p (taken_reached h.game s.state f flat v p is.begun at) there_here fresh asked x was forced
+  module _ {X : Type 0} {k' : Searching} {l' : History} {callee : Result X Over} (asked : IsAsked k k' l l' pattern (at_vertex l.state v) (beginning (inside p)) k.modifiers callee) where
+    pub pairs_failed : {Y : Type 0} (r : Result Y Over) (e : Over) → callee ≡ Err e → IsErrAnd r (λ y. y ≡ e) → IsAsked h k' s l' reach s.state f h.modifiers r
+    pairs_failed r e was gives = finds_failed is.finds v p reached_next there_here next.fresh asked r e was gives
 
-    pub pairs_more : (flat' : Flat) (valid : Bool) → IsTrue valid ↔ Applies k.game p (at_vertex l.state v) (at_vertex l.state v) → take flat'.taken flat'.queue.pairs ≡ take flat.taken flat.queue.pairs ++ (v, p) ∷ [] → (IsTrue valid ↔ Applies k'.game p (at_vertex l.state v) (at_vertex l.state v) → IsBegun k'.game l.state f flat → IsBegun k'.game l.state f flat') → FindsByPairs h k' s l' f flat'
-    pairs_more flat' valid decides done begun =
-        let kept = kept_twice h k k' is.finds.kept asked.kept in
-        let decides_now = subst (λ (y : Searching). IsTrue valid ↔ Applies y.game p (at_vertex l.state v) (at_vertex l.state v)) (sym asked.kept) decides in
-        let begun_then : IsBegun k'.game l.state f flat = onward_search (λ y z. IsBegun y.game z f flat) h k' s l kept is.finds.given_back is.begun in
-        record {
-          finds = subst (λ (ds : List (ℕ × ℕ)). Finds h k' s l' f ds) (sym done) pairs_asked;
-          begun = search_before (λ y z. IsBegun y.game z f flat') h k' s l kept is.finds.given_back (begun decides_now begun_then);
-        }
+    module _ (x : X) (was : callee ≡ Ok x) (forced : (cut : Bool) → CountsForced k.game cut pattern (at_vertex l.state v) (beginning (inside p)) k.opened k'.opened k.modifiers k.modifiers) where
+      pub pairs_asked : Finds h k' s l' f (take flat.taken flat.queue.pairs ++ (v, p) ∷ [])
+      pairs_asked = finds_more is.finds v p reached_next there_here next.fresh asked x was forced
+
+      pub pairs_more : (flat' : Flat) (valid : Bool) → IsTrue valid ↔ Applies k.game p (at_vertex l.state v) (at_vertex l.state v) → take flat'.taken flat'.queue.pairs ≡ take flat.taken flat.queue.pairs ++ (v, p) ∷ [] → (IsTrue valid ↔ Applies k'.game p (at_vertex l.state v) (at_vertex l.state v) → IsBegun k'.game l.state f flat → IsBegun k'.game l.state f flat') → FindsByPairs h k' s l' f flat'
+      pairs_more flat' valid decides done begun =
+          let kept = kept_twice h k k' is.finds.kept asked.kept in
+          let decides_now = subst (λ (y : Searching). IsTrue valid ↔ Applies y.game p (at_vertex l.state v) (at_vertex l.state v)) (sym asked.kept) decides in
+          let begun_then : IsBegun k'.game l.state f flat = onward_search (λ y z. IsBegun y.game z f flat) h k' s l kept is.finds.given_back is.begun in
+          record {
+            finds = subst (λ (ds : List (ℕ × ℕ)). Finds h k' s l' f ds) (sym done) pairs_asked;
+            begun = search_before (λ y z. IsBegun y.game z f flat') h k' s l kept is.finds.given_back (begun decides_now begun_then);
+          }
 
 -- Nothing is left.
 module _ {h k : Searching} {s l : History} {f : Start} {flat : Flat} (is : FindsByPairs h k s l f flat) (met : (v p : ℕ) → Reached k.game l.state f v p → Contains (take flat.taken flat.queue.pairs) (v, p)) where

@@ -1,8 +1,9 @@
 -- Which openings are forced, and how those of a question are put together from the parts that a search takes up.
-use Rattle.std.proofs.Common.{◌≡◌, ◌≢◌, ℕ, zero, suc, ◌+◌, ◌-◌, ◌<◌, ◌≤◌, ◌⊎◌, List, [], ◌∷◌, ◌++◌, length, get_or, map, take, Bool, true, refl, sym, ap, ◌∙◌, subst, inl, inr, arith, append_assoc}
-use Rattle.std.specs.Prelude.{All, AllPairs, Contains}
+use Rattle.std.proofs.Common.{◌≡◌, ◌≢◌, ℕ, ◌+◌, ◌-◌, ◌<◌, ◌≤◌, List, [], ◌∷◌, ◌++◌, length, get_or, map, take, Bool, true, refl, sym, ap, ◌∙◌, subst, inl, inr, arith, append_assoc}
+use Rattle.std.specs.Prelude.{All, Contains}
 use Rattle.std.proofs.lemmas.List.{length-append, length-map, take_more}
-use Rattle.std.proofs.lemmas.List.Elements.{All-nil, All-cons, All-head, All-tail, All-weaker, Contains-append_left, Contains-append_right, Contains-push_cases, Contains-append_cases}
+use Rattle.std.proofs.lemmas.List.Elements.{All-nil, All-cons, All-head, All-tail, All-weaker, Contains-append_left, Contains-append_right, Contains-push_cases}
+use Rattle.rbg_base.proofs.CallerLemmas.{Contains-map}
 use Rattle.rbg_rules.specs.Positions.{IsNumbered, IsModifierAt, IsSwitchAt, IsPatternAt, HasNoModifier, HasNoSwitch, is_modifier, inside}
 use Rattle.rbg_rules.specs.Words.{Start, beginning, after, Follows}
 use Rattle.rbg_rules.specs.State.{AbstractGame, AbstractState}
@@ -15,58 +16,9 @@ use Rattle.rbg_pairs.specs.Flat.{IsNext, IsFlatPart}
 use Rattle.rbg_search.specs.Forced.{HasFewInRow, CountsForced, TakesBehind}
 use Rattle.rbg_pairs.specs.Closure.{at_vertex, Reached}
 use Rattle.rbg_search.specs.internal.Taking.{AsksForced}
+use Rattle.rbg_flat.proofs.Lists.{no_longer}
 use Rattle.rbg_pairs.proofs.Closures.{quiet_place, reached, ends_at, next_found, behind_runs}
 use Rattle.rbg_search.proofs.Openings.{behind_runs_on}
-
--- ---- a list of different items is no longer than one that has them all
-
-module _ {X : Type 0} where
-  pub record SplitAt (ys : List X) (x : X) : Type 0 where
-    pub before : List X
-    pub behind_it : List X
-    pub joined : ys ≡ before ++ x ∷ behind_it
-
-  split_at : (ys : List X) (x : X) → Contains ys x → SplitAt ys x
-  split_at [] x (k, under, is) = absurd (omega (arith, under))
-  split_at (y ∷ ys) x (zero, under, is) = record { before = []; behind_it = ys; joined = ap (λ (z : X). z ∷ ys) is }
-  split_at (y ∷ ys) x (suc k, under, is) =
-      let cut = split_at ys x (k, omega (arith, under), is) in
-      record { before = y ∷ cut.before; behind_it = cut.behind_it; joined = ap (λ (zs : List X). y ∷ zs) cut.joined }
-
-  cons_cases : (y : X) (ys : List X) (x : X) → Contains (y ∷ ys) x → (y ≡ x) ⊎ Contains ys x
-  cons_cases y ys x (zero, under, is) = inl is
-  cons_cases y ys x (suc k, under, is) = inr (k, omega (arith, under), is)
-
-  still_there : (us vs : List X) (x y : X) → x ≢ y → Contains (us ++ x ∷ vs) y → Contains (us ++ vs) y
-  still_there us vs x y other there = elim (Contains-append_cases us (x ∷ vs) y there) [
-    | inl first ↦ Contains-append_left us vs y first
-    | inr second ↦ elim (cons_cases x vs y second) [
-      | inl same ↦ absurd (other same)
-      | inr later ↦ Contains-append_right us vs y later
-    ]
-  ]
-
-  pub mapped : {Y : Type 0} (g : X → Y) (xs : List X) (x : X) → Contains xs x → Contains (map g xs) (g x)
-  mapped g [] x (k, under, is) = absurd (omega (arith, under))
-  mapped {Y} g (y ∷ xs) x there = elim (cons_cases y xs x there) [
-    | inl same ↦ (0, omega arith, ap g same)
-    | inr later ↦ Contains-append_right (g y ∷ []) (map g xs) (g x) (mapped g xs x later)
-  ]
-
-  pub no_longer : (xs ys : List X) → AllPairs (λ a b. a ≢ b) xs → All (Contains ys) xs → length xs ≤ length ys
-  no_longer [] ys different there = omega arith
-  no_longer (x ∷ xs) ys different there =
-      let cut = split_at ys x (All-head (Contains ys) x xs there) in
-      let others : All (λ y. x ≢ y) xs = λ k d under. different 0 (suc k) d (omega arith) (omega (arith, under)) in
-      let rest_different : AllPairs (λ a b. a ≢ b) xs = λ i j d less under. different (suc i) (suc j) d (omega (arith, less)) (omega (arith, under)) in
-      let rest_there : All (Contains (cut.before ++ cut.behind_it)) xs = λ k d under.
-      still_there cut.before cut.behind_it x (get_or xs k d) (others k d under)
-      (subst (λ (zs : List X). Contains zs (get_or xs k d)) cut.joined (All-tail (Contains ys) x xs there k d under)) in
-      let fewer = no_longer xs (cut.before ++ cut.behind_it) rest_different rest_there in
-      let whole : length ys ≡ length (cut.before ++ x ∷ cut.behind_it) = ap (λ (zs : List X). length zs) cut.joined in
-      let first = length-append cut.before (x ∷ cut.behind_it) in
-      let second = length-append cut.before cut.behind_it in
-      omega (arith, fewer, whole, first, second)
 
 -- ---- what a list that holds all says of the count, and of rows
 
@@ -272,7 +224,7 @@ module _ (game : AbstractGame) (numbered : IsNumbered game.rules) where
       here : (w q : ℕ) (o : List Item) → same_pair v p w q → Forced game cut pattern (at_vertex s w) (beginning (inside q)) o → Contains (map (λ o. pattern_at v p ∷ o) more.openings) (pattern_at w q ∷ o)
       here w q o same forced =
           subst (λ (x : ℕ × ℕ). Contains (map (λ (r : List Item). pattern_at v p ∷ r) more.openings) (pattern_at x.0 x.1 ∷ o)) same
-          (mapped (λ (r : List Item). pattern_at v p ∷ r) more.openings o (more.all o (moved w q o same forced)))
+          (Contains-map (λ (r : List Item). pattern_at v p ∷ r) more.openings o (more.all o (moved w q o same forced)))
 
       joined_fits : a + length (asks.openings ++ map (λ o. pattern_at v p ∷ o) more.openings) ≤ c
       joined_fits =
@@ -342,7 +294,7 @@ module _ (game : AbstractGame) (numbered : IsNumbered game.rules) where
       here_it : (w q : ℕ) (later' : AbstractState) (o : List Item) → same_pair v p w q → Applies game q (at_vertex s w) later' → Forced game cut question later' (after q) o → Contains (map (λ o. modifier_at v p ∷ o) more.openings) (modifier_at w q ∷ o)
       here_it w q later' o same applied forced =
           subst (λ (x : ℕ × ℕ). Contains (map (λ (r : List Item). modifier_at v p ∷ r) more.openings) (modifier_at x.0 x.1 ∷ o)) same
-          (mapped (λ (r : List Item). modifier_at v p ∷ r) more.openings o (more.all o (moved w q later' o same applied forced)))
+          (Contains-map (λ (r : List Item). modifier_at v p ∷ r) more.openings o (more.all o (moved w q later' o same applied forced)))
 
       joined_fits : a + length (takes.openings ++ map (λ o. modifier_at v p ∷ o) more.openings) ≤ c
       joined_fits =

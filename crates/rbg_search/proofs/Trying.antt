@@ -1,7 +1,8 @@
 -- A search that tries modifiers in turn, step by step.
 use Rattle.std.proofs.Common.{◌≡◌, ℕ, suc, ◌-◌, ◌<◌, ◌≤◌, List, [], ◌∷◌, ◌++◌, Bool, false, refl, subst, arith}
-use Rattle.std.specs.Prelude.{Result, Ok, Err, IsOk, IsErrAnd, IsTrue, ◌↔◌}
+use Rattle.std.specs.Prelude.{All, Result, Ok, Err, IsOk, IsErrAnd, IsTrue, ◌↔◌}
 use Rattle.std.specs.List.Sorted.{IsPermutation}
+use Rattle.std.proofs.lemmas.List.Elements.{All-contains}
 use Rattle.rbg_rules.specs.State.{AbstractState}
 use Rattle.rbg_rules.specs.Words.{Start, after}
 use Rattle.rbg_rules.specs.Actions.{Applies}
@@ -13,7 +14,7 @@ use Rattle.rbg_search.specs.Forced.{CountsForced}
 use Rattle.rbg_search.specs.Searching.{Searching}
 use Rattle.rbg_search.specs.Taken.{CountsPairs}
 use Rattle.rbg_search.specs.internal.Asked.{GoesBehind, IsCounted, IsAsked}
-use Rattle.rbg_search.specs.internal.Behind.{RunsBehindPair}
+use Rattle.rbg_search.specs.internal.Behind.{IsReady, RunsBehindPair}
 use Rattle.rbg_search.specs.internal.Trying.{IsAskedBehind, TriesBehind}
 use Rattle.rbg_search.specs.declared.over.Over.{Over}
 use Rattle.rbg_search.specs.declared.over.Over.TheVariants.{Deep, Wide}
@@ -23,7 +24,7 @@ use Rattle.rbg_search.proofs.CountedSteps.{BehindStep, given_up}
 use Rattle.rbg_search.proofs.Forcing.{takes_none}
 use Rattle.rbg_search.proofs.Kept.{kept_twice}
 use Rattle.rbg_search.proofs.Takings.{takes_none_yet, takes_as, not_ok, is_answer}
-use Rattle.rbg_search.proofs.Turns.{turned, turn_behind, turn_too_many, turn_forced, turn_takes, turn_none}
+use Rattle.rbg_search.proofs.Turns.{turned, turn_moves, turn_there, turn_behind, turn_too_many, turn_forced, turn_takes, turn_none}
 
 -- None is done.
 pub tries_none : (h : Searching) (s : History) (pairs : List (ℕ × ℕ)) (more : ℕ) → TriesBehind h h s s pairs [] more
@@ -52,8 +53,20 @@ module _ {h k : Searching} {s l : History} {pairs done : List (ℕ × ℕ)} {mor
     taken = λ f goes. takes_as h.game pattern s.state f h.opened k.opened h.taken k.taken (Unit {0}) _ (is.taken f goes) (λ _. tt);
   }
 
-  -- The next one.
-  module _ (left : List (ℕ × ℕ)) (q : ℕ × ℕ) (moves : IsPermutation pairs (turned done left q)) (later : AbstractState) (applies : Applies h.game q.1 (at_vertex s.state q.0) later) where
+  -- The next one is taken off those that are left.
+  module _ (old left : List (ℕ × ℕ)) (q : ℕ × ℕ) (whole : IsPermutation pairs (done ++ old)) (taken : IsPermutation old (q ∷ left)) (nested : ℕ) (each : All (IsReady h.game s.state nested) pairs) where
+    moves : IsPermutation pairs (turned done left q)
+    moves = turn_moves pairs done old left q whole taken
+
+    ready : IsReady h.game s.state nested q
+    ready = All-contains (IsReady h.game s.state nested) pairs q each (turn_there pairs done old left q whole taken)
+
+    abbrev later : AbstractState
+    later = ready.later
+
+    applies : Applies h.game q.1 (at_vertex s.state q.0) later
+    applies = ready.applies
+
     -- There are too many modifiers before it.
     pub tries_deep : more ≤ 1 → (let r : Result Bool Over = Err Deep in IsAskedBehind h k s l pairs more r)
     tries_deep few = record {

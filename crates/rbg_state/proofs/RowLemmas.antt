@@ -27,13 +27,15 @@ changed_word words word bit value new within here others = record {
     other_bit i b is (inl other) = absurd (other is)
     other_bit i b is (inr other) = other
 
-pub set_word : (words : List ℕ) (word bit : ℕ) → word < length words → bit < 64 → ChangesWord words (slice_set words word (bit_or (get_or words word 0) (1 * 2 ^ bit % 2 ^ 64))) word bit 1
-set_word words word bit within small =
-    changed_word words word bit 1 _ within (bit_at_set_same w64 (get_or words word 0) bit small) (λ b _ other. bit_at_set_other w64 (get_or words word 0) bit small b other)
+pub set_word : (words : List ℕ) (word bit n : ℕ) → n ≡ get_or words word 0 → word < length words → bit < 64 → ChangesWord words (slice_set words word (bit_or n (1 * 2 ^ bit % 2 ^ 64))) word bit 1
+set_word words word bit n read within small =
+    subst (λ (m : ℕ). ChangesWord words (slice_set words word (bit_or m (1 * 2 ^ bit % 2 ^ 64))) word bit 1) (sym read)
+    (changed_word words word bit 1 _ within (bit_at_set_same w64 (get_or words word 0) bit small) (λ b _ other. bit_at_set_other w64 (get_or words word 0) bit small b other))
 
-pub cleared_word : (words : List ℕ) (word bit : ℕ) → word < length words → bit < 64 → ChangesWord words (slice_set words word (bit_and (get_or words word 0) (bit_not w64 (1 * 2 ^ bit % 2 ^ 64)))) word bit 0
-cleared_word words word bit within small =
-    changed_word words word bit 0 _ within (bit_at_clear_same w64 (get_or words word 0) bit small) (λ b below other. bit_at_clear_other w64 (get_or words word 0) bit small b below other)
+pub cleared_word : (words : List ℕ) (word bit n : ℕ) → n ≡ get_or words word 0 → word < length words → bit < 64 → ChangesWord words (slice_set words word (bit_and n (bit_not w64 (1 * 2 ^ bit % 2 ^ 64)))) word bit 0
+cleared_word words word bit n read within small =
+    subst (λ (m : ℕ). ChangesWord words (slice_set words word (bit_and m (bit_not w64 (1 * 2 ^ bit % 2 ^ 64)))) word bit 0) (sym read)
+    (changed_word words word bit 0 _ within (bit_at_clear_same w64 (get_or words word 0) bit small) (λ b below other. bit_at_clear_other w64 (get_or words word 0) bit small b below other))
 
 -- a bit of a word is that of one piece and one vertex
 pub bit_changed : (columns : ℕ) (old new : List ℕ) (piece v value word : ℕ) → word ≡ word_of columns piece v → HasBit columns (length old) piece v → ChangesWord old new word (v % 64) value → ChangesBit columns old new piece v value

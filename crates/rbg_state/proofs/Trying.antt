@@ -16,17 +16,13 @@ use Rattle.rbg_rules.proofs.MoveLemmas.{applied_acts}
 use Rattle.rbg_rules.proofs.PositionLemmas.{one_stands}
 use Rattle.rbg_rules.proofs.StateLemmas.{state_law}
 use Rattle.rbg_rules.proofs.TableLemmas.{pattern_stands}
-use Rattle.rbg_state.specs.Trials.{Tells, IsTrial}
+use Rattle.rbg_state.specs.Trials.{at_vertex, Tells, IsTrial}
 use Rattle.rbg_state.specs.declared.state.trials.Trial.{Trial}
 use Rattle.rbg_state.specs.declared.state.trials.Trial.TheVariants.{Invalid, Modifies, LeadsTo}
 use Rattle.rbg_state.proofs.Applying.{ShownAction, shown_action}
 
--- the semi-state with this current vertex
-abbrev pub standing : AbstractState → ℕ → AbstractState
-standing s v = record s { vertex = v }
-
 -- Arithmetic has the same value wherever one stands.
-pub same_value : (e : AbstractArithmetic) (s : AbstractState) (v : ℕ) → value_of e (standing s v) ≡ value_of e s
+pub same_value : (e : AbstractArithmetic) (s : AbstractState) (v : ℕ) → value_of e (at_vertex s v) ≡ value_of e s
 same_value (number n) s v = refl
 same_value (variable x) s v = refl
 same_value (piece_count p) s v = refl
@@ -37,10 +33,10 @@ same_value (product e f) s v = rw (same_value e s v, same_value f s v) refl
 same_value (quotient e f) s v = rw (same_value e s v, same_value f s v) refl
 
 -- A comparison does the same wherever one stands.
-pub compares_there : (game : AbstractGame) (e f : AbstractArithmetic) (r : Relation) (s : AbstractState) (v : ℕ) → Acts game (comparison e r f) s s → Acts game (comparison e r f) (standing s v) (standing s v)
+pub compares_there : (game : AbstractGame) (e f : AbstractArithmetic) (r : Relation) (s : AbstractState) (v : ℕ) → Acts game (comparison e r f) s s → Acts game (comparison e r f) (at_vertex s v) (at_vertex s v)
 compares_there game e f r s v (x, y, left, right, holds, same) = (x, y, same_value e s v ∙ left, same_value f s v ∙ right, holds, refl)
 
-pub compares_here : (game : AbstractGame) (e f : AbstractArithmetic) (r : Relation) (s t : AbstractState) (v : ℕ) → Acts game (comparison e r f) (standing s v) t → Acts game (comparison e r f) s s
+pub compares_here : (game : AbstractGame) (e f : AbstractArithmetic) (r : Relation) (s t : AbstractState) (v : ℕ) → Acts game (comparison e r f) (at_vertex s v) t → Acts game (comparison e r f) s s
 compares_here game e f r s t v (x, y, left, right, holds, same) = (x, y, sym (same_value e s v) ∙ left, sym (same_value f s v) ∙ right, holds, refl)
 
 true_not_false : true ≡ false → ⊥
@@ -78,10 +74,10 @@ named_here game lawful p Positive stands a (x, shown) = subst (IsActionOf game) 
 named_here game lawful p Negative stands a (x, shown) = subst (IsActionOf game) (sym shown) _
 
 -- The vertex where an action leads is one of the board.
-pub leads_within : (game : AbstractGame) (lawful : IsGame game) (p : ℕ) (s : AbstractState) (v : ℕ) → IsStateOf game s → v < length s.pieces → (told : Option Trial) → IfSome told (IsTrial game (standing s v) p) → IfSome told (λ trial. (u : ℕ) → trial ≡ LeadsTo u → u < length s.pieces)
+pub leads_within : (game : AbstractGame) (lawful : IsGame game) (p : ℕ) (s : AbstractState) (v : ℕ) → IsStateOf game s → v < length s.pieces → (told : Option Trial) → IfSome told (IsTrial game (at_vertex s v) p) → IfSome told (λ trial. (u : ℕ) → trial ≡ LeadsTo u → u < length s.pieces)
 leads_within game lawful p s v fits below None told = _
 leads_within game lawful p s v fits below (Some trial) told = λ u is.
-    let there : IsTrial game (standing s v) p (LeadsTo u) = subst (IsTrial game (standing s v) p) is told in
-    let stands_there : IsStateOf game (standing s v) = record { player = fits.player; vertices = fits.vertices; pieces = fits.pieces; variables = fits.variables; bounds = fits.bounds; vertex = below } in
-    let fits_there : IsStateOf game (standing s u) = (state_law game lawful).1 p (standing s v) (standing s u) stands_there there.1 in
+    let there : IsTrial game (at_vertex s v) p (LeadsTo u) = subst (IsTrial game (at_vertex s v) p) is told in
+    let stands_there : IsStateOf game (at_vertex s v) = record { player = fits.player; vertices = fits.vertices; pieces = fits.pieces; variables = fits.variables; bounds = fits.bounds; vertex = below } in
+    let fits_there : IsStateOf game (at_vertex s u) = (state_law game lawful).1 p (at_vertex s v) (at_vertex s u) stands_there there.1 in
     fits_there.vertex

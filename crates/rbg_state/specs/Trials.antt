@@ -7,6 +7,10 @@ use Rattle.rbg_rules.specs.Actions.{Acts, Applies}
 use Rattle.rbg_state.specs.declared.state.trials.Trial.{Trial}
 use Rattle.rbg_state.specs.declared.state.trials.Trial.TheVariants.{Invalid, Modifies, LeadsTo}
 
+-- the semi-state with this current vertex
+abbrev pub at_vertex : AbstractState → ℕ → AbstractState
+at_vertex s v = record s { vertex = v }
+
 -- What is told of an action in s, which is no pattern.
 --   Invalid: the action takes s nowhere
 --   Modifies: it is a modifier, and takes s somewhere
@@ -14,10 +18,10 @@ use Rattle.rbg_state.specs.declared.state.trials.Trial.TheVariants.{Invalid, Mod
 abbrev pub Tells : AbstractGame → AbstractAction → AbstractState → Trial → Type 0
 Tells game a s Invalid = (t : AbstractState) → ¬ Acts game a s t
 Tells game a s Modifies = (is_modifier a ≡ true) × ((t : AbstractState) × Acts game a s t)
-Tells game a s (LeadsTo v) = (is_modifier a ≡ false) × Acts game a s (record s { vertex = v })
+Tells game a s (LeadsTo v) = (is_modifier a ≡ false) × Acts game a s (at_vertex s v)
 
 -- The same of the action at position p of the game.
 abbrev pub IsTrial : AbstractGame → AbstractState → ℕ → Trial → Type 0
 IsTrial game s p Invalid = (t : AbstractState) → ¬ Applies game p s t
 IsTrial game s p Modifies = IsModifierAt game.rules p × ((t : AbstractState) × Applies game p s t)
-IsTrial game s p (LeadsTo v) = (¬ IsModifierAt game.rules p) × Applies game p s (record s { vertex = v })
+IsTrial game s p (LeadsTo v) = (¬ IsModifierAt game.rules p) × Applies game p s (at_vertex s v)

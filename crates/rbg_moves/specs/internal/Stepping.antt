@@ -15,10 +15,7 @@ use Rattle.rbg_search.specs.Searching.{Searching}
 use Rattle.rbg_search.specs.Taken.{CountsPairs}
 use Rattle.rbg_search.specs.declared.over.Over.{Over}
 use Rattle.rbg_search.specs.declared.over.Over.TheVariants.{Deep, Wide}
-
--- The semi-state with this current vertex.
-abbrev pub standing_at : AbstractState → ℕ → AbstractState
-standing_at s v = record s { vertex = v }
+pub use Rattle.rbg_state.specs.Trials.{at_vertex}
 
 -- The place in the middle of a move, behind the modifier at position p.
 abbrev pub place_behind : AbstractState → ℕ → AbstractPlace
@@ -26,19 +23,19 @@ place_behind later p = record { state = later; last = Some p }
 
 -- What is so of each semi-state to which the modifier of the pair q leads.
 abbrev pub Behind : AbstractGame → AbstractState → ℕ × ℕ → (AbstractState → Type 0) → Type 0
-Behind game s q Is = (later : AbstractState) → Applies game q.1 (standing_at s q.0) later → Is later
+Behind game s q Is = (later : AbstractState) → Applies game q.1 (at_vertex s q.0) later → Is later
 
 -- The modifier at position p is valid at vertex v.
 pub record IsValidAt (game : AbstractGame) (s : AbstractState) (v p : ℕ) : Type 0 where
   pub there : v < length game.board.first
   pub modifies : IsModifierAt game.rules p
   pub later : AbstractState
-  pub applies : Applies game p (standing_at s v) later
+  pub applies : Applies game p (at_vertex s v) later
 
 -- The modifier at position p comes next at vertex v, and leads to `later`, which is a semi-state of the game.
 pub record IsStep (game : AbstractGame) (s : AbstractState) (f : Start) (v p : ℕ) (later : AbstractState) : Type 0 where
   pub next : IsNext game s f v p
-  pub applies : Applies game p (standing_at s v) later
+  pub applies : Applies game p (at_vertex s v) later
   pub position : IsPositionOf game.rules p
   pub in_game : IsPlaceOf game (place_behind later p)
 

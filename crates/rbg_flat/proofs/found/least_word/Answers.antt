@@ -1,26 +1,16 @@
 -- Each word is looked at.
-use Rattle.std.proofs.Common.{◌≡◌, ◌<◌, ℕ, List, length, get_or, Contains, Bool, true, false, sym, subst, ◌∙◌, arith}
-use Rattle.std.specs.Prelude.{IsTrue, ◌↔◌}
+use Rattle.std.proofs.Common.{◌≡◌, ◌<◌, ℕ, List, length, get_or, Contains, sym, subst, arith}
 use Rattle.std.proofs.lemmas.List.{take_all}
 use Rattle.rbg_flat.specs.Order.{IsBefore, IsLeast}
 use Rattle.rbg_flat.specs.internal.Bits.{first_of, first_at, pairs_in}
 use Rattle.rbg_flat.specs.declared.found.Word.{Word}
-use Rattle.rbg_flat.proofs.Spellings.{least_stays, least_moves, least_alone, least_of_all}
+use Rattle.rbg_flat.proofs.Spellings.{no_word, not_told, least_stays, least_moves, least_alone, least_of_all}
 use Rattle.rbg_flat.proofs.found.least_word.Goals as goal
 use Rattle.rbg_flat.proofs.found.least_word.Goals.{then-is_before, else-is_before}
 
-abbrev none : Word
-none = record { base = 0; position = 0; bits = 0 }
-
-not_true : (b : Bool) (P : Type 0) → IsTrue b ↔ P → b ≡ false → ¬ P
-not_true b P tells is holds = absurd (true_not_false (sym (tells.1 holds) ∙ is))
-  where
-    true_not_false : true ≡ false → ⊥
-    true_not_false e = cc
-
 -- The first pair of the word at a place.
-at_place : (words : List Word) (k v : ℕ) → v ≡ (first_at words k).0 → first_at words k ≡ (v, (get_or words k none).position)
-at_place words k v vertex = λ i. (sym vertex i, (get_or words k none).position)
+at_place : (words : List Word) (k v : ℕ) → v ≡ (first_at words k).0 → first_at words k ≡ (v, (get_or words k no_word).position)
+at_place words k v vertex = λ i. (sym vertex i, (get_or words k no_word).position)
 
 pub loop-index-init : goal.loop-index-init
 loop-index-init c =
@@ -29,7 +19,7 @@ loop-index-init c =
     record {
       below = some;
       there = at_place words 0 c.first_vertex-vertex.result c.first_vertex-vertex.ensures;
-      least = λ w there. subst (λ (v : ℕ). ¬ IsBefore (first_of w) (v, (get_or words 0 none).position)) (sym c.first_vertex-vertex.ensures) (least_alone words none some w there);
+      least = λ w there. subst (λ (v : ℕ). ¬ IsBefore (first_of w) (v, (get_or words 0 no_word).position)) (sym c.first_vertex-vertex.ensures) (least_alone words no_word some w there);
     }
 
 pub loop-index-preserved : goal.loop-index-preserved
@@ -40,20 +30,20 @@ loop-index-preserved c =
     let under = c.loop-index-test.true in
     let q : ℕ × ℕ = (c.loop-index.vertex, c.loop-index.position) in
     let first = c.first_vertex-first.ensures in
-    let here : ℕ × ℕ = first_of (get_or words k none) in
+    let here : ℕ × ℕ = first_of (get_or words k no_word) in
     elim c.if-is_before.branch [
       | then-is_before w ↦ rw (w.least-is, w.vertex-is, w.position-is)
           (record {
             below = under;
             there = at_place words k c.first_vertex-first.result first;
-            least = λ v there. subst (λ (n : ℕ). ¬ IsBefore (first_of v) (n, (get_or words k none).position)) (sym first)
-                (least_moves words k none q under (subst (λ (n : ℕ). IsBefore (n, (get_or words k none).position) q) first (c.is_before.ensures.0 w.if-is_before.true)) is.least v there);
+            least = λ v there. subst (λ (n : ℕ). ¬ IsBefore (first_of v) (n, (get_or words k no_word).position)) (sym first)
+                (least_moves words k no_word q under (subst (λ (n : ℕ). IsBefore (n, (get_or words k no_word).position) q) first (c.is_before.ensures.0 w.if-is_before.true)) is.least v there);
           })
       | else-is_before w ↦ rw (w.least-is, w.vertex-is, w.position-is)
           (record {
             below = is.below;
             there = is.there;
-            least = least_stays words k none q under (subst (λ (n : ℕ). ¬ IsBefore (n, (get_or words k none).position) q) first (not_true c.is_before.result _ c.is_before.ensures w.if-is_before.false)) is.least;
+            least = least_stays words k no_word q under (subst (λ (n : ℕ). ¬ IsBefore (n, (get_or words k no_word).position) q) first (not_told c.is_before.result _ c.is_before.ensures w.if-is_before.false)) is.least;
           })
     ]
 

@@ -1,5 +1,5 @@
-use Rattle.std.proofs.Common.{◌≡◌, ◌<◌, ◌≤◌, ℕ, List, Option, Bool, true, false, take, get_or, length, sym, subst, ◌∙◌}
-use Rattle.std.specs.Prelude.{All, IsTrue, Contains, ◌↔◌}
+use Rattle.std.proofs.Common.{◌<◌, ◌≤◌, ℕ, List, Option, take, get_or, length, subst}
+use Rattle.std.specs.Prelude.{All, Contains}
 use Rattle.std.proofs.lemmas.List.{take_all}
 use Rattle.std.proofs.lemmas.List.Elements.{All-contains}
 use Rattle.rbg_rules.specs.Expression.{Expression}
@@ -7,25 +7,17 @@ use Rattle.rbg_rules.specs.Positions.{positions_of, IsSwitchAt}
 use Rattle.rbg_flat.specs.Order.{IsBefore}
 use Rattle.rbg_flat.specs.internal.Bits.{pairs_in, first_of, first_at, IsFilled}
 use Rattle.rbg_flat.specs.declared.found.Word.{Word}
+use Rattle.rbg_flat.proofs.Spellings.{no_word, not_told}
 use Rattle.rbg_flat.proofs.FirstSwitches.{IsLeastSoFar, first_among, known_still, known_more, at_end, told, if_told, told_some, told_none, told_either, either_below}
 use Rattle.rbg_flat.proofs.found.switch_word.Goals as goal
 use Rattle.rbg_flat.proofs.found.switch_word.Goals.{then-is_switch, else-is_switch}
-
-abbrev none : Word
-none = record { base = 0; position = 0; bits = 0 }
-
-not_true : (b : Bool) (P : Type 0) → IsTrue b ↔ P → b ≡ false → ¬ P
-not_true b P tells is holds = absurd (true_not_false (sym (tells.1 holds) ∙ is))
-  where
-    true_not_false : true ≡ false → ⊥
-    true_not_false e = cc
 
 abbrev IsWithin : Expression → ℕ × ℕ → Type 0
 IsWithin rules q = (0 < q.1) × (q.1 ≤ length (positions_of rules))
 
 -- The position of a word is one of the game's.
-within_word : (rules : Expression) (words : List Word) (k : ℕ) → All IsFilled words → k < length words → All (IsWithin rules) (pairs_in words) → IsWithin rules (first_of (get_or words k none))
-within_word rules words k filled under within = All-contains (IsWithin rules) (pairs_in words) (first_of (get_or words k none)) within (first_among words k none filled under)
+within_word : (rules : Expression) (words : List Word) (k : ℕ) → All IsFilled words → k < length words → All (IsWithin rules) (pairs_in words) → IsWithin rules (first_of (get_or words k no_word))
+within_word rules words k filled under within = All-contains (IsWithin rules) (pairs_in words) (first_of (get_or words k no_word)) within (first_among words k no_word filled under)
 
 pub is_switch-requires-clause-from_one : goal.is_switch-requires-clause-from_one
 is_switch-requires-clause-from_one c = (within_word c.args.game.now.rules c.args.words.now c.loop-index.index c.requires.filled c.loop-index-test.true c.requires.within).0
@@ -45,14 +37,14 @@ loop-index-preserved c =
       | then-is_switch w ↦ rw w.least-is
           (record {
             below = either_below (length words) known k w.sooner.result under is.below w.sooner.ensures.either;
-            known = known_more rules (pairs_in words) words k none under (told words known) (first_at words w.sooner.result) (first_among words k none c.requires.filled under) (c.is_switch.ensures.0 w.if-is_switch.true)
+            known = known_more rules (pairs_in words) words k no_word under (told words known) (first_at words w.sooner.result) (first_among words k no_word c.requires.filled under) (c.is_switch.ensures.0 w.if-is_switch.true)
                 (told_either words known k w.sooner.result w.sooner.ensures.either) w.sooner.ensures.new
                 (if_told (λ q. ¬ IsBefore q (first_at words w.sooner.result)) words known w.sooner.ensures.known) is.known;
           })
       | else-is_switch w ↦ rw w.least-is
           (record {
             below = is.below;
-            known = known_still rules (pairs_in words) words k none under (told words known) (not_true c.is_switch.result _ c.is_switch.ensures w.if-is_switch.false) is.known;
+            known = known_still rules (pairs_in words) words k no_word under (told words known) (not_told c.is_switch.result _ c.is_switch.ensures w.if-is_switch.false) is.known;
           })
     ]
 

@@ -1,6 +1,5 @@
 use Rattle.std.proofs.Common.{◌≡◌, true, false, refl, subst}
 use Rattle.rbg_state.specs.Trials.{IsTrial}
-use Rattle.rbg_state.specs.declared.state.trials.Trial.{Trial}
 use Rattle.rbg_flat.specs.Chains.{at_vertex}
 use Rattle.rbg_flat.proofs.Finishings.{everywhere}
 use Rattle.rbg_flat.proofs.ModifierLemmas.{pattern_opens}

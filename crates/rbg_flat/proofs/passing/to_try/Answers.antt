@@ -1,32 +1,21 @@
-use Rattle.std.proofs.Common.{◌≡◌, ℕ, ◌+◌, ◌*◌, [], ◌∷◌, subst}
+use Rattle.std.proofs.Common.{◌≡◌, ◌+◌, ◌*◌, [], ◌∷◌, subst}
 use Rattle.std.specs.Int.{bit_at}
-use Rattle.rbg_rules.specs.Expression.{on}
-use Rattle.rbg_rules.specs.Positions.{HasAction, IsPatternAt}
+use Rattle.rbg_rules.specs.Positions.{IsPatternAt}
 use Rattle.rbg_flat.specs.Paths.{IsKind}
 use Rattle.rbg_flat.specs.declared.paths.Kind.{Kind}
 use Rattle.rbg_flat.proofs.Passings.{one_piece}
-use Rattle.rbg_flat.proofs.ToTry.{on_to_try, pattern_to_try}
+use Rattle.rbg_flat.proofs.ToTry.{on_told, pattern_to_try}
 use Rattle.rbg_flat.proofs.passing.to_try.Goals as goal
 
 pub returns-in-Some : goal.returns-in-Some
 returns-in-Some c = λ b small.
-    let s = c.args.state.now.state in
     let here = c.args.column * 64 + b in
-    let x : ℕ = c.in-Some.piece in
-    let told = one_piece x s.pieces here (bit_at c.standing.result b ≡ 1) (c.standing.ensures b small) in
-    let try = on_to_try c.args.game.now c.requires.lawful.numbered s c.args.position (x ∷ []) c.in-Some.ensures here in
-    (λ set. try.0 (told.0 set), λ is. told.1 (try.1 is))
+    on_told c.args.game.now c.requires.lawful.numbered c.args.state.now.state c.args.position (c.in-Some.piece ∷ []) c.in-Some.ensures here (bit_at c.standing.result b ≡ 1)
+    (one_piece c.in-Some.piece c.args.state.now.state.pieces here (bit_at c.standing.result b ≡ 1) (c.standing.ensures b small))
 
 pub returns-in-OnEither : goal.returns-in-OnEither
 returns-in-OnEither c = λ b small.
-    let s = c.args.state.now.state in
-    let here = c.args.column * 64 + b in
-    let x : ℕ = c.in-OnEither.piece in
-    let y : ℕ = c.in-OnEither.other in
-    let stands : HasAction c.args.game.now.rules c.args.position (on (x ∷ y ∷ [])) = subst (λ (k : Kind). IsKind c.args.game.now.rules c.args.position k) c.in-OnEither.is c.kind-kind.ensures in
-    let told = c.either_standing.ensures b small in
-    let try = on_to_try c.args.game.now c.requires.lawful.numbered s c.args.position (x ∷ y ∷ []) stands here in
-    (λ set. try.0 (told.0 set), λ is. told.1 (try.1 is))
+    on_told c.args.game.now c.requires.lawful.numbered c.args.state.now.state c.args.position (c.in-OnEither.piece ∷ c.in-OnEither.other ∷ []) (subst (λ (k : Kind). IsKind c.args.game.now.rules c.args.position k) c.in-OnEither.is c.kind-kind.ensures) (c.args.column * 64 + b) (bit_at c.either_standing.result b ≡ 1) (c.either_standing.ensures b small)
 
 pub returns-in-Pattern : goal.returns-in-Pattern
 returns-in-Pattern c = λ b small.

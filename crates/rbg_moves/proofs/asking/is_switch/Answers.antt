@@ -1,4 +1,4 @@
-use Rattle.rbg_moves.proofs.Switches.{stands_switch}
+use Rattle.rbg_flat.proofs.Switches.{stands_switch}
 use Rattle.rbg_moves.proofs.asking.is_switch.Goals as goal
 
 pub returns : goal.returns

@@ -1,13 +1,15 @@
-use Rattle.std.proofs.Common.{◌≡◌, ℕ, suc, ◌+◌, List, ◌∷◌, drop, sym, ap, ◌∙◌, subst, arith}
+use Rattle.std.proofs.Common.{◌≡◌, ℕ, suc, ◌+◌, ◌<◌, List, ◌∷◌, length, get_or, drop, sym, ap, ◌∙◌, subst, arith}
 use Rattle.std.proofs.Math.Seq.{drop-cons}
 use Rattle.std.proofs.lemmas.List.{drop_all}
-use Rattle.rbg_rules.specs.State.{AbstractState}
+use Rattle.rbg_rules.specs.Games.{IsGame}
+use Rattle.rbg_rules.specs.State.{AbstractGame, AbstractState, IsStateOf}
 use Rattle.rbg_rules.specs.Actions.{Applies}
 use Rattle.rbg_rules.specs.Moves.{AbstractPlace, stand_of, Legal}
+use Rattle.rbg_pairs.specs.Flat.{IsNext}
 use Rattle.rbg_state.specs.History.{History}
 use Rattle.rbg_state.proofs.Histories.{after_nothing, after_both}
 use Rattle.rbg_search.proofs.Asking.{after_room}
-use Rattle.rbg_moves.specs.internal.Stepping.{standing_at, place_behind, IsValidAt, IsMadeFrom, goes_on}
+use Rattle.rbg_moves.specs.internal.Stepping.{at_vertex, place_behind, IsValidAt, IsMadeFrom, goes_on}
 use Rattle.rbg_moves.proofs.Steps.{made_next, made_on, made_end, valid_next, next_there, place_after}
 use Rattle.rbg_moves.proofs.Results.{on_err}
 use Rattle.rbg_moves.proofs.making.make_each.Goals as goal
@@ -19,47 +21,47 @@ loop-pair-init c = record {
   after = after_nothing c.args.state.now;
 }
 
+-- The pair that is made next, as it is read.
+module _ (game : AbstractGame) (lawful : IsGame game) (place to : AbstractPlace) (all : List (ℕ × ℕ)) (k v p : ℕ) (item : ℕ × ℕ) (under : k < length all) (read : item ≡ get_or all k item) (seen : (v, p) ≡ item) (made : IsMadeFrom game place (drop k all) to) where
+  cons : drop k all ≡ (v, p) ∷ drop (suc k) all
+  cons = drop-cons all k item under ∙ ap (λ (q : ℕ × ℕ). q ∷ drop (suc k) all) (sym read ∙ sym seen)
+
+  goes_there : IsMadeFrom game place ((v, p) ∷ drop (suc k) all) to
+  goes_there = subst (λ (ps : List (ℕ × ℕ)). IsMadeFrom game place ps to) cons made
+
+  next : IsNext game place.state (stand_of place.last) v p
+  next = made_next game lawful.numbered place v p (drop (suc k) all) to goes_there
+
+  valid : IsStateOf game place.state → (s : AbstractState) → s ≡ place.state → IsValidAt game s v p
+  valid fits s same =
+      subst (λ (u : AbstractState). IsValidAt game u v p) (sym same)
+      (valid_next game lawful.numbered place.state (stand_of place.last) v p (next_there game lawful place.state (stand_of place.last) v p fits next) next)
+
+  made_further : (later : AbstractState) → Applies game p (at_vertex place.state v) later → IsMadeFrom game (place_behind later p) (drop (k + 1) all) to
+  made_further later applied =
+      let further : suc k ≡ k + 1 = omega arith in
+      subst (λ (n : ℕ). IsMadeFrom game (place_behind later p) (drop n all) to) further
+      (made_on game lawful.numbered place v p (drop (suc k) all) to later applied goes_there)
+
 pub apply_at-requires-clause-valid : goal.apply_at-requires-clause-valid
 apply_at-requires-clause-valid c =
-    let game = c.args.game.now in
-    let lawful = c.game_is_accepted.ensures in
-    let all = c.args.pairs.now in
-    let k = c.loop-pair.pair-index in
-    let s = c.loop-pair.state.state in
-    let place : AbstractPlace = record { state = s; last = c.loop-pair.after } in
-    let v = c.pair.inside.vertex in
-    let p = c.pair.inside.position in
-    let cons : drop k all ≡ (v, p) ∷ drop (suc k) all = drop-cons all k c.pair-item.result c.loop-pair-test.true ∙ ap (λ (q : ℕ × ℕ). q ∷ drop (suc k) all) (sym c.pair-item.is ∙ sym c.pair.view_is) in
-    let to = c.requires.legal.0 in
-    let made = subst (λ (ps : List (ℕ × ℕ)). IsMadeFrom game place ps to) cons (c.loop-pair.invariant.goes_on to c.requires.legal.1) in
-    let next = made_next game lawful.numbered place v p (drop (suc k) all) to made in
-    let same : c.reserve.new.self.state ≡ s = ap (λ (x : History). x.state) c.reserve.ensures.kept in
-    subst (λ (u : AbstractState). IsValidAt game u v p) (sym same)
-    (valid_next game lawful.numbered s (stand_of c.loop-pair.after) v p (next_there game lawful s (stand_of c.loop-pair.after) v p c.loop-pair.invariant.in_game.state next) next)
+    let place : AbstractPlace = record { state = c.loop-pair.state.state; last = c.loop-pair.after } in
+    valid c.args.game.now c.game_is_accepted.ensures place c.requires.legal.0 c.args.pairs.now c.loop-pair.pair-index c.pair.inside.vertex c.pair.inside.position c.pair-item.result c.loop-pair-test.true c.pair-item.is c.pair.view_is
+    (c.loop-pair.invariant.goes_on c.requires.legal.0 c.requires.legal.1) c.loop-pair.invariant.in_game.state c.reserve.new.self.state (ap (λ (x : History). x.state) c.reserve.ensures.kept)
 
 pub loop-pair-preserved : goal.loop-pair-preserved
 loop-pair-preserved c =
     let game = c.args.game.now in
     let lawful = c.game_is_accepted.ensures in
-    let all = c.args.pairs.now in
-    let k = c.loop-pair.pair-index in
-    let s = c.loop-pair.state.state in
-    let place : AbstractPlace = record { state = s; last = c.loop-pair.after } in
+    let place : AbstractPlace = record { state = c.loop-pair.state.state; last = c.loop-pair.after } in
     let v = c.pair.inside.vertex in
     let p = c.pair.inside.position in
-    let cons : drop k all ≡ (v, p) ∷ drop (suc k) all = drop-cons all k c.pair-item.result c.loop-pair-test.true ∙ ap (λ (q : ℕ × ℕ). q ∷ drop (suc k) all) (sym c.pair-item.is ∙ sym c.pair.view_is) in
-    let to = c.requires.legal.0 in
-    let made = subst (λ (ps : List (ℕ × ℕ)). IsMadeFrom game place ps to) cons (c.loop-pair.invariant.goes_on to c.requires.legal.1) in
-    let next = made_next game lawful.numbered place v p (drop (suc k) all) to made in
-    let same : c.reserve.new.self.state ≡ s = ap (λ (x : History). x.state) c.reserve.ensures.kept in
+    let now = next game lawful place c.requires.legal.0 c.args.pairs.now c.loop-pair.pair-index v p c.pair-item.result c.loop-pair-test.true c.pair-item.is c.pair.view_is (c.loop-pair.invariant.goes_on c.requires.legal.0 c.requires.legal.1) in
     let later = c.apply_at.new.state.state in
-    let applied : Applies game p (standing_at s v) later = subst (λ (u : AbstractState). Applies game p (standing_at u v) later) same c.apply_at.ensures.applied in
-    let further : suc k ≡ k + 1 = omega arith in
+    let applied : Applies game p (at_vertex place.state v) later = subst (λ (u : AbstractState). Applies game p (at_vertex u v) later) (ap (λ (x : History). x.state) c.reserve.ensures.kept) c.apply_at.ensures.applied in
     record {
-      in_game = place_after game lawful.numbered later p next.modifies c.apply_at.ensures.fits;
-      goes_on = λ end legal. subst (λ (n : ℕ). IsMadeFrom game (place_behind later p) (drop n all) end) further
-          (made_on game lawful.numbered place v p (drop (suc k) all) end later applied
-          (subst (λ (ps : List (ℕ × ℕ)). IsMadeFrom game place ps end) cons (c.loop-pair.invariant.goes_on end legal)));
+      in_game = place_after game lawful.numbered later p now.modifies c.apply_at.ensures.fits;
+      goes_on = λ end legal. made_further game lawful place end c.args.pairs.now c.loop-pair.pair-index v p c.pair-item.result c.loop-pair-test.true c.pair-item.is c.pair.view_is (c.loop-pair.invariant.goes_on end legal) later applied;
       after = after_both c.args.state.now c.reserve.new.self c.apply_at.new.state (after_room c.args.state.now c.loop-pair.state c.reserve.new.self c.loop-pair.invariant.after c.reserve.ensures.kept) c.apply_at.ensures.after;
     }
 

@@ -13,7 +13,7 @@ use Rattle.rbg_search.specs.Searching.{Searching}
 use Rattle.rbg_search.specs.Taken.{CountsPairs}
 use Rattle.rbg_search.specs.declared.over.Over.{Over}
 use Rattle.rbg_state.specs.History.{History}
-use Rattle.rbg_moves.specs.internal.Stepping.{standing_at, IsValidAt}
+use Rattle.rbg_moves.specs.internal.Stepping.{at_vertex, IsValidAt}
 use Rattle.rbg_moves.proofs.Further.{has_come, come_paired}
 use Rattle.rbg_moves.proofs.Steps.{place_start, place_after, valid_next, modifier_position}
 use Rattle.rbg_moves.proofs.stepping.take.Goals as goal
@@ -22,9 +22,9 @@ valid_as : (game game' : AbstractGame) (s s' : AbstractState) (v p : ℕ) → ga
 valid_as game game' s s' v p same here valid =
     subst (λ (g : AbstractGame). IsValidAt g s' v p) (sym same) (subst (λ (t : AbstractState). IsValidAt game t v p) (sym here) valid)
 
-applied_as : (game game' : AbstractGame) (s s' t : AbstractState) (v p : ℕ) → game' ≡ game → s' ≡ s → Applies game' p (standing_at s' v) t → Applies game p (standing_at s v) t
+applied_as : (game game' : AbstractGame) (s s' t : AbstractState) (v p : ℕ) → game' ≡ game → s' ≡ s → Applies game' p (at_vertex s' v) t → Applies game p (at_vertex s v) t
 applied_as game game' s s' t v p same here applied =
-    subst (λ (g : AbstractGame). Applies g p (standing_at s v) t) same (subst (λ (u : AbstractState). Applies game' p (standing_at u v) t) here applied)
+    subst (λ (g : AbstractGame). Applies g p (at_vertex s v) t) same (subst (λ (u : AbstractState). Applies game' p (at_vertex u v) t) here applied)
 
 true_not_false : true ≡ false → ⊥
 true_not_false e = cc

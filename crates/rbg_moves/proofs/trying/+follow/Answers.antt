@@ -1,13 +1,13 @@
 -- What became of the pairs that were followed.
 use Rattle.std.proofs.Common.{rules, ◌≡◌, ℕ, List, [], ◌∷◌, length, Bool, true, false, refl, sym, ap, ◌∙◌, subst, arith}
-use Rattle.std.specs.Prelude.{◌==◌, Some, None, Ok, Err}
+use Rattle.std.specs.Prelude.{◌==◌, Some, None}
 use Rattle.std.proofs.lemmas.Result.{err_from_is_err_and}
 use Rattle.std.proofs.lemmas.Bool.Decides.{Decides-eqb}
 use Rattle.rbg_rules.specs.Positions.{IsSwitchAt}
 use Rattle.rbg_rules.specs.State.{AbstractGame}
 use Rattle.rbg_rules.specs.Moves.{AbstractPlace, stand_of}
-use Rattle.rbg_moves.specs.internal.Stepping.{IsStep, IsFollowed}
-use Rattle.rbg_moves.proofs.Following.{follows_none, follows_in_vain, follows_first, follows_on}
+use Rattle.rbg_moves.specs.internal.Stepping.{IsStep}
+use Rattle.rbg_moves.proofs.Following.{followed_as, follows_none, follows_in_vain, follows_first, follows_on}
 use Rattle.rbg_moves.proofs.Forcing.{last_forced}
 use Rattle.rbg_moves.proofs.Steps.{none_at, none_after, step_ends}
 use Rattle.rbg_moves.proofs.trying.+follow.Goals as goal
@@ -29,11 +29,18 @@ plain_by : (game game' : AbstractGame) (p : ℕ) (r : Bool) → game' ≡ game �
 plain_by game game' p r same told other switches =
     true_not_false (sym (told (subst (λ (h : AbstractGame). IsSwitchAt h.rules p) (sym same) switches)) ∙ other)
 
+switch_by : (game game' : AbstractGame) (p : ℕ) → game' ≡ game → IsSwitchAt game'.rules p → IsSwitchAt game.rules p
+switch_by game game' p same = subst (λ (h : AbstractGame). IsSwitchAt h.rules p) same
+
+-- The first of the pairs, as it is read.
+first_is : (pairs qs : List (ℕ × ℕ)) (q : ℕ × ℕ) (v p : ℕ) → pairs ≡ q ∷ qs → (v, p) ≡ q → pairs ≡ (v, p) ∷ qs
+first_is pairs qs q v p is seen = is ∙ ap (λ (r : ℕ × ℕ). r ∷ qs) (sym seen)
+
 pub returns-in_default-clause-followed : goal.returns-in_default-clause-followed
 returns-in_default-clause-followed g t c =
     let place : AbstractPlace = record { state = c.args.state.now.state; last = c.args.after } in
     let none : length c.args.pairs.now ≡ 0 = search rules in
-    subst (λ (ps : List (ℕ × ℕ)). IsFollowed c.args.search.now c.args.search.now place ps c.args.state.now.state (Ok None)) (sym (empty_when c.args.pairs.now none)) (follows_none c.args.search.now place c.game-game.ensures.lawful.numbered)
+    followed_as (empty_when c.args.pairs.now none) (follows_none c.args.search.now place c.game-game.ensures.lawful.numbered)
 
 pub returns-in_err-taken-clause-followed : goal.returns-in_err-taken-clause-followed
 returns-in_err-taken-clause-followed g t c =
@@ -41,21 +48,16 @@ returns-in_err-taken-clause-followed g t c =
     let q : ℕ × ℕ = c.in-Some.pair.now in
     let is : c.args.pairs.now ≡ q ∷ c.in-Some.rest.now = search rules in
     let p = err_from_is_err_and c.from_residual.result c.from_residual.ensures.1 in
-    rw (p.1, p.2)
-    (subst (λ (ps : List (ℕ × ℕ)). IsFollowed c.args.search.now c.take.new.search place ps c.take.new.state.state (Err c.in_err-taken.field-0.0)) (sym is)
-    (follows_in_vain c.args.search.now c.take.new.search place q.0 q.1 c.in-Some.rest.now c.game-game.ensures.lawful.numbered c.take.result c.in_err-taken.field-0.0 c.in_err-taken.was c.take.ensures.deep c.take.ensures.wide))
+    rw (p.1, p.2) (followed_as is (follows_in_vain c.args.search.now c.take.new.search place q.0 q.1 c.in-Some.rest.now c.game-game.ensures.lawful.numbered c.take.result c.in_err-taken.field-0.0 c.in_err-taken.was c.take.ensures.deep c.take.ensures.wide))
 
 pub returns-then-not-taken-clause-followed : goal.returns-then-not-taken-clause-followed
 returns-then-not-taken-clause-followed g t c =
-    let game = c.args.search.now.game in
     let place : AbstractPlace = record { state = c.args.state.now.state; last = c.args.after } in
     let v = c.pair.inside.vertex in
     let p = c.pair.inside.position in
     let qs = c.in-Some.rest.now in
-    let first : c.args.pairs.now ≡ c.in-Some.pair.now ∷ qs = search rules in
-    let is : c.args.pairs.now ≡ (v, p) ∷ qs = first ∙ ap (λ (q : ℕ × ℕ). q ∷ qs) (sym c.pair.view_is) in
-    subst (λ (ps : List (ℕ × ℕ)). IsFollowed c.args.search.now c.take.new.search place ps c.take.new.state.state (Ok None)) (sym is)
-    (follows_first c.args.search.now c.take.new.search place v p qs c.game-game.ensures.lawful.numbered c.take.ensures.counted c.in_ok-taken.ensures.paired None (none_at game c.game-game.ensures.lawful.numbered place v p qs (c.in_ok-taken.ensures.refused (search rules))) tt)
+    followed_as (first_is c.args.pairs.now qs c.in-Some.pair.now v p (search rules) c.pair.view_is)
+    (follows_first c.args.search.now c.take.new.search place v p qs c.game-game.ensures.lawful.numbered c.take.ensures.counted c.in_ok-taken.ensures.paired None (none_at c.args.search.now.game c.game-game.ensures.lawful.numbered place v p qs (c.in_ok-taken.ensures.refused (search rules))) tt)
 
 pub returns-then-is_empty-clause-followed : goal.returns-then-is_empty-clause-followed
 returns-then-is_empty-clause-followed g t c =
@@ -64,15 +66,11 @@ returns-then-is_empty-clause-followed g t c =
     let v = c.pair.inside.vertex in
     let p = c.pair.inside.position in
     let qs = c.in-Some.rest.now in
-    let later = c.take.new.state.state in
-    let first : c.args.pairs.now ≡ c.in-Some.pair.now ∷ qs = search rules in
     let empty : qs ≡ [] = empty_of qs (sym c.if-is_empty.true ∙ c.is_empty.ensures) in
-    let is : c.args.pairs.now ≡ (v, p) ∷ [] = first ∙ ap (λ (q : ℕ × ℕ). q ∷ qs) (sym c.pair.view_is) ∙ ap (λ (rs : List (ℕ × ℕ)). (v, p) ∷ rs) empty in
-    let taken : IsStep game place.state (stand_of place.last) v p later = c.in_ok-taken.ensures.taken (search rules) in
-    let switches : IsSwitchAt game.rules p = subst (λ (h : AbstractGame). IsSwitchAt h.rules p) c.game-game.ensures.game (c.is_switch.ensures.0 c.if-not-is_switch.false) in
-    subst (λ (ps : List (ℕ × ℕ)). IsFollowed c.args.search.now c.take.new.search place ps later (Ok (Some p))) (sym is)
+    let taken : IsStep game place.state (stand_of place.last) v p c.take.new.state.state = c.in_ok-taken.ensures.taken (search rules) in
+    followed_as (first_is c.args.pairs.now qs c.in-Some.pair.now v p (search rules) c.pair.view_is ∙ ap (λ (rs : List (ℕ × ℕ)). (v, p) ∷ rs) empty)
     (follows_first c.args.search.now c.take.new.search place v p [] c.game-game.ensures.lawful.numbered c.take.ensures.counted c.in_ok-taken.ensures.paired (Some p)
-    (step_ends game c.game-game.ensures.lawful.numbered place v p later taken switches)
+    (step_ends game c.game-game.ensures.lawful.numbered place v p c.take.new.state.state taken (switch_by game c.game-game.result.now p c.game-game.ensures.game (c.is_switch.ensures.0 c.if-not-is_switch.false)))
     (last_forced game c.game-game.ensures.lawful.numbered place.state (stand_of place.last) (v, p) c.args.search.now.opened c.take.new.search.opened 1 c.args.search.now.modifiers (c.in_ok-taken.ensures.forced 1)))
 
 pub returns-else-is_empty-clause-followed : goal.returns-else-is_empty-clause-followed
@@ -82,10 +80,8 @@ returns-else-is_empty-clause-followed g t c =
     let v = c.pair.inside.vertex in
     let p = c.pair.inside.position in
     let qs = c.in-Some.rest.now in
-    let first : c.args.pairs.now ≡ c.in-Some.pair.now ∷ qs = search rules in
-    let is : c.args.pairs.now ≡ (v, p) ∷ qs = first ∙ ap (λ (q : ℕ × ℕ). q ∷ qs) (sym c.pair.view_is) in
-    let switches : IsSwitchAt game.rules p = subst (λ (h : AbstractGame). IsSwitchAt h.rules p) c.game-game.ensures.game (c.is_switch.ensures.0 c.if-not-is_switch.false) in
-    subst (λ (ps : List (ℕ × ℕ)). IsFollowed c.args.search.now c.take.new.search place ps c.take.new.state.state (Ok None)) (sym is)
+    let switches = switch_by game c.game-game.result.now p c.game-game.ensures.game (c.is_switch.ensures.0 c.if-not-is_switch.false) in
+    followed_as (first_is c.args.pairs.now qs c.in-Some.pair.now v p (search rules) c.pair.view_is)
     (follows_first c.args.search.now c.take.new.search place v p qs c.game-game.ensures.lawful.numbered c.take.ensures.counted c.in_ok-taken.ensures.paired None (none_after game c.game-game.ensures.lawful.numbered place v p qs switches (not_empty qs (sym c.if-is_empty.false ∙ c.is_empty.ensures))) tt)
 
 pub returns-then-not-is_switch-clause-followed : goal.returns-then-not-is_switch-clause-followed
@@ -95,11 +91,8 @@ returns-then-not-is_switch-clause-followed g t c =
     let v = c.pair.inside.vertex in
     let p = c.pair.inside.position in
     let qs = c.in-Some.rest.now in
-    let later = c.take.new.state.state in
-    let first : c.args.pairs.now ≡ c.in-Some.pair.now ∷ qs = search rules in
-    let is : c.args.pairs.now ≡ (v, p) ∷ qs = first ∙ ap (λ (q : ℕ × ℕ). q ∷ qs) (sym c.pair.view_is) in
-    let taken : IsStep game place.state (stand_of place.last) v p later = c.in_ok-taken.ensures.taken (search rules) in
+    let taken : IsStep game place.state (stand_of place.last) v p c.take.new.state.state = c.in_ok-taken.ensures.taken (search rules) in
     let other : c.is_switch.result ≡ false = search rules in
     let plain : ¬ IsSwitchAt game.rules p = plain_by game c.game-game.result.now p c.is_switch.result c.game-game.ensures.game c.is_switch.ensures.1 other in
-    subst (λ (ps : List (ℕ × ℕ)). IsFollowed c.args.search.now c.follow.new.search place ps c.follow.new.state.state c.follow.result) (sym is)
-    (follows_on c.args.search.now c.take.new.search place v p qs c.game-game.ensures.lawful.numbered c.take.ensures.counted c.in_ok-taken.ensures.paired c.follow.new.search later c.follow.new.state.state c.follow.result c.take.ensures.kept taken plain c.follow.ensures.followed c.in_ok-taken.ensures.forced)
+    followed_as (first_is c.args.pairs.now qs c.in-Some.pair.now v p (search rules) c.pair.view_is)
+    (follows_on c.args.search.now c.take.new.search place v p qs c.game-game.ensures.lawful.numbered c.take.ensures.counted c.in_ok-taken.ensures.paired c.follow.new.search c.take.new.state.state c.follow.new.state.state c.follow.result c.take.ensures.kept taken plain c.follow.ensures.followed c.in_ok-taken.ensures.forced)

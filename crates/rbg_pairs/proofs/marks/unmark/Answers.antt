@@ -1,9 +1,8 @@
-use Rattle.std.proofs.Common.{◌≡◌, ◌^◌, ◌*◌, ◌+◌, ◌/◌, ◌<◌, ℕ, List, length, get_or, set, take, false, sym, ◌∙◌, subst, ap, arith}
+use Rattle.std.proofs.Common.{◌≡◌, ◌^◌, ◌*◌, ◌+◌, ◌/◌, ◌<◌, ℕ, List, length, get_or, false, sym, ◌∙◌, subst, ap, arith}
 use Rattle.std.specs.Prelude.{All}
-use Rattle.std.proofs.lemmas.List.{take_more, take_all, length-set}
-use Rattle.std.proofs.lemmas.List.Elements.{All-push, All-weaker}
+use Rattle.std.proofs.lemmas.List.{take_all, length-set}
 use Rattle.rbg_pairs.specs.Meeting.{is_marked, mark_at}
-use Rattle.rbg_pairs.proofs.Meetings.{still_marked, still_unmarked, unmarked_here, all_gone, none_marked, word_of_mark, one_column, narrow_mark}
+use Rattle.rbg_pairs.proofs.Meetings.{still_marked, gone_more, all_gone, none_marked, word_of_mark, one_column, narrow_mark}
 use Rattle.rbg_pairs.proofs.marks.unmark.Goals as goal
 
 pub overflow_mul-word : goal.overflow_mul-word
@@ -28,16 +27,9 @@ loop-pair-preserved c =
     let words : List ℕ = c.loop-pair.words in
     let there : word < length c.args.words.now = subst (λ (w : ℕ). w < length c.args.words.now) same (c.requires.there c.loop-pair.pair-index c.pair-item.result c.loop-pair-test.true) in
     let within : word < length words = omega (arith, there, c.loop-pair.invariant.size) in
-    let below : mark < length words * 64 = omega (arith, within, place) in
-    let after : List ℕ = set words word 0 in
     record {
       size = length-set words word 0 ∙ c.loop-pair.invariant.size;
-      gone =
-          subst (λ (qs : List (ℕ × ℕ)). All (λ r. is_marked after (mark_at n r) ≡ false) qs)
-          (sym (take_more pairs c.loop-pair.pair-index c.pair-item.result c.loop-pair-test.true))
-          (All-push (λ r. is_marked after (mark_at n r) ≡ false) (take c.loop-pair.pair-index pairs) q
-          (All-weaker (λ r. is_marked words (mark_at n r) ≡ false) (λ r. is_marked after (mark_at n r) ≡ false) (λ r is. still_unmarked words word (mark_at n r) within is) (take c.loop-pair.pair-index pairs) c.loop-pair.invariant.gone)
-          (subst (λ (i : ℕ). is_marked (set words i 0) mark ≡ false) place (unmarked_here words mark below)));
+      gone = gone_more (mark_at n) pairs c.loop-pair.pair-index c.pair-item.result words word c.loop-pair-test.true within place c.loop-pair.invariant.gone;
       none_set = λ k is. c.loop-pair.invariant.none_set k (still_marked words word k within is);
     }
 

@@ -1,9 +1,8 @@
-use Rattle.std.proofs.Common.{◌≡◌, ◌*◌, ◌+◌, ◌/◌, ◌<◌, ℕ, List, length, get_or, set, take, false, sym, ap, ◌∙◌, subst, arith}
+use Rattle.std.proofs.Common.{◌≡◌, ◌*◌, ◌+◌, ◌/◌, ◌<◌, ℕ, List, length, get_or, false, sym, ap, ◌∙◌, subst, arith}
 use Rattle.std.specs.Prelude.{All}
-use Rattle.std.proofs.lemmas.List.{take_more, take_all, length-set}
-use Rattle.std.proofs.lemmas.List.Elements.{All-push, All-weaker}
+use Rattle.std.proofs.lemmas.List.{take_all, length-set}
 use Rattle.rbg_pairs.specs.Meeting.{is_marked}
-use Rattle.rbg_pairs.proofs.Meetings.{still_marked, still_unmarked, unmarked_here}
+use Rattle.rbg_pairs.proofs.Meetings.{still_marked, gone_more}
 use Rattle.rbg_pairs.proofs.marks.unmark_narrow.Goals as goal
 
 abbrev narrow_mark : ℕ × ℕ → ℕ
@@ -21,16 +20,9 @@ loop-pair-preserved c =
     let words : List ℕ = c.loop-pair.words in
     let there : word < length c.args.words.now = subst (λ (w : ℕ). w < length c.args.words.now) same (c.requires.there c.loop-pair.pair-index c.pair-item.result c.loop-pair-test.true) in
     let within : word < length words = omega (arith, there, c.loop-pair.invariant.size) in
-    let below : mark < length words * 64 = omega (arith, within, place) in
-    let after : List ℕ = set words word 0 in
     record {
       size = length-set words word 0 ∙ c.loop-pair.invariant.size;
-      gone =
-          subst (λ (qs : List (ℕ × ℕ)). All (λ r. is_marked after (narrow_mark r) ≡ false) qs)
-          (sym (take_more pairs c.loop-pair.pair-index c.pair-item.result c.loop-pair-test.true))
-          (All-push (λ r. is_marked after (narrow_mark r) ≡ false) (take c.loop-pair.pair-index pairs) q
-          (All-weaker (λ r. is_marked words (narrow_mark r) ≡ false) (λ r. is_marked after (narrow_mark r) ≡ false) (λ r is. still_unmarked words word (narrow_mark r) within is) (take c.loop-pair.pair-index pairs) c.loop-pair.invariant.gone)
-          (subst (λ (i : ℕ). is_marked (set words i 0) mark ≡ false) place (unmarked_here words mark below)));
+      gone = gone_more narrow_mark pairs c.loop-pair.pair-index c.pair-item.result words word c.loop-pair-test.true within place c.loop-pair.invariant.gone;
       none_set = λ k is. c.loop-pair.invariant.none_set k (still_marked words word k within is);
     }
 

@@ -7,33 +7,21 @@ use Rattle.rbg_flat.proofs.sets.Sets.place.Goals as goal
 small_place : (size columns q c : ℕ) → q < size → c < columns → size * columns < 2 ^ 64 → q * columns + c < 2 ^ 64
 small_place size columns q c first second small = let below = mul-add-lt q columns c size first second in let turned = mul_comm columns size in omega (arith, below, turned, small)
 
--- So is where its row begins.
-small_base : (size columns q c : ℕ) → q < size → c < columns → size * columns < 2 ^ 64 → q * columns < 2 ^ 64
-small_base size columns q c first second small = let all = small_place size columns q c first second small in omega (arith, all)
-
--- A position is moved up to where its row begins.
-moved : (size columns shift q c : ℕ) → columns ≡ 2 ^ shift → q < size → c < columns → size * columns < 2 ^ 64 → q * 2 ^ shift % 2 ^ 64 ≡ q * columns
+-- A position is moved up to where its row begins, and the column fits behind that.
+moved : (size columns shift q c : ℕ) → columns ≡ 2 ^ shift → q < size → c < columns → size * columns < 2 ^ 64 → (q * 2 ^ shift % 2 ^ 64 ≡ q * columns) × (q * 2 ^ shift % 2 ^ 64 + c < 2 ^ 64)
 moved size columns shift q c doubled first second small =
-    ap (λ (k : ℕ). q * k % 2 ^ 64) (sym doubled) ∙ mod-eq_of_lt (small_base size columns q c first second small)
+    let fits = small_place size columns q c first second small in
+    let base : q * 2 ^ shift % 2 ^ 64 ≡ q * columns = ap (λ (k : ℕ). q * k % 2 ^ 64) (sym doubled) ∙ mod-eq_of_lt (omega (arith, fits)) in
+    (base, subst (λ (k : ℕ). k + c < 2 ^ 64) (sym base) fits)
 
 pub overflow_add-result : goal.overflow_add-result
 overflow_add-result c =
-    let size : ℕ = c.self.inside.size in
-    let columns : ℕ = c.self.inside.columns in
-    let q : ℕ = c.args.position in
-    let column : ℕ = c.args.column in
-    let first : q < size = rw (← c.self.view_is) at c.requires.position in
-    let second : column < columns = rw (← c.self.view_is) at c.requires.column in
-    let base = moved size columns c.self.inside.shift q column c.self.inside.doubled first second c.self.invariant.small in
-    record { fits = subst (λ (k : ℕ). k + column < 2 ^ 64) (sym base) (small_place size columns q column first second c.self.invariant.small) }
+    let first = rw (← c.self.view_is) at c.requires.position in
+    let second = rw (← c.self.view_is) at c.requires.column in
+    record { fits = (moved c.self.inside.size c.self.inside.columns c.self.inside.shift c.args.position c.args.column c.self.inside.doubled first second c.self.invariant.small).1 }
 
 pub returns-clause-place : goal.returns-clause-place
 returns-clause-place c =
-    let size : ℕ = c.self.inside.size in
-    let columns : ℕ = c.self.inside.columns in
-    let q : ℕ = c.args.position in
-    let column : ℕ = c.args.column in
-    let first : q < size = rw (← c.self.view_is) at c.requires.position in
-    let second : column < columns = rw (← c.self.view_is) at c.requires.column in
-    let base = moved size columns c.self.inside.shift q column c.self.inside.doubled first second c.self.invariant.small in
-    rw (← c.self.view_is) (ap (λ (k : ℕ). k + column) base)
+    let first = rw (← c.self.view_is) at c.requires.position in
+    let second = rw (← c.self.view_is) at c.requires.column in
+    rw (← c.self.view_is) (ap (λ (k : ℕ). k + c.args.column) (moved c.self.inside.size c.self.inside.columns c.self.inside.shift c.args.position c.args.column c.self.inside.doubled first second c.self.invariant.small).0)

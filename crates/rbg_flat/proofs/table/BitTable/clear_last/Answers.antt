@@ -1,14 +1,8 @@
-use Rattle.std.proofs.Common.{ℕ, ◌-◌, List, take, slice_set, refl, subst}
-use Rattle.rbg_flat.specs.internal.Sets.{IsLastOf}
-use Rattle.rbg_flat.specs.internal.Table.{AreListed}
-use Rattle.rbg_flat.proofs.Listings.{last_is, listed_less}
+use Rattle.std.proofs.Common.{refl}
+use Rattle.rbg_flat.proofs.Listings.{taken_last}
 use Rattle.rbg_flat.proofs.table.BitTable.clear_last.Goals as goal
 
 pub invariant_of-self : goal.invariant_of-self
 invariant_of-self c =
-    let words : List ℕ = c.self.inside.words.items in
-    let room : List ℕ = c.self.inside.room.items in
-    let many : ℕ = c.self.inside.listed in
-    let last : IsLastOf (take many room) c.args.place = rw (← c.self.view_is) at c.requires.last in
-    let at = last_is words room many c.self.invariant c.args.place last in
-    subst (λ (p : ℕ). AreListed (slice_set words p 0) room (many - 1)) at.1 (listed_less words room many c.self.invariant at.0 0 refl)
+    let last = rw (← c.self.view_is) at c.requires.last in
+    taken_last c.self.inside.words.items c.self.inside.room.items c.self.inside.listed c.self.invariant c.args.place last 0 refl

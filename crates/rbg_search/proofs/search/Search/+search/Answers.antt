@@ -1,29 +1,29 @@
-use Rattle.std.proofs.Common.{rules, ◌≡◌, ℕ, suc, ◌^◌, ◌<◌, ◌≤◌, List, length, take, Bool, sym, ap, ◌∙◌, subst, arith, [], ◌∷◌, ◌++◌, ◌-◌, refl, false, true}
-use Rattle.std.specs.Prelude.{IsTrue, ◌↔◌, All, Some, slice_get, Contains}
+use Rattle.std.proofs.Common.{rules, ◌≡◌, ℕ, ◌^◌, ◌<◌, ◌≤◌, List, length, take, Bool, sym, ap, ◌∙◌, subst, arith, [], ◌∷◌, ◌++◌, ◌-◌, refl, false, true}
+use Rattle.std.specs.Prelude.{IsTrue, ◌↔◌, All, Contains}
 use Rattle.rbg_rules.specs.Positions.{inside, IsPatternAt}
 use Rattle.rbg_rules.specs.Words.{Start, beginning, after}
 use Rattle.rbg_rules.specs.State.{AbstractState, IsStateOf}
 use Rattle.rbg_rules.specs.Actions.{Applies}
-use Rattle.rbg_rules.specs.Questions.{SomeWordRuns, reach, pattern}
+use Rattle.rbg_rules.specs.Questions.{SomeWordRuns, pattern}
 use Rattle.rbg_rules.specs.Laws.{IsStart}
 use Rattle.rbg_state.specs.History.{History}
 use Rattle.rbg_pairs.specs.Flat.{IsFlatPart}
 use Rattle.rbg_pairs.specs.Start.{start_of}
 use Rattle.rbg_flat.specs.Paths.{ArePathsOf}
 use Rattle.rbg_search.specs.internal.Begun.{IsBegun}
-use Rattle.rbg_search.specs.internal.BySets.{HasSetsFor, IsWhole, IsToBeAsked, FindsBySets}
-use Rattle.rbg_search.specs.internal.Finding.{FindsByPairs, HasFound}
+use Rattle.rbg_search.specs.internal.BySets.{HasSetsFor, IsWhole, IsToBeAsked}
+use Rattle.rbg_search.specs.internal.Finding.{FindsByPairs}
 use Rattle.rbg_search.specs.internal.Behind.{IsReady, RunsBehindPair, SomeRunsBehind}
 use Rattle.rbg_pairs.specs.Closure.{at_vertex, Reached}
 use Rattle.rbg_pairs.specs.Nesting.{NestsFrom}
 use Rattle.rbg_pairs.specs.Part.{HasMarksOf}
-use Rattle.rbg_search.proofs.Asking.{back, mark_within, given_room, reached_nests, some_nested, runs_one, runs_here, runs_there}
+use Rattle.rbg_search.proofs.Asking.{back, mark_within, given_room, runs_one, runs_here, runs_there}
 use Rattle.rbg_search.proofs.Behinds.{all_ready}
-use Rattle.rbg_search.proofs.Turns.{turn_fewer, turn_moves, turn_after, turn_there, turn_end, turn_some, none_of_all, ran_permuted}
+use Rattle.rbg_search.proofs.Turns.{turn_fewer, turn_after, turn_there, turn_end, turn_some, none_of_all, ran_permuted}
 use Rattle.std.proofs.lemmas.List.Sorted.{IsPermutation-refl}
 use Rattle.std.proofs.lemmas.List.Elements.{All-contains}
 use Rattle.rbg_search.proofs.Kept.{onward, before, onward_rules, rules_before, further_on}
-use Rattle.rbg_search.specs.internal.Asked.{StandsInPattern, IsAsked}
+use Rattle.rbg_search.specs.internal.Asked.{StandsInPattern}
 use Rattle.rbg_search.specs.Forced.{CountsForced}
 use Rattle.rbg_search.specs.internal.Taking.{RanBehind}
 use Rattle.rbg_search.proofs.Behinds.{runs_at_end}
@@ -33,10 +33,10 @@ use Rattle.rbg_search.proofs.ForcingSteps.{ran_some, asked_forced}
 use Rattle.rbg_search.specs.declared.over.Over.TheVariants.{Deep, Wide, Memory}
 use Rattle.rbg_search.proofs.Patterns.{pattern_inside, inside_start}
 use Rattle.rbg_search.proofs.Counted.{memory_not_deep, memory_not_wide, ok_not_err}
-use Rattle.rbg_search.proofs.CountedSteps.{not_memory, taken_reached, inside_pairs}
+use Rattle.rbg_search.proofs.CountedSteps.{not_memory, inside_pairs}
 use Rattle.rbg_search.specs.Searching.{Searching}
-use Rattle.rbg_search.proofs.Asks.{handed_on, answered_on, not_entered, as_pattern, asked_there, asked_behind, asked_same}
-use Rattle.rbg_search.proofs.Finding.{finds_none, finds_room, finds_asked, finds_refused, pairs_begun, begun_now, pairs_on, pairs_failed, pairs_asked, pairs_more, pairs_forced, pairs_own}
+use Rattle.rbg_search.proofs.Asks.{asked_since, found_since, handed_on, answered_on, not_entered, as_pattern, asked_there, asked_behind, asked_same}
+use Rattle.rbg_search.proofs.Finding.{IsNextPair, finds_none, finds_room, finds_asked, finds_refused, asks_within, reached_next, pairs_begun, begun_now, pairs_on, pairs_failed, pairs_asked, pairs_more, pairs_forced, pairs_own}
 use Rattle.rbg_search.proofs.FindingBySets.{sets_begun, sets_on, sets_now, reached_here, sets_failed, sets_more, sets_forced, sets_part, sets_own}
 use Rattle.rbg_search.proofs.Orders.{positions_within}
 use Rattle.rbg_search.proofs.Trying.{tries_none, tries_end, tries_deep, tries_failed, tries_yes, tries_grow, tries_more}
@@ -135,83 +135,44 @@ pairs_part-returns-in_err-vertex-clause-asked g t c =
 
 pub pairs_part-ask-requires : goal.pairs_part-ask-requires
 pairs_part-ask-requires g t c κs within =
-    let h = c.args.self.now in
-    let k = c.loop-flat.self in
-    let s = c.args.state.now in
-    let l = c.loop-flat.state in
-    let f : Start = start_of c.args.origin in
     let flat = c.advance.new.flat.value in
-    let is : FindsByPairs h k s l f flat = pairs_on c.loop-flat.invariant flat (c.in_ok-vertex.ensures.begun f) c.in_ok-vertex.ensures.still_done c.in_ok-vertex.ensures.quiet in
-    let v : ℕ = c.in-Some.field-0.vertex in
-    let p : ℕ = c.in-Some.field-0.position in
-    let next : (slice_get flat.queue.pairs flat.taken ≡ Some (v, p)) × (v < length k.game.board.first) × IsPatternAt k.game.rules p = search rules in
-    let fits : IsStateOf k.game l.state = onward IsStateOf h k s l is.finds.kept is.finds.given_back c.requires.fits in
-    let nests = some_nested h.game.rules c.args.nested p
-    (reached_nests h.game is.finds.lawful.numbered s.state f c.args.nested c.requires.nested v p (taken_reached h.game s.state f flat v p is.begun next.0) (rules_before (λ x. IsPatternAt x.rules p) h k is.finds.kept next.2)) in
-    let inner : (0 < c.args.nested) × ((n : ℕ) → c.args.nested ≡ suc n → NestsFrom k.game.rules n (beginning (inside p))) =
-    onward_rules (λ x. (0 < c.args.nested) × ((n : ℕ) → c.args.nested ≡ suc n → NestsFrom x.rules n (beginning (inside p)))) h k is.finds.kept nests in
-    let room : 1 ≤ l.room = omega (arith, is.finds.enough) in
-    let size : length l.state.pieces ≡ length k.game.board.first = fits.vertices in
-    let under : v < length l.state.pieces = omega (arith, size, next.1) in
-    (search rules, (within, (fits, (room, (under, (next.2, inner))))))
+    let is = pairs_on c.loop-flat.invariant flat (c.in_ok-vertex.ensures.begun (start_of c.args.origin)) c.in_ok-vertex.ensures.still_done c.in_ok-vertex.ensures.quiet in
+    let next : IsNextPair c.loop-flat.self flat c.in-Some.field-0.vertex c.in-Some.field-0.position = search rules in
+    (search rules, (within, asks_within is.finds c.requires.fits c.args.nested c.requires.nested _ _ (reached_next is _ _ next) next.vertex next.pattern))
 
 pub pairs_part-returns-in_err-valid-clause-asked : goal.pairs_part-returns-in_err-valid-clause-asked
 pairs_part-returns-in_err-valid-clause-asked g t c =
-    let h = c.args.self.now in
-    let k = c.loop-flat.self in
-    let s = c.args.state.now in
-    let l = c.loop-flat.state in
-    let f : Start = start_of c.args.origin in
     let flat = c.advance.new.flat.value in
-    let is : FindsByPairs h k s l f flat = pairs_on c.loop-flat.invariant flat (c.in_ok-vertex.ensures.begun f) c.in_ok-vertex.ensures.still_done c.in_ok-vertex.ensures.quiet in
-    let v : ℕ = c.in-Some.field-0.vertex in
-    let p : ℕ = c.in-Some.field-0.position in
-    let next : (slice_get flat.queue.pairs flat.taken ≡ Some (v, p)) × (v < length k.game.board.first) × IsPatternAt k.game.rules p = search rules in
-    let fresh : ¬ Contains (take flat.taken flat.queue.pairs) (v, p) = search rules in
-    pairs_failed is v p next.0 next.2 fresh c.ask.ensures.asked c.from_residual-in_err-valid.result c.in_err-valid.field-0.0 c.in_err-valid.was c.from_residual-in_err-valid.ensures.1
+    let is = pairs_on c.loop-flat.invariant flat (c.in_ok-vertex.ensures.begun (start_of c.args.origin)) c.in_ok-vertex.ensures.still_done c.in_ok-vertex.ensures.quiet in
+    let next : IsNextPair c.loop-flat.self flat c.in-Some.field-0.vertex c.in-Some.field-0.position = search rules in
+    pairs_failed is _ _ next c.ask.ensures.asked c.from_residual-in_err-valid.result c.in_err-valid.field-0.0 c.in_err-valid.was c.from_residual-in_err-valid.ensures.1
 
 pub pairs_part-take-requires-clause-marks : goal.pairs_part-take-requires-clause-marks
 pairs_part-take-requires-clause-marks g t c = onward_rules (λ x. HasMarksOf x c.advance.new.flat.value.queue) c.loop-flat.self c.ask.new.self c.ask.ensures.asked.kept c.advance.ensures.marks
 
 pub pairs_part-take-requires-clause-vertex : goal.pairs_part-take-requires-clause-vertex
 pairs_part-take-requires-clause-vertex g t c =
-    let asked : (slice_get c.advance.new.flat.value.queue.pairs c.advance.new.flat.value.taken ≡ Some (c.in-Some.field-0.vertex, c.in-Some.field-0.position)) × (c.in-Some.field-0.vertex < length c.loop-flat.self.game.board.first) × IsPatternAt c.loop-flat.self.game.rules c.in-Some.field-0.position = search rules in
-    onward_rules (λ x. c.in-Some.field-0.vertex < length x.board.first) c.loop-flat.self c.ask.new.self c.ask.ensures.asked.kept asked.1
+    let next : IsNextPair c.loop-flat.self c.advance.new.flat.value c.in-Some.field-0.vertex c.in-Some.field-0.position = search rules in
+    onward_rules (λ x. c.in-Some.field-0.vertex < length x.board.first) c.loop-flat.self c.ask.new.self c.ask.ensures.asked.kept next.vertex
 
 pub pairs_part-take-requires-clause-there : goal.pairs_part-take-requires-clause-there
 pairs_part-take-requires-clause-there g t c =
-    let asked : (slice_get c.advance.new.flat.value.queue.pairs c.advance.new.flat.value.taken ≡ Some (c.in-Some.field-0.vertex, c.in-Some.field-0.position)) × (c.in-Some.field-0.vertex < length c.loop-flat.self.game.board.first) × IsPatternAt c.loop-flat.self.game.rules c.in-Some.field-0.position = search rules in
-    onward_rules (λ x. IsPatternAt x.rules c.in-Some.field-0.position) c.loop-flat.self c.ask.new.self c.ask.ensures.asked.kept asked.2
+    let next : IsNextPair c.loop-flat.self c.advance.new.flat.value c.in-Some.field-0.vertex c.in-Some.field-0.position = search rules in
+    onward_rules (λ x. IsPatternAt x.rules c.in-Some.field-0.position) c.loop-flat.self c.ask.new.self c.ask.ensures.asked.kept next.pattern
 
 pub pairs_part-returns-in_err-take-clause-asked : goal.pairs_part-returns-in_err-take-clause-asked
 pairs_part-returns-in_err-take-clause-asked g t c =
-    let h = c.args.self.now in
-    let k = c.loop-flat.self in
-    let s = c.args.state.now in
-    let l = c.loop-flat.state in
-    let f : Start = start_of c.args.origin in
     let flat = c.advance.new.flat.value in
-    let is : FindsByPairs h k s l f flat = pairs_on c.loop-flat.invariant flat (c.in_ok-vertex.ensures.begun f) c.in_ok-vertex.ensures.still_done c.in_ok-vertex.ensures.quiet in
-    let v : ℕ = c.in-Some.field-0.vertex in
-    let p : ℕ = c.in-Some.field-0.position in
-    let next : (slice_get flat.queue.pairs flat.taken ≡ Some (v, p)) × (v < length k.game.board.first) × IsPatternAt k.game.rules p = search rules in
-    let fresh : ¬ Contains (take flat.taken flat.queue.pairs) (v, p) = search rules in
-    finds_refused (pairs_asked is v p next.0 next.2 fresh c.ask.ensures.asked c.in_ok-valid.valid c.in_ok-valid.was c.in_ok-valid.ensures.forced) c.ask.new.self refl refl c.from_residual-in_err-take.result Memory c.from_residual-in_err-take.ensures.1 refl refl
+    let is = pairs_on c.loop-flat.invariant flat (c.in_ok-vertex.ensures.begun (start_of c.args.origin)) c.in_ok-vertex.ensures.still_done c.in_ok-vertex.ensures.quiet in
+    let next : IsNextPair c.loop-flat.self flat c.in-Some.field-0.vertex c.in-Some.field-0.position = search rules in
+    finds_refused (pairs_asked is _ _ next c.ask.ensures.asked c.in_ok-valid.valid c.in_ok-valid.was c.in_ok-valid.ensures.forced) c.ask.new.self refl refl c.from_residual-in_err-take.result Memory c.from_residual-in_err-take.ensures.1 refl refl
 
 pub pairs_part-loop-flat-preserved : goal.pairs_part-loop-flat-preserved
 pairs_part-loop-flat-preserved g t c =
-    let h = c.args.self.now in
-    let k = c.loop-flat.self in
-    let s = c.args.state.now in
-    let l = c.loop-flat.state in
-    let f : Start = start_of c.args.origin in
     let flat = c.advance.new.flat.value in
-    let is : FindsByPairs h k s l f flat = pairs_on c.loop-flat.invariant flat (c.in_ok-vertex.ensures.begun f) c.in_ok-vertex.ensures.still_done c.in_ok-vertex.ensures.quiet in
-    let v : ℕ = c.in-Some.field-0.vertex in
-    let p : ℕ = c.in-Some.field-0.position in
-    let next : (slice_get flat.queue.pairs flat.taken ≡ Some (v, p)) × (v < length k.game.board.first) × IsPatternAt k.game.rules p = search rules in
-    let fresh : ¬ Contains (take flat.taken flat.queue.pairs) (v, p) = search rules in
-    pairs_more is v p next.0 next.2 fresh c.ask.ensures.asked c.in_ok-valid.valid c.in_ok-valid.was c.in_ok-valid.ensures.forced c.take.new.flat.value c.in_ok-valid.valid c.in_ok-valid.ensures.valid c.in_ok-take.ensures.done (c.in_ok-take.ensures.begun l.state f)
+    let is = pairs_on c.loop-flat.invariant flat (c.in_ok-vertex.ensures.begun (start_of c.args.origin)) c.in_ok-vertex.ensures.still_done c.in_ok-vertex.ensures.quiet in
+    let next : IsNextPair c.loop-flat.self flat c.in-Some.field-0.vertex c.in-Some.field-0.position = search rules in
+    pairs_more is _ _ next c.ask.ensures.asked c.in_ok-valid.valid c.in_ok-valid.was c.in_ok-valid.ensures.forced c.take.new.flat.value c.in_ok-valid.valid c.in_ok-valid.ensures.valid c.in_ok-take.ensures.done (c.in_ok-take.ensures.begun c.loop-flat.state.state (start_of c.args.origin))
 
 pub pairs_part-loop-flat-smaller : goal.pairs_part-loop-flat-smaller
 pairs_part-loop-flat-smaller g t c =
@@ -225,34 +186,22 @@ pairs_part-finish-requires-clause-one g t c = finds_room c.loop-flat.invariant.f
 
 pub pairs_part-returns-in_err-ends-clause-asked : goal.pairs_part-returns-in_err-ends-clause-asked
 pairs_part-returns-in_err-ends-clause-asked g t c =
-    let h = c.args.self.now in
-    let k = c.loop-flat.self in
-    let s = c.args.state.now in
-    let l = c.loop-flat.state in
-    let f : Start = start_of c.args.origin in
     let flat = c.advance.new.flat.value in
-    let is : FindsByPairs h k s l f flat = pairs_on c.loop-flat.invariant flat (c.in_ok-vertex.ensures.begun f) c.in_ok-vertex.ensures.still_done c.in_ok-vertex.ensures.quiet in
-    let met : (e : Start) → IsBegun k.game l.state e c.loop-flat.flat.value → (w q : ℕ) → Reached k.game l.state e w q → Contains (take flat.taken flat.queue.pairs) (w, q) = search rules in
-    let begun = begun_now c.loop-flat.invariant flat in
+    let is = pairs_on c.loop-flat.invariant flat (c.in_ok-vertex.ensures.begun (start_of c.args.origin)) c.in_ok-vertex.ensures.still_done c.in_ok-vertex.ensures.quiet in
+    let met : (e : Start) → IsBegun c.loop-flat.self.game c.loop-flat.state.state e c.loop-flat.flat.value → (w q : ℕ) → Reached c.loop-flat.self.game c.loop-flat.state.state e w q → Contains (take flat.taken flat.queue.pairs) (w, q) = search rules in
     let r = c.from_residual-in_err-ends.result in
     finds_asked is.finds c.finish.new.self c.finish.ensures.kept c.finish.ensures.opened r
     (not_memory r c.in_err-ends.field-0.0 Deep c.from_residual-in_err-ends.ensures.1 c.in_err-ends.ensures.memory memory_not_deep)
     (not_memory r c.in_err-ends.field-0.0 Wide c.from_residual-in_err-ends.ensures.1 c.in_err-ends.ensures.memory memory_not_wide)
-    (pairs_own is (met f begun) c.finish.new.self c.finish.ensures.kept c.finish.ensures.opened _ c.finish.ensures.taken)
+    (pairs_own is (met _ (begun_now c.loop-flat.invariant flat)) c.finish.new.self c.finish.ensures.kept c.finish.ensures.opened _ c.finish.ensures.taken)
 
 pub pairs_part-returns-clause-asked : goal.pairs_part-returns-clause-asked
 pairs_part-returns-clause-asked g t c =
-    let h = c.args.self.now in
-    let k = c.loop-flat.self in
-    let s = c.args.state.now in
-    let l = c.loop-flat.state in
-    let f : Start = start_of c.args.origin in
     let flat = c.advance.new.flat.value in
-    let is : FindsByPairs h k s l f flat = pairs_on c.loop-flat.invariant flat (c.in_ok-vertex.ensures.begun f) c.in_ok-vertex.ensures.still_done c.in_ok-vertex.ensures.quiet in
-    let met : (e : Start) → IsBegun k.game l.state e c.loop-flat.flat.value → (w q : ℕ) → Reached k.game l.state e w q → Contains (take flat.taken flat.queue.pairs) (w, q) = search rules in
-    let begun = begun_now c.loop-flat.invariant flat in
+    let is = pairs_on c.loop-flat.invariant flat (c.in_ok-vertex.ensures.begun (start_of c.args.origin)) c.in_ok-vertex.ensures.still_done c.in_ok-vertex.ensures.quiet in
+    let met : (e : Start) → IsBegun c.loop-flat.self.game c.loop-flat.state.state e c.loop-flat.flat.value → (w q : ℕ) → Reached c.loop-flat.self.game c.loop-flat.state.state e w q → Contains (take flat.taken flat.queue.pairs) (w, q) = search rules in
     finds_asked is.finds c.finish.new.self c.finish.ensures.kept c.finish.ensures.opened _ (ok_not_err c.in_ok-ends.ends Deep) (ok_not_err c.in_ok-ends.ends Wide)
-    (pairs_own is (met f begun) c.finish.new.self c.finish.ensures.kept c.finish.ensures.opened _ c.finish.ensures.taken)
+    (pairs_own is (met _ (begun_now c.loop-flat.invariant flat)) c.finish.new.self c.finish.ensures.kept c.finish.ensures.opened _ c.finish.ensures.taken)
 
 pub pairs_part-returns-clause-found : goal.pairs_part-returns-clause-found
 pairs_part-returns-clause-found g t c =
@@ -322,25 +271,9 @@ sets_part-advance_by_sets-requires-clause-sets g t c = sets_now c.loop-vertex.in
 
 pub sets_part-ask-requires : goal.sets_part-ask-requires
 sets_part-ask-requires g t c κs within =
-    let h = c.args.self.now in
-    let k = c.loop-vertex.self in
-    let s = c.args.state.now in
-    let l = c.loop-vertex.state in
-    let f : Start = start_of c.args.origin in
-    let flat = c.advance_by_sets.new.flat.value in
-    let is : FindsBySets h k s l f flat = sets_on c.loop-vertex.invariant flat c.advance_by_sets.ensures.advances in
-    let v : ℕ = c.in-Some.field-0.vertex in
-    let p : ℕ = c.in-Some.field-0.position in
-    let next : IsToBeAsked k.game flat v p = search rules in
-    let fits : IsStateOf k.game l.state = onward IsStateOf h k s l is.finds.kept is.finds.given_back c.requires.fits in
-    let nests = some_nested h.game.rules c.args.nested p
-    (reached_nests h.game is.finds.lawful.numbered s.state f c.args.nested c.requires.nested v p (reached_here is v p next) (rules_before (λ x. IsPatternAt x.rules p) h k is.finds.kept next.pattern)) in
-    let inner : (0 < c.args.nested) × ((n : ℕ) → c.args.nested ≡ suc n → NestsFrom k.game.rules n (beginning (inside p))) =
-    onward_rules (λ x. (0 < c.args.nested) × ((n : ℕ) → c.args.nested ≡ suc n → NestsFrom x.rules n (beginning (inside p)))) h k is.finds.kept nests in
-    let room : 1 ≤ l.room = omega (arith, is.finds.enough) in
-    let size : length l.state.pieces ≡ length k.game.board.first = fits.vertices in
-    let under : v < length l.state.pieces = omega (arith, size, next.vertex) in
-    (search rules, (within, (fits, (room, (under, (next.pattern, inner))))))
+    let is = sets_on c.loop-vertex.invariant c.advance_by_sets.new.flat.value c.advance_by_sets.ensures.advances in
+    let next : IsToBeAsked c.loop-vertex.self.game c.advance_by_sets.new.flat.value c.in-Some.field-0.vertex c.in-Some.field-0.position = search rules in
+    (search rules, (within, asks_within is.finds c.requires.fits c.args.nested c.requires.nested _ _ (reached_here is _ _ next) next.vertex next.pattern))
 
 pub sets_part-take_by_sets-requires-clause-paths : goal.sets_part-take_by_sets-requires-clause-paths
 sets_part-take_by_sets-requires-clause-paths g t c =
@@ -362,34 +295,18 @@ sets_part-take_by_sets-requires-clause-next g t c =
 
 pub sets_part-loop-vertex-preserved : goal.sets_part-loop-vertex-preserved
 sets_part-loop-vertex-preserved g t c =
-    let h = c.args.self.now in
-    let k = c.loop-vertex.self in
-    let s = c.args.state.now in
-    let l = c.loop-vertex.state in
-    let f : Start = start_of c.args.origin in
-    let flat = c.advance_by_sets.new.flat.value in
-    let is : FindsBySets h k s l f flat = sets_on c.loop-vertex.invariant flat c.advance_by_sets.ensures.advances in
-    let v : ℕ = c.in-Some.field-0.vertex in
-    let p : ℕ = c.in-Some.field-0.position in
-    let next : IsToBeAsked k.game flat v p = search rules in
-    sets_more is v p next c.ask.ensures.asked c.take_by_sets.new.flat.value c.in_ok-valid.valid c.in_ok-valid.valid c.in_ok-valid.was c.in_ok-valid.ensures.valid c.take_by_sets.ensures.takes c.in_ok-valid.ensures.forced
+    let is = sets_on c.loop-vertex.invariant c.advance_by_sets.new.flat.value c.advance_by_sets.ensures.advances in
+    let next : IsToBeAsked c.loop-vertex.self.game c.advance_by_sets.new.flat.value c.in-Some.field-0.vertex c.in-Some.field-0.position = search rules in
+    sets_more is _ _ next c.ask.ensures.asked c.take_by_sets.new.flat.value c.in_ok-valid.valid c.in_ok-valid.valid c.in_ok-valid.was c.in_ok-valid.ensures.valid c.take_by_sets.ensures.takes c.in_ok-valid.ensures.forced
 
 pub sets_part-loop-vertex-smaller : goal.sets_part-loop-vertex-smaller
 sets_part-loop-vertex-smaller g t c = omega (arith, c.advance_by_sets.ensures.advances.lighter, c.take_by_sets.ensures.takes.lighter)
 
 pub sets_part-returns-in_err-valid-clause-asked : goal.sets_part-returns-in_err-valid-clause-asked
 sets_part-returns-in_err-valid-clause-asked g t c =
-    let h = c.args.self.now in
-    let k = c.loop-vertex.self in
-    let s = c.args.state.now in
-    let l = c.loop-vertex.state in
-    let f : Start = start_of c.args.origin in
-    let flat = c.advance_by_sets.new.flat.value in
-    let is : FindsBySets h k s l f flat = sets_on c.loop-vertex.invariant flat c.advance_by_sets.ensures.advances in
-    let v : ℕ = c.in-Some.field-0.vertex in
-    let p : ℕ = c.in-Some.field-0.position in
-    let next : IsToBeAsked k.game flat v p = search rules in
-    sets_failed is v p next c.ask.ensures.asked c.from_residual-in_err-valid.result c.in_err-valid.field-0.0 c.in_err-valid.was c.from_residual-in_err-valid.ensures.1
+    let is = sets_on c.loop-vertex.invariant c.advance_by_sets.new.flat.value c.advance_by_sets.ensures.advances in
+    let next : IsToBeAsked c.loop-vertex.self.game c.advance_by_sets.new.flat.value c.in-Some.field-0.vertex c.in-Some.field-0.position = search rules in
+    sets_failed is _ _ next c.ask.ensures.asked c.from_residual-in_err-valid.result c.in_err-valid.field-0.0 c.in_err-valid.was c.from_residual-in_err-valid.ensures.1
 
 pub sets_part-finish_by_sets-requires-clause-paths : goal.sets_part-finish_by_sets-requires-clause-paths
 sets_part-finish_by_sets-requires-clause-paths g t c = onward_rules (λ x. ArePathsOf x c.args.paths.now) c.args.self.now c.loop-vertex.self c.loop-vertex.invariant.finds.kept c.requires.paths
@@ -413,26 +330,17 @@ sets_part-returns-in_err-ends-clause-asked g t c =
 
 pub sets_part-returns-clause-asked : goal.sets_part-returns-clause-asked
 sets_part-returns-clause-asked g t c =
-    let h = c.args.self.now in
-    let k = c.loop-vertex.self in
-    let s = c.args.state.now in
-    let l = c.loop-vertex.state in
-    let f : Start = start_of c.args.origin in
-    let flat = c.advance_by_sets.new.flat.value in
-    let is : FindsBySets h k s l f flat = sets_on c.loop-vertex.invariant flat c.advance_by_sets.ensures.advances in
+    let is = sets_on c.loop-vertex.invariant c.advance_by_sets.new.flat.value c.advance_by_sets.ensures.advances in
     finds_asked is.finds c.finish_by_sets.new.self c.finish_by_sets.ensures.kept c.finish_by_sets.ensures.opened _ (ok_not_err c.in_ok-ends.ends Deep) (ok_not_err c.in_ok-ends.ends Wide)
     (sets_own is c.finish_by_sets.new.self c.finish_by_sets.ensures.kept c.finish_by_sets.ensures.opened _ c.in_ok-ends.ensures.taken)
 
 pub sets_part-returns-clause-found : goal.sets_part-returns-clause-found
 sets_part-returns-clause-found g t c =
     let h = c.args.self.now in
-    let k = c.loop-vertex.self in
     let s = c.args.state.now in
-    let l = c.loop-vertex.state in
     let f : Start = start_of c.args.origin in
-    let flat = c.advance_by_sets.new.flat.value in
-    let is : FindsBySets h k s l f flat = sets_on c.loop-vertex.invariant flat c.advance_by_sets.ensures.advances in
-    let whole : IsWhole flat = search rules in
+    let is = sets_on c.loop-vertex.invariant c.advance_by_sets.new.flat.value c.advance_by_sets.ensures.advances in
+    let whole : IsWhole c.advance_by_sets.new.flat.value = search rules in
     let part = sets_part is c.finish_by_sets.new.pairs c.in_ok-ends.ends c.in_ok-ends.ensures.part in
     let ready = all_ready h.game is.finds.lawful s.state c.requires.fits f c.args.nested c.requires.nested c.finish_by_sets.new.pairs c.in_ok-ends.ends part in
     record {
@@ -458,30 +366,22 @@ word_runs-flat_part-requires g t c κs within =
 
 pub word_runs-returns-in_err-ends-clause-asked : goal.word_runs-returns-in_err-ends-clause-asked
 word_runs-returns-in_err-ends-clause-asked g t c =
-    let here : c.take_list-pairs.new.self ≡ c.args.self.now = c.take_list-pairs.ensures in
-    let first : IsAsked c.args.self.now c.flat_part.new.self c.args.state.now c.flat_part.new.state reach c.args.state.now.state (start_of c.args.origin) c.args.self.now.modifiers c.flat_part.result =
-    subst (λ (x : Searching). IsAsked x c.flat_part.new.self c.args.state.now c.flat_part.new.state reach c.args.state.now.state (start_of c.args.origin) x.modifiers c.flat_part.result) here c.flat_part.ensures.asked in
+    let first = asked_since c.take_list-pairs.ensures c.flat_part.ensures.asked in
     handed_on (as_pattern first c.args.modifiers) c.from_residual.result c.in_err-ends.field-0.0 c.in_err-ends.was c.from_residual.ensures.1
 
 pub word_runs-returns-then-ends-clause-asked : goal.word_runs-returns-then-ends-clause-asked
 word_runs-returns-then-ends-clause-asked g t c =
-    let here : c.take_list-pairs.new.self ≡ c.args.self.now = c.take_list-pairs.ensures in
-    let first : IsAsked c.args.self.now c.flat_part.new.self c.args.state.now c.flat_part.new.state reach c.args.state.now.state (start_of c.args.origin) c.args.self.now.modifiers c.flat_part.result =
-    subst (λ (x : Searching). IsAsked x c.flat_part.new.self c.args.state.now c.flat_part.new.state reach c.args.state.now.state (start_of c.args.origin) x.modifiers c.flat_part.result) here c.flat_part.ensures.asked in
+    let first = asked_since c.take_list-pairs.ensures c.flat_part.ensures.asked in
     asked_same (answered_on (as_pattern first c.args.modifiers) c.in_ok-ends.ends true c.in_ok-ends.was) c.keep_list.new.self c.keep_list.ensures
 
 pub word_runs-returns-then-ends-clause-answer : goal.word_runs-returns-then-ends-clause-answer
 word_runs-returns-then-ends-clause-answer g t c =
-    let here : c.take_list-pairs.new.self ≡ c.args.self.now = c.take_list-pairs.ensures in
-    let found : HasFound c.args.self.now c.flat_part.new.self c.args.state.now c.flat_part.new.state (start_of c.args.origin) c.args.nested c.flat_part.new.pairs c.in_ok-ends.ends =
-    subst (λ (x : Searching). HasFound x c.flat_part.new.self c.args.state.now c.flat_part.new.state (start_of c.args.origin) c.args.nested c.flat_part.new.pairs c.in_ok-ends.ends) here c.in_ok-ends.ensures.found in
+    let found = found_since c.take_list-pairs.ensures c.in_ok-ends.ensures.found in
     runs_here c.args.self.now.game found.lawful.numbered c.args.state.now.state (start_of c.args.origin) c.flat_part.new.pairs c.in_ok-ends.ends found.reaches.reached c.if-ends.true
 
 pub word_runs-returns-then-ends-clause-forced : goal.word_runs-returns-then-ends-clause-forced
 word_runs-returns-then-ends-clause-forced g t c = λ cut.
-    let here : c.take_list-pairs.new.self ≡ c.args.self.now = c.take_list-pairs.ensures in
-    let found : HasFound c.args.self.now c.flat_part.new.self c.args.state.now c.flat_part.new.state (start_of c.args.origin) c.args.nested c.flat_part.new.pairs c.in_ok-ends.ends =
-    subst (λ (x : Searching). HasFound x c.flat_part.new.self c.args.state.now c.flat_part.new.state (start_of c.args.origin) c.args.nested c.flat_part.new.pairs c.in_ok-ends.ends) here c.in_ok-ends.ensures.found in
+    let found = found_since c.take_list-pairs.ensures c.in_ok-ends.ensures.found in
     let h = c.args.self.now in
     let k = c.flat_part.new.self in
     let s = c.args.state.now in
@@ -495,11 +395,8 @@ word_runs-returns-then-ends-clause-forced g t c = λ cut.
 
 pub word_runs-runs_behind-requires : goal.word_runs-runs_behind-requires
 word_runs-runs_behind-requires g t c κs within =
-    let here : c.take_list-pairs.new.self ≡ c.args.self.now = c.take_list-pairs.ensures in
-    let first : IsAsked c.args.self.now c.flat_part.new.self c.args.state.now c.flat_part.new.state reach c.args.state.now.state (start_of c.args.origin) c.args.self.now.modifiers c.flat_part.result =
-    subst (λ (x : Searching). IsAsked x c.flat_part.new.self c.args.state.now c.flat_part.new.state reach c.args.state.now.state (start_of c.args.origin) x.modifiers c.flat_part.result) here c.flat_part.ensures.asked in
-    let found : HasFound c.args.self.now c.flat_part.new.self c.args.state.now c.flat_part.new.state (start_of c.args.origin) c.args.nested c.flat_part.new.pairs c.in_ok-ends.ends =
-    subst (λ (x : Searching). HasFound x c.flat_part.new.self c.args.state.now c.flat_part.new.state (start_of c.args.origin) c.args.nested c.flat_part.new.pairs c.in_ok-ends.ends) here c.in_ok-ends.ensures.found in
+    let first = asked_since c.take_list-pairs.ensures c.flat_part.ensures.asked in
+    let found = found_since c.take_list-pairs.ensures c.in_ok-ends.ensures.found in
     let h = c.args.self.now in
     let k = c.flat_part.new.self in
     let s = c.args.state.now in
@@ -513,22 +410,16 @@ word_runs-runs_behind-requires g t c κs within =
 
 pub word_runs-returns-in_err-runs-clause-asked : goal.word_runs-returns-in_err-runs-clause-asked
 word_runs-returns-in_err-runs-clause-asked g t c =
-    let here : c.take_list-pairs.new.self ≡ c.args.self.now = c.take_list-pairs.ensures in
-    let first : IsAsked c.args.self.now c.flat_part.new.self c.args.state.now c.flat_part.new.state reach c.args.state.now.state (start_of c.args.origin) c.args.self.now.modifiers c.flat_part.result =
-    subst (λ (x : Searching). IsAsked x c.flat_part.new.self c.args.state.now c.flat_part.new.state reach c.args.state.now.state (start_of c.args.origin) x.modifiers c.flat_part.result) here c.flat_part.ensures.asked in
-    let found : HasFound c.args.self.now c.flat_part.new.self c.args.state.now c.flat_part.new.state (start_of c.args.origin) c.args.nested c.flat_part.new.pairs c.in_ok-ends.ends =
-    subst (λ (x : Searching). HasFound x c.flat_part.new.self c.args.state.now c.flat_part.new.state (start_of c.args.origin) c.args.nested c.flat_part.new.pairs c.in_ok-ends.ends) here c.in_ok-ends.ensures.found in
+    let first = asked_since c.take_list-pairs.ensures c.flat_part.ensures.asked in
+    let found = found_since c.take_list-pairs.ensures c.in_ok-ends.ensures.found in
     handed_on
     (asked_behind first c.in_ok-ends.was found c.requires.inside c.if-ends.false c.runs_behind.ensures.asked)
     c.from_residual-in_err-runs.result c.in_err-runs.field-0.0 c.in_err-runs.was c.from_residual-in_err-runs.ensures.1
 
 pub word_runs-returns-clause-asked : goal.word_runs-returns-clause-asked
 word_runs-returns-clause-asked g t c =
-    let here : c.take_list-pairs.new.self ≡ c.args.self.now = c.take_list-pairs.ensures in
-    let first : IsAsked c.args.self.now c.flat_part.new.self c.args.state.now c.flat_part.new.state reach c.args.state.now.state (start_of c.args.origin) c.args.self.now.modifiers c.flat_part.result =
-    subst (λ (x : Searching). IsAsked x c.flat_part.new.self c.args.state.now c.flat_part.new.state reach c.args.state.now.state (start_of c.args.origin) x.modifiers c.flat_part.result) here c.flat_part.ensures.asked in
-    let found : HasFound c.args.self.now c.flat_part.new.self c.args.state.now c.flat_part.new.state (start_of c.args.origin) c.args.nested c.flat_part.new.pairs c.in_ok-ends.ends =
-    subst (λ (x : Searching). HasFound x c.flat_part.new.self c.args.state.now c.flat_part.new.state (start_of c.args.origin) c.args.nested c.flat_part.new.pairs c.in_ok-ends.ends) here c.in_ok-ends.ensures.found in
+    let first = asked_since c.take_list-pairs.ensures c.flat_part.ensures.asked in
+    let found = found_since c.take_list-pairs.ensures c.in_ok-ends.ensures.found in
     asked_same
     (answered_on
     (asked_behind first c.in_ok-ends.was found c.requires.inside c.if-ends.false c.runs_behind.ensures.asked)
@@ -537,11 +428,8 @@ word_runs-returns-clause-asked g t c =
 
 pub word_runs-returns-clause-answer : goal.word_runs-returns-clause-answer
 word_runs-returns-clause-answer g t c =
-    let here : c.take_list-pairs.new.self ≡ c.args.self.now = c.take_list-pairs.ensures in
-    let first : IsAsked c.args.self.now c.flat_part.new.self c.args.state.now c.flat_part.new.state reach c.args.state.now.state (start_of c.args.origin) c.args.self.now.modifiers c.flat_part.result =
-    subst (λ (x : Searching). IsAsked x c.flat_part.new.self c.args.state.now c.flat_part.new.state reach c.args.state.now.state (start_of c.args.origin) x.modifiers c.flat_part.result) here c.flat_part.ensures.asked in
-    let found : HasFound c.args.self.now c.flat_part.new.self c.args.state.now c.flat_part.new.state (start_of c.args.origin) c.args.nested c.flat_part.new.pairs c.in_ok-ends.ends =
-    subst (λ (x : Searching). HasFound x c.flat_part.new.self c.args.state.now c.flat_part.new.state (start_of c.args.origin) c.args.nested c.flat_part.new.pairs c.in_ok-ends.ends) here c.in_ok-ends.ensures.found in
+    let first = asked_since c.take_list-pairs.ensures c.flat_part.ensures.asked in
+    let found = found_since c.take_list-pairs.ensures c.in_ok-ends.ensures.found in
     let h = c.args.self.now in
     let k = c.flat_part.new.self in
     let s = c.args.state.now in
@@ -554,11 +442,8 @@ word_runs-returns-clause-answer g t c =
 
 pub word_runs-returns-clause-forced : goal.word_runs-returns-clause-forced
 word_runs-returns-clause-forced g t c = λ cut.
-    let here : c.take_list-pairs.new.self ≡ c.args.self.now = c.take_list-pairs.ensures in
-    let first : IsAsked c.args.self.now c.flat_part.new.self c.args.state.now c.flat_part.new.state reach c.args.state.now.state (start_of c.args.origin) c.args.self.now.modifiers c.flat_part.result =
-    subst (λ (x : Searching). IsAsked x c.flat_part.new.self c.args.state.now c.flat_part.new.state reach c.args.state.now.state (start_of c.args.origin) x.modifiers c.flat_part.result) here c.flat_part.ensures.asked in
-    let found : HasFound c.args.self.now c.flat_part.new.self c.args.state.now c.flat_part.new.state (start_of c.args.origin) c.args.nested c.flat_part.new.pairs c.in_ok-ends.ends =
-    subst (λ (x : Searching). HasFound x c.flat_part.new.self c.args.state.now c.flat_part.new.state (start_of c.args.origin) c.args.nested c.flat_part.new.pairs c.in_ok-ends.ends) here c.in_ok-ends.ensures.found in
+    let first = asked_since c.take_list-pairs.ensures c.flat_part.ensures.asked in
+    let found = found_since c.take_list-pairs.ensures c.in_ok-ends.ensures.found in
     let h = c.args.self.now in
     let k = c.flat_part.new.self in
     let s = c.args.state.now in
@@ -585,16 +470,8 @@ runs_behind-loop-pair-init g t c = record {
 
 pub runs_behind-returns-then-modifiers-le1-clause-asked : goal.runs_behind-returns-then-modifiers-le1-clause-asked
 runs_behind-returns-then-modifiers-le1-clause-asked g t c =
-    let h = c.args.self.now in
-    let k = c.loop-pair.self in
-    let s = c.args.state.now in
-    let l = c.loop-pair.state in
     let is = c.loop-pair.invariant in
-    let q : ℕ × ℕ = c.in-Some.pair in
-    let there = turn_there c.args.pairs.now is.done c.loop-pair.pairs c.take_least.new.self q is.whole c.in-Some.ensures.permutation in
-    let ready : IsReady h.game s.state c.args.nested q = All-contains (IsReady h.game s.state c.args.nested) c.args.pairs.now q c.requires.ready there in
-    let moves = turn_moves c.args.pairs.now is.done c.loop-pair.pairs c.take_least.new.self q is.whole c.in-Some.ensures.permutation in
-    tries_deep is.tries c.take_least.new.self q moves ready.later ready.applies c.if-modifiers-le1.true
+    tries_deep is.tries c.loop-pair.pairs c.take_least.new.self c.in-Some.pair is.whole c.in-Some.ensures.permutation c.args.nested c.requires.ready c.if-modifiers-le1.true
 
 pub runs_behind-runs_behind_one-requires : goal.runs_behind-runs_behind_one-requires
 runs_behind-runs_behind_one-requires g t c κs within =
@@ -614,29 +491,13 @@ runs_behind-runs_behind_one-requires g t c κs within =
 
 pub runs_behind-returns-in_err-runs_behind_one-clause-asked : goal.runs_behind-returns-in_err-runs_behind_one-clause-asked
 runs_behind-returns-in_err-runs_behind_one-clause-asked g t c =
-    let h = c.args.self.now in
-    let k = c.loop-pair.self in
-    let s = c.args.state.now in
-    let l = c.loop-pair.state in
     let is = c.loop-pair.invariant in
-    let q : ℕ × ℕ = c.in-Some.pair in
-    let there = turn_there c.args.pairs.now is.done c.loop-pair.pairs c.take_least.new.self q is.whole c.in-Some.ensures.permutation in
-    let ready : IsReady h.game s.state c.args.nested q = All-contains (IsReady h.game s.state c.args.nested) c.args.pairs.now q c.requires.ready there in
-    let moves = turn_moves c.args.pairs.now is.done c.loop-pair.pairs c.take_least.new.self q is.whole c.in-Some.ensures.permutation in
-    tries_failed is.tries c.take_least.new.self q moves ready.later ready.applies (omega (arith, c.if-modifiers-le1.false)) c.runs_behind_one.ensures.asked c.from_residual.result c.in_err-runs_behind_one.field-0.0 c.in_err-runs_behind_one.was c.from_residual.ensures.1
+    tries_failed is.tries c.loop-pair.pairs c.take_least.new.self c.in-Some.pair is.whole c.in-Some.ensures.permutation c.args.nested c.requires.ready (omega (arith, c.if-modifiers-le1.false)) c.runs_behind_one.ensures.asked c.from_residual.result c.in_err-runs_behind_one.field-0.0 c.in_err-runs_behind_one.was c.from_residual.ensures.1
 
 pub runs_behind-returns-then-branch-clause-asked : goal.runs_behind-returns-then-branch-clause-asked
 runs_behind-returns-then-branch-clause-asked g t c =
-    let h = c.args.self.now in
-    let k = c.loop-pair.self in
-    let s = c.args.state.now in
-    let l = c.loop-pair.state in
     let is = c.loop-pair.invariant in
-    let q : ℕ × ℕ = c.in-Some.pair in
-    let there = turn_there c.args.pairs.now is.done c.loop-pair.pairs c.take_least.new.self q is.whole c.in-Some.ensures.permutation in
-    let ready : IsReady h.game s.state c.args.nested q = All-contains (IsReady h.game s.state c.args.nested) c.args.pairs.now q c.requires.ready there in
-    let moves = turn_moves c.args.pairs.now is.done c.loop-pair.pairs c.take_least.new.self q is.whole c.in-Some.ensures.permutation in
-    tries_yes is.tries c.take_least.new.self q moves ready.later ready.applies (omega (arith, c.if-modifiers-le1.false)) c.runs_behind_one.ensures.asked c.in_ok-runs_behind_one.field-0 c.in_ok-runs_behind_one.was true
+    tries_yes is.tries c.loop-pair.pairs c.take_least.new.self c.in-Some.pair is.whole c.in-Some.ensures.permutation c.args.nested c.requires.ready (omega (arith, c.if-modifiers-le1.false)) c.runs_behind_one.ensures.asked c.in_ok-runs_behind_one.field-0 c.in_ok-runs_behind_one.was true
 
 pub runs_behind-returns-then-branch-clause-answer : goal.runs_behind-returns-then-branch-clause-answer
 runs_behind-returns-then-branch-clause-answer g t c =
@@ -652,33 +513,17 @@ runs_behind-returns-then-branch-clause-answer g t c =
 
 pub runs_behind-returns-then-branch-clause-forced : goal.runs_behind-returns-then-branch-clause-forced
 runs_behind-returns-then-branch-clause-forced g t c =
-    let h = c.args.self.now in
-    let k = c.loop-pair.self in
-    let s = c.args.state.now in
-    let l = c.loop-pair.state in
     let is = c.loop-pair.invariant in
-    let q : ℕ × ℕ = c.in-Some.pair in
-    let there = turn_there c.args.pairs.now is.done c.loop-pair.pairs c.take_least.new.self q is.whole c.in-Some.ensures.permutation in
-    let ready : IsReady h.game s.state c.args.nested q = All-contains (IsReady h.game s.state c.args.nested) c.args.pairs.now q c.requires.ready there in
-    let moves = turn_moves c.args.pairs.now is.done c.loop-pair.pairs c.take_least.new.self q is.whole c.in-Some.ensures.permutation in
-    ran_some h.game s.state c.args.pairs.now h.opened c.runs_behind_one.new.self.opened c.args.modifiers h.modifiers
-    (tries_grow is.tries c.take_least.new.self q moves ready.later ready.applies (omega (arith, c.if-modifiers-le1.false)) c.runs_behind_one.ensures.asked c.in_ok-runs_behind_one.field-0 c.in_ok-runs_behind_one.was c.in_ok-runs_behind_one.ensures.forced)
+    ran_some c.args.self.now.game c.args.state.now.state c.args.pairs.now c.args.self.now.opened c.runs_behind_one.new.self.opened c.args.modifiers c.args.self.now.modifiers
+    (tries_grow is.tries c.loop-pair.pairs c.take_least.new.self c.in-Some.pair is.whole c.in-Some.ensures.permutation c.args.nested c.requires.ready (omega (arith, c.if-modifiers-le1.false)) c.runs_behind_one.ensures.asked c.in_ok-runs_behind_one.field-0 c.in_ok-runs_behind_one.was c.in_ok-runs_behind_one.ensures.forced)
 
 pub runs_behind-loop-pair-preserved : goal.runs_behind-loop-pair-preserved
 runs_behind-loop-pair-preserved g t c =
-    let h = c.args.self.now in
-    let k = c.loop-pair.self in
-    let s = c.args.state.now in
-    let l = c.loop-pair.state in
     let is = c.loop-pair.invariant in
-    let q : ℕ × ℕ = c.in-Some.pair in
-    let there = turn_there c.args.pairs.now is.done c.loop-pair.pairs c.take_least.new.self q is.whole c.in-Some.ensures.permutation in
-    let ready : IsReady h.game s.state c.args.nested q = All-contains (IsReady h.game s.state c.args.nested) c.args.pairs.now q c.requires.ready there in
-    let moves = turn_moves c.args.pairs.now is.done c.loop-pair.pairs c.take_least.new.self q is.whole c.in-Some.ensures.permutation in
     record {
-      done = is.done ++ q ∷ [];
-      whole = turn_after c.args.pairs.now is.done c.loop-pair.pairs c.take_least.new.self q is.whole c.in-Some.ensures.permutation;
-      tries = tries_more is.tries c.take_least.new.self q moves ready.later ready.applies (omega (arith, c.if-modifiers-le1.false)) c.runs_behind_one.ensures.asked c.in_ok-runs_behind_one.field-0 c.in_ok-runs_behind_one.was c.in_ok-runs_behind_one.ensures.forced c.in_ok-runs_behind_one.ensures.answer c.if-branch.false;
+      done = is.done ++ c.in-Some.pair ∷ [];
+      whole = turn_after c.args.pairs.now is.done c.loop-pair.pairs c.take_least.new.self c.in-Some.pair is.whole c.in-Some.ensures.permutation;
+      tries = tries_more is.tries c.loop-pair.pairs c.take_least.new.self c.in-Some.pair is.whole c.in-Some.ensures.permutation c.args.nested c.requires.ready (omega (arith, c.if-modifiers-le1.false)) c.runs_behind_one.ensures.asked c.in_ok-runs_behind_one.field-0 c.in_ok-runs_behind_one.was c.in_ok-runs_behind_one.ensures.forced c.in_ok-runs_behind_one.ensures.answer c.if-branch.false;
     }
 
 pub runs_behind-loop-pair-smaller : goal.runs_behind-loop-pair-smaller

@@ -1,8 +1,8 @@
 use Rattle.std.proofs.Common.{◌≡◌, ℕ, suc, ◌+◌, ◌<◌, ap, ◌∙◌, subst, arith, refl}
-use Rattle.std.specs.Prelude.{IsTrue, ◌↔◌}
+use Rattle.std.specs.Prelude.{IsTrue, ◌↔◌, ◌≤◌, Result}
 use Rattle.rbg_search.proofs.Takings.{takes_nothing, not_ok}
 use Rattle.rbg_rules.specs.Positions.{inside}
-use Rattle.rbg_rules.specs.Words.{beginning}
+use Rattle.rbg_rules.specs.Words.{Start, beginning}
 use Rattle.rbg_rules.specs.State.{AbstractGame, AbstractState}
 use Rattle.rbg_rules.specs.Actions.{Applies}
 use Rattle.rbg_state.specs.History.{History}
@@ -11,6 +11,8 @@ use Rattle.rbg_pairs.specs.Closure.{at_vertex}
 use Rattle.rbg_pairs.specs.Nesting.{NestsFrom}
 use Rattle.rbg_search.proofs.Asking.{room_twice}
 use Rattle.rbg_rules.specs.Questions.{pattern}
+use Rattle.rbg_search.specs.internal.Asked.{IsAsked}
+use Rattle.rbg_search.specs.declared.over.Over.{Over}
 use Rattle.rbg_search.specs.declared.over.Over.TheVariants.{Deep, Wide, Memory}
 use Rattle.rbg_search.specs.Forced.{CountsForced}
 use Rattle.rbg_search.proofs.Countings.{none_counted}
@@ -23,6 +25,13 @@ use Rattle.rbg_search.proofs.search.Search.pattern.Goals as goal
 same_below : (n k : ℕ) → n + 1 ≡ suc k → n ≡ k
 same_below n k e = omega (arith, e)
 
+-- Room was made for changes, and one stands at the vertex where one stood.
+still_here : (s r : History) (v : ℕ) → v ≡ r.state.vertex → r ≡ record s { room = r.room } → s.state ≡ at_vertex r.state v
+still_here s r v is kept = sym (ap (λ (u : ℕ). at_vertex r.state u) is ∙ ap (λ (h : History). h.state) kept)
+
+asked_here : {X : Type 0} {h k : Searching} {s r l : History} {f : Start} {n v : ℕ} {result : Result X Over} → IsAsked h k r l pattern (at_vertex r.state v) f n result → s.state ≡ at_vertex r.state v → r ≡ record s { room = r.room } → s.room ≤ r.room → IsAsked h k s l pattern s.state f n result
+asked_here {s = s} {r = r} {l = l} {n = n} is at kept more = asked_there is s l s.state n at refl (room_twice s r l kept is.given_back) (omega (arith, is.room, more))
+
 pub ask-requires-clause-nested : goal.ask-requires-clause-nested
 ask-requires-clause-nested g c = λ k is.
     let game : c.self.inside.rules ≡ c.args.self.now.game = ap (λ (x : Searching). x.game) c.self.view_is in
@@ -32,9 +41,8 @@ ask-requires-clause-nested g c = λ k is.
 
 pub returns-clause-valid : goal.returns-clause-valid
 returns-clause-valid g c =
-    let here : at_vertex c.reserve.new.self.state c.vertex-vertex.result ≡ c.args.state.now.state =
-    ap (λ (v : ℕ). at_vertex c.reserve.new.self.state v) c.vertex-vertex.ensures ∙ ap (λ (h : History). h.state) c.reserve.ensures.kept in
-    subst (λ (s : AbstractState). IsTrue c.in_ok-valid.valid ↔ Applies c.args.self.now.game c.args.position s s) here c.in_ok-valid.ensures.valid
+    let at = still_here c.args.state.now c.reserve.new.self c.vertex-vertex.result c.vertex-vertex.ensures c.reserve.ensures.kept in
+    subst (λ (s : AbstractState). IsTrue c.in_ok-valid.valid ↔ Applies c.args.self.now.game c.args.position s s) (sym at) c.in_ok-valid.ensures.valid
 
 pub returns-in_err-reserve-clause-answered : goal.returns-in_err-reserve-clause-answered
 returns-in_err-reserve-clause-answered g c =
@@ -56,21 +64,15 @@ returns-in_err-reserve-clause-answered g c =
 pub returns-in_err-valid-clause-answered : goal.returns-in_err-valid-clause-answered
 returns-in_err-valid-clause-answered g c =
     let some : 0 < c.args.self.now.modifiers = subst (λ (m : ℕ). 0 < m) (ap (λ (x : Searching). x.modifiers) c.self.view_is) c.self.invariant.4 in
-    let at : c.args.state.now.state ≡ at_vertex c.reserve.new.self.state c.vertex-vertex.result =
-    sym (ap (λ (v : ℕ). at_vertex c.reserve.new.self.state v) c.vertex-vertex.ensures ∙ ap (λ (h : History). h.state) c.reserve.ensures.kept) in
-    let asked =
-    asked_there c.ask.ensures.asked c.args.state.now c.ask.new.state c.args.state.now.state c.args.self.now.modifiers at refl
-    (room_twice c.args.state.now c.reserve.new.self c.ask.new.state c.reserve.ensures.kept c.ask.ensures.asked.given_back) (omega (arith, c.ask.ensures.asked.room, c.reserve.ensures.no_less)) in
+    let at = still_here c.args.state.now c.reserve.new.self c.vertex-vertex.result c.vertex-vertex.ensures c.reserve.ensures.kept in
+    let asked = asked_here c.ask.ensures.asked at c.reserve.ensures.kept c.reserve.ensures.no_less in
     answered some (handed_on asked c.from_residual-in_err-valid.result c.in_err-valid.field-0.0 c.in_err-valid.was c.from_residual-in_err-valid.ensures.1)
     (λ ok. absurd (not_ok c.from_residual-in_err-valid.result c.in_err-valid.field-0.0 c.from_residual-in_err-valid.ensures.1 ok))
 
 pub returns-clause-answered : goal.returns-clause-answered
 returns-clause-answered g c =
     let some : 0 < c.args.self.now.modifiers = subst (λ (m : ℕ). 0 < m) (ap (λ (x : Searching). x.modifiers) c.self.view_is) c.self.invariant.4 in
-    let at : c.args.state.now.state ≡ at_vertex c.reserve.new.self.state c.vertex-vertex.result =
-    sym (ap (λ (v : ℕ). at_vertex c.reserve.new.self.state v) c.vertex-vertex.ensures ∙ ap (λ (h : History). h.state) c.reserve.ensures.kept) in
-    let asked =
-    asked_there c.ask.ensures.asked c.args.state.now c.ask.new.state c.args.state.now.state c.args.self.now.modifiers at refl
-    (room_twice c.args.state.now c.reserve.new.self c.ask.new.state c.reserve.ensures.kept c.ask.ensures.asked.given_back) (omega (arith, c.ask.ensures.asked.room, c.reserve.ensures.no_less)) in
+    let at = still_here c.args.state.now c.reserve.new.self c.vertex-vertex.result c.vertex-vertex.ensures c.reserve.ensures.kept in
+    let asked = asked_here c.ask.ensures.asked at c.reserve.ensures.kept c.reserve.ensures.no_less in
     answered some (answered_on asked c.in_ok-valid.valid c.in_ok-valid.valid c.in_ok-valid.was)
     (λ _ cut. subst (λ (s : AbstractState). CountsForced c.args.self.now.game cut pattern s (beginning (inside c.args.position)) c.args.self.now.opened c.ask.new.self.opened c.args.self.now.modifiers c.args.self.now.modifiers) (sym at) (c.in_ok-valid.ensures.forced cut))

@@ -100,26 +100,20 @@ returns-in_err-push-clause-asked g c =
     asked h e c.count_pairs.new.self s l f c.args.position c.may_end-ends.result begun c.requires.fits c.requires.only ends c.requires.modifies c.count_pairs.ensures.kept c.count_pairs.ensures.opened c.count_pairs.ensures.taken r
     (not_memory r Memory Deep c.from_residual-in_err-push.ensures.1 refl memory_not_deep) (not_memory r Memory Wide c.from_residual-in_err-push.ensures.1 refl memory_not_wide)
 
+-- The flat part is begun, and it is known whether a word may end.
+begun : (g : Over) (c : goal.In_ok-push g) → Finds c.args.self.now c.enter.new.self c.args.state.now c.enter.new.state (start_of c.args.origin) []
+begun g c =
+    finds_none c.args.self.now c.enter.new.self c.enter.new.self c.args.state.now c.enter.new.state (start_of c.args.origin) c.enter.ensures.lawful c.requires.stands c.enter.ensures.kept refl c.enter.ensures.given_back c.enter.ensures.room c.in_ok-enter.ensures.enough c.in_ok-enter.ensures.opened c.enter.ensures.none_taken c.enter.ensures.spent
+
+ends : (g : Over) (c : goal.In_ok-push g) → Decides c.may_end-ends.result (Ends c.args.self.now.game.rules (start_of c.args.origin) [])
+ends g c = decided c.args.self.now c.enter.new.self (start_of c.args.origin) c.may_end-ends.result c.self.inside.rules c.enter.ensures.kept (ap (λ (x : Searching). x.game) c.self.view_is) c.may_end-ends.ensures
+
 pub returns-clause-asked : goal.returns-clause-asked
 returns-clause-asked g c =
-    let h = c.args.self.now in
-    let e = c.enter.new.self in
-    let s = c.args.state.now in
-    let l = c.enter.new.state in
-    let f = start_of c.args.origin in
-    let begun : Finds h e s l f [] = finds_none h e e s l f c.enter.ensures.lawful c.requires.stands c.enter.ensures.kept refl c.enter.ensures.given_back c.enter.ensures.room c.in_ok-enter.ensures.enough c.in_ok-enter.ensures.opened c.enter.ensures.none_taken c.enter.ensures.spent in
-    let ends = decided h e f c.may_end-ends.result c.self.inside.rules c.enter.ensures.kept (ap (λ (x : Searching). x.game) c.self.view_is) c.may_end-ends.ensures in
-    asked h e c.count_pairs.new.self s l f c.args.position c.may_end-ends.result begun c.requires.fits c.requires.only ends c.requires.modifies c.count_pairs.ensures.kept c.count_pairs.ensures.opened c.count_pairs.ensures.taken _
+    asked c.args.self.now c.enter.new.self c.count_pairs.new.self c.args.state.now c.enter.new.state (start_of c.args.origin) c.args.position c.may_end-ends.result (begun g c) c.requires.fits c.requires.only (ends g c) c.requires.modifies c.count_pairs.ensures.kept c.count_pairs.ensures.opened c.count_pairs.ensures.taken _
     (ok_not_err c.may_end-ends.result Deep) (ok_not_err c.may_end-ends.result Wide)
 
 pub returns-clause-found : goal.returns-clause-found
 returns-clause-found g c =
-    let h = c.args.self.now in
-    let e = c.enter.new.self in
-    let s = c.args.state.now in
-    let l = c.enter.new.state in
-    let f = start_of c.args.origin in
-    let begun : Finds h e s l f [] = finds_none h e e s l f c.enter.ensures.lawful c.requires.stands c.enter.ensures.kept refl c.enter.ensures.given_back c.enter.ensures.room c.in_ok-enter.ensures.enough c.in_ok-enter.ensures.opened c.enter.ensures.none_taken c.enter.ensures.spent in
-    let ends = decided h e f c.may_end-ends.result c.self.inside.rules c.enter.ensures.kept (ap (λ (x : Searching). x.game) c.self.view_is) c.may_end-ends.ensures in
-    subst (λ (xs : List (ℕ × ℕ)). HasReached h c.count_pairs.new.self s l f xs c.may_end-ends.result) (sym (items g c))
-    (found h e c.count_pairs.new.self s l f c.args.position c.may_end-ends.result begun c.requires.fits c.requires.only ends c.requires.modifies c.count_pairs.ensures.kept c.count_pairs.ensures.opened c.count_pairs.ensures.taken)
+    subst (λ (xs : List (ℕ × ℕ)). HasReached c.args.self.now c.count_pairs.new.self c.args.state.now c.enter.new.state (start_of c.args.origin) xs c.may_end-ends.result) (sym (items g c))
+    (found c.args.self.now c.enter.new.self c.count_pairs.new.self c.args.state.now c.enter.new.state (start_of c.args.origin) c.args.position c.may_end-ends.result (begun g c) c.requires.fits c.requires.only (ends g c) c.requires.modifies c.count_pairs.ensures.kept c.count_pairs.ensures.opened c.count_pairs.ensures.taken)

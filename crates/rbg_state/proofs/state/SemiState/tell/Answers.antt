@@ -4,11 +4,11 @@ use Rattle.rbg_board.specs.Graph.{Graph, next}
 use Rattle.rbg_rules.specs.Expression.{assignment, comparison}
 use Rattle.rbg_rules.specs.Translation.{arithmetic_of}
 use Rattle.rbg_state.proofs.Reading.{reads_variables}
-use Rattle.rbg_state.proofs.Trying.{standing}
+use Rattle.rbg_state.specs.Trials.{at_vertex}
 use Rattle.rbg_state.proofs.state.SemiState.tell.Goals as goal
 
 pub returns-in-Shift-clause-told : goal.returns-in-Shift-clause-told
-returns-in-Shift-clause-told c = rw c.in-Shift.is (λ a shown. rw shown (c.tell_shift.ensures c.args.game.now (standing c.args.self.now.state c.args.vertex) c.in-Shift.direction (sym (c.step.ensures.next ∙ ap (λ (g : Graph). next g c.args.vertex c.in-Shift.direction) c.requires.board))))
+returns-in-Shift-clause-told c = rw c.in-Shift.is (λ a shown. rw shown (c.tell_shift.ensures c.args.game.now (at_vertex c.args.self.now.state c.args.vertex) c.in-Shift.direction (sym (c.step.ensures.next ∙ ap (λ (g : Graph). next g c.args.vertex c.in-Shift.direction) c.requires.board))))
 
 pub returns-in-On-clause-told : goal.returns-in-On-clause-told
 returns-in-On-clause-told c = rw c.in-On.is (λ a shown. rw (shown, ← c.deref.ensures.value) (c.tell_on.ensures c.args.game.now))

@@ -1,6 +1,7 @@
 use Rattle.std.proofs.Common.{sym, ◌∙◌, refl, subst, ◌≤◌, ℕ, slice_set}
 use Rattle.rbg_rules.specs.Translation.{arithmetic_of}
-use Rattle.rbg_state.proofs.Trying.{same_value, standing}
+use Rattle.rbg_state.specs.Trials.{at_vertex}
+use Rattle.rbg_state.proofs.Trying.{same_value}
 use Rattle.rbg_state.proofs.state.SemiState.tell_assign.Goals as goal
 
 pub returns-in-Some : goal.returns-in-Some
@@ -9,7 +10,7 @@ returns-in-Some c = λ game variable vertex is.
     let n = c.in-Some.field-0 in (
       refl,
       (
-        record (standing s vertex) { values = slice_set s.values variable n },
+        record (at_vertex s vertex) { values = slice_set s.values variable n },
         (n, same_value (arithmetic_of c.args.expression.now) s vertex ∙ c.in-Some.ensures.some.0, subst (λ (b : ℕ). n ≤ b) (sym is) c.in-Some.ensures.some.1, refl),
       ),
     )
