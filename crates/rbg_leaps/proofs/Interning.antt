@@ -31,7 +31,7 @@ interner_more a b c first second = record {
   nodes = extends_more a.nodes.items b.nodes.items c.nodes.items first.nodes second.nodes;
 }
 
--- The nodes of a interner are within its positions.
+-- The nodes of an interner are within its positions.
 abbrev pub AreWithin : Interner → Type 0
 AreWithin s = All (IsNodeWithin (length s.positions.items)) s.nodes.items
 

@@ -26,8 +26,8 @@ abbrev mutual
   ArithmeticIs names (SpeltExpression.negated e) a = (b : AbstractArithmetic) × ArithmeticIs names e b × (a ≡ negated b)
   ArithmeticIs names (SpeltExpression.chain operands) a = ChainIs names operands a
 
-  -- A sum or a product from the left: its first operand, or what stands before the last one, and what its operator makes of
-  -- it and the last one.
+  -- A sum or a product from the left: its first operand, or what stands before the last one, combined with the last one by
+  -- its operator.
   pub ChainIs : Names → SpeltOperands → AbstractArithmetic → Type 0
   ChainIs names no_operands a = ⊥
   ChainIs names (more_operands operands operator e) a =
@@ -69,7 +69,7 @@ abbrev mutual
   RuleIs names (SpeltRule.star r) x = (y : Expression) × RuleIs names r y × (x ≡ star y)
 
   -- The parts of a sequence or a sum, from the left: `joined` puts what stands before the last one and the last one
-  -- together, and `none` is what no part is.
+  -- together, and `none` is the expression of no parts.
   pub PartsAre : Names → (joined : Expression → Expression → Expression) → (none : Expression) → SpeltRules → Expression → Type 0
   PartsAre names joined none no_rules x = x ≡ none
   PartsAre names joined none (more_rules parts r) x =

@@ -15,7 +15,7 @@ use rbg_auto::Glance;
 use rbg_base::{Pair, Piece, Position, Vertex};
 use rbg_state::Trial;
 
-/// How far a flat part is.
+/// How many pairs of a flat part's queue were met, and how many of these were taken.
 #[derive(Clone, Copy, Drop)]
 pub(crate) struct QueueCounts {
     /// How many pairs were met.

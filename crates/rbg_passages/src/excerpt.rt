@@ -76,7 +76,7 @@ impl<'a> Excerpt<'a> {
         rest.unwrap_or(&[])
     }
 
-    /// What is shown of it.
+    /// The part behind the place that is shown.
     fn after(&self) -> &'a [u8] {
         let rest = self.rest();
         let after = rest.get(..MOST_AFTER);

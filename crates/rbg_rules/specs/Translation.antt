@@ -15,6 +15,7 @@ use Rattle.rbg_rules.specs.declared.rule.Rule.TheOpen.{Rule-F}
 use Rattle.rbg_rules.specs.declared.rule.Rule.TheFolds.{fold-Rule}
 use Rattle.rbg_rules.specs.Expression.{AbstractArithmetic, number, variable, piece_count, negated, sum, difference, product, quotient, AbstractAction, shift, on, off, assignment, comparison, switch, positive, negative, Expression, act, skip, fail, sequence_of, choice_of, star}
 
+-- What an operator makes of a value and of its operand.
 abbrev pub operated : Operator → AbstractArithmetic → AbstractArithmetic → AbstractArithmetic
 operated Plus e f = sum e f
 operated Minus e f = difference e f
