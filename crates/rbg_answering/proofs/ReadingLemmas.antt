@@ -8,11 +8,12 @@ use Rattle.rbg_console.specs.Inputs.{most_input, IsReading}
 use Rattle.rbg_console.specs.declared.input.Input.{Input}
 use Rattle.rbg_console.specs.declared.input.Input.TheVariants.{Whole, TooLong, Device}
 use Rattle.rbg_tokens.specs.Limits.{longest_text}
+use Rattle.rbg_tasks.specs.declared.task.Command.{Command}
 use Rattle.rbg_tasks.specs.declared.task.Command.TheVariants.{Check, Referee, Replay, Migrate, Moves}
 use Rattle.rbg_answering.specs.declared.task.Task.{Task}
-use Rattle.rbg_answering.specs.Tasks.{IsReadOf}
+use Rattle.rbg_answering.specs.Tasks.{IsReadOf, IsToldIn}
 use Rattle.rbg_answering.specs.Tasks.IsInputOf.{whole, too_long}
-use Rattle.rbg_answering.specs.internal.Parts.{Gives, IsReadIn, IsReadInput, IsReadFor, task_of}
+use Rattle.rbg_answering.specs.internal.Parts.{Gives, IsOnRecord, IsReadIn, IsReadInput, IsReadFor, task_of}
 
 -- what the reading of a file gives
 pub file_given : (limit : ℕ) (known : Option (List ℕ)) (input : Input) (read : Option (Vec ℕ Global)) → IsFileReading limit known input → Gives input read → IsReadIn limit known read
@@ -46,23 +47,17 @@ match_read known unread left file read is d told = record {
   reads = record { command = sym is; description = d.reads; told = told.reads };
 }
 
-pub replay_read : (known : KnownFiles) (unread : Option (List ℕ)) (file other : List ℕ) (read : Task) → read.command ≡ Replay → IsReadIn longest_text (known file) read.description → IsReadIn most_input (known other) read.told → IsReadFor known unread unread (record { command = Replay; file = file; record_file = other }) read
-replay_read known unread file other read is d told = record {
-  task = task_of Replay d.bytes told.bytes;
-  asks = record { command = refl; description = d.may; told = (told.may, refl) };
+-- the same for each command on a record
+pub record_read : (command : Command) (known : KnownFiles) (unread : Option (List ℕ)) (file other : List ℕ) (read : Task) → IsOnRecord command → read.command ≡ command → IsReadIn longest_text (known file) read.description → IsReadIn most_input (known other) read.told → IsReadFor known unread unread (record { command = command; file = file; record_file = other }) read
+record_read command known unread file other read on is d told = record {
+  task = task_of command d.bytes told.bytes;
+  asks = record { command = refl; description = d.may; told = told_in command on };
   reads = record { command = sym is; description = d.reads; told = told.reads };
 }
-
-pub migrate_read : (known : KnownFiles) (unread : Option (List ℕ)) (file other : List ℕ) (read : Task) → read.command ≡ Migrate → IsReadIn longest_text (known file) read.description → IsReadIn most_input (known other) read.told → IsReadFor known unread unread (record { command = Migrate; file = file; record_file = other }) read
-migrate_read known unread file other read is d told = record {
-  task = task_of Migrate d.bytes told.bytes;
-  asks = record { command = refl; description = d.may; told = (told.may, refl) };
-  reads = record { command = sym is; description = d.reads; told = told.reads };
-}
-
-pub moves_read : (known : KnownFiles) (unread : Option (List ℕ)) (file other : List ℕ) (read : Task) → read.command ≡ Moves → IsReadIn longest_text (known file) read.description → IsReadIn most_input (known other) read.told → IsReadFor known unread unread (record { command = Moves; file = file; record_file = other }) read
-moves_read known unread file other read is d told = record {
-  task = task_of Moves d.bytes told.bytes;
-  asks = record { command = refl; description = d.may; told = (told.may, refl) };
-  reads = record { command = sym is; description = d.reads; told = told.reads };
-}
+  where
+    told_in : (one : Command) → IsOnRecord one → IsToldIn known unread unread other one told.bytes
+    told_in Check on = absurd on
+    told_in Referee on = absurd on
+    told_in Replay on = (told.may, refl)
+    told_in Migrate on = (told.may, refl)
+    told_in Moves on = (told.may, refl)

@@ -1,5 +1,5 @@
 //! The answers of the commands on a game and a record.
-ghost use Rattle.std.specs.Prelude.{◌≢◌, ℕ, List, IfOk};
+ghost use Rattle.std.specs.Prelude.{◌≡◌, ◌≢◌, ℕ, List, IfOk};
 ghost use Rattle.rbg_answering.specs.Answers.{IsGamesAnswer};
 ghost use Rattle.rbg_record.specs.internal.Faults.{told_at};
 ghost use Rattle.rbg_answering.specs.internal.Parts.{SaysChecked};
@@ -47,22 +47,23 @@ fn count(alloc: Global, game: &Game) -> Result<Answer, AllocError>
     })
 }
 
+/// The game, ready for play.
+fn played_game(alloc: Global, game: Game) -> Result<PlayedGame, AllocError>
+    ensures { IfOk result (λ played. played ≡ game) }
+{
+    match PlayedGame::new(alloc, game) {
+        Ok(played) => Ok(played),
+        Err(_) => Err(AllocError),
+    }
+}
+
 /// Whether a record is right.
 fn replay(alloc: Global, game: Game, told: &[u8]) -> Result<Answer, AllocError>
     ensures { IfOk result (λ answer. (description : List ℕ) →
         IsGamesAnswer game description told.now Command.Replay answer.text.items answer.status) }
 {
-    match PlayedGame::new(alloc, game) {
-        Ok(played) => judge(alloc, &played, told),
-        Err(_) => Err(AllocError),
-    }
-}
-
-fn judge(alloc: Global, game: &PlayedGame, told: &[u8]) -> Result<Answer, AllocError>
-    ensures { IfOk result (λ answer. (description : List ℕ) →
-        IsGamesAnswer game.now description told.now Command.Replay answer.text.items answer.status) }
-{
-    answer_checked(alloc, check_record(game, told))
+    let played = played_game(alloc, game)?;
+    answer_checked(alloc, check_record(&played, told))
 }
 
 /// The line of what is told of a record.
@@ -98,17 +99,8 @@ fn go_on(alloc: Global, game: Game, told: &[u8]) -> Result<Answer, AllocError>
     ensures { IfOk result (λ answer. (description : List ℕ) →
         IsGamesAnswer game description told.now Command.Moves answer.text.items answer.status) }
 {
-    match PlayedGame::new(alloc, game) {
-        Ok(played) => list_behind(alloc, &played, told),
-        Err(_) => Err(AllocError),
-    }
-}
-
-fn list_behind(alloc: Global, game: &PlayedGame, told: &[u8]) -> Result<Answer, AllocError>
-    ensures { IfOk result (λ answer. (description : List ℕ) →
-        IsGamesAnswer game.now description told.now Command.Moves answer.text.items answer.status) }
-{
-    match moves_behind(alloc, game, told) {
+    let played = played_game(alloc, game)?;
+    match moves_behind(alloc, &played, told) {
         Ok(text) => Ok(Answer {
             text,
             status: Status::Success,

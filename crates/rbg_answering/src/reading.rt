@@ -1,11 +1,11 @@
 //! Reading what a task asks for. All is read before any of it is looked into.
-ghost use Rattle.std.specs.Prelude.{◌≡◌, [], IfOk};
+ghost use Rattle.std.specs.Prelude.{◌≡◌, ℕ, [], List, Option, IfOk};
 ghost use Rattle.rbg_console.specs.Files.{KeepsFiles};
 ghost use Rattle.rbg_console.specs.Inputs.{most_input};
 ghost use Rattle.rbg_tokens.specs.Limits.{longest_text};
 ghost use Rattle.rbg_tasks.specs.Tasks.{file_task};
 ghost use Rattle.rbg_answering.specs.Tasks.{IsReadOf};
-ghost use Rattle.rbg_answering.specs.internal.Parts.{Gives, IsReadFor, IsReadIn, IsReadInput};
+ghost use Rattle.rbg_answering.specs.internal.Parts.{Gives, IsOnRecord, IsReadFor, IsReadIn, IsReadInput};
 
 use crate::Task;
 use rbg_console::{Files, Input, MAX_INPUT, read_input, read_record};
@@ -98,11 +98,10 @@ fn read_both<F: Files>(
     file: &str,
     other: &str,
 ) -> Result<Task, Unread>
-    ensures command { IfOk result (λ read. read.command ≡ command) }
-    ensures description { IfOk result (λ read.
-        IsReadIn longest_text (F.told files.old file.now) read.description) }
-    ensures told { IfOk result (λ read.
-        IsReadIn most_input (F.told files.old other.now) read.told) }
+    requires { IsOnRecord command }
+    ensures { IfOk result (λ read. (unread : Option (List ℕ)) →
+        IsReadFor (F.told files.old) unread unread
+        (record { command = command; file = file.now; record_file = other.now }) read) }
 {
     let description = read_within(alloc, files, file, MAX_TEXT)?;
     let told = read_told(alloc, files, other)?;

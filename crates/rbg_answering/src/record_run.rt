@@ -3,10 +3,11 @@ ghost use Rattle.std.specs.Prelude.{IfOk};
 ghost use Rattle.rbg_answering.specs.RecordRuns.{IsRecordedAnswer, IsRecordedRun};
 ghost use Rattle.rbg_tasks.specs.Tasks.{record_task};
 
-use self::described::record_file;
-use self::marked::record_input;
-use rbg_console::{Files, Status};
-use rbg_refereeing::{Answer, write_answer};
+use self::described::record_task;
+use self::marked::record_marked;
+use crate::reading::{Unread, read_match};
+use rbg_console::{Files, Input, MAX_INPUT, Status, read_input};
+use rbg_refereeing::{Answer, answer_device, answer_script, write_answer};
 use rbg_tasks::RecordTask;
 use std::alloc::{AllocError, Global};
 use std::io::{Read, Write};
@@ -45,7 +46,15 @@ fn answer_recorded<F: Files, R: Read>(
         answer.text.items answer.status) }
 {
     match task.description {
-        Some(file) => record_file(alloc, file, task.target, files, input),
-        None => record_input(alloc, task.target, files, input),
+        Some(file) => match read_match(alloc, files, file, input) {
+            Ok(read) => record_task(alloc, &read, task.target, files),
+            Err(Unread::Device) => answer_device(alloc),
+            Err(Unread::Memory) => Err(AllocError),
+        },
+        None => match read_input(alloc, input, MAX_INPUT)? {
+            Input::Whole(bytes) => record_marked(alloc, task.target, files, bytes.as_slice()),
+            Input::TooLong => answer_script(alloc, 0),
+            Input::Device => answer_device(alloc),
+        },
     }
 }

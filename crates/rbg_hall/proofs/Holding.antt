@@ -26,7 +26,7 @@ use Rattle.rbg_hall.specs.Tables as tables
 use Rattle.rbg_hall.specs.Tellings.{Telling, bytes_to, telling, to_lines}
 use Rattle.rbg_hall.proofs.Places.{there_within}
 use Rattle.rbg_hall.proofs.Seats.{SitsNowhere, SeatsDiffer, all_differ, differ_taken, none_on, own_on}
-use Rattle.rbg_hall.proofs.Telling.{bytes_to-append, bytes_to-other}
+use Rattle.rbg_hall.proofs.Telling.{bytes_to-append, bytes_to-other, extended_at}
 
 -- The match of a table that has begun: when it began, what it was handed and stepped through since, and what the lines
 -- were told.
@@ -53,16 +53,7 @@ pub record Kept (game : AbstractGame) (text : List ℕ) (config : Config) (event
 
 -- what a seat has, followed by the bytes of messages to it
 pub delivered_at : (seat : ℕ) (box : List (List ℕ)) (said : List Delivery) (index : ℕ) → index < length box → get_or (delivered_from seat box said) index [] ≡ get_or box index [] ++ bytes_for (seat + index) said
-delivered_at seat [] said index within = absurd (omega arith)
-delivered_at seat (bytes ∷ box) said zero within = ap (λ one. bytes ++ bytes_for one said) number
-  where
-    number : seat ≡ seat + 0
-    number = omega arith
-delivered_at seat (bytes ∷ box) said (suc index) within =
-    delivered_at (suc seat) box said index (omega arith) ∙ ap (λ one. get_or box index [] ++ bytes_for one said) number
-  where
-    number : suc seat + index ≡ seat + suc index
-    number = omega arith
+delivered_at seat box said index within = extended_at (λ one. bytes_for one said) (λ first all. delivered_from first all said) (λ first bytes others. refl) seat box index within
 
 nothing_at : (n i : ℕ) → get_or {A = List ℕ} (replicate n []) i [] ≡ []
 nothing_at zero i = refl

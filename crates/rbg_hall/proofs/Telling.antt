@@ -9,6 +9,21 @@ use Rattle.rbg_hall.specs.Tellings.{Telling, bytes_to, told_from, told_to, telli
 use Rattle.rbg_hall.specs.declared.queues.Mark.{Mark}
 use Rattle.rbg_hall.specs.Undoing.{cut_back, undone}
 
+-- what one queue has, where each of them gets more by its number
+pub extended_at : (more : ℕ → List ℕ) (extended : ℕ → List (List ℕ) → List (List ℕ)) → ((number : ℕ) (queue : List ℕ) (others : List (List ℕ)) → extended number (queue ∷ others) ≡ (queue ++ more number) ∷ extended (suc number) others) → (first : ℕ) (queues : List (List ℕ)) (index : ℕ) → index < length queues → get_or (extended first queues) index [] ≡ get_or queues index [] ++ more (first + index)
+extended_at more extended step first [] index within = absurd (omega arith)
+extended_at more extended step first (queue ∷ others) zero within =
+    ap (λ all. get_or all 0 []) (step first queue others) ∙ ap (λ number. queue ++ more number) here
+  where
+    here : first ≡ first + 0
+    here = omega arith
+extended_at more extended step first (queue ∷ others) (suc index) within =
+    ap (λ all. get_or all (suc index) []) (step first queue others)
+    ∙ (extended_at more extended step (suc first) others index (omega arith) ∙ ap (λ number. get_or others index [] ++ more number) further)
+  where
+    further : suc first + index ≡ first + suc index
+    further = omega arith
+
 pub bytes_to-append : (line : ℕ) (a b : List Telling) → bytes_to line (a ++ b) ≡ bytes_to line a ++ bytes_to line b
 bytes_to-append line a b = flat_map-append _ a b
 

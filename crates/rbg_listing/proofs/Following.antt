@@ -4,17 +4,18 @@ use Rattle.std.specs.Prelude.{◌==◌}
 use Rattle.std.proofs.lemmas.Bool.{eqb-true, true≢false}
 use Rattle.rbg_lines.specs.Lines.{IsFirstLine}
 use Rattle.rbg_record.proofs.Deciding.{good_by_lines}
-use Rattle.rbg_record.proofs.SoFarLemmas.{read_none, read_more, read_good}
+use Rattle.rbg_record.proofs.SoFarLemmas.{place_in_game, read_none, read_more, read_good}
 use Rattle.rbg_record.specs.ByLine.{IsReachedIn}
 use Rattle.rbg_record.specs.Judged.{BeginsWith}
 use Rattle.rbg_record.specs.Lines.{Reached, version_next, players_next, start_next, entry_next, nothing_next, Leads, LeadTo}
 use Rattle.rbg_record.specs.Lines as lines
+use Rattle.rbg_record.specs.Reaching.{place_in}
 use Rattle.rbg_record.specs.internal.SoFar.{IsReadSoFar}
 use Rattle.rbg_rules.specs.Moves.{AbstractPlace}
 use Rattle.rbg_rules.specs.Places.{IsPlaceOf}
 use Rattle.rbg_rules.specs.State.{AbstractGame}
 use Rattle.rbg_listing.specs.Behind.{IsPlaceBehind}
-use Rattle.rbg_listing.specs.internal.Following.{place_in, EndsAt, IsAt}
+use Rattle.rbg_listing.specs.internal.Following.{EndsAt, IsAt}
 
 -- The lines before the rest are right in turn, and lead to this place.
 pub record IsFollowed (game : AbstractGame) (bytes : List ℕ) (reached : Reached) (rest : List ℕ) (line : ℕ) (place : AbstractPlace) : Type 0 where
@@ -24,14 +25,6 @@ pub record IsFollowed (game : AbstractGame) (bytes : List ℕ) (reached : Reache
 
 pub followed_none : (game : AbstractGame) (bytes : List ℕ) (place : AbstractPlace) → IsPlaceOf game place → IsFollowed game bytes version_next bytes 1 place
 followed_none game bytes place in_game = record { so_far = read_none game bytes; in_game = in_game; at = tt }
-
--- the place to which a line leads is one of the game
-in_game_next : (game : AbstractGame) (to : Reached) (before : AbstractPlace) → IsReachedIn game to → IsPlaceOf game before → IsPlaceOf game (place_in to before)
-in_game_next game version_next before reached_in in_game = in_game
-in_game_next game players_next before reached_in in_game = in_game
-in_game_next game start_next before reached_in in_game = in_game
-in_game_next game (entry_next standing) before reached_in in_game = reached_in
-in_game_next game nothing_next before reached_in in_game = in_game
 
 -- one line more leads to its place
 at_next : (game : AbstractGame) (texts : List (List ℕ)) (text : List ℕ) (from to : Reached) (place : AbstractPlace) → LeadTo game texts from → Leads game from text to → IsAt game texts from place → IsAt game (texts ++ text ∷ []) to (place_in to place)
@@ -53,7 +46,7 @@ pub followed_next : (game : AbstractGame) (bytes : List ℕ) (reached to : Reach
 followed_next game bytes reached to rest text later line place new before first leads reached_in is =
     subst (IsFollowed game bytes to later (line + 1)) (sym is) (record {
       so_far = read_more game bytes reached to rest text later line before.so_far first leads reached_in;
-      in_game = in_game_next game to place reached_in before.in_game;
+      in_game = place_in_game game to place reached_in before.in_game;
       at = at_next game before.so_far.texts text reached to place before.so_far.leads leads before.at;
     })
 

@@ -1,11 +1,8 @@
 //! The place to which the moves of a record lead, and how play can go on there.
-ghost use Rattle.std.specs.Prelude.{◌≡◌, ◌↔◌, IfErr, IfOk, IsTrue};
-ghost use Rattle.rbg_record.specs.ByLine.{reached_of};
-ghost use Rattle.rbg_record.specs.Lines.{nothing_next};
+ghost use Rattle.std.specs.Prelude.{◌≡◌, IfErr, IfOk};
 ghost use Rattle.rbg_record.specs.declared.fault.Fault.TheVariants.{Memory as OutOfMemory};
 ghost use Rattle.rbg_rules.specs.Places.{IsPlaceOf};
 ghost use Rattle.rbg_listing.specs.Behind.{IsMisfit, IsMovesBehind, IsPlaceBehind};
-ghost use Rattle.rbg_listing.specs.internal.Following.{place_in};
 
 use crate::place::place_lines;
 use rbg_base::Memory;
@@ -58,11 +55,11 @@ fn place_behind(game: &PlayedGame, bytes: &[u8]) -> Result<Place, Misfit>
             Ok(to) => reached = to,
             Err(fault) => return Err(Misfit { line, fault }),
         }
-        place = place_after(&reached, place)?;
+        place = reached.place_or(place)?;
         rest = later;
         line += 1;
     }
-    let over = is_over(&reached);
+    let over = reached.is_over();
     if over && rest.is_empty() {
         Ok(place)
     } else {
@@ -71,24 +68,4 @@ fn place_behind(game: &PlayedGame, bytes: &[u8]) -> Result<Place, Misfit>
             fault: Fault::Form,
         })
     }
-}
-
-/// The place to which a line leads, or else the one before it.
-fn place_after(to: &Reached, before: Place) -> Result<Place, Memory>
-    ensures { IfOk result (λ place. place ≡ place_in (reached_of to.now) before) }
-{
-    match to {
-        Reached::Entry(standing) => standing.place.try_clone(),
-        Reached::Version => Ok(before),
-        Reached::Players => Ok(before),
-        Reached::Start => Ok(before),
-        Reached::Nothing => Ok(before),
-    }
-}
-
-/// Whether the end was read.
-fn is_over(reached: &Reached) -> bool
-    ensures { IsTrue result ↔ (reached_of reached.now ≡ nothing_next) }
-{
-    matches!(reached, Reached::Nothing)
 }

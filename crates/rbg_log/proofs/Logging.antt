@@ -11,7 +11,7 @@ use Rattle.rbg_match.specs.Inputs.{AbstractEvent, piece, end_of_stream, moment_a
 use Rattle.rbg_match.specs.Matches.{MatchState, Opens, Steps, StepsAll}
 use Rattle.rbg_referee.specs.Refereed.{IsRefereed, OpensText}
 use Rattle.rbg_referee.specs.Played.{IsMatchOf}
-use Rattle.rbg_match.proofs.WholeMatch.{stepped_is_transcript}
+use Rattle.rbg_referee.proofs.RefereedLemmas.{refereed_with}
 use Rattle.rbg_refereeing.specs.Scripts.{config_for, event_for}
 use Rattle.rbg_script.specs.Config.{ConfigHasSpelling, config_text}
 use Rattle.rbg_script.specs.Events.{EventHasSpelling, event_text}
@@ -61,17 +61,7 @@ more_spelled script events has spelled = record { config = has.config; events = 
 -- a match that stands so has this log
 module _ (text : List ℕ) (script : AbstractScript) (has : ScriptHasSpelling script) (opened : MatchState) (greeted : List (List ℕ)) (opens : OpensText text (config_for script.config) script.config.now opened greeted) (state : MatchState) (queued : List (List ℕ)) where
   is_refereed : (replayed : MatchState) → StepsAll opened greeted (map event_for script.events) replayed queued → IsRefereed text (config_for script.config) script.config.now (map event_for script.events) queued
-  is_refereed replayed steps =
-      let (said, transcript, bytes) = stepped_is_transcript opens.game text (config_for script.config) script.config.now (map event_for script.events) opened replayed greeted queued opens.opens steps in
-      record {
-        game = opens.game;
-        loads = opens.loads;
-        lawful = opens.opens.lawful;
-        play = replayed.play;
-        said = said;
-        transcript = transcript;
-        bytes = bytes;
-      }
+  is_refereed replayed steps = (refereed_with text (config_for script.config) script.config.now (map event_for script.events) opened replayed greeted queued opens steps).0
 
   is_log : Stands opened greeted (map event_for script.events) state queued → IsLog text (script_text script) state queued
   is_log stands = record {

@@ -120,18 +120,18 @@ stops_good game bytes judged = record {
 stops_bad : (game : AbstractGame) (bytes : List ℕ) (line : ℕ) (judged : IsBadLine game bytes line) → StopsBehind game bytes (length judged.texts) bad
 stops_bad game bytes line judged = record {
   texts = judged.texts;
-  rest = judged.text ++ line_feed ∷ judged.rest;
+  rest = judged.text ++ line_feed ∷ judged.here.rest;
   begins = record {
-    whole = all_first (LacksByte line_feed) judged.texts (judged.text ∷ []) judged.begins.whole;
-    parts = judged.begins.parts ∙ last_line judged.texts judged.text judged.rest;
+    whole = all_first (LacksByte line_feed) judged.texts (judged.text ∷ []) judged.here.begins.whole;
+    parts = judged.here.begins.parts ∙ last_line judged.texts judged.text judged.here.rest;
   };
   number = refl;
   to = judged.reached;
   chain = chain_of game judged.texts judged.reached judged.leads;
   stops = record {
     text = judged.text;
-    later = judged.rest;
-    first = record { parts = refl; whole = all_last (LacksByte line_feed) judged.texts judged.text judged.begins.whole };
+    later = judged.here.rest;
+    first = record { parts = refl; whole = all_last (LacksByte line_feed) judged.texts judged.text judged.here.begins.whole };
     form = judged.form;
     wrong = judged.wrong;
   };
@@ -143,8 +143,8 @@ stops_form game bytes line judged = record {
   rest = judged.rest;
   begins = judged.begins;
   number = refl;
-  to = judged.reached;
-  chain = chain_of game judged.texts judged.reached judged.leads;
+  to = judged.part;
+  chain = chain_of game judged.texts judged.part judged.leads;
   stops = judged.stops;
 }
 
@@ -160,7 +160,7 @@ one_judgement game numbered bytes (Ok (Bad m)) (Ok Good) one other decided decid
     let same : bad ≡ good = (one_stop game numbered bytes _ _ bad good (stops_bad game bytes m one) (stops_good game bytes other)).1 in cc
 one_judgement game numbered bytes (Ok (Bad m)) (Ok (Bad n)) one other decided decided' =
     let same = (one_stop game numbered bytes _ _ bad bad (stops_bad game bytes m one) (stops_bad game bytes n other)).0 in
-    ap (λ line. Ok (Bad line)) (one.number ∙ (ap (λ count. count + 1) same ∙ sym other.number))
+    ap (λ line. Ok (Bad line)) (one.here.number ∙ (ap (λ count. count + 1) same ∙ sym other.here.number))
 one_judgement game numbered bytes (Ok (Bad m)) (Err (Form n)) one other decided decided' =
     let same : bad ≡ misread = (one_stop game numbered bytes _ _ bad misread (stops_bad game bytes m one) (stops_form game bytes n other)).1 in cc
 one_judgement game numbered bytes (Ok (Bad m)) (Err (Over n)) one other decided decided' = absurd (decided' tt)

@@ -14,7 +14,8 @@ use Rattle.rbg_match.specs.Play.{AbstractPlay}
 use Rattle.rbg_record.specs.Laws.{MatchesAreRight}
 use Rattle.rbg_record.specs.OfMatch.{record_of, plain_record_of, plain_move}
 use Rattle.rbg_record.specs.Records.{plain, timed}
-use Rattle.rbg_record.specs.Right.{turn_config, told_play, made_at, FitsPlace, IsRight}
+use Rattle.rbg_record.specs.Right.{turn_config, told_play, made_at, IsRight}
+use Rattle.rbg_record.proofs.Fitting.{fits_place}
 
 -- What a record leaves out of a config and of the state of play has no part in its history.
 turns_told : {config : Config} {began last : ℕ} {moves : List Made} → MadeInTurn config began moves last → MadeInTurn (turn_config config.turn_ms) began moves last
@@ -55,21 +56,11 @@ leads_plain {game} (history.more {moves = moves} {to = to} leads made is legal f
     ap (map (made_at 0)) (map-append plain_move moves (made ∷ [])) ∙ map-append (made_at 0) (map plain_move moves) (plain_move made ∷ []) in
     subst (λ (ms : List Made). LeadsTo game ms to) (sym parts) (history.more (leads_plain leads) (made_at 0 (plain_move made)) is legal few)
 
-fits_plain : (game : AbstractGame) (config : Config) (play : AbstractPlay) (last moment : ℕ) (outcome : Option Outcome) →
-    FitsOutcome game config play last moment outcome →
-    FitsPlace game play.place outcome
-fits_plain game config play last moment None fits = fits.0.0
-fits_plain game config play last moment (Some (Finished scores)) fits = (fits.0, fits.1)
-fits_plain game config play last moment (Some (Time player)) fits = (fits.0.0, fits.1)
-fits_plain game config play last moment (Some (Refusals seat)) fits = (fits.0.0, fits.2, fits.3)
-fits_plain game config play last moment (Some (Gone seat)) fits = (fits.0.0, fits.2, fits.3)
-fits_plain game config play last moment (Some Heavy) fits = tt
-
 pub one_right : (state : MatchState) → HasHistory state → IsRight state.game (plain (plain_record_of state))
 one_right state has = record {
   place = state.play.place;
   leads = leads_plain has.leads;
-  fits = fits_plain state.game state.config state.play has.last state.streams.moment state.play.outcome has.fits;
+  fits = fits_place state.game state.config state.play has.last state.streams.moment state.play.outcome has.fits;
 }
 
 pub matches_right : MatchesAreRight

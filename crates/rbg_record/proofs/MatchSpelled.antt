@@ -25,6 +25,7 @@ use Rattle.rbg_lines.specs.Entries.{EntryHasSpelling, TimedHasSpelling}
 use Rattle.rbg_lines.specs.Heading.{HaveNames}
 use Rattle.rbg_record.specs.Records.{plain, timed, made_entry, plain_entry, HasSpelling}
 use Rattle.rbg_record.specs.OfMatch.{record_of, plain_record_of, plain_move}
+use Rattle.rbg_record.proofs.Fitting.{fits_later}
 
 -- A run leads from a semi-state of the game to one of the game, and so does a legal move.
 run_fits : (game : AbstractGame) → IsGame game → {w : List ℕ} {s t : AbstractState} {ps : List (ℕ × ℕ)} → RunPairs game w s t ps → IsStateOf game s → IsStateOf game t
@@ -95,14 +96,6 @@ in_order (history.by_player {moves = moves} {last = last} turns made player turn
       moments = All-push (λ one. one.at ≤ made.at) moves made (All-weaker (λ one. one.at ≤ last) (λ one. one.at ≤ made.at) (λ one h. omega (arith, h, onward)) moves before.moments) (omega arith);
     }
 
-pub last_before : (game : AbstractGame) (config : Config) (play : AbstractPlay) (last moment : ℕ) (outcome : Option Outcome) → FitsOutcome game config play last moment outcome → last ≤ moment
-last_before game config play last moment None fits = fits.1.0
-last_before game config play last moment (Some (Finished scores)) fits = omega (arith, fits.2)
-last_before game config play last moment (Some (Time player)) fits = omega (arith, fits.2)
-last_before game config play last moment (Some (Refusals seat)) fits = fits.1.0
-last_before game config play last moment (Some (Gone seat)) fits = fits.1.0
-last_before game config play last moment (Some Heavy) fits = fits.0
-
 -- Each value of a semi-state is a number of 64 bits, and there are as many as players or more.
 small_values : (game : AbstractGame) → IsGame game → (s : AbstractState) → IsStateOf game s → All (λ value. value < 2 ^ 64) s.values
 small_values game lawful s fits =
@@ -142,7 +135,7 @@ module _ (state : MatchState) (lawful : IsGame state.game) (has : HasHistory sta
   order = in_order has.in_turn
 
   before : has.last ≤ state.streams.moment
-  before = last_before state.game state.config state.play has.last state.streams.moment state.play.outcome has.fits
+  before = fits_later state.game state.config state.play has.last state.streams.moment state.play.outcome has.fits
 
   end : EntryHasSpelling (End state.play.outcome)
   end = outcome_spelled state.game state.config state.play has.last state.streams.moment state.play.outcome lawful leads.fits has.fits

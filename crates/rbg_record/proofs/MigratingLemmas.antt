@@ -25,15 +25,13 @@ use Rattle.rbg_record.specs.declared.error.RecordError.TheVariants.{Form}
 use Rattle.rbg_record.specs.Records.{PlainMove, PlainRecord, plain, timed, plain_entry, made_entry, texts_of}
 use Rattle.rbg_record.specs.Right.{made_at, turn_config, told_play, IsRight, IsRightPlain, IsRightTimed}
 use Rattle.rbg_record.specs.Lines.{with_moment, unwritten_moment}
-use Rattle.rbg_record.specs.Judged.{GoesOn}
 use Rattle.rbg_record.specs.Migration.{PlainPart, before_version, among_moves, behind_end, HasPlainForm, IsPlainSoFar, IsPlainFault, IsMigrated, migrated}
 use Rattle.rbg_record.specs.Migration as migration
 use Rattle.rbg_record.specs.internal.Migrating.{Migrates, IsMigratedSoFar, TellsAll, IsTold, part_behind, head_texts, timed_texts}
 use Rattle.rbg_record.specs.internal.Migrating as migrating
 use Rattle.rbg_record.proofs.Fitting.{fits_place, fits_unwritten}
 use Rattle.rbg_record.proofs.Leading.{unwritten_counted, all_first, all_last}
-use Rattle.rbg_record.proofs.OneEnd.{ends_early, not_formed}
-use Rattle.rbg_record.proofs.SoFarLemmas.{cut_none, cut_more}
+use Rattle.rbg_record.proofs.SoFarLemmas.{cut_none, cut_more, line_fault, end_fault}
 use Rattle.rbg_record.proofs.Telling.{in_turn_more}
 
 -- one line
@@ -104,25 +102,13 @@ migrated_more game bytes from to rest text later line old new so_far first migra
   told = told_more game so_far.texts text from to old new so_far.told migrates;
 }
 
--- the lines so far, where what is left is not of the form
-plain_fault : (game : AbstractGame) (bytes : List ℕ) (part : PlainPart) (rest : List ℕ) (line : ℕ) (out : List ℕ) → IsMigratedSoFar game bytes part rest line out → ¬ GoesOn (part ≡ behind_end) (HasPlainForm part) rest → IsPlainFault bytes line
-plain_fault game bytes part rest line out so_far stops = record {
-  texts = so_far.texts;
-  rest = rest;
-  begins = so_far.cut.begins;
-  number = so_far.cut.number;
-  part = part;
-  so_far = so_far.so_far;
-  stops = stops;
-}
-
 -- a line that is not of the form
 pub migrated_fault : (game : AbstractGame) (bytes : List ℕ) (part : PlainPart) (rest text later : List ℕ) (line : ℕ) (out : List ℕ) → IsMigratedSoFar game bytes part rest line out → IsFirstLine rest text later → (HasPlainForm part text → ⊥) → IsPlainFault bytes line
-migrated_fault game bytes part rest text later line out so_far first wrong = plain_fault game bytes part rest line out so_far (not_formed (part ≡ behind_end) (HasPlainForm part) rest text later first wrong)
+migrated_fault game bytes part rest text later line out so_far first wrong = line_fault IsPlainSoFar behind_end HasPlainForm part so_far.cut so_far.so_far text later first wrong
 
 -- no line is left, but the record has not ended, or some bytes are left
 pub migrated_short : (game : AbstractGame) (bytes : List ℕ) (part : PlainPart) (rest : List ℕ) (line : ℕ) (out : List ℕ) → IsMigratedSoFar game bytes part rest line out → LacksByte line_feed rest → (part ≡ behind_end → rest ≡ [] → ⊥) → IsPlainFault bytes line
-migrated_short game bytes part rest line out so_far lacks going = plain_fault game bytes part rest line out so_far (ends_early (part ≡ behind_end) (HasPlainForm part) rest lacks going)
+migrated_short game bytes part rest line out so_far lacks going = end_fault IsPlainSoFar behind_end HasPlainForm part so_far.cut so_far.so_far lacks going
 
 -- What was migrated is right exactly where the old record is.
 

@@ -48,7 +48,7 @@ chain_of texts to (migration.ended {texts = before} so_far spells) = chain_more 
 
 one_fault : (bytes : List ℕ) (m n : ℕ) → IsPlainFault bytes m → IsPlainFault bytes n → m ≡ n
 one_fault bytes m n one other =
-    let same = one_end reading before_version one.texts other.texts one.rest other.rest bytes one.part other.part misread misread one.begins.whole other.begins.whole one.begins.parts other.begins.parts (chain_of one.texts one.part one.so_far) (chain_of other.texts other.part other.so_far) one.stops other.stops in
+    let same = one_end reading before_version one.texts other.texts one.rest other.rest bytes one.part other.part misread misread one.begins.whole other.begins.whole one.begins.parts other.begins.parts (chain_of one.texts one.part one.leads) (chain_of other.texts other.part other.leads) one.stops other.stops in
     one.number ∙ (ap (λ count. count + 1) same.0 ∙ sym other.number)
 
 moves_chain : (moves : List PlainMove) (outcome : Option Outcome) → All EntryHasSpelling (map plain_entry moves ++ Ends outcome ∷ []) → Chain PlainLeads among_moves (map entry_text (map plain_entry moves ++ Ends outcome ∷ [])) behind_end
@@ -58,7 +58,7 @@ moves_chain (made ∷ moves) outcome all =
 
 no_fault : (bytes : List ℕ) (told : PlainRecord) (n : ℕ) → Spells bytes (plain told) → IsPlainFault bytes n → ⊥
 no_fault bytes told n spells fault =
-    let same : good ≡ misread = (one_end reading before_version (texts_of (plain told)) fault.texts [] fault.rest bytes behind_end fault.part good misread (whole_texts (plain told) spells.has) fault.begins.whole (spells.is ∙ sym (append-nil (lines_of (texts_of (plain told))))) fault.begins.parts (go (version refl) (moves_chain told.moves told.outcome spells.has)) (chain_of fault.texts fault.part fault.so_far) (refl, refl) fault.stops).1 in
+    let same : good ≡ misread = (one_end reading before_version (texts_of (plain told)) fault.texts [] fault.rest bytes behind_end fault.part good misread (whole_texts (plain told) spells.has) fault.begins.whole (spells.is ∙ sym (append-nil (lines_of (texts_of (plain told))))) fault.begins.parts (go (version refl) (moves_chain told.moves told.outcome spells.has)) (chain_of fault.texts fault.part fault.leads) (refl, refl) fault.stops).1 in
     cc
 
 pub one_plain_fault : OnePlainFault

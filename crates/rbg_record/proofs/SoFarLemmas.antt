@@ -14,7 +14,7 @@ use Rattle.rbg_record.specs.declared.fault.Fault.{Fault}
 use Rattle.rbg_record.specs.declared.fault.Fault.TheVariants.{Form, Bad, Over, Memory}
 use Rattle.rbg_record.specs.Lines.{Reached, version_next, players_next, start_next, entry_next, nothing_next, HasForm, Leads, LeadTo}
 use Rattle.rbg_record.specs.Lines as lines
-use Rattle.rbg_record.specs.Judged.{BeginsWith, GoesOn, IsGoodByLines, IsFormFault, IsJudged}
+use Rattle.rbg_record.specs.Judged.{BeginsWith, GoesOn, IsGoodByLines, IsLineOf, HasFormFault, IsFormFault, IsJudged}
 use Rattle.rbg_record.specs.internal.Faults.{told_at}
 use Rattle.rbg_record.specs.ByLine.{IsReachedIn, Refuses}
 use Rattle.rbg_record.specs.Reaching.{place_in}
@@ -68,26 +68,41 @@ place_in_game game (entry_next standing) before reached_in in_game = reached_in
 place_in_game game nothing_next before reached_in in_game = in_game
 
 -- the lines so far, where what is left is not of the form
-form_fault : (game : AbstractGame) (bytes : List ℕ) (reached : Reached) (rest : List ℕ) (line : ℕ) → IsReadSoFar game bytes reached rest line → ¬ GoesOn (reached ≡ nothing_next) (HasForm reached) rest → IsFormFault game bytes line
-form_fault game bytes reached rest line so_far stops = record {
-  texts = so_far.texts;
-  rest = rest;
-  begins = so_far.cut.begins;
-  number = so_far.cut.number;
-  reached = reached;
-  leads = so_far.leads;
-  stops = stops;
+module _ {Part : Type 0} (LeadThere : List (List ℕ) → Part → Type 0) (over : Part) (HasForm : Part → List ℕ → Type 0) {bytes : List ℕ} {texts : List (List ℕ)} {rest : List ℕ} {line : ℕ} (part : Part) (cut : IsCutSoFar bytes texts rest line) (leads : LeadThere texts part) where
+  fault_behind : ¬ GoesOn (part ≡ over) (HasForm part) rest → HasFormFault LeadThere over HasForm bytes line
+  fault_behind stops = record {
+    texts = texts;
+    rest = rest;
+    begins = cut.begins;
+    number = cut.number;
+    part = part;
+    leads = leads;
+    stops = stops;
+  }
+
+  -- a line that is not of the form
+  pub line_fault : (text later : List ℕ) → IsFirstLine rest text later → (HasForm part text → ⊥) → HasFormFault LeadThere over HasForm bytes line
+  line_fault text later first wrong = fault_behind (not_formed (part ≡ over) (HasForm part) rest text later first wrong)
+
+  -- no line is left, but the record has not ended, or some bytes are left
+  pub end_fault : LacksByte line_feed rest → (part ≡ over → rest ≡ [] → ⊥) → HasFormFault LeadThere over HasForm bytes line
+  end_fault lacks going = fault_behind (ends_early (part ≡ over) (HasForm part) rest lacks going)
+
+-- the next line
+line_here : {bytes : List ℕ} {texts : List (List ℕ)} {text rest later : List ℕ} {line : ℕ} → IsCutSoFar bytes texts rest line → IsFirstLine rest text later → IsLineOf bytes line texts text
+line_here {bytes} {texts} {text} {rest} {later} cut first = record {
+  rest = later;
+  begins = begins_more bytes texts text rest later cut.begins first;
+  number = cut.number;
 }
 
 -- a line with a fault
 pub read_fault : (game : AbstractGame) (bytes : List ℕ) (reached : Reached) (rest text later : List ℕ) (line : ℕ) (fault : Fault) → IsReadSoFar game bytes reached rest line → IsFirstLine rest text later → Refuses game reached text fault → IsJudged game bytes (told_at fault line)
-read_fault game bytes reached rest text later line Form so_far first refuses = form_fault game bytes reached rest line so_far (not_formed (reached ≡ nothing_next) (HasForm reached) rest text later first refuses)
+read_fault game bytes reached rest text later line Form so_far first refuses = line_fault (LeadTo game) nothing_next HasForm reached so_far.cut so_far.leads text later first refuses
 read_fault game bytes reached rest text later line Bad so_far first refuses = record {
   texts = so_far.texts;
   text = text;
-  rest = later;
-  begins = begins_more bytes so_far.texts text rest later so_far.cut.begins first;
-  number = so_far.cut.number;
+  here = line_here so_far.cut first;
   reached = reached;
   leads = so_far.leads;
   form = refuses.0;
@@ -96,9 +111,7 @@ read_fault game bytes reached rest text later line Bad so_far first refuses = re
 read_fault game bytes reached rest text later line Over so_far first refuses = record {
   texts = so_far.texts;
   text = text;
-  rest = later;
-  begins = begins_more bytes so_far.texts text rest later so_far.cut.begins first;
-  number = so_far.cut.number;
+  here = line_here so_far.cut first;
   standing = refuses.standing;
   leads = subst (λ (to : Reached). LeadTo game so_far.texts to) refuses.here so_far.leads;
   told = refuses.told;
@@ -119,7 +132,7 @@ read_good game bytes reached rest line so_far over none = record {
 
 -- no line is left, but the record has not ended, or some bytes are left
 pub read_short : (game : AbstractGame) (bytes : List ℕ) (reached : Reached) (rest : List ℕ) (line : ℕ) → IsReadSoFar game bytes reached rest line → LacksByte line_feed rest → (reached ≡ nothing_next → rest ≡ [] → ⊥) → IsFormFault game bytes line
-read_short game bytes reached rest line so_far lacks going = form_fault game bytes reached rest line so_far (ends_early (reached ≡ nothing_next) (HasForm reached) rest lacks going)
+read_short game bytes reached rest line so_far lacks going = end_fault (LeadTo game) nothing_next HasForm reached so_far.cut so_far.leads lacks going
 
 pub not_empty : (rest : List ℕ) (empty : Bool) → empty ≡ (length rest == 0) → empty ≡ false → rest ≡ [] → ⊥
 not_empty rest empty is fails none =

@@ -52,24 +52,33 @@ pub record IsGoodByLines (game : AbstractGame) (bytes : List ℕ) : Type 0 where
   pub begins : BeginsWith bytes texts []
   pub leads : LeadTo game texts nothing_next
 
--- The lines before this one are right, but what follows them is not of the form: it is the first fault of the record.
--- Lines are numbered from 1. The line is missing where the record ends too early.
-pub record IsFormFault (game : AbstractGame) (bytes : List ℕ) (line : ℕ) : Type 0 where
+-- The lines before this one lead to a part of the record, and what follows them is not of the form that it may have
+-- there. Lines are numbered from 1. The line is missing where the record ends too early.
+pub record HasFormFault {Part : Type 0} (LeadThere : List (List ℕ) → Part → Type 0) (over : Part)
+    (HasForm : Part → List ℕ → Type 0) (bytes : List ℕ) (line : ℕ) : Type 0 where
   pub texts : List (List ℕ)
   pub rest : List ℕ
   pub begins : BeginsWith bytes texts rest
   pub number : line ≡ length texts + 1
-  pub reached : Reached
-  pub leads : LeadTo game texts reached
-  pub stops : ¬ GoesOn (reached ≡ nothing_next) (HasForm reached) rest
+  pub part : Part
+  pub leads : LeadThere texts part
+  pub stops : ¬ GoesOn (part ≡ over) (HasForm part) rest
+
+-- The lines before this one are right, but what follows them is not of the form: it is the first fault of the record.
+abbrev pub IsFormFault : AbstractGame → (bytes : List ℕ) → (line : ℕ) → Type 0
+IsFormFault game bytes line = HasFormFault (LeadTo game) nothing_next HasForm bytes line
+
+-- The line of this number has this text, behind lines of the texts before it. Lines are numbered from 1.
+pub record IsLineOf (bytes : List ℕ) (line : ℕ) (texts : List (List ℕ)) (text : List ℕ) : Type 0 where
+  pub rest : List ℕ
+  pub begins : BeginsWith bytes (texts ++ text ∷ []) rest
+  pub number : line ≡ length texts + 1
 
 -- The lines before this one are right. This one is of the form, but it isn't right behind them.
 pub record IsBadLine (game : AbstractGame) (bytes : List ℕ) (line : ℕ) : Type 0 where
   pub texts : List (List ℕ)
   pub text : List ℕ
-  pub rest : List ℕ
-  pub begins : BeginsWith bytes (texts ++ text ∷ []) rest
-  pub number : line ≡ length texts + 1
+  pub here : IsLineOf bytes line texts text
   pub reached : Reached
   pub leads : LeadTo game texts reached
   pub form : HasForm reached text
@@ -112,9 +121,7 @@ AsksHeavy game standing (End _) = IsHeavyToFind game standing.place
 pub record IsHeavyLine (game : AbstractGame) (bytes : List ℕ) (line : ℕ) : Type 0 where
   pub texts : List (List ℕ)
   pub text : List ℕ
-  pub rest : List ℕ
-  pub begins : BeginsWith bytes (texts ++ text ∷ []) rest
-  pub number : line ≡ length texts + 1
+  pub here : IsLineOf bytes line texts text
   pub standing : Standing
   pub leads : LeadTo game texts (entry_next standing)
   pub told : Timed

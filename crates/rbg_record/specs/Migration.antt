@@ -1,5 +1,5 @@
 -- Making version 2 of version 1.
-use Rattle.std.specs.Prelude.{◌≡◌, ◌↔◌, ℕ, ◌+◌, List, [], ◌∷◌, ◌++◌, length, map, Option}
+use Rattle.std.specs.Prelude.{◌≡◌, ◌↔◌, ℕ, List, [], ◌∷◌, ◌++◌, map, Option}
 use Rattle.rbg_wire.specs.declared.outcome.Outcome.{Outcome}
 use Rattle.rbg_rules.specs.State.{AbstractGame}
 use Rattle.rbg_lines.specs.declared.entry.Entry.{Entry}
@@ -10,7 +10,7 @@ use Rattle.rbg_lines.specs.Heading.{version_text}
 use Rattle.rbg_record.specs.Records.{PlainRecord, TimedRecord, plain, timed, Spells}
 use Rattle.rbg_record.specs.Right.{made_at, IsRight}
 use Rattle.rbg_record.specs.Lines.{unwritten_moment}
-use Rattle.rbg_record.specs.Judged.{BeginsWith, GoesOn}
+use Rattle.rbg_record.specs.Judged.{HasFormFault}
 
 -- Version 2 of a record of version 1: with the game's players, a turn of one millisecond, and the beginning and all
 -- that happens at moment 0, but for a time that is over, which ends at moment 1.
@@ -58,13 +58,6 @@ pub data IsPlainSoFar : (texts : List (List ℕ)) → PlainPart → Type 0 where
       SpellsEntry text (End outcome) →
       IsPlainSoFar (texts ++ text ∷ []) behind_end
 
--- The lines before this one are of the form of version 1, but what follows them is not. Lines are numbered from 1. The
--- line is missing where the record ends too early.
-pub record IsPlainFault (bytes : List ℕ) (line : ℕ) : Type 0 where
-  pub texts : List (List ℕ)
-  pub rest : List ℕ
-  pub begins : BeginsWith bytes texts rest
-  pub number : line ≡ length texts + 1
-  pub part : PlainPart
-  pub so_far : IsPlainSoFar texts part
-  pub stops : ¬ GoesOn (part ≡ behind_end) (HasPlainForm part) rest
+-- The lines before this one are of the form of version 1, but what follows them is not.
+abbrev pub IsPlainFault : (bytes : List ℕ) → (line : ℕ) → Type 0
+IsPlainFault bytes line = HasFormFault IsPlainSoFar behind_end HasPlainForm bytes line

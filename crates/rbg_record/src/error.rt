@@ -1,8 +1,5 @@
 //! Why it can't be told whether a record is right.
-ghost use Rattle.std.specs.Prelude.{◌≡◌};
-ghost use Rattle.rbg_record.specs.declared.error.RecordError.TheVariants.{Memory as OutOfMemory};
 
-use rbg_base::Memory;
 use thiserror::Error;
 
 /// Why it can't be told whether a record is right. Lines are numbered from 1.
@@ -17,12 +14,4 @@ pub enum RecordError {
     /// A request for memory failed.
     #[error("out of memory")]
     Memory,
-}
-
-impl From<Memory> for RecordError {
-    ghost from_gives = { λ _ error. error ≡ OutOfMemory };
-
-    fn from(_memory: Memory) -> RecordError {
-        RecordError::Memory
-    }
 }

@@ -47,7 +47,10 @@ pub fn migrate(alloc: Global, game: &Game, bytes: &[u8]) -> Result<Vec<u8>, Reco
     let mut rest = bytes;
     let mut line = 1;
     while let Some((text, later)) = next_line(rest) {
-        match migrate_line(game, part, text, &mut out)? {
+        let Ok(to) = migrate_line(game, part, text, &mut out) else {
+            return Err(RecordError::Memory);
+        };
+        match to {
             Some(to) => part = to,
             None => return Err(RecordError::Form { line }),
         }

@@ -6,15 +6,7 @@ ghost use Rattle.rbg_lines.specs.declared.entry.Entry.TheVariants.{End as EndEnt
 ghost use Rattle.rbg_wire.specs.declared.outcome.Outcome.TheVariants.{Heavy};
 ghost use Rattle.rbg_match.specs.Limits.{latest_moment};
 ghost use Rattle.rbg_record.specs.Judged.{FitsUnasked};
-ghost use Rattle.rbg_record.specs.Lines.{
-  EntryLeads,
-  Leads,
-  SpellsIn,
-  version_next,
-  players_next,
-  start_next,
-  entry_next,
-};
+ghost use Rattle.rbg_record.specs.Lines.{EntryLeads, Leads, SpellsIn, version_next, players_next, start_next, entry_next};
 ghost use Rattle.rbg_record.specs.ByLine.{IsReachedIn, Refuses, RefusesEntry, reached_of, standing_of};
 ghost use Rattle.rbg_record.specs.internal.Reading.{EndsSo};
 

@@ -2,4 +2,4 @@
 pub mod CallerLemmas
 mod HandlingLemmas
 mod OneOutboxLemmas
-mod RefereedLemmas
+pub mod RefereedLemmas

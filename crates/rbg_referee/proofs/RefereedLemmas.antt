@@ -12,7 +12,7 @@ use Rattle.rbg_referee.specs.Refereed.{IsRefereed, IsRefusedFor, IsStillInPlay, 
 use Rattle.rbg_referee.specs.Played.{IsMatchOf}
 
 -- a match that opens and handles these events is refereed: its state of play is that of the transcript, and so is its game
-refereed_with : (text : List ℕ) (config : Config) (now : ℕ) (events : List AbstractEvent) (old new : MatchState) (before after : List (List ℕ)) → OpensText text config now old before → StepsAll old before events new after → (refereed : IsRefereed text config now events after) × (refereed.play ≡ new.play) × (refereed.game ≡ new.game)
+pub refereed_with : (text : List ℕ) (config : Config) (now : ℕ) (events : List AbstractEvent) (old new : MatchState) (before after : List (List ℕ)) → OpensText text config now old before → StepsAll old before events new after → (refereed : IsRefereed text config now events after) × (refereed.play ≡ new.play) × (refereed.game ≡ new.game)
 refereed_with text config now events old new before after opened steps =
     let (said, transcript, bytes) = stepped_is_transcript opened.game text config now events old new before after opened.opens steps in (
       record {

@@ -3,15 +3,7 @@ ghost use Rattle.std.specs.Prelude.{◌≡◌, IfOk, IfErr, List, length, ℕ};
 ghost use Rattle.rbg_game.specs.Loading.{Loads};
 ghost use Rattle.rbg_match.specs.Matches.{HasHistory};
 ghost use Rattle.rbg_match.specs.PlayingOn.{seats_of};
-ghost use Rattle.rbg_refereeing.specs.Matches.{
-  IsInputsMatch,
-  IsNoInput,
-  IsNoMatch,
-  IsPrintedMatch,
-  IsScriptPlayed,
-  IsScriptRefereed,
-  IsScriptsMatch,
-};
+ghost use Rattle.rbg_refereeing.specs.Matches.{IsInputsMatch, IsNoInput, IsNoMatch, IsPrintedMatch, IsScriptPlayed, IsScriptRefereed, IsScriptsMatch};
 ghost use Rattle.rbg_script.specs.Scripts.{IsReason, SpellsScript, script_of as abstract_script};
 
 use crate::RefereeingError;

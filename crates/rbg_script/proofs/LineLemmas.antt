@@ -72,66 +72,51 @@ onward text line rest more (alone lacks is empty) some h =
     }
 
 -- Each text has lines.
-record Cut (text : List ℕ) : Type 0 where
-  whole : List (List ℕ)
-  rest : List ℕ
-  parts : text ≡ lines_of whole ++ rest
-  lines_end : All (LacksByte 10) whole
-  rest_lacks : LacksByte 10 rest
+with_feed : (text : List ℕ) (lines : List (List ℕ)) → HasLines text lines → (more : List (List ℕ)) × HasLines (10 ∷ text) more
+with_feed text lines has = (
+  [] ∷ lines,
+  record {
+    whole = [] ∷ has.whole;
+    rest = has.rest;
+    parts = ap (λ t. 10 ∷ t) has.parts ∙ sym (first_shape [] has.whole has.rest);
+    lines_end = All-cons (LacksByte 10) [] has.whole (All-nil (λ other. other ≢ 10)) has.lines_end;
+    rest_lacks = has.rest_lacks;
+    are = ap (λ all. [] ∷ all) has.are;
+  },
+)
 
-with_feed : (text : List ℕ) → Cut text → Cut (10 ∷ text)
-with_feed text cut = record {
-  whole = [] ∷ cut.whole;
-  rest = cut.rest;
-  parts = ap (λ t. 10 ∷ t) cut.parts ∙ sym (first_shape [] cut.whole cut.rest);
-  lines_end = All-cons (LacksByte 10) [] cut.whole (All-nil (λ other. other ≢ 10)) cut.lines_end;
-  rest_lacks = cut.rest_lacks;
-}
-
-with_byte : (byte : ℕ) (text : List ℕ) → byte ≢ 10 → (whole : List (List ℕ)) (rest : List ℕ) → text ≡ lines_of whole ++ rest → All (LacksByte 10) whole → LacksByte 10 rest → Cut (byte ∷ text)
-with_byte byte text other [] rest is h k = record {
-  whole = [];
-  rest = byte ∷ rest;
-  parts = ap (λ t. byte ∷ t) is;
-  lines_end = All-nil (LacksByte 10);
-  rest_lacks = All-cons (λ b. b ≢ 10) byte rest other k;
-}
-with_byte byte text other (line ∷ lines) rest is h k = record {
-  whole = (byte ∷ line) ∷ lines;
-  rest = rest;
-  parts = ap (λ t. byte ∷ t) is;
-  lines_end = All-cons (LacksByte 10) (byte ∷ line) lines (All-cons (λ b. b ≢ 10) byte line other (All-head (LacksByte 10) line lines h)) (All-tail (LacksByte 10) line lines h);
-  rest_lacks = k;
-}
-
-cut_of : (text : List ℕ) → Cut text
-cut_of [] = record {
-  whole = [];
-  rest = [];
-  parts = refl;
-  lines_end = All-nil (LacksByte 10);
-  rest_lacks = All-nil (λ other. other ≢ 10);
-}
-cut_of (byte ∷ text) =
-    let cut = cut_of text in
-    elim (cases_eq byte 10) [
-      | inl feed ↦ subst (λ b. Cut (b ∷ text)) (sym feed) (with_feed text cut)
-      | inr other ↦ with_byte byte text other cut.whole cut.rest cut.parts cut.lines_end cut.rest_lacks
-    ]
+with_byte : (byte : ℕ) (text : List ℕ) → byte ≢ 10 → (whole : List (List ℕ)) (rest : List ℕ) → text ≡ lines_of whole ++ rest → All (LacksByte 10) whole → LacksByte 10 rest → (lines : List (List ℕ)) × HasLines (byte ∷ text) lines
+with_byte byte text other [] rest is h k = (
+  last_line (byte ∷ rest),
+  record {
+    whole = [];
+    rest = byte ∷ rest;
+    parts = ap (λ t. byte ∷ t) is;
+    lines_end = All-nil (LacksByte 10);
+    rest_lacks = All-cons (λ b. b ≢ 10) byte rest other k;
+    are = refl;
+  },
+)
+with_byte byte text other (line ∷ lines) rest is h k = (
+  ((byte ∷ line) ∷ lines) ++ last_line rest,
+  record {
+    whole = (byte ∷ line) ∷ lines;
+    rest = rest;
+    parts = ap (λ t. byte ∷ t) is;
+    lines_end = All-cons (LacksByte 10) (byte ∷ line) lines (All-cons (λ b. b ≢ 10) byte line other (All-head (LacksByte 10) line lines h)) (All-tail (LacksByte 10) line lines h);
+    rest_lacks = k;
+    are = refl;
+  },
+)
 
 pub some_lines : (text : List ℕ) → (lines : List (List ℕ)) × HasLines text lines
-some_lines text =
-    let cut = cut_of text in (
-      cut.whole ++ last_line cut.rest,
-      record {
-        whole = cut.whole;
-        rest = cut.rest;
-        parts = cut.parts;
-        lines_end = cut.lines_end;
-        rest_lacks = cut.rest_lacks;
-        are = refl;
-      },
-    )
+some_lines [] = ([], no_lines)
+some_lines (byte ∷ text) =
+    let has = (some_lines text).1 in
+    elim (cases_eq byte 10) [
+      | inl feed ↦ subst (λ b. (lines : List (List ℕ)) × HasLines (b ∷ text) lines) (sym feed) (with_feed text (some_lines text).0 has)
+      | inr other ↦ with_byte byte text other has.whole has.rest has.parts has.lines_end has.rest_lacks
+    ]
 
 -- whole lines are the lines of their text
 pub whole_lines : (lines : List (List ℕ)) → All (LacksByte 10) lines → HasLines (lines_of lines) lines

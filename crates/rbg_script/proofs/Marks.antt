@@ -1,6 +1,6 @@
 -- Inputs that are cut at the line `%%`.
-use Rattle.std.proofs.Common.{◌≡◌, ◌≢◌, ℕ, ◌+◌, ◌-◌, inl, inr, List, [], ◌∷◌, ◌++◌, length, take, ap, sym, ◌∙◌, refl, subst, append_assoc, arith}
-use Rattle.std.specs.Prelude.{All}
+use Rattle.std.proofs.Common.{◌≡◌, ◌≢◌, ℕ, ◌-◌, inl, inr, List, [], ◌∷◌, ◌++◌, length, take, ap, sym, ◌∙◌, refl, subst, append_assoc, arith}
+use Rattle.std.specs.Prelude.{◌⊎◌, All}
 use Rattle.std.proofs.lemmas.List.Elements.{All-nil, All-cons, All-append, All-head, All-tail}
 use Rattle.rbg_wire.specs.Bytes.{LacksByte}
 use Rattle.rbg_wire.specs.Lines.{line_of, lines_of}
@@ -77,32 +77,30 @@ passed_more input left line rest passed is lacks other = record {
   unmarked = All-append (λ l. l ≢ mark) passed.far.lines (line ∷ []) passed.unmarked (All-cons (λ l. l ≢ mark) line [] other (All-nil (λ l. l ≢ mark)));
 }
 
+-- the description is the lines that were passed
+passed_input : (input left description script : List ℕ) (passed : Unmarked input left) → description ≡ lines_of passed.far.lines → (input ≡ description ++ line_of mark ++ script) ⊎ ((input ≡ description ++ mark) × (script ≡ [])) → IsInput input description script
+passed_input input left description script passed told parts = record {
+  lines = passed.far.lines;
+  described = told;
+  whole = passed.far.whole;
+  unmarked = passed.unmarked;
+  parts = parts;
+}
+
 pub found_mark : (input left line rest description script : List ℕ) → Unmarked input left → left ≡ line ++ 10 ∷ rest → line ≡ mark → description ≡ take (length input - length left) input → script ≡ rest → IsInput input description script
 found_mark input left line rest description script passed is marked described follows =
     let far = passed.far in
     let told = described ∙ before_left input left far in
-    record {
-      lines = far.lines;
-      described = told;
-      whole = far.whole;
-      unmarked = passed.unmarked;
-      parts = inl (
-          far.parts ∙ (ap (λ l. lines_of far.lines ++ l) is ∙ (ap (λ l. lines_of far.lines ++ (l ++ 10 ∷ rest)) marked
-          ∙ (ap (λ r. lines_of far.lines ++ (mark ++ 10 ∷ r)) (sym follows) ∙ (ap (λ d. d ++ (mark ++ 10 ∷ script)) (sym told) ∙ sym (marked_shape description script)))))
-          );
-    }
+    passed_input input left description script passed told (inl (
+    far.parts ∙ (ap (λ l. lines_of far.lines ++ l) is ∙ (ap (λ l. lines_of far.lines ++ (l ++ 10 ∷ rest)) marked
+    ∙ (ap (λ r. lines_of far.lines ++ (mark ++ 10 ∷ r)) (sym follows) ∙ (ap (λ d. d ++ (mark ++ 10 ∷ script)) (sym told) ∙ sym (marked_shape description script)))))
+    ))
 
 pub found_last : (input left description script : List ℕ) → Unmarked input left → left ≡ mark → description ≡ take (length input - length left) input → script ≡ [] → IsInput input description script
 found_last input left description script passed marked described empty =
     let far = passed.far in
     let told = described ∙ before_left input left far in
-    record {
-      lines = far.lines;
-      described = told;
-      whole = far.whole;
-      unmarked = passed.unmarked;
-      parts = inr (far.parts ∙ (ap (λ l. lines_of far.lines ++ l) marked ∙ ap (λ d. d ++ mark) (sym told)), empty);
-    }
+    passed_input input left description script passed told (inr (far.parts ∙ (ap (λ l. lines_of far.lines ++ l) marked ∙ ap (λ d. d ++ mark) (sym told)), empty))
 
 pub not_marked : (input left : List ℕ) → Unmarked input left → LacksByte 10 left → (left ≡ mark → ⊥) → (description script : List ℕ) → IsInput input description script → ⊥
 not_marked input left passed lacks other description script h = elim h.parts [

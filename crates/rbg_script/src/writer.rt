@@ -5,19 +5,7 @@ ghost use Rattle.hex.specs.Hex.{lower_digits};
 ghost use Rattle.rbg_wire.specs.Writing.{Appends, AppendsAll};
 ghost use Rattle.rbg_wire.specs.Lines.{line_of};
 ghost use Rattle.rbg_script.specs.Config.{config_text};
-ghost use Rattle.rbg_script.specs.Events.{
-  EventHasSpelling,
-  HasFields,
-  byte_text,
-  end_event,
-  end_text,
-  event_of,
-  event_text,
-  fields_text,
-  piece_event,
-  tick_event,
-  tick_text,
-};
+ghost use Rattle.rbg_script.specs.Events.{EventHasSpelling, HasFields, byte_text, end_event, end_text, event_of, event_text, fields_text, piece_event, tick_event, tick_text};
 
 use crate::{ScriptConfig, ScriptEvent};
 use rbg_base::Memory;

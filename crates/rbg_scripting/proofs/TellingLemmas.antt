@@ -16,10 +16,8 @@ use Rattle.rbg_lines.specs.declared.heading.Version.TheVariants.{One, Two}
 use Rattle.rbg_lines.specs.Heading.{version_text, SpellsPlayers, SpellsStart}
 use Rattle.rbg_lines.specs.Lines.{IsFirstLine}
 use Rattle.rbg_match.specs.Config.{IsWithinLimits}
-use Rattle.rbg_record.specs.Judged.{GoesOn}
 use Rattle.rbg_record.specs.Lines.{SpellsIn}
-use Rattle.rbg_record.proofs.OneEnd.{ends_early, not_formed}
-use Rattle.rbg_record.proofs.SoFarLemmas.{cut_none, cut_more}
+use Rattle.rbg_record.proofs.SoFarLemmas.{cut_none, cut_more, line_fault, end_fault}
 use Rattle.rbg_script.specs.declared.config.ScriptConfig.{ScriptConfig}
 use Rattle.rbg_script.specs.Config.{ConfigHasSpelling, config_text}
 use Rattle.rbg_script.specs.Scripts.{SpellsScript}
@@ -30,7 +28,7 @@ use Rattle.rbg_scripting.specs.declared.error.ScriptingError.{ScriptingError}
 use Rattle.rbg_scripting.specs.declared.error.ScriptingError.TheVariants.{Form}
 use Rattle.rbg_scripting.specs.declared.part.Part.{Part}
 use Rattle.rbg_scripting.specs.declared.part.Part.TheVariants as parts
-use Rattle.rbg_scripting.specs.Scripting.{HasForm, head_1, head_2, IsMove, IsNoRecord, IsScriptOfRecord, LeadsOn, config_at, events_in, turns_of}
+use Rattle.rbg_scripting.specs.Scripting.{HasForm, head_1, head_2, IsMove, IsNoRecord, IsScriptOfRecord, LeadThere, LeadsOn, config_at, events_in, turns_of}
 use Rattle.rbg_scripting.specs.Scripting as scripting
 use Rattle.rbg_scripting.specs.internal.Telling.{IsTold, IsToldSoFar, TellsEntries, TellsEvents, TellsNext, TellsWhole, part_behind}
 use Rattle.rbg_scripting.proofs.EventLines.{tells_nothing, tells_both}
@@ -152,25 +150,13 @@ told_more bytes from to rest text later line old new so_far first next = record 
   told = next.told so_far.texts so_far.told;
 }
 
--- what follows the lines so far is not of the form
-no_more : (bytes : List ℕ) (part : Part) (rest : List ℕ) (line : ℕ) (out : List ℕ) → IsToldSoFar bytes part rest line out → (GoesOn (part ≡ parts.Nothing) (HasForm part) rest → ⊥) → IsNoRecord bytes line
-no_more bytes part rest line out so_far stops = record {
-  texts = so_far.texts;
-  rest = rest;
-  begins = so_far.cut.begins;
-  number = so_far.cut.number;
-  part = part;
-  leads = so_far.leads;
-  stops = stops;
-}
-
 -- a line that is not of the form
 pub told_fault : (bytes : List ℕ) (part : Part) (rest text later : List ℕ) (line : ℕ) (out : List ℕ) → IsToldSoFar bytes part rest line out → IsFirstLine rest text later → (HasForm part text → ⊥) → IsNoRecord bytes line
-told_fault bytes part rest text later line out so_far first wrong = no_more bytes part rest line out so_far (not_formed (part ≡ parts.Nothing) (HasForm part) rest text later first wrong)
+told_fault bytes part rest text later line out so_far first wrong = line_fault LeadThere parts.Nothing HasForm part so_far.cut so_far.leads text later first wrong
 
 -- no line is left, but the record has not ended, or some bytes are left
 pub told_short : (bytes : List ℕ) (part : Part) (rest : List ℕ) (line : ℕ) (out : List ℕ) → IsToldSoFar bytes part rest line out → LacksByte line_feed rest → (part ≡ parts.Nothing → rest ≡ [] → ⊥) → IsNoRecord bytes line
-told_short bytes part rest line out so_far lacks going = no_more bytes part rest line out so_far (ends_early (part ≡ parts.Nothing) (HasForm part) rest lacks going)
+told_short bytes part rest line out so_far lacks going = end_fault LeadThere parts.Nothing HasForm part so_far.cut so_far.leads lacks going
 
 -- all lines
 script_is : (config : ScriptConfig) (has : ConfigHasSpelling config) (events : List AbstractEvent) (out : List ℕ) → TellsEvents events (line_of (config_text config)) out → SpellsScript out (record { config = config; events = events })

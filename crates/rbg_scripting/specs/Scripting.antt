@@ -1,5 +1,5 @@
 -- The script of a record: which config it has, and which events bring its moves and its end about.
-use Rattle.std.specs.Prelude.{◌≡◌, ℕ, zero, suc, ◌+◌, List, [], ◌∷◌, ◌++◌, length, All, Option, Some, None}
+use Rattle.std.specs.Prelude.{◌≡◌, ℕ, zero, suc, List, [], ◌∷◌, ◌++◌, All, Option, Some, None}
 use Rattle.std.specs.List.{flat_map, AllZip}
 use Rattle.rbg_wire.specs.declared.outcome.Outcome.{Outcome}
 use Rattle.rbg_wire.specs.declared.outcome.Outcome.TheVariants.{Finished, Time, Refusals, Gone, Heavy}
@@ -14,7 +14,7 @@ use Rattle.rbg_lines.specs.declared.heading.Version.TheVariants.{One, Two}
 use Rattle.rbg_lines.specs.Heading.{version_text, SpellsPlayers, SpellsStart}
 use Rattle.rbg_match.specs.declared.config.Config.{Config}
 use Rattle.rbg_match.specs.Config.{IsWithinLimits}
-use Rattle.rbg_record.specs.Judged.{BeginsWith, GoesOn}
+use Rattle.rbg_record.specs.Judged.{HasFormFault}
 use Rattle.rbg_record.specs.Lines.{SpellsIn}
 use Rattle.rbg_script.specs.declared.config.ScriptConfig.{ScriptConfig}
 use Rattle.rbg_script.specs.Events.{AbstractEvent, piece_event, end_event, tick_event}
@@ -123,13 +123,6 @@ pub data LeadThere : (texts : List (List ℕ)) → Part → Type 0 where
       LeadsOn from text to →
       LeadThere (texts ++ text ∷ []) to
 
--- The lines before this one are of the form, but what follows them is not. Lines are numbered from 1. The line is
--- missing where the record ends too early.
-pub record IsNoRecord (bytes : List ℕ) (line : ℕ) : Type 0 where
-  pub texts : List (List ℕ)
-  pub rest : List ℕ
-  pub begins : BeginsWith bytes texts rest
-  pub number : line ≡ length texts + 1
-  pub part : Part
-  pub leads : LeadThere texts part
-  pub stops : ¬ GoesOn (part ≡ parts.Nothing) (HasForm part) rest
+-- The lines before this one are of the form, but what follows them is not.
+abbrev pub IsNoRecord : (bytes : List ℕ) → (line : ℕ) → Type 0
+IsNoRecord bytes line = HasFormFault LeadThere parts.Nothing HasForm bytes line

@@ -1,8 +1,5 @@
 //! Why no script is made of a text.
-ghost use Rattle.std.specs.Prelude.{◌≡◌};
-ghost use Rattle.rbg_scripting.specs.declared.error.ScriptingError.TheVariants.{Memory as OutOfMemory};
 
-use rbg_base::Memory;
 use thiserror::Error;
 
 /// Why no script is made of a text. Lines are numbered from 1.
@@ -13,12 +10,4 @@ pub enum ScriptingError {
     Form(usize),
     #[error("out of memory")]
     Memory,
-}
-
-impl From<Memory> for ScriptingError {
-    ghost from_gives = { λ _ error. error ≡ OutOfMemory };
-
-    fn from(_memory: Memory) -> ScriptingError {
-        ScriptingError::Memory
-    }
 }

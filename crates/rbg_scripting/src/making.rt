@@ -30,7 +30,10 @@ pub fn script_of_record(alloc: Global, bytes: &[u8]) -> Result<Vec<u8>, Scriptin
     let mut rest = bytes;
     let mut line = 1;
     while let Some((text, later)) = next_line(rest) {
-        match tell_line(alloc, part, text, &mut out)? {
+        let Ok(to) = tell_line(alloc, part, text, &mut out) else {
+            return Err(ScriptingError::Memory);
+        };
+        match to {
             Some(to) => part = to,
             None => return Err(ScriptingError::Form(line)),
         }

@@ -17,7 +17,7 @@ use Rattle.rbg_refereeing.specs.Answers.{refused_line}
 use Rattle.rbg_refereeing.specs.Runs.{device_line}
 use Rattle.rbg_tokens.specs.Limits.{longest_text}
 use Rattle.rbg_tasks.specs.declared.task.Command.{Command}
-use Rattle.rbg_tasks.specs.declared.task.Command.TheVariants.{Referee}
+use Rattle.rbg_tasks.specs.declared.task.Command.TheVariants.{Check, Referee, Replay, Migrate, Moves}
 use Rattle.rbg_answering.specs.declared.task.Task.{Task}
 use Rattle.rbg_answering.specs.Answers.{IsTaskAnswer, good_line, bad_line, form_line, over_line}
 use Rattle.rbg_tasks.specs.Tasks.{NamedTask}
@@ -85,6 +85,14 @@ pub record IsReadInput (unread left : Option (List ℕ)) (read : Option (Vec ℕ
   pub bytes : List ℕ
   pub input : IsInputOf unread left bytes
   pub reads : IsReadOf most_input read bytes
+
+-- the command is one on a record
+abbrev pub IsOnRecord : Command → Type 0
+IsOnRecord Check = ⊥
+IsOnRecord Referee = ⊥
+IsOnRecord Replay = Unit {0}
+IsOnRecord Migrate = Unit {0}
+IsOnRecord Moves = Unit {0}
 
 -- this was read for a command
 pub record IsReadFor (known : KnownFiles) (unread left : Option (List ℕ)) (named : NamedTask) (read : Task) : Type 0 where

@@ -4,14 +4,6 @@ use Rattle.rbg_record.specs.Lines.{Standing, Reached, version_next, players_next
 use Rattle.rbg_rules.specs.Moves.{AbstractPlace}
 use Rattle.rbg_rules.specs.State.{AbstractGame}
 
--- the place to which a line leads, or else the one before it
-abbrev pub place_in : Reached → AbstractPlace → AbstractPlace
-place_in (entry_next standing) before = standing.place
-place_in version_next before = before
-place_in players_next before = before
-place_in start_next before = before
-place_in nothing_next before = before
-
 -- the last of these lines is the end, and the others lead to this place
 pub record EndsAt (game : AbstractGame) (texts : List (List ℕ)) (place : AbstractPlace) : Type 0 where
   pub before : List (List ℕ)

@@ -1,11 +1,19 @@
--- The game that is played is the one that was passed.
-use Rattle.std.proofs.Common.{ℕ, List, subst}
-use Rattle.std.specs.Prelude.{IfOk}
-use Rattle.rbg_answering.specs.Answers.{IsGamesAnswer}
-use Rattle.rbg_tasks.specs.declared.task.Command.TheVariants.{Moves}
+-- The moves that are listed are the answer, or the fault of the record.
+use Rattle.std.proofs.Common.{subst}
+use Rattle.std.proofs.lemmas.Result.{IfOk-weaker}
+use Rattle.rbg_listing.specs.Behind.{IsMisfit, IsMovesBehind}
+use Rattle.rbg_answering.specs.Answers.IsGamesAnswer.{goes_on}
+use Rattle.rbg_answering.proofs.JudgingLemmas.{misfit_answer}
 use Rattle.rbg_answering.proofs.judging.go_on.Goals as goal
 
 pub returns-in-Ok : goal.returns-in-Ok
-returns-in-Ok c =
-    subst (λ game. IfOk c.list_behind.result (λ answer. (description : List ℕ) → IsGamesAnswer game description c.args.told.now Moves answer.text.items answer.status))
-    c.in-Ok.ensures c.list_behind.ensures
+returns-in-Ok c = λ description.
+    goes_on c.in-Ok.text.items (subst (λ game. IsMovesBehind game c.args.told.now c.in-Ok.text.items) c.in_ok-played.ensures c.in-Ok.ensures.lines)
+
+pub returns : goal.returns
+returns c =
+    let misfit = c.in-Err.misfit in
+    IfOk-weaker c.answer_misfit.result _ _
+    (λ answer says. misfit_answer c.args.game c.args.told.now misfit.fault misfit.line answer.text.items answer.status
+    (subst (λ game. IsMisfit game c.args.told.now misfit) c.in_ok-played.ensures c.in-Err.ensures.misfit) says)
+    c.answer_misfit.ensures

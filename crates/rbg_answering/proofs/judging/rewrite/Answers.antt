@@ -1,11 +1,8 @@
 -- The new record is the answer, or the fault of the old one.
-use Rattle.std.proofs.Common.{ℕ, List, ap}
+use Rattle.std.proofs.Common.{ap}
 use Rattle.std.specs.Prelude.{Err}
 use Rattle.std.proofs.lemmas.Result.{IfOk-weaker}
-use Rattle.rbg_tasks.specs.declared.task.Command.TheVariants.{Migrate}
-use Rattle.rbg_answering.specs.Answers.{IsGamesAnswer}
 use Rattle.rbg_answering.specs.Answers.IsGamesAnswer.{migrated}
-use Rattle.rbg_answering.specs.internal.Parts.{SaysFault}
 use Rattle.rbg_answering.proofs.JudgingLemmas.{plain_fault_answer}
 use Rattle.rbg_answering.proofs.judging.rewrite.Goals as goal
 
@@ -14,11 +11,7 @@ returns-in-Ok c = λ description. migrated c.in-Ok.text.items c.in-Ok.ensures.mi
 
 pub returns-in-Err : goal.returns-in-Err
 returns-in-Err c =
-    let game = c.args.game.now in
-    let told = c.args.told.now in
-    let error = c.in-Err.error in
-    IfOk-weaker c.answer_record_fault.result (λ answer. SaysFault error answer.text.items answer.status)
-    (λ answer. (description : List ℕ) → IsGamesAnswer game description told Migrate answer.text.items answer.status)
-    (λ answer says. plain_fault_answer game told error answer.text.items answer.status
+    IfOk-weaker c.answer_record_fault.result _ _
+    (λ answer says. plain_fault_answer c.args.game.now c.args.told.now c.in-Err.error answer.text.items answer.status
     (λ line same. c.in-Err.ensures.form line (ap (λ e. Err e) same)) (λ line same. c.in-Err.ensures.never_over line (ap (λ e. Err e) same)) says)
     c.answer_record_fault.ensures

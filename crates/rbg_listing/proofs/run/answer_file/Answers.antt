@@ -1,33 +1,24 @@
 -- What the file has is answered.
-use Rattle.std.proofs.Common.{◌≡◌, subst}
+use Rattle.std.proofs.Common.{subst}
 use Rattle.std.proofs.lemmas.Result.{IfOk-weaker}
 use Rattle.rbg_console.specs.Files.{IsFileReading}
-use Rattle.rbg_console.specs.declared.status.Status.TheVariants.{Refused}
-use Rattle.rbg_game.specs.Loading.{IsMemory}
 use Rattle.rbg_game.specs.declared.error.LoadError.TheVariants.{Text}
-use Rattle.rbg_refereeing.specs.Answers.{refused_line}
 use Rattle.rbg_tokens.specs.Limits.{longest_text}
 use Rattle.rbg_tokens.specs.declared.error.TextError.TheVariants.{TooLong}
 use Rattle.rbg_listing.specs.Answers.{IsMovesAnswer}
 use Rattle.rbg_listing.specs.Answers.IsMovesAnswer.{refused}
-use Rattle.rbg_listing.specs.Runs.{IsFilesMoves}
 use Rattle.rbg_listing.specs.Runs.IsFilesMoves.{of_file}
 use Rattle.rbg_refereeing.proofs.CallerLemmas.{all_three, long_refused}
 use Rattle.rbg_listing.proofs.run.answer_file.Goals as goal
 
 pub returns-in-Whole : goal.returns-in-Whole
 returns-in-Whole g c =
-    let known = g.F.Files.told c.args.files.now c.args.file.now in
-    let reading = subst (IsFileReading longest_text known) c.in-Whole.is c.in_ok-text.ensures.read in
-    IfOk-weaker c.answer_moves.result (λ answer. IsMovesAnswer c.as_slice.result.now answer.text.items answer.status)
-    (λ answer. IsFilesMoves known answer.text.items answer.status)
-    (λ answer is. of_file c.in-Whole.text.items reading.1 (subst (λ text. IsMovesAnswer text answer.text.items answer.status) c.as_slice.ensures.value is)) c.answer_moves.ensures
+    let reading = subst (IsFileReading longest_text _) c.in-Whole.is c.in_ok-text.ensures.read in
+    IfOk-weaker c.answer_moves.result _ _ (λ answer is. of_file c.in-Whole.text.items reading.1 (subst (λ text. IsMovesAnswer text answer.text.items answer.status) c.as_slice.ensures.value is)) c.answer_moves.ensures
 
 pub returns-in-TooLong : goal.returns-in-TooLong
 returns-in-TooLong g c =
-    let known = g.F.Files.told c.args.files.now c.args.file.now in
-    let reading = subst (IsFileReading longest_text known) c.in-TooLong.is c.in_ok-text.ensures.read in
-    all_three c.refuse.result (λ answer. ¬ IsMemory (Text TooLong)) (λ answer. answer.text.items ≡ refused_line (Text TooLong)) (λ answer. answer.status ≡ Refused)
-    (λ answer. IsFilesMoves known answer.text.items answer.status)
+    let reading = subst (IsFileReading longest_text _) c.in-TooLong.is c.in_ok-text.ensures.read in
+    all_three c.refuse.result _ _ _ _
     (λ answer not is was. of_file reading.0 reading.2 (refused (Text TooLong) (long_refused reading.0 reading.1) not is was))
     c.refuse.ensures.known c.refuse.ensures.text c.refuse.ensures.status

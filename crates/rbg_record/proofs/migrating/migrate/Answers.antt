@@ -15,11 +15,11 @@ loop-text-init c = migrated_none c.args.game.now c.args.bytes.now c.new-out.resu
 pub returns-in-None-clause-form : goal.returns-in-None-clause-form
 returns-in-None-clause-form c = λ line same.
     form_line c.args.bytes.now c.loop-text.line line same
-    (migrated_fault c.args.game.now c.args.bytes.now (part_of c.loop-text.part) c.loop-text.rest.now c.in-Some.text.now c.in-Some.later.now c.loop-text.line c.loop-text.out.items c.loop-text.invariant c.in-Some.ensures.found (rw c.in-None.is at c.in_ok-to.ensures.none))
+    (migrated_fault c.args.game.now c.args.bytes.now (part_of c.loop-text.part) c.loop-text.rest.now c.in-Some.text.now c.in-Some.later.now c.loop-text.line c.loop-text.out.items c.loop-text.invariant c.in-Some.ensures.found (rw c.in-None.is at c.in-Ok.ensures.none))
 
 pub loop-text-preserved : goal.loop-text-preserved
 loop-text-preserved c =
-    migrated_more c.args.game.now c.args.bytes.now (part_of c.loop-text.part) (part_of c.in-Some-2.to) c.loop-text.rest.now c.in-Some.text.now c.in-Some.later.now c.loop-text.line c.loop-text.out.items c.migrate_line.new.out.items c.loop-text.invariant c.in-Some.ensures.found (rw c.in-Some-2.is at c.in_ok-to.ensures.leads)
+    migrated_more c.args.game.now c.args.bytes.now (part_of c.loop-text.part) (part_of c.in-Some-to.to) c.loop-text.rest.now c.in-Some.text.now c.in-Some.later.now c.loop-text.line c.loop-text.out.items c.migrate_line.new.out.items c.loop-text.invariant c.in-Some.ensures.found (rw c.in-Some-to.is at c.in-Ok.ensures.leads)
 
 pub returns-then-is_empty-clause-migrated : goal.returns-then-is_empty-clause-migrated
 returns-then-is_empty-clause-migrated c =

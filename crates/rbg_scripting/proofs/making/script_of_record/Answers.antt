@@ -12,11 +12,11 @@ loop-text-init c = told_none c.args.bytes.now c.new-out.result.items c.new-out.e
 pub returns-in-None-clause-form : goal.returns-in-None-clause-form
 returns-in-None-clause-form c = λ line same.
     form_line c.args.bytes.now c.loop-text.line line same
-    (told_fault c.args.bytes.now c.loop-text.part c.loop-text.rest.now c.in-Some.text.now c.in-Some.later.now c.loop-text.line c.loop-text.out.items c.loop-text.invariant c.in-Some.ensures.found (rw c.in-None.is at c.in_ok-to.ensures.none))
+    (told_fault c.args.bytes.now c.loop-text.part c.loop-text.rest.now c.in-Some.text.now c.in-Some.later.now c.loop-text.line c.loop-text.out.items c.loop-text.invariant c.in-Some.ensures.found (rw c.in-None.is at c.in-Ok.ensures.none))
 
 pub loop-text-preserved : goal.loop-text-preserved
 loop-text-preserved c =
-    told_more c.args.bytes.now c.loop-text.part c.in-Some-2.to c.loop-text.rest.now c.in-Some.text.now c.in-Some.later.now c.loop-text.line c.loop-text.out.items c.tell_line.new.out.items c.loop-text.invariant c.in-Some.ensures.found (rw c.in-Some-2.is at c.in_ok-to.ensures.leads)
+    told_more c.args.bytes.now c.loop-text.part c.in-Some-to.to c.loop-text.rest.now c.in-Some.text.now c.in-Some.later.now c.loop-text.line c.loop-text.out.items c.tell_line.new.out.items c.loop-text.invariant c.in-Some.ensures.found (rw c.in-Some-to.is at c.in-Ok.ensures.leads)
 
 pub returns-then-is_empty-clause-made : goal.returns-then-is_empty-clause-made
 returns-then-is_empty-clause-made c =

@@ -6,17 +6,17 @@ ghost use Rattle.rbg_rules.specs.Places.{IsPlaceOf};
 ghost use Rattle.rbg_rules.specs.Positions.{positions_of, IsPatternAt};
 ghost use Rattle.rbg_pairs.specs.Start.{start_of};
 
-use crate::asked::Asked;
-use crate::meaning::{Known, Next};
-use crate::odd::{Odd, Tally, add, expect};
-use crate::table::Stands;
-use crate::words::Word;
-use crate::world::World;
+use crate::tests::asked::Asked;
+use crate::tests::meaning::{Known, Next};
+use crate::tests::odd::{Odd, Tally, add, expect};
+use crate::tests::table::Stands;
+use crate::tests::words::Word;
+use crate::tests::world::World;
 use rbg_auto::{Expr, Steps};
 use rbg_base::Position;
 use rbg_moves::Place;
 use rbg_rules::Game;
-use rbg_search::{Budget, Buffers, FlatPart, Origin, Over, Search};
+use rbg_search::{Budget, Buffers, FlatPart, Origin, Over};
 
 /// What searches may take up here: what goes on for ever ends soon.
 const BUDGET: Budget = Budget {
@@ -64,14 +64,7 @@ fn reach<S: Steps>(
     requires stands { IsStart asked.now.game.now.rules (start_of origin) }
 {
     let mut state = place.state.try_clone()?;
-    let mut search = Search::with_paths(
-        asked.alloc,
-        asked.game,
-        asked.steps,
-        asked.paths,
-        BUDGET,
-        buffers,
-    );
+    let mut search = asked.search(BUDGET, buffers);
     let reached = search.reach(&mut state, origin);
     search.leave(buffers);
     expect(state == place.state, Odd::Reach)?;
@@ -128,14 +121,7 @@ fn pattern<S: Steps>(
     requires there { IsPatternAt asked.now.game.now.rules position }
 {
     let mut state = place.state.try_clone()?;
-    let mut search = Search::with_paths(
-        asked.alloc,
-        asked.game,
-        asked.steps,
-        asked.paths,
-        BUDGET,
-        buffers,
-    );
+    let mut search = asked.search(BUDGET, buffers);
     let valid = search.pattern(&mut state, position);
     search.leave(buffers);
     expect(state == place.state, Odd::Pattern)?;

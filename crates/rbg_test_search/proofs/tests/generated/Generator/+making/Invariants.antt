@@ -1,6 +1,6 @@
 -- The depth that is left goes down from `part` to what it makes.
 use Rattle.std.proofs.Common.{◌+◌, ◌*◌}
-use Rattle.rbg_test_search.proofs.generated.Generator.+making.Given as goal
+use Rattle.rbg_test_search.proofs.tests.generated.Generator.+making.Given as goal
 
 abbrev pub decreases-part : goal.decreases-part
 decreases-part l = 2 * l.depth

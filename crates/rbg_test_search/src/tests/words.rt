@@ -1,7 +1,7 @@
 //! Words of rules, each cut behind its sixth letter. A letter is the position of an action.
 ghost use Rattle.std.specs.Prelude.{◌≤◌, ◌<◌};
 
-use crate::tree::Tree;
+use crate::tests::tree::Tree;
 use rbg_base::Position;
 use std::alloc::{AllocError, AllocFailed, Global};
 

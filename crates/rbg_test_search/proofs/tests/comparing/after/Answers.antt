@@ -1,6 +1,6 @@
 -- An action stands at each position.
 use Rattle.rbg_rules.proofs.TableLemmas.{numbered_action}
-use Rattle.rbg_test_search.proofs.comparing.after.Goals as goal
+use Rattle.rbg_test_search.proofs.tests.comparing.after.Goals as goal
 
 pub returns : goal.returns
 returns c =

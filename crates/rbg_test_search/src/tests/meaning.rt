@@ -1,9 +1,9 @@
 //! The questions answered slowly: each word is tried, letter by letter. Of a word with more than six letters only the
 //! first six are tried, so an answer also says whether it is whole.
-use crate::board::Board;
-use crate::table::{Stands, Table};
-use crate::words::{LETTERS, Word};
-use crate::world::World;
+use crate::tests::board::Board;
+use crate::tests::table::{Stands, Table};
+use crate::tests::words::{LETTERS, Word};
+use crate::tests::world::World;
 use rbg_base::Position;
 use rbg_moves::Pair;
 use std::alloc::{AllocError, Global};

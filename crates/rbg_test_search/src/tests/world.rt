@@ -1,6 +1,6 @@
 //! Semi-states of the tests' own, and what the actions do that are no patterns.
-use crate::board::{Board, MOST_VERTICES};
-use crate::tree::{Action, Operand, Operator, Sum};
+use crate::tests::board::{Board, MOST_VERTICES};
+use crate::tests::tree::{Action, Operand, Operator, Sum};
 use rbg_base::{Piece, Player, Relation, Variable, Vertex};
 
 /// The greatest values of the variables: the scores of white and black, and `n`.

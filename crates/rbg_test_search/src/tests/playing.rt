@@ -1,13 +1,14 @@
 //! Which moves are legal and where they lead, beside the slow answers.
-ghost use Rattle.std.specs.Prelude.{◌≡◌, ◌<◌, IfOk, IfSome};
+ghost use Rattle.std.specs.Prelude.{◌<◌, IfOk, IfSome};
 ghost use Rattle.rbg_rules.specs.State.{IsStateOf};
 ghost use Rattle.rbg_rules.specs.Places.{IsPlaceOf};
+ghost use Rattle.rbg_test_search.specs.Asking.{IsAskedAt};
 
-use crate::asked::Asked;
-use crate::meaning::{Moves, Played};
-use crate::odd::{Odd, Tally, add, expect};
-use crate::words::Word;
-use crate::world::World;
+use crate::tests::asked::Asked;
+use crate::tests::meaning::{Moves, Played};
+use crate::tests::odd::{Odd, Tally, add, expect};
+use crate::tests::words::Word;
+use crate::tests::world::World;
 use rbg_auto::Steps;
 use rbg_base::{Position, Variable, Vertex};
 use rbg_moves::{Listed, Move, Over, Pair, Place, PlayedGame, find_move, list_moves, try_move};
@@ -48,9 +49,7 @@ fn try_pairs<S: Steps>(
     place: &Place,
     pairs: &[Pair],
 ) -> Result<Option<Place>, Over>
-    requires steps { S.of_rules asked.now.steps.now asked.now.game.now.rules }
-    requires same { asked.now.played.now ≡ asked.now.game.now }
-    requires place { IsPlaceOf asked.now.game.now place.now }
+    requires asked { IsAskedAt S.of_rules asked.now.steps.now asked.now.game.now asked.now.played.now place.now }
     ensures { IfOk result (λ after. IfSome after (IsPlaceOf asked.now.game.now)) }
 {
     let Ok(pairs) = Move::try_from(pairs) else {
@@ -69,9 +68,7 @@ fn compare_legal<S: Steps>(
     played: &Played,
     whole: bool,
 ) -> Result<(), Odd>
-    requires steps { S.of_rules asked.now.steps.now asked.now.game.now.rules }
-    requires same { asked.now.played.now ≡ asked.now.game.now }
-    requires place { IsPlaceOf asked.now.game.now place.now }
+    requires asked { IsAskedAt S.of_rules asked.now.steps.now asked.now.game.now asked.now.played.now place.now }
 {
     match try_pairs(asked, place, &played.pairs) {
         Ok(Some(to)) => {
@@ -91,9 +88,7 @@ fn compare_pairs<S: Steps>(
     moves: &Moves,
     tally: &mut Tally,
 ) -> Result<(), Odd>
-    requires steps { S.of_rules asked.now.steps.now asked.now.game.now.rules }
-    requires same { asked.now.played.now ≡ asked.now.game.now }
-    requires place { IsPlaceOf asked.now.game.now place.now }
+    requires asked { IsAskedAt S.of_rules asked.now.steps.now asked.now.game.now asked.now.played.now place.now }
 {
     if !moves.whole || moves.has(pairs) {
         return Ok(());
@@ -114,9 +109,7 @@ fn compare_near<S: Steps>(
     moves: &Moves,
     tally: &mut Tally,
 ) -> Result<(), Odd>
-    requires steps { S.of_rules asked.now.steps.now asked.now.game.now.rules }
-    requires same { asked.now.played.now ≡ asked.now.game.now }
-    requires place { IsPlaceOf asked.now.game.now place.now }
+    requires asked { IsAskedAt S.of_rules asked.now.steps.now asked.now.game.now asked.now.played.now place.now }
 {
     let Some((last, front)) = played.pairs.split_last() else {
         return Err(Odd::Try);
@@ -149,9 +142,7 @@ fn compare_single<S: Steps>(
     moves: &Moves,
     tally: &mut Tally,
 ) -> Result<(), Odd>
-    requires steps { S.of_rules asked.now.steps.now asked.now.game.now.rules }
-    requires same { asked.now.played.now ≡ asked.now.game.now }
-    requires place { IsPlaceOf asked.now.game.now place.now }
+    requires asked { IsAskedAt S.of_rules asked.now.steps.now asked.now.game.now asked.now.played.now place.now }
 {
     let vertex = place.state.vertex();
     for position in 1..=asked.game.positions() as Position {
@@ -197,9 +188,7 @@ fn is_list(listed: &Listed, moves: &Moves, max: usize) -> bool {
 
 /// The list of at most `max` moves.
 fn list<S: Steps>(asked: &Asked<'_, S>, place: &Place, max: usize) -> Result<Listed, Over>
-    requires steps { S.of_rules asked.now.steps.now asked.now.game.now.rules }
-    requires same { asked.now.played.now ≡ asked.now.game.now }
-    requires place { IsPlaceOf asked.now.game.now place.now }
+    requires asked { IsAskedAt S.of_rules asked.now.steps.now asked.now.game.now asked.now.played.now place.now }
     requires some { 0 < max }
 {
     match asked.paths {
@@ -222,9 +211,7 @@ fn find_played(played: &PlayedGame, place: &Place) -> Result<Option<Move>, Over>
 
 /// A move that is found.
 fn find<S: Steps>(asked: &Asked<'_, S>, place: &Place) -> Result<Option<Move>, Over>
-    requires steps { S.of_rules asked.now.steps.now asked.now.game.now.rules }
-    requires same { asked.now.played.now ≡ asked.now.game.now }
-    requires place { IsPlaceOf asked.now.game.now place.now }
+    requires asked { IsAskedAt S.of_rules asked.now.steps.now asked.now.game.now asked.now.played.now place.now }
 {
     match asked.paths {
         Some(_) => find_played(asked.played, place),
@@ -239,9 +226,7 @@ fn compare_list<S: Steps>(
     moves: &Moves,
     max: usize,
 ) -> Result<(), Odd>
-    requires steps { S.of_rules asked.now.steps.now asked.now.game.now.rules }
-    requires same { asked.now.played.now ≡ asked.now.game.now }
-    requires place { IsPlaceOf asked.now.game.now place.now }
+    requires asked { IsAskedAt S.of_rules asked.now.steps.now asked.now.game.now asked.now.played.now place.now }
     requires some { 0 < max }
 {
     match list(asked, place, max) {
@@ -252,9 +237,7 @@ fn compare_list<S: Steps>(
 
 /// Compares the move that is found.
 fn compare_found<S: Steps>(asked: &Asked<'_, S>, place: &Place, moves: &Moves) -> Result<(), Odd>
-    requires steps { S.of_rules asked.now.steps.now asked.now.game.now.rules }
-    requires same { asked.now.played.now ≡ asked.now.game.now }
-    requires place { IsPlaceOf asked.now.game.now place.now }
+    requires asked { IsAskedAt S.of_rules asked.now.steps.now asked.now.game.now asked.now.played.now place.now }
 {
     match find(asked, place) {
         Ok(Some(found)) => expect(!moves.whole || moves.has(found.as_slice()), Odd::Find),
@@ -271,9 +254,7 @@ pub(crate) fn compare_moves<S: Steps>(
     words: &[Word],
     tally: &mut Tally,
 ) -> Result<Moves, Odd>
-    requires steps { S.of_rules asked.now.steps.now asked.now.game.now.rules }
-    requires same { asked.now.played.now ≡ asked.now.game.now }
-    requires place { IsPlaceOf asked.now.game.now place.now }
+    requires asked { IsAskedAt S.of_rules asked.now.steps.now asked.now.game.now asked.now.played.now place.now }
 {
     let moves = asked.rules.moves(asked.alloc, world, words)?;
     tally.count_moves(&moves);
@@ -297,9 +278,7 @@ pub(crate) fn play<S: Steps>(
     place: &Place,
     played: &Played,
 ) -> Result<Option<Place>, Odd>
-    requires steps { S.of_rules asked.now.steps.now asked.now.game.now.rules }
-    requires same { asked.now.played.now ≡ asked.now.game.now }
-    requires place { IsPlaceOf asked.now.game.now place.now }
+    requires asked { IsAskedAt S.of_rules asked.now.steps.now asked.now.game.now asked.now.played.now place.now }
     ensures { IfOk result (λ after. IfSome after (IsPlaceOf asked.now.game.now)) }
 {
     match try_pairs(asked, place, &played.pairs) {

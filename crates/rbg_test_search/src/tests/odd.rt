@@ -1,6 +1,6 @@
 //! Why a game isn't compared to its end, and how much was compared.
-use crate::meaning::{Moves, Next};
-use crate::words::WordsError;
+use crate::tests::meaning::{Moves, Next};
+use crate::tests::words::WordsError;
 use rbg_base::Memory;
 use std::alloc::AllocFailed;
 

@@ -1,7 +1,7 @@
 //! Rules by a generator: the same ones at each run.
 ghost use Rattle.std.specs.Prelude.{◌<◌};
 
-use crate::tree::{Action, Operand, Operator, Sum, Tree};
+use crate::tests::tree::{Action, Operand, Operator, Sum, Tree};
 use rbg_base::{Position, Relation};
 use std::alloc::{AllocError, Global};
 

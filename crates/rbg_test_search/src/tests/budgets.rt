@@ -1,7 +1,6 @@
 //! What questions take up, and where a budget ends them.
 ghost use Rattle.std.specs.Prelude.{IfOk};
 ghost use Rattle.rbg_rules.specs.Places.{IsPlaceOf};
-ghost use Rattle.rbg_rules.specs.Positions.{IsPatternAt};
 
 use rbg_auto::{Steps, compact};
 use rbg_game::load;
@@ -42,27 +41,6 @@ fn white_to_move<S: Steps>(alloc: Global, game: &Game, steps: &S) -> Result<Plac
     Ok(place)
 }
 
-/// Asks the pattern that stands at position 2.
-fn ask_there<S: Steps>(
-    alloc: Global,
-    game: &Game,
-    steps: &S,
-    place: &Place,
-    budget: Budget,
-) -> Result<Answer, Fail>
-    requires steps { S.of_rules steps.now game.now.rules }
-    requires place { IsPlaceOf game.now place.now }
-    requires there { IsPatternAt game.now.rules 2 }
-{
-    let mut state = place.state.try_clone()?;
-    let mut search = Search::new(alloc, game, steps, budget);
-    Ok(Answer {
-        valid: search.pattern(&mut state, 2),
-        opened: search.opened(),
-        taken: search.taken(),
-    })
-}
-
 /// Asks the pattern at position 2 at a place.
 fn ask_at<S: Steps>(
     alloc: Global,
@@ -74,10 +52,16 @@ fn ask_at<S: Steps>(
     requires steps { S.of_rules steps.now game.now.rules }
     requires place { IsPlaceOf game.now place.now }
 {
+    let mut state = place.state.try_clone()?;
     if game.positions() < 2 || !game.is_pattern(2) {
         Err("no pattern stands at position 2")?;
     }
-    ask_there(alloc, game, steps, place, budget)
+    let mut search = Search::new(alloc, game, steps, budget);
+    Ok(Answer {
+        valid: search.pattern(&mut state, 2),
+        opened: search.opened(),
+        taken: search.taken(),
+    })
 }
 
 /// Asks the pattern at position 2 when white is to move.

@@ -1,6 +1,6 @@
 //! The actions of rules by position, and the words that go on from each.
-use crate::tree::{Action, Tree};
-use crate::words::{Word, WordsError, rests_anywhere, words};
+use crate::tests::tree::{Action, Tree};
+use crate::tests::words::{Word, WordsError, rests_anywhere, words};
 use rbg_base::Position;
 use std::alloc::Global;
 

@@ -1,6 +1,6 @@
 -- The depth of patterns that is left goes down from an action to the words of a pattern.
 use Rattle.std.proofs.Common.{◌+◌, ◌*◌}
-use Rattle.rbg_test_search.proofs.meaning.Rules.+trying.Given as goal
+use Rattle.rbg_test_search.proofs.tests.meaning.Rules.+trying.Given as goal
 
 abbrev pub decreases-try_at : goal.decreases-try_at
 decreases-try_at l = 3 * l.nested

@@ -1,0 +1,10 @@
+-- What is asked at a place of a game.
+use Rattle.std.specs.Prelude.{◌≡◌}
+use Rattle.rbg_rules.specs.Expression.{Expression}
+use Rattle.rbg_rules.specs.Moves.{AbstractPlace}
+use Rattle.rbg_rules.specs.Places.{IsPlaceOf}
+use Rattle.rbg_rules.specs.State.{AbstractGame}
+
+-- The automaton is that of the game, the game that was made ready for play is the same one, and the place is one of it.
+abbrev pub IsAskedAt : {Steps : Type 0} (of_rules : Steps → Expression → Type 0) → Steps → (game played : AbstractGame) → AbstractPlace → Type 0
+IsAskedAt of_rules steps game played place = of_rules steps game.rules × (played ≡ game) × IsPlaceOf game place

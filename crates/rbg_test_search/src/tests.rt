@@ -1,0 +1,14 @@
+//! The tests, by subject.
+mod agreement;
+mod asked;
+mod board;
+mod budgets;
+mod comparing;
+mod generated;
+mod meaning;
+mod odd;
+mod playing;
+mod table;
+mod tree;
+mod words;
+mod world;

@@ -1,0 +1,37 @@
+//! A game of which something is asked, beside its slow form.
+ghost use Rattle.std.specs.Prelude.{◌≡◌, IfSome};
+ghost use Rattle.rbg_flat.specs.Paths.{ArePathsOf};
+
+use crate::tests::meaning::Rules;
+use rbg_auto::Steps;
+use rbg_flat::Paths;
+use rbg_moves::PlayedGame;
+use rbg_rules::Game;
+use rbg_search::{Budget, Buffers, Search};
+use std::alloc::Global;
+
+/// A game that was loaded, and the same game as the slow answers see it.
+#[derive(Drop)]
+pub(crate) struct Asked<'a, S: Steps> {
+    pub(crate) alloc: Global,
+    pub(crate) game: &'a Game,
+    pub(crate) steps: &'a S,
+    /// The leaps of the game, where the questions go by sets of vertices.
+    pub(crate) paths: Option<&'a Paths>,
+    /// The game, made ready for play.
+    pub(crate) played: &'a PlayedGame,
+    pub(crate) rules: Rules<'a>,
+}
+
+impl<'a, S: Steps> Asked<'a, S> {
+    /// A search of the game.
+    pub(crate) fn search(&self, budget: Budget, buffers: &mut Buffers) -> Search<'a, S>
+        requires steps { S.of_rules self.now.steps.now self.now.game.now.rules }
+        requires paths { IfSome self.now.paths (λ told. ArePathsOf self.now.game.now told.now) }
+        ensures { result.game ≡ self.now.game.now }
+    {
+        Search::with_paths(
+            self.alloc, self.game, self.steps, self.paths, budget, buffers,
+        )
+    }
+}
