@@ -7,7 +7,7 @@ use rbg_auto::{Steps, compact};
 use rbg_game::load;
 use rbg_moves::{Move, Over, Pair, Place, PlayedGame, try_move};
 use rbg_rules::Game;
-use rbg_search::{Budget, Search};
+use rbg_search::{Budget, Buffers, Search};
 use std::alloc::{AllocError, Global};
 use std::test::Fail;
 
@@ -55,7 +55,8 @@ fn ask_there<S: Steps>(
     requires there { IsPatternAt game.now.rules 2 }
 {
     let mut state = place.state.try_clone()?;
-    let mut search = Search::new(alloc, game, steps, budget);
+    let mut buffers = Buffers::new(alloc);
+    let mut search = Search::new(alloc, game, steps, budget, &mut buffers);
     Ok(Answer {
         valid: search.pattern(&mut state, 2),
         opened: search.opened(),

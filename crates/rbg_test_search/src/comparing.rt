@@ -73,7 +73,6 @@ fn reach<S: Steps>(
         buffers,
     );
     let reached = search.reach(&mut state, origin);
-    search.leave(buffers);
     expect(state == place.state, Odd::Reach)?;
     Ok(reached)
 }
@@ -137,7 +136,6 @@ fn pattern<S: Steps>(
         buffers,
     );
     let valid = search.pattern(&mut state, position);
-    search.leave(buffers);
     expect(state == place.state, Odd::Pattern)?;
     Ok(valid)
 }
