@@ -1,16 +1,21 @@
 -- Of which kind the actions of the program are.
-use Rattle.std.proofs.Common.{◌≡◌, ◌<◌, ℕ, List, [], ◌∷◌, Bool, true, false, inl, inr, refl, sym, ap, subst, ◌∙◌, arith}
+use Rattle.std.specs.Prelude.{IsTrue}
+use Rattle.std.proofs.Common.{◌≡◌, ◌<◌, ℕ, List, [], ◌∷◌, ◌⊎◌, Bool, true, false, inl, inr, refl, sym, ap, subst, ◌∙◌, arith}
 use Rattle.rbg_rules.specs.Expression.{AbstractAction, shift, on, off, comparison, switch, positive, negative, Expression}
 use Rattle.rbg_rules.specs.Positions.{HasAction, IsNumbered, IsModifierAt, IsPatternAt, is_modifier, is_pattern}
+use Rattle.rbg_rules.specs.Actions.{Applies}
+use Rattle.rbg_rules.specs.State.{AbstractGame, AbstractState}
 use Rattle.rbg_rules.specs.Table.{Stands}
 use Rattle.rbg_rules.specs.declared.rule.Action.{Action}
 use Rattle.rbg_rules.specs.declared.rule.Action.TheVariants.{Shift, On, Off, Assign, Compare, Switch, Positive, Negative}
 use Rattle.rbg_rules.proofs.PositionLemmas.{one_stands}
 use Rattle.rbg_leaps.proofs.ShiftLemmas.{action_within}
+use Rattle.rbg_flat.specs.declared.paths.Facts.{Facts}
 use Rattle.rbg_flat.specs.declared.paths.Kind.{Kind}
-use Rattle.rbg_flat.specs.declared.paths.Kind.TheVariants.{Modifier, Pattern, On as OnOne, OnEither, OnAny, Comparison, Plain}
-use Rattle.rbg_flat.specs.Paths.{IsKind, IsComparisonAt}
-use Rattle.rbg_flat.specs.internal.Shown.{ShowsKind, IsOnKind}
+use Rattle.rbg_flat.specs.declared.paths.Kind.TheVariants.{OnEither, Modifier, Pattern, On as OnOne, Comparison, Plain}
+use Rattle.rbg_flat.specs.Paths.{AreShown, IsKind, IsComparisonAt, IsSureAt}
+use Rattle.rbg_flat.specs.internal.Gathering.{Keeps}
+use Rattle.rbg_flat.specs.internal.Shown.{ShowsFacts, HasNoPieces, HasPieces}
 
 true_not_false : true ≡ false → ⊥
 true_not_false e = cc
@@ -60,25 +65,44 @@ comparison_plain rules numbered p is = no_pattern rules numbered p (comparison i
 plain_kind : (rules : Expression) → IsNumbered rules → (p : ℕ) (a : AbstractAction) → HasAction rules p a → is_modifier a ≡ false → is_pattern a ≡ false → is_on a ≡ false → is_comparison a ≡ false → IsKind rules p Plain
 plain_kind rules numbered p a stands quiet plain other more = (no_modifier rules numbered p a stands quiet, no_pattern rules numbered p a stands plain, no_on_of rules numbered p a stands other, no_comparison_of rules numbered p a stands more)
 
-on_kind : (rules : Expression) → IsNumbered rules → (p : ℕ) (pieces : List ℕ) → HasAction rules p (on pieces) → (kind : Kind) → IsOnKind pieces kind → IsKind rules p kind
-on_kind rules numbered p pieces stands Modifier is = absurd is
-on_kind rules numbered p pieces stands Pattern is = absurd is
-on_kind rules numbered p pieces stands (OnOne x) is = subst (λ (xs : List ℕ). HasAction rules p (on xs)) is stands
-on_kind rules numbered p pieces stands (OnEither x y) is = subst (λ (xs : List ℕ). HasAction rules p (on xs)) is stands
-on_kind rules numbered p pieces stands OnAny is = (pieces, stands)
-on_kind rules numbered p pieces stands Comparison is = absurd is
-on_kind rules numbered p pieces stands Plain is = absurd is
+-- What an action's facts tell of it.
+of_kind : (rules : Expression) (p : ℕ) (told : Facts) (kind : Kind) → told.kind ≡ kind → IsKind rules p kind → IsKind rules p told.kind
+of_kind rules p told kind is there = subst (λ (k : Kind). IsKind rules p k) (sym is) there
 
--- The kind that an action shows is that of its position.
-pub kind_stands : (rules : Expression) → IsNumbered rules → (p : ℕ) (i : Action) → Stands rules p i → (kind : Kind) → ShowsKind i kind → IsKind rules p kind
-kind_stands rules numbered p (Shift d) stands kind is = subst (λ (k : Kind). IsKind rules p k) (sym is) (plain_kind rules numbered p (shift d) stands refl refl refl refl)
-kind_stands rules numbered p (On pieces) stands kind is = on_kind rules numbered p pieces.items stands kind is
-kind_stands rules numbered p (Off x) stands kind is = subst (λ (k : Kind). IsKind rules p k) (sym is) (record { action = off x; stands = stands; modifies = refl })
-kind_stands rules numbered p (Assign v e) stands kind is = subst (λ (k : Kind). IsKind rules p k) (sym is) (record { action = _; stands = stands; modifies = refl })
-kind_stands rules numbered p (Compare e r f) stands kind is = subst (λ (k : Kind). IsKind rules p k) (sym is) (record { left = _; relation = r; right = _; stands = stands })
-kind_stands rules numbered p (Switch n) stands kind is = subst (λ (k : Kind). IsKind rules p k) (sym is) (record { action = switch n; stands = stands; modifies = refl })
-kind_stands rules numbered p Positive (x, stands) kind is = subst (λ (k : Kind). IsKind rules p k) (sym is) (record { inside_it = x; stands = inl stands })
-kind_stands rules numbered p Negative (x, stands) kind is = subst (λ (k : Kind). IsKind rules p k) (sym is) (record { inside_it = x; stands = inr stands })
+no_pieces : (rules : Expression) (p : ℕ) (kind : Kind) (sure : Bool) (told : Facts) → HasNoPieces kind sure told → (kind ≡ OnEither → ⊥) → IsKind rules p kind → (IsTrue sure → IsSureAt rules p) → AreShown rules p told
+no_pieces rules p kind sure told has other there valid = record {
+  kind = of_kind rules p told kind has.kind_is there;
+  alone = λ is. absurd (true_not_false (sym is ∙ has.alone_is));
+  two = λ is. absurd (other (sym has.kind_is ∙ is));
+  sure = λ is. valid (sym has.sure_is ∙ is);
+}
+
+on_facts : (rules : Expression) (p : ℕ) (pieces : List ℕ) → HasAction rules p (on pieces) → (told : Facts) → HasPieces pieces told → AreShown rules p told
+on_facts rules p pieces stands told has = record {
+  kind = by_kind has.kind;
+  alone = λ is. subst (λ (xs : List ℕ). HasAction rules p (on xs)) (has.alone is) stands;
+  two = λ is. subst (λ (xs : List ℕ). HasAction rules p (on xs)) (has.two is) stands;
+  sure = λ is. absurd (true_not_false (sym is ∙ has.sure_is));
+}
+  where
+    by_kind : (told.kind ≡ OnOne) ⊎ (told.kind ≡ OnEither) → IsKind rules p told.kind
+    by_kind (inl is) = of_kind rules p told OnOne is (pieces, stands)
+    by_kind (inr is) = of_kind rules p told OnEither is (pieces, stands)
+
+-- None but offs and switches are told to be sure.
+not_sure : (rules : Expression) (p : ℕ) → IsTrue false → IsSureAt rules p
+not_sure rules p is = absurd (true_not_false (sym is))
+
+-- What the facts of an action tell is so at its position.
+pub facts_stand : (rules : Expression) → IsNumbered rules → (p : ℕ) (i : Action) → Stands rules p i → (told : Facts) → ShowsFacts i told → AreShown rules p told
+facts_stand rules numbered p (Shift d) stands told is = no_pieces rules p Plain false told is (λ e. cc) (plain_kind rules numbered p (shift d) stands refl refl refl refl) (not_sure rules p)
+facts_stand rules numbered p (On pieces) stands told is = on_facts rules p pieces.items stands told is
+facts_stand rules numbered p (Off x) stands told is = no_pieces rules p Modifier true told is (λ e. cc) (record { action = off x; stands = stands; modifies = refl }) (λ _. record { stands = inl (x, stands) })
+facts_stand rules numbered p (Assign v e) stands told is = no_pieces rules p Modifier false told is (λ e. cc) (record { action = _; stands = stands; modifies = refl }) (not_sure rules p)
+facts_stand rules numbered p (Compare e r f) stands told is = no_pieces rules p Comparison false told is (λ e. cc) (record { left = _; relation = r; right = _; stands = stands }) (not_sure rules p)
+facts_stand rules numbered p (Switch n) stands told is = no_pieces rules p Modifier true told is (λ e. cc) (record { action = switch n; stands = stands; modifies = refl }) (λ _. record { stands = inr (n, stands) })
+facts_stand rules numbered p Positive (x, stands) told is = no_pieces rules p Pattern false told is (λ e. cc) (record { inside_it = x; stands = inl stands }) (not_sure rules p)
+facts_stand rules numbered p Negative (x, stands) told is = no_pieces rules p Pattern false told is (λ e. cc) (record { inside_it = x; stands = inr stands }) (not_sure rules p)
 
 -- A pattern is no modifier.
 pub pattern_opens : (rules : Expression) → IsNumbered rules → (p : ℕ) → IsPatternAt rules p → ¬ IsModifierAt rules p
@@ -89,20 +113,18 @@ pattern_opens rules numbered p pattern m = elim pattern.stands [
 
 -- Where a pattern stands, the kind tells so, and where a modifier stands.
 pub pattern_kind : (rules : Expression) → IsNumbered rules → (p : ℕ) (kind : Kind) → IsKind rules p kind → IsPatternAt rules p → kind ≡ Pattern
+pattern_kind rules numbered p OnEither is pattern = absurd (no_pattern rules numbered p (on is.0) is.1 refl pattern)
 pattern_kind rules numbered p Modifier is pattern = absurd (pattern_opens rules numbered p pattern is)
 pattern_kind rules numbered p Pattern is pattern = refl
-pattern_kind rules numbered p (OnOne x) is pattern = absurd (no_pattern rules numbered p (on (x ∷ [])) is refl pattern)
-pattern_kind rules numbered p (OnEither x y) is pattern = absurd (no_pattern rules numbered p (on (x ∷ y ∷ [])) is refl pattern)
-pattern_kind rules numbered p OnAny is pattern = absurd (no_pattern rules numbered p (on is.0) is.1 refl pattern)
+pattern_kind rules numbered p OnOne is pattern = absurd (no_pattern rules numbered p (on is.0) is.1 refl pattern)
 pattern_kind rules numbered p Comparison is pattern = absurd (comparison_plain rules numbered p is pattern)
 pattern_kind rules numbered p Plain is pattern = absurd (is.1 pattern)
 
 pub modifier_kind : (rules : Expression) → IsNumbered rules → (p : ℕ) (kind : Kind) → IsKind rules p kind → IsModifierAt rules p → kind ≡ Modifier
+modifier_kind rules numbered p OnEither is modifier = absurd (no_modifier rules numbered p (on is.0) is.1 refl modifier)
 modifier_kind rules numbered p Modifier is modifier = refl
 modifier_kind rules numbered p Pattern is modifier = absurd (pattern_opens rules numbered p is modifier)
-modifier_kind rules numbered p (OnOne x) is modifier = absurd (no_modifier rules numbered p (on (x ∷ [])) is refl modifier)
-modifier_kind rules numbered p (OnEither x y) is modifier = absurd (no_modifier rules numbered p (on (x ∷ y ∷ [])) is refl modifier)
-modifier_kind rules numbered p OnAny is modifier = absurd (no_modifier rules numbered p (on is.0) is.1 refl modifier)
+modifier_kind rules numbered p OnOne is modifier = absurd (no_modifier rules numbered p (on is.0) is.1 refl modifier)
 modifier_kind rules numbered p Comparison is modifier = absurd (comparison_quiet rules numbered p is modifier)
 modifier_kind rules numbered p Plain is modifier = absurd (is.0 modifier)
 
@@ -123,6 +145,22 @@ zero_kind rules numbered = (
       | inl is ↦ not_zero (action_within rules numbered 0 (positive pattern.inside_it) is).0
       | inr is ↦ not_zero (action_within rules numbered 0 (negative pattern.inside_it) is).0
     ]
+
+pub zero_facts : (rules : Expression) → IsNumbered rules → (told : Facts) → HasNoPieces Plain false told → AreShown rules 0 told
+zero_facts rules numbered told is = no_pieces rules 0 Plain false told is (λ e. cc) (zero_kind rules numbered) (not_sure rules 0)
+
+-- A modifier that is sure is valid everywhere.
+pub sure_keeps : (game : AbstractGame) (s : AbstractState) (p : ℕ) → IsSureAt game.rules p → Keeps game s p
+sure_keeps game s p sure = elim sure.stands [
+  | inl is ↦ record {
+    modifies = record { action = off is.0; stands = is.1; modifies = refl };
+    valid = λ v. (_, record { action = off is.0; stands = is.1; acts = refl });
+  }
+  | inr is ↦ record {
+    modifies = record { action = switch is.0; stands = is.1; modifies = refl };
+    valid = λ v. (_, record { action = switch is.0; stands = is.1; acts = refl });
+  }
+]
 
 -- Where an on stands, the program's action is one.
 pub other_never : (rules : Expression) → IsNumbered rules → (p : ℕ) (i : Action) → Stands rules p i → ((pieces : _) → ¬ (i ≡ On pieces)) → (wanted : List ℕ) → ¬ HasAction rules p (on wanted)

@@ -1,7 +1,7 @@
 -- The leaps of a game, and what flat parts need to know of its positions.
-use Rattle.std.specs.Prelude.{◌≡◌, ◌+◌, ℕ, List, [], ◌∷◌, length, slice_get, Some, IsTrue, Bool, true, false}
+use Rattle.std.specs.Prelude.{◌≡◌, ◌+◌, ◌⊎◌, ℕ, List, [], ◌∷◌, length, slice_get, Some, IsTrue}
 use Rattle.rbg_base.specs.declared.relation.Relation.{Relation}
-use Rattle.rbg_rules.specs.Expression.{Expression, AbstractArithmetic, on, comparison}
+use Rattle.rbg_rules.specs.Expression.{Expression, AbstractArithmetic, on, off, comparison, switch}
 use Rattle.rbg_rules.specs.Positions.{HasAction, IsModifierAt, IsPatternAt, positions_of}
 use Rattle.rbg_rules.specs.State.{AbstractGame}
 use Rattle.rbg_rules.specs.Words.{after, Follows}
@@ -9,7 +9,7 @@ use Rattle.rbg_leaps.specs.Leaps.{IsShiftAt}
 use Rattle.rbg_leaps.specs.Made.{AreLeapsOf}
 use Rattle.rbg_flat.specs.declared.paths.Facts.{Facts}
 use Rattle.rbg_flat.specs.declared.paths.Kind.{Kind}
-use Rattle.rbg_flat.specs.declared.paths.Kind.TheVariants.{Modifier, Pattern, On, OnEither, OnAny, Comparison, Plain}
+use Rattle.rbg_flat.specs.declared.paths.Kind.TheVariants.{OnEither, Modifier, Pattern, On, Comparison, Plain}
 use Rattle.rbg_flat.specs.declared.paths.Paths.{Paths}
 
 -- No shift comes next behind the position.
@@ -23,32 +23,31 @@ pub record IsComparisonAt (rules : Expression) (p : ℕ) : Type 0 where
   pub right : AbstractArithmetic
   pub stands : HasAction rules p (comparison left relation right)
 
+-- A modifier that is valid everywhere stands at the position.
+pub record IsSureAt (rules : Expression) (p : ℕ) : Type 0 where
+  pub stands : ((x : ℕ) × HasAction rules p (off x)) ⊎ ((n : ℕ) × HasAction rules p (switch n))
+
 -- The kind of the action at the position.
 abbrev pub IsKind : Expression → ℕ → Kind → Type 0
+IsKind rules p OnEither = (wanted : List ℕ) × HasAction rules p (on wanted)
 IsKind rules p Modifier = IsModifierAt rules p
 IsKind rules p Pattern = IsPatternAt rules p
-IsKind rules p (On x) = HasAction rules p (on (x ∷ []))
-IsKind rules p (OnEither x y) = HasAction rules p (on (x ∷ y ∷ []))
-IsKind rules p OnAny = (wanted : List ℕ) × HasAction rules p (on wanted)
+IsKind rules p On = (wanted : List ℕ) × HasAction rules p (on wanted)
 IsKind rules p Comparison = IsComparisonAt rules p
 IsKind rules p Plain =
     (¬ IsModifierAt rules p) × (¬ IsPatternAt rules p) × ((wanted : List ℕ) → ¬ HasAction rules p (on wanted)) × (¬ IsComparisonAt rules p)
 
--- Whether it is the kind of an on of one piece.
-abbrev pub shows_alone : Kind → Bool
-shows_alone (On x) = true
-shows_alone Modifier = false
-shows_alone Pattern = false
-shows_alone (OnEither x y) = false
-shows_alone OnAny = false
-shows_alone Comparison = false
-shows_alone Plain = false
+-- What is told of the action at the position is so.
+pub record AreShown (rules : Expression) (p : ℕ) (told : Facts) : Type 0 where
+  pub kind : IsKind rules p told.kind
+  pub alone : IsTrue told.alone → HasAction rules p (on (told.piece ∷ []))
+  pub two : told.kind ≡ OnEither → HasAction rules p (on (told.piece ∷ told.other ∷ []))
+  pub sure : IsTrue told.sure → IsSureAt rules p
 
 -- What is told of the position is so.
 pub record AreFacts (game : AbstractGame) (p : ℕ) (told : Facts) : Type 0 where
   pub still : IsTrue told.still → IsStill game.rules p
-  pub kind : IsKind game.rules p told.kind
-  pub alone : told.alone ≡ shows_alone told.kind
+  pub shown : AreShown game.rules p told
 
 -- The leaps are those of the game, and the facts of each of its positions are told.
 pub record ArePathsOf (game : AbstractGame) (paths : Paths) : Type 0 where

@@ -23,7 +23,8 @@ pub(crate) fn keeps(game: &Game, paths: &Paths, state: &SemiState, position: Pos
     requires there { position ≤ length (positions_of game.now.rules) }
     ensures { IsTrue result ↔ Keeps game.now state.now.state position }
 {
-    is_modifier(game, paths, position) && is_kept(game, state, position)
+    is_modifier(game, paths, position)
+        && (paths.is_sure(game, position) || is_kept(game, state, position))
 }
 
 /// Whether a modifier stands at a position.
@@ -37,7 +38,7 @@ pub(crate) fn is_modifier(game: &Game, paths: &Paths, position: Position) -> boo
     matches!(paths.kind(game, position), Kind::Modifier)
 }
 
-/// The same where an action stands.
+/// The same where an action stands, by a try. Only assignments are tried so: offs and switches are always valid.
 #[inline(never)]
 fn is_kept(game: &Game, state: &SemiState, position: Position) -> bool
     requires lawful { IsGame game.now }

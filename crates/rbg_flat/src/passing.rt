@@ -6,7 +6,7 @@ ghost use Rattle.rbg_rules.specs.Positions.{IsModifierAt, IsPatternAt, positions
 ghost use Rattle.rbg_rules.specs.State.{IsStateOf};
 ghost use Rattle.rbg_leaps.specs.Limits.{row_words};
 ghost use Rattle.rbg_flat.specs.Paths.{ArePathsOf, IsKind};
-ghost use Rattle.rbg_flat.specs.declared.paths.Kind.TheVariants.{OnAny, Comparison};
+ghost use Rattle.rbg_flat.specs.declared.paths.Kind.TheVariants.{On, Comparison};
 ghost use Rattle.rbg_flat.specs.internal.Passing.{Passes, IsOneOf, IsToTry};
 ghost use Rattle.rbg_flat.specs.internal.Leading.{IsOnBoard, IsPositionIn};
 
@@ -42,7 +42,7 @@ pub(crate) fn to_try(
     if let Kind::Modifier = kind {
         return 0;
     }
-    if let Kind::OnEither(piece, other) = kind {
+    if let Some((piece, other)) = paths.two_pieces(game, position) {
         return either_standing(state, piece, other, column);
     }
     if let Kind::Pattern = kind {
@@ -72,9 +72,7 @@ fn any_to_try(
         Kind::Modifier => 0,
         Kind::Pattern | Kind::Plain => full_word(),
         Kind::Comparison => comparison_to_try(game, state, position),
-        Kind::On(piece) => standing(state, piece, column),
-        Kind::OnEither(piece, other) => either_standing(state, piece, other, column),
-        Kind::OnAny => on_to_try(game, state, position, column),
+        Kind::On | Kind::OnEither => on_to_try(game, state, position, column),
     }
 }
 
@@ -101,7 +99,7 @@ fn on_to_try(game: &Game, state: &SemiState, position: Position, column: usize) 
     requires lawful { IsGame game.now }
     requires position { IsPositionIn game.now position }
     requires column { column * 64 < length state.now.state.pieces }
-    requires stands { IsKind game.now.rules position OnAny }
+    requires stands { IsKind game.now.rules position On }
     ensures { (b : ℕ) → b < 64 → (bit_at result b ≡ 1)
         ↔ IsToTry game.now state.now.state (column * 64 + b) position }
 {
@@ -196,7 +194,7 @@ pub(crate) fn held(
 {
     match paths.kind(game, position) {
         // what is to be looked at passes
-        Kind::On(_) | Kind::OnEither(_, _) | Kind::OnAny | Kind::Comparison => word,
+        Kind::On | Kind::OnEither | Kind::Comparison => word,
         Kind::Modifier | Kind::Pattern | Kind::Plain => {
             passing(game, state, position, column, word)
         }

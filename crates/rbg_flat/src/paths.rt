@@ -6,9 +6,9 @@ ghost use Rattle.rbg_rules.specs.Positions.{HasAction, positions_of};
 ghost use Rattle.rbg_rules.specs.State.{AbstractGame};
 ghost use Rattle.rbg_leaps.specs.Leaps.{IsShiftAt};
 ghost use Rattle.rbg_leaps.specs.Limits.{IsTooLarge};
-ghost use Rattle.rbg_flat.specs.Paths.{AreFacts, ArePathsOf, IsKind, IsStill, shows_alone};
+ghost use Rattle.rbg_flat.specs.Paths.{AreFacts, AreShown, ArePathsOf, IsKind, IsStill, IsSureAt};
 ghost use Rattle.rbg_flat.specs.internal.Leading.{IsPositionIn};
-ghost use Rattle.rbg_flat.specs.internal.Shown.{ShowsKind, IsOnKind, shows_shift};
+ghost use Rattle.rbg_flat.specs.internal.Shown.{ShowsFacts, HasNoPieces, HasPieces, shows_shift};
 
 use rbg_auto::{Expr, Steps};
 use rbg_base::{Memory, Piece, Position, Vertex};
@@ -19,31 +19,36 @@ use std::alloc::Global;
 /// What a flat part does with the action at a position. The kinds that are told apart first stand first.
 #[derive(Clone, Copy, Drop)]
 pub(crate) enum Kind {
-    /// An on of these two pieces: it is looked at where one of them stands.
-    OnEither(Piece, Piece),
+    /// An on of two pieces, which the facts tell: it is looked at where one of them stands.
+    OnEither,
     /// A modifier: it is found, and nothing is led on from it.
     Modifier,
     /// A pattern: it is asked at each vertex.
     Pattern,
-    /// An on of this piece alone: it is looked at where the piece stands.
-    On(Piece),
-    /// An on of whichever pieces: the game is asked for them. The facts say so of an on of none, or of more than two.
-    OnAny,
+    /// Any other on: it is looked at where one of its pieces stands.
+    On,
     /// A comparison: it is looked at everywhere, or nowhere where it doesn't hold.
     Comparison,
     /// A shift, or no action: nothing of this kind is met.
     Plain,
 }
 
-/// What flat parts need to know of a position.
+/// What flat parts need to know of a position. The pieces stand beside the kind, not in it: so a kind is one byte, and each
+/// field is read where it is.
 #[derive(Clone, Copy, Drop)]
 pub(crate) struct Facts {
     /// Whether no shift comes next behind it.
     pub(crate) still: bool,
-    /// Whether it is an on of one piece. The kind says so too, but most of what is met are such ons, and a flag of its own
-    /// is tested before all kinds.
+    /// Whether it is an on of one piece. Most of what is met are such ons, and a flag of its own is tested before all
+    /// kinds.
     pub(crate) alone: bool,
+    /// Whether it is a modifier that is valid everywhere: an off or a switch.
+    pub(crate) sure: bool,
     pub(crate) kind: Kind,
+    /// The piece of an on of one, or the first one of two.
+    pub(crate) piece: Piece,
+    /// The second piece of an on of two.
+    pub(crate) other: Piece,
 }
 
 /// The leaps of a game, with the facts of each position, from 0 on.
@@ -122,13 +127,32 @@ impl Paths {
         ensures { IfSome result (λ x. HasAction game.now.rules position (on (x ∷ []))) }
     {
         let facts = self.facts(position);
-        if !facts.alone {
-            return None;
-        }
+        if facts.alone { Some(facts.piece) } else { None }
+    }
+
+    /// The pieces of the on at a position, where that is an on of two.
+    #[inline(always)]
+    pub(crate) fn two_pieces(&self, game: &Game, position: Position) -> Option<(Piece, Piece)>
+        requires paths { ArePathsOf game.now self.now }
+        requires there { position ≤ length (positions_of game.now.rules) }
+        ensures { IfSome result (λ xs.
+            HasAction game.now.rules position (on (xs.0 ∷ xs.1 ∷ []))) }
+    {
+        let facts = self.facts(position);
         match facts.kind {
-            Kind::On(piece) => Some(piece),
-            _ => unreachable!(),
+            Kind::OnEither => Some((facts.piece, facts.other)),
+            _ => None,
         }
+    }
+
+    /// Whether a modifier stands at a position that is valid everywhere, as far as that is told.
+    #[inline(always)]
+    pub(crate) fn is_sure(&self, game: &Game, position: Position) -> bool
+        requires paths { ArePathsOf game.now self.now }
+        requires there { position ≤ length (positions_of game.now.rules) }
+        ensures { IsTrue result → IsSureAt game.now.rules position }
+    {
+        self.facts(position).sure
     }
 
     /// The kind of the action at a position.
@@ -193,35 +217,74 @@ fn are_single(targets: &[Target]) -> bool {
     true
 }
 
-/// The facts of a position, behind which these come next.
+/// The facts of a position, behind which these come next. No action stands at position 0.
 fn facts_at(game: &Game, position: Position, next: &[Position]) -> Facts
     requires lawful { IsGame game.now }
     requires there { position ≤ length (positions_of game.now.rules) }
     requires within { All (IsPositionIn game.now) next.now }
     ensures still { IsTrue result.still → All (λ q. ¬ IsShiftAt game.now.rules q) next.now }
-    ensures kind { IsKind game.now.rules position result.kind }
-    ensures alone { result.alone ≡ shows_alone result.kind }
+    ensures shown { AreShown game.now.rules position result }
 {
-    let kind = kind_at(game, position);
-    Facts {
-        still: no_shift(game, next),
-        alone: is_alone(kind),
-        kind,
+    let still = no_shift(game, next);
+    if position == 0 {
+        return plain_facts(still, Kind::Plain, false);
+    }
+    facts_of(game.action(position), still)
+}
+
+/// The facts of an action.
+fn facts_of(action: &Action, still: bool) -> Facts
+    ensures still { result.still ≡ still }
+    ensures shown { ShowsFacts action.now result }
+{
+    match action {
+        Action::Off { .. } | Action::Switch { .. } => plain_facts(still, Kind::Modifier, true),
+        Action::Assign { .. } => plain_facts(still, Kind::Modifier, false),
+        Action::Positive | Action::Negative => plain_facts(still, Kind::Pattern, false),
+        Action::On { pieces } => facts_of_on(pieces, still),
+        Action::Compare { .. } => plain_facts(still, Kind::Comparison, false),
+        Action::Shift { .. } => plain_facts(still, Kind::Plain, false),
     }
 }
 
-/// Whether it is the kind of an on of one piece.
-fn is_alone(kind: Kind) -> bool
-    ensures { result ≡ shows_alone kind }
+/// The facts of an action of this kind that has no pieces.
+fn plain_facts(still: bool, kind: Kind, sure: bool) -> Facts
+    ensures still { result.still ≡ still }
+    ensures shown { HasNoPieces kind sure result }
 {
-    match kind {
-        Kind::On(_) => true,
-        Kind::Modifier
-        | Kind::Pattern
-        | Kind::OnEither(_, _)
-        | Kind::OnAny
-        | Kind::Comparison
-        | Kind::Plain => false,
+    Facts {
+        still,
+        alone: false,
+        sure,
+        kind,
+        piece: 0,
+        other: 0,
+    }
+}
+
+/// The facts of an on of these pieces.
+fn facts_of_on(pieces: &[Piece], still: bool) -> Facts
+    ensures still { result.still ≡ still }
+    ensures shown { HasPieces pieces.now result }
+{
+    match pieces {
+        [piece] => Facts {
+            still,
+            alone: true,
+            sure: false,
+            kind: Kind::On,
+            piece: *piece,
+            other: 0,
+        },
+        [piece, other] => Facts {
+            still,
+            alone: false,
+            sure: false,
+            kind: Kind::OnEither,
+            piece: *piece,
+            other: *other,
+        },
+        _ => plain_facts(still, Kind::On, false),
     }
 }
 
@@ -261,41 +324,5 @@ fn shifts(action: &Action) -> bool
         | Action::Switch { .. }
         | Action::Positive
         | Action::Negative => false,
-    }
-}
-
-/// The kind of the action at a position. None stands at position 0.
-fn kind_at(game: &Game, position: Position) -> Kind
-    requires lawful { IsGame game.now }
-    requires there { position ≤ length (positions_of game.now.rules) }
-    ensures { IsKind game.now.rules position result }
-{
-    if position == 0 {
-        return Kind::Plain;
-    }
-    kind_of(game.action(position))
-}
-
-/// The kind of an action.
-fn kind_of(action: &Action) -> Kind
-    ensures { ShowsKind action.now result }
-{
-    match action {
-        Action::Off { .. } | Action::Assign { .. } | Action::Switch { .. } => Kind::Modifier,
-        Action::Positive | Action::Negative => Kind::Pattern,
-        Action::On { pieces } => on_kind(pieces),
-        Action::Compare { .. } => Kind::Comparison,
-        Action::Shift { .. } => Kind::Plain,
-    }
-}
-
-/// The kind of an on of these pieces.
-fn on_kind(pieces: &[Piece]) -> Kind
-    ensures { IsOnKind pieces.now result }
-{
-    match pieces {
-        [piece] => Kind::On(*piece),
-        [piece, other] => Kind::OnEither(*piece, *other),
-        _ => Kind::OnAny,
     }
 }

@@ -14,9 +14,10 @@ use Rattle.rbg_search.specs.declared.over.Over.TheVariants.{Deep, Wide, Memory}
 use Rattle.rbg_search.proofs.CallerLemmas.{too_deep, over_wide}
 use Rattle.rbg_search.proofs.Counted.{memory_not_deep, memory_not_wide, ok_not_err}
 use Rattle.rbg_search.proofs.CountedSteps.{given_up, not_memory}
-use Rattle.rbg_moves.specs.Answers.{GivesUp, FindsMove, TriesMove, ListsMoves}
+use Rattle.rbg_moves.specs.Answers.{GivesUp, FindsMove, TriesMove, ListsMoves, TellsMove}
 use Rattle.rbg_moves.specs.Limits.{IsDeepAt, IsWideAt, FitsLimits}
 use Rattle.rbg_moves.specs.Tallying.{IsTallied, Tallies}
+use Rattle.rbg_moves.specs.internal.Fronts.{FindsFront}
 use Rattle.rbg_moves.specs.internal.Asking.{CountsAnswer, IsGivenUp, begun_in}
 use Rattle.rbg_moves.proofs.Forcing.{all_forced, counts_uncut, fits_at}
 use Rattle.rbg_moves.proofs.Tallies.{tallied}
@@ -49,6 +50,15 @@ gives_on callee r e was gives is = gives_up r (λ d. is.deep (given_up callee r 
 pub finds_none : {X : Type 0} {game : AbstractGame} {place : AbstractPlace} {pairs_of : X → List (ℕ × ℕ)} (r : Result (Option X) Over) (P : Over → Type 0) → IsErrAnd r P → GivesUp game find_move place r → FindsMove game place r pairs_of
 finds_none (Ok x) P is why = absurd is
 finds_none (Err e) P is why = record { found = tt; sized = tt; finished = tt; given_up = why; fits = tt }
+
+pub front_none : {game : AbstractGame} {place : AbstractPlace} {front : List (ℕ × ℕ)} (r : Result Bool Over) (P : Over → Type 0) → IsErrAnd r P → GivesUp game find_move place r → FindsFront game place r front
+front_none (Ok x) P is why = absurd is
+front_none (Err e) P is why = record { found = tt; sized = tt; finished = tt; given_up = why; fits = tt }
+
+-- Where the pairs of a move are there, there is one.
+pub tells_front : {game : AbstractGame} {place : AbstractPlace} {front : List (ℕ × ℕ)} (r : Result Bool Over) → FindsFront game place r front → TellsMove game place r
+tells_front {front = front} (Ok some) finds = record { some = λ e. (front, finds.found e); finished = finds.finished; given_up = finds.given_up; fits = finds.fits }
+tells_front (Err e) finds = record { some = tt; finished = tt; given_up = finds.given_up; fits = tt }
 
 -- It was asked at a copy of the place.
 pub finds_at : {X : Type 0} {game : AbstractGame} {place here : AbstractPlace} {r : Result (Option X) Over} {pairs_of : X → List (ℕ × ℕ)} → here ≡ place → FindsMove game here r pairs_of → FindsMove game place r pairs_of

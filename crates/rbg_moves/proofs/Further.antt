@@ -1,10 +1,10 @@
 -- A walk takes the modifiers that come next in turn, and goes on behind each.
-use Rattle.std.proofs.Common.{◌≡◌, ◌≢◌, ℕ, zero, suc, ◌+◌, ◌-◌, ◌<◌, List, [], ◌∷◌, ◌++◌, length, Bool, true, false, Option, refl, sym, ap, subst, arith}
+use Rattle.std.proofs.Common.{◌≡◌, ◌≢◌, ℕ, zero, suc, ◌+◌, ◌-◌, ◌<◌, ◌≤◌, List, [], ◌∷◌, ◌++◌, length, Bool, true, false, Option, refl, sym, ap, subst, arith}
 use Rattle.std.specs.Prelude.{All, Contains, IsOk, Result, Ok, Err}
 use Rattle.std.specs.List.Sorted.{IsPermutation}
 use Rattle.std.proofs.lemmas.List.{length_push}
-use Rattle.std.proofs.lemmas.List.Sorted.{All-permutation, IsPermutation-append_right}
-use Rattle.std.proofs.lemmas.List.Elements.{All-head, All-tail}
+use Rattle.std.proofs.lemmas.List.Sorted.{All-permutation, IsPermutation-append_right, IsPermutation-refl}
+use Rattle.std.proofs.lemmas.List.Elements.{All-head, All-nil, All-push, All-tail}
 use Rattle.rbg_base.specs.Move.{most_pairs}
 use Rattle.rbg_rules.specs.Positions.{IsNumbered, IsModifierAt, IsSwitchAt}
 use Rattle.rbg_rules.specs.Words.{Start, after}
@@ -30,11 +30,11 @@ use Rattle.rbg_search.proofs.Orders.{flat_permuted}
 use Rattle.rbg_search.proofs.Takings.{any_part, is_answer, takes_as, takes_part_of}
 use Rattle.rbg_search.proofs.Turns.{turned, turn_under, turn_at, turn_front, turn_rest, none_left}
 use Rattle.rbg_moves.specs.internal.Asking.{question_of, IsGivenUp}
-use Rattle.rbg_moves.specs.internal.Gathering.{Gathers, IsLegalBy, IsSwitchOr, ListsSwitches, LeavesOthers, IsWalked}
+use Rattle.rbg_moves.specs.internal.Gathering.{AddsMove, Gathers, IsLegalBy, IsSwitchOr, ListsSwitches, LeavesOthers, IsWalked}
 use Rattle.rbg_moves.specs.internal.Stepping.{at_vertex, place_behind, Behind, IsValidAt}
 use Rattle.rbg_moves.proofs.Steps.{next_applies, next_there, valid_next, modifier_position}
-use Rattle.rbg_moves.proofs.Gathering.{gathers_behind}
-use Rattle.rbg_moves.proofs.Listing.{switches_cut, others_begin, others_more, others_cut, others_end}
+use Rattle.rbg_moves.proofs.Gathering.{gathers_any, gathers_behind}
+use Rattle.rbg_moves.proofs.Listing.{lists_none, lists_more, lists_cut, lists_any, lists_all, switches_cut, others_begin, others_more, others_cut, others_end}
 use Rattle.rbg_moves.proofs.Forcing.{TakenSoFar, so_far_one, so_far_switches, early_forced, all_forced_at, walk_passes}
 use Rattle.rbg_moves.proofs.Tallies.{more_takes}
 
@@ -147,6 +147,14 @@ walk_whole {old} {now} {place} {front} {max} {had} {has} {first} {done} {others}
         forced = all_forced_at old.game numbered max place front had has first (done ++ others) whole.ends old.opened now.opened (most_pairs - length front) old.modifiers gathers whole.part all.forced;
       };
     }
+
+-- Where it didn't end early, it doesn't matter which the first move is.
+pub walked_any : {old now : Searching} {place : AbstractPlace} {front : List (ℕ × ℕ)} {max : ℕ} {had has : List (List (ℕ × ℕ))} {first : List (ℕ × ℕ)} (other : List (ℕ × ℕ)) → IsWalked old now place front max had has first false → IsWalked old now place front max had has other false
+walked_any {old} {place = place} {front} {max} {had} {has} {first} other walked = record {
+  short = walked.short;
+  gathers = gathers_any (IsLegal old.game place) front max had has first other walked.gathers;
+  counts = walked.counts;
+}
 
 -- ---- one of the modifiers is taken
 
@@ -283,6 +291,49 @@ module _ {old now : Searching} {place : AbstractPlace} {s' : AbstractState} {fro
           forced = early_forced old.game turn.lawful.numbered max place front had now_has now_first old.opened turn.so_far.forced.middle new.opened (most_pairs - length front) old.modifiers gathers (omega (arith, so_far, later)) turn.so_far.forced.at_once;
         };
       }
+
+-- ---- one modifier alone comes next
+
+-- It is a switch: its move was added, or there was no room for it.
+one_switch : (game : AbstractGame) → IsNumbered game.rules → (q : ℕ × ℕ) → IsSwitchAt game.rules q.1 → (front front' : List (ℕ × ℕ)) (max : ℕ) (had has : List (List (ℕ × ℕ))) (cut : Bool) → length front < most_pairs → length had ≤ max → AddsMove max had has front front' q cut → ListsSwitches game (q ∷ []) (q ∷ []) front max had has front' cut
+one_switch game numbered q switches front front' max had has true short few (full, (unchanged, pushed)) =
+    subst (λ (xs : List (List (ℕ × ℕ))). ListsSwitches game (q ∷ []) (q ∷ []) front max had xs front' true) (sym unchanged)
+    (lists_cut game numbered (q ∷ []) front max had had [] front' [] [] q (IsPermutation-refl (q ∷ [])) switches full short (λ _. pushed) (lists_none game (q ∷ []) front max had [] few))
+one_switch game numbered q switches front front' max had has false short few (room, (grown, kept)) =
+    subst (λ (xs : List (List (ℕ × ℕ))). ListsSwitches game (q ∷ []) (q ∷ []) front max had xs front' false) (sym grown)
+    (lists_any game (q ∷ []) (q ∷ []) front max had (had ++ (front ++ q ∷ []) ∷ []) [] front'
+    (lists_all game (q ∷ []) front max had (had ++ (front ++ q ∷ []) ∷ []) [] (q ∷ []) [] (IsPermutation-refl (q ∷ [])) (All-nil (λ (r : ℕ × ℕ). ¬ IsSwitchAt game.rules r.1))
+    (lists_more game numbered (q ∷ []) front max had had [] [] [] q (IsPermutation-refl (q ∷ [])) switches room (lists_none game (q ∷ []) front max had [] few))))
+
+pub walk_switch : {old now : Searching} {s l : History} (last : Option ℕ) {result : Result Bool Over} {front front' : List (ℕ × ℕ)} {max : ℕ} {had has : List (List (ℕ × ℕ))} {q : ℕ × ℕ} {ends : Bool} → IsNumbered old.game.rules → HasCome old now s l (stand_of last) result (q ∷ []) ends → length front < most_pairs → length had ≤ max → IsSwitchAt old.game.rules q.1 → (cut : Bool) → AddsMove max had has front front' q cut → (let place : AbstractPlace = record { state = s.state; last = last } in IsWalked old now place front max had has front' cut)
+walk_switch {old} last {front = front} {front'} {max} {had} {has} {q} numbered come short few switches true adds =
+    walk_ended last numbered come short (one_switch old.game numbered q switches front front' max had has true short few adds)
+walk_switch {old} last {front = front} {front'} {max} {had} {has} {q} {ends} numbered come short few switches false adds =
+    let leaves : LeavesOthers old.game.rules (q ∷ []) [] = record {
+      switches = q ∷ [];
+      moves = IsPermutation-refl (q ∷ []);
+      switching = All-push (λ (r : ℕ × ℕ). IsSwitchAt old.game.rules r.1) [] q (All-nil (λ (r : ℕ × ℕ). IsSwitchAt old.game.rules r.1)) switches;
+      plain = All-nil (λ (r : ℕ × ℕ). ¬ IsSwitchAt old.game.rules r.1);
+    } in
+    walk_whole numbered short (record { ends = ends; part = come.found.reached }) refl (walk_begun last numbered come leaves (one_switch old.game numbered q switches front front' max had has false short few adds))
+
+-- It is none: it is the one to go on behind.
+pub one_turn : {old now : Searching} {s l : History} (last : Option ℕ) {result : Result Bool Over} (front : List (ℕ × ℕ)) {max : ℕ} (had : List (List (ℕ × ℕ))) {q : ℕ × ℕ} {ends : Bool} → IsGame old.game → HasCome old now s l (stand_of last) result (q ∷ []) ends → length had ≤ max → ¬ IsSwitchAt old.game.rules q.1 → (let place : AbstractPlace = record { state = s.state; last = last } in AtTurn old now place l.state front front max max had had [] [] [] q)
+one_turn {old} {now} {s} {l} last front {max} had {q} {ends} lawful come few plain =
+    let all : All (λ (r : ℕ × ℕ). ¬ IsSwitchAt old.game.rules r.1) (q ∷ []) = All-push (λ (r : ℕ × ℕ). ¬ IsSwitchAt old.game.rules r.1) [] q (All-nil (λ (r : ℕ × ℕ). ¬ IsSwitchAt old.game.rules r.1)) plain in
+    let leaves : LeavesOthers old.game.rules (q ∷ []) (q ∷ []) = record {
+      switches = [];
+      moves = IsPermutation-refl (q ∷ []);
+      switching = All-nil (λ (r : ℕ × ℕ). IsSwitchAt old.game.rules r.1);
+      plain = all;
+    } in
+    let lists = lists_all old.game (q ∷ []) front max had had [] [] (q ∷ []) (IsPermutation-refl (q ∷ [])) all (lists_none old.game (q ∷ []) front max had [] few) in
+    walk_turn lawful come.asked.kept (ap (λ (h : History). h.state) come.asked.given_back) refl refl (record { ends = ends; part = come.found.reached }) all (walk_begun last lawful.numbered come leaves lists) (IsPermutation-refl (q ∷ []))
+
+-- What was found behind it is all.
+pub turn_done : {old now new : Searching} {place : AbstractPlace} {s' : AbstractState} {front front' : List (ℕ × ℕ)} {max max' : ℕ} {had has now_has : List (List (ℕ × ℕ))} {first now_first done : List (ℕ × ℕ)} {q : ℕ × ℕ} (turn : AtTurn old now place s' front front' max max' had has first done [] q) → length front < most_pairs → (ended : Bool) → Behind now.game s' q (λ later. IsWalked now new (place_behind later q.1) (front' ++ q ∷ []) max' has now_has now_first ended) → IsWalked old new place front max had now_has now_first ended
+turn_done turn short true behind = turn_ended turn short refl behind
+turn_done turn short false behind = walk_whole turn.lawful.numbered short (turn_whole turn) refl (turn_on turn refl behind)
 
 -- ---- behind a modifier
 

@@ -65,6 +65,19 @@ gathers_none P front max old first few none = record {
   more = λ e. absurd (true_not_false (sym e));
 }
 
+-- Where there was room for all, it doesn't matter which the first one is.
+pub gathers_any : (P : List (ℕ × ℕ) → Type 0) (front : List (ℕ × ℕ)) (max : ℕ) (old new : List (List (ℕ × ℕ))) (first other : List (ℕ × ℕ)) → Gathers P front max old new first false → Gathers P front max old new other false
+gathers_any P front max old new first other is = record {
+  found = is.found;
+  grown = is.grown;
+  wanted = is.wanted;
+  different = is.different;
+  few = is.few;
+  whole = is.whole;
+  full = is.full;
+  more = λ e. absurd (true_not_false (sym e));
+}
+
 -- One list is wanted, and there is room for it.
 pub gathers_one : (P : List (ℕ × ℕ) → Type 0) (front : List (ℕ × ℕ)) (max : ℕ) (old : List (List (ℕ × ℕ))) (first one : List (ℕ × ℕ)) → length old < max → P one → ((ps : List (ℕ × ℕ)) → P ps → ps ≡ one) → Gathers P front max old (old ++ (front ++ one) ∷ []) first false
 gathers_one P front max old first one room wanted only = record {

@@ -16,7 +16,7 @@ use Rattle.rbg_pairs.proofs.Meetings.{met_once}
 use Rattle.rbg_search.proofs.Orders.{still_differ}
 use Rattle.rbg_search.proofs.Turns.{turned, turn_under, turn_at, turn_front}
 use Rattle.rbg_moves.specs.internal.Gathering.{Gathers, IsBehind, IsLegalBy, IsSwitchAmong, IsSwitchOr, ListsSwitches}
-use Rattle.rbg_moves.proofs.Gathering.{gathers_none, gathers_one, gathers_full, gathers_both, gathers_as, gathers_more}
+use Rattle.rbg_moves.proofs.Gathering.{gathers_none, gathers_any, gathers_one, gathers_full, gathers_both, gathers_as, gathers_more}
 use Rattle.rbg_moves.specs.internal.Stepping.{at_vertex, place_behind}
 use Rattle.rbg_moves.proofs.Steps.{Onward, ended, going, legal_cut, legal_end, legal_on, legal_some, next_applies}
 
@@ -140,6 +140,12 @@ pub left_over : (P : ℕ × ℕ → Type 0) (pairs done left : List (ℕ × ℕ)
 left_over P pairs done left moves all =
     All-weaker (Contains left) P
     (λ q there. All-contains P pairs q all (Contains-permutation (done ++ left) pairs q (IsPermutation-sym pairs (done ++ left) moves) (Contains-append_right done left q there))) left (All-contains_itself left)
+
+-- Where there was room for all, it doesn't matter which the first one is.
+pub lists_any : (game : AbstractGame) (pairs done front : List (ℕ × ℕ)) (max : ℕ) (old now : List (List (ℕ × ℕ))) (first other : List (ℕ × ℕ)) → ListsSwitches game pairs done front max old now first false → ListsSwitches game pairs done front max old now other false
+lists_any game pairs done front max old now first other so_far = record {
+  lists = λ place ends part. gathers_any (IsLegalBy game place (IsSwitchAmong game.rules done)) front max old now first other (so_far.lists place ends part);
+}
 
 -- All switches were taken.
 pub lists_all : (game : AbstractGame) (pairs front : List (ℕ × ℕ)) (max : ℕ) (old now : List (List (ℕ × ℕ))) (first done left : List (ℕ × ℕ)) → IsPermutation pairs (done ++ left) → All (λ (q : ℕ × ℕ). ¬ IsSwitchAt game.rules q.1) left → ListsSwitches game pairs done front max old now first false → ListsSwitches game pairs pairs front max old now first false

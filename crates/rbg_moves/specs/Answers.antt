@@ -1,6 +1,6 @@
 -- What a call that asks about the moves of a place says of its answer, or why there is none. Each record speaks of the
 -- result of the call, in whatever form this tells a move or a list of moves.
-use Rattle.std.specs.Prelude.{◌≡◌, ℕ, ◌⊎◌, List, length, Bool, Option, Result, Err, IfOk, IfSome, IfNone, OnOk}
+use Rattle.std.specs.Prelude.{◌≡◌, ℕ, ◌⊎◌, List, length, Bool, true, false, Option, Result, Err, IfOk, IfSome, IfNone, OnOk}
 use Rattle.rbg_base.specs.Move.{IsMoveLength}
 use Rattle.rbg_rules.specs.State.{AbstractGame}
 use Rattle.rbg_rules.specs.Heavy.{IsTooHard}
@@ -36,6 +36,15 @@ pub record FindsMove {X : Type 0}
     pub finished : IfOk result (λ found. IfNone found (Finished game place))
     pub given_up : GivesUp game find_move place result
     pub fits : OnOk result ((cut : Bool) → FitsLimits game cut find_move place)
+
+-- Whether the place has a legal move was told.
+--   some: where there is said to be one, there is
+--   finished, given_up, fits: as in FindsMove
+pub record TellsMove (game : AbstractGame) (place : AbstractPlace) (result : Result Bool Over) : Type 0 where
+  pub some : IfOk result (λ some. some ≡ true → (pairs : List (ℕ × ℕ)) × IsLegal game place pairs)
+  pub finished : IfOk result (λ some. some ≡ false → Finished game place)
+  pub given_up : GivesUp game find_move place result
+  pub fits : OnOk result ((cut : Bool) → FitsLimits game cut find_move place)
 
 -- The pairs were tried as a move of the place.
 --   legal, only, in_game: they lead to this place of the game, and to no other

@@ -2,3 +2,4 @@
 pub mod Asking
 pub mod Gathering
 pub mod Stepping
+pub mod Fronts

@@ -24,12 +24,11 @@ pub(crate) fn search_in<'a, S: Steps>(
     game: &'a Game,
     steps: &'a S,
     paths: Option<&'a Paths>,
-    buffers: &mut Buffers,
+    buffers: &'a mut Buffers,
 ) -> Search<'a, S>
     requires steps { S.of_rules steps.now game.now.rules }
     requires paths { IfSome paths (λ told. ArePathsOf game.now told.now) }
     ensures begun { result ≡ begun_in game.now }
-    ensures tally { buffers.new ≡ buffers.old }
 {
     let budget = Budget {
         openings: MAX_OPENINGS as u32,

@@ -7,6 +7,7 @@ ghost use Rattle.rbg_rules.specs.Places.{IsPlaceOf};
 ghost use Rattle.rbg_flat.specs.Paths.{ArePathsOf};
 ghost use Rattle.rbg_moves.specs.Answers.{FindsMove};
 ghost use Rattle.rbg_moves.specs.Tallying.{Tallies};
+ghost use Rattle.rbg_moves.specs.internal.Fronts.{FindsFront};
 
 use crate::asking::{budget_is_kept, game_is_accepted, move_of, search_in};
 use crate::place::Place;
@@ -43,8 +44,7 @@ pub fn find_move<S: Steps>(
 }
 
 /// The pairs of some legal move, in a list that `Workspace::keep_pairs` takes back; none where play is finished. The
-/// question is asked on the place's own semi-state, which is given back, also where there is no answer. Where there is
-/// none, buffers of the workspace are lost.
+/// question is asked as by `find_front`.
 pub(crate) fn find_pairs<S: Steps>(
     alloc: Global,
     game: &Game,
@@ -61,14 +61,40 @@ pub(crate) fn find_pairs<S: Steps>(
     ensures tallies { Tallies game.now find_move place.old workspace.old.searches
         workspace.new.searches result }
 {
+    let found = find_front(alloc, game, steps, paths, place, workspace)?;
+    if !found {
+        return Ok(None);
+    }
+    let pairs = replace(&mut workspace.front, Vec::new(alloc));
+    Ok(Some(pairs))
+}
+
+/// Whether there is a legal move. The pairs of one are left in the front of the workspace. The question is asked on the
+/// place's own semi-state, which is given back, also where there is no answer. Where there is none, buffers of the
+/// workspace are lost.
+pub(crate) fn find_front<S: Steps>(
+    alloc: Global,
+    game: &Game,
+    steps: &S,
+    paths: Option<&Paths>,
+    place: &mut Place,
+    workspace: &mut Workspace,
+) -> Result<bool, Over>
+    requires steps { S.of_rules steps.now game.now.rules }
+    requires paths { IfSome paths (λ told. ArePathsOf game.now told.now) }
+    requires place { IsPlaceOf game.now place.old }
+    ensures finds { FindsFront game.now place.old result workspace.new.front.items }
+    ensures kept { place.new ≡ place.old }
+    ensures tallies { Tallies game.now find_move place.old workspace.old.searches
+        workspace.new.searches result }
+{
     game_is_accepted(game);
     workspace.front.clear();
     let mark = place.state.mark();
-    let mut search = search_in(alloc, game, steps, paths, &mut workspace.searches);
-    let first = replace(&mut workspace.buffer, Vec::new(alloc));
+    let mut search = search_in(alloc, game, steps, paths, &mut workspace.buffers);
     let moves = MoveList::new(alloc);
     let max = 0;
-    let mut found = Found { moves, max, first };
+    let mut found = Found { moves, max };
     let ended = walk(
         &mut search,
         &mut place.state,
@@ -80,9 +106,5 @@ pub(crate) fn find_pairs<S: Steps>(
     let ended = ended?;
     budget_is_kept(&search);
     search.leave(&mut workspace.searches);
-    if !ended {
-        workspace.buffer = found.first;
-        return Ok(None);
-    }
-    Ok(Some(found.first))
+    Ok(ended)
 }

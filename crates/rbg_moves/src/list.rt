@@ -73,7 +73,8 @@ pub(crate) fn list_sorted<S: Steps>(
         (λ listed. listed.cut) }
 {
     let mut workspace = Workspace::new(alloc);
-    let gathered = gather_moves(alloc, game, steps, paths, place, max, &mut workspace)?;
+    let mut lent = place.try_clone()?;
+    let gathered = gather_moves(alloc, game, steps, paths, &mut lent, max, &mut workspace)?;
     let mut moves = moves_of(alloc, &gathered.moves)?;
     sort(&mut moves);
     let cut = gathered.cut;
@@ -82,40 +83,43 @@ pub(crate) fn list_sorted<S: Steps>(
 
 /// The legal moves, at most `max` of them, in the order in which they are found: first those of one switch, then those
 /// behind each other modifier, both by vertex and then by position. They stand in a list that `Workspace::keep_moves`
-/// takes back. Where there is no answer, buffers of the workspace are lost.
+/// takes back. The question is asked on the place's own semi-state, which is given back, also where there is no answer.
+/// Where there is none, buffers of the workspace are lost.
 pub(crate) fn gather_moves<S: Steps>(
     alloc: Global,
     game: &Game,
     steps: &S,
     paths: Option<&Paths>,
-    place: &Place,
+    place: &mut Place,
     max: usize,
     workspace: &mut Workspace,
 ) -> Result<Gathered, Over>
     requires steps { S.of_rules steps.now game.now.rules }
     requires paths { IfSome paths (λ told. ArePathsOf game.now told.now) }
-    requires place { IsPlaceOf game.now place.now }
+    requires place { IsPlaceOf game.now place.old }
     requires some { 0 < max }
-    ensures lists { ListsMoves game.now place.now result
-        (λ gathered. IsGathered game.now place.now max gathered.moves gathered.cut)
+    ensures lists { ListsMoves game.now place.old result
+        (λ gathered. IsGathered game.now place.old max gathered.moves gathered.cut)
         (λ gathered. gathered.cut) }
-    ensures tallies { Tallies game.now listing_moves place.now workspace.old.searches
+    ensures kept { place.new ≡ place.old }
+    ensures tallies { Tallies game.now listing_moves place.old workspace.old.searches
         workspace.new.searches result }
 {
     game_is_accepted(game);
     let moves = workspace.take_moves();
-    let first = Vec::new(alloc);
-    let mut found = Found { moves, max, first };
-    workspace.asked.copy_from(&place.state)?;
+    let mut found = Found { moves, max };
     workspace.front.clear();
-    let mut search = search_in(alloc, game, steps, paths, &mut workspace.searches);
+    let mark = place.state.mark();
+    let mut search = search_in(alloc, game, steps, paths, &mut workspace.buffers);
     let cut = walk(
         &mut search,
-        &mut workspace.asked,
+        &mut place.state,
         &mut workspace.front,
         &mut found,
         place.after,
-    )?;
+    );
+    place.state.undo_to(mark);
+    let cut = cut?;
     budget_is_kept(&search);
     search.leave(&mut workspace.searches);
     let moves = found.moves;

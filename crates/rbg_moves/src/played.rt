@@ -7,12 +7,13 @@ ghost use Rattle.rbg_rules.specs.Places.{IsPlaceOf};
 ghost use Rattle.rbg_rules.specs.Questions.{find_move, list_moves as listing_moves, try_move};
 ghost use Rattle.rbg_rules.specs.State.{AbstractGame, start_of};
 ghost use Rattle.rbg_flat.specs.Paths.{ArePathsOf};
-ghost use Rattle.rbg_moves.specs.Answers.{FindsMove, ListsMoves, TriesMove};
+ghost use Rattle.rbg_moves.specs.Answers.{FindsMove, TellsMove, ListsMoves, TriesMove};
 ghost use Rattle.rbg_moves.specs.Listing.{IsGathered, IsListed};
+ghost use Rattle.rbg_moves.specs.internal.Fronts.{FindsFront};
 ghost use Rattle.rbg_moves.specs.Tallying.{Tallies};
 
 use crate::asking::game_is_accepted;
-use crate::finding::find_pairs;
+use crate::finding::{find_front, find_pairs};
 use crate::list::{Gathered, Listed, gather_moves, list_sorted};
 use crate::making::make_pairs;
 use crate::place::Place;
@@ -167,6 +168,39 @@ impl PlayedGame {
         )
     }
 
+    /// Whether there is a legal move at a place. The question is asked as by `find_move`.
+    pub fn has_move(&self, place: &mut Place, workspace: &mut Workspace) -> Result<bool, Over>
+        requires place { IsPlaceOf self.now place.old }
+        ensures tells { TellsMove self.now place.old result }
+        ensures kept { place.new ≡ place.old }
+        ensures tallies { Tallies self.now find_move place.old workspace.old.searches
+            workspace.new.searches result }
+    {
+        self.find_front(place, workspace)
+    }
+
+    /// As `has_move`. The pairs of a legal move are left in the front of the workspace.
+    pub(crate) fn find_front(
+        &self,
+        place: &mut Place,
+        workspace: &mut Workspace,
+    ) -> Result<bool, Over>
+        requires place { IsPlaceOf self.now place.old }
+        ensures finds { FindsFront self.now place.old result workspace.new.front.items }
+        ensures kept { place.new ≡ place.old }
+        ensures tallies { Tallies self.now find_move place.old workspace.old.searches
+            workspace.new.searches result }
+    {
+        find_front(
+            self.alloc,
+            &self.game,
+            &self.automaton,
+            told(&self.paths),
+            place,
+            workspace,
+        )
+    }
+
     /// The place after the move of these pairs, or None if it is not legal. See the free `try_move`.
     pub fn try_move(
         &self,
@@ -209,19 +243,21 @@ impl PlayedGame {
     }
 
     /// As `list_moves`, with the buffers of a workspace. The moves stand in the order in which they were found, in a
-    /// list that `Workspace::keep_moves` takes back.
+    /// list that `Workspace::keep_moves` takes back. The question is asked on the place itself, which is given back, also
+    /// where there is no answer.
     pub fn gather_moves(
         &self,
-        place: &Place,
+        place: &mut Place,
         max: usize,
         workspace: &mut Workspace,
     ) -> Result<Gathered, Over>
-        requires place { IsPlaceOf self.now place.now }
+        requires place { IsPlaceOf self.now place.old }
         requires some { 0 < max }
-        ensures lists { ListsMoves self.now place.now result
-            (λ gathered. IsGathered self.now place.now max gathered.moves gathered.cut)
+        ensures lists { ListsMoves self.now place.old result
+            (λ gathered. IsGathered self.now place.old max gathered.moves gathered.cut)
             (λ gathered. gathered.cut) }
-        ensures tallies { Tallies self.now listing_moves place.now workspace.old.searches
+        ensures kept { place.new ≡ place.old }
+        ensures tallies { Tallies self.now listing_moves place.old workspace.old.searches
             workspace.new.searches result }
     {
         gather_moves(

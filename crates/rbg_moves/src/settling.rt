@@ -1,7 +1,6 @@
 //! The keeper's moves before a player's.
 ghost use Rattle.std.specs.Prelude.{◌≡◌, ◌≢◌, ◌⊎◌, Err, IfOk, OnErr};
 ghost use Rattle.rbg_rules.specs.Heavy.{IsHeavyToFind};
-ghost use Rattle.rbg_rules.specs.Moves.{Legal, IsLegal};
 ghost use Rattle.rbg_rules.specs.Places.{IsPlaceOf};
 ghost use Rattle.rbg_moves.specs.Limits.{most_keeper_moves};
 ghost use Rattle.rbg_moves.specs.Settling.{IsEndless, MeetsHeavy, Settles, SomeKeeperMoves};
@@ -10,7 +9,6 @@ use crate::place::Place;
 use crate::played::PlayedGame;
 use crate::unsettled::Unsettled;
 use crate::workspace::Workspace;
-use rbg_base::{Memory, Pair};
 
 /// The most moves that the keeper makes in a row.
 pub const MAX_KEEPER_MOVES: u32 = 1000;
@@ -34,30 +32,12 @@ impl PlayedGame {
             if place.state.player() != 0 {
                 return Ok(());
             }
-            match self.find_move(place, workspace)? {
-                Some(pairs) => self.make_found(place, pairs, workspace)?,
-                None => return Ok(()),
+            if !self.find_front(place, workspace)? {
+                return Ok(());
             }
+            self.make_move(place, workspace.front.as_slice())?;
         }
         rest(place)
-    }
-
-    /// Makes the move of these pairs, which is legal. The workspace gets the list of them.
-    fn make_found(
-        &self,
-        place: &mut Place,
-        pairs: Vec<Pair>,
-        workspace: &mut Workspace,
-    ) -> Result<(), Memory>
-        requires place { IsPlaceOf self.now place.old }
-        requires legal { IsLegal self.now place.old pairs.items }
-        ensures to { IfOk result (λ _. Legal self.now place.old pairs.items place.new) }
-        ensures in_game { IfOk result (λ _. IsPlaceOf self.now place.new) }
-        ensures refused { OnErr result (place.new ≡ place.old) }
-    {
-        self.make_move(place, pairs.as_slice())?;
-        workspace.keep_pairs(pairs);
-        Ok(())
     }
 }
 

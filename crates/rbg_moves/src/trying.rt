@@ -58,8 +58,8 @@ pub(crate) fn try_pairs<S: Steps>(
         workspace.new.searches result }
 {
     game_is_accepted(game);
-    let mut search = search_in(alloc, game, steps, paths, &mut workspace.searches);
     let mut to = workspace.copy_of(place)?;
+    let mut search = search_in(alloc, game, steps, paths, &mut workspace.buffers);
     let end = follow(&mut search, &mut to.state, to.after, pairs.as_slice())?;
     budget_is_kept(&search);
     search.leave(&mut workspace.searches);

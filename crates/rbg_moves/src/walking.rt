@@ -1,5 +1,5 @@
 //! The walk over the modifiers of moves, by which some move is found, or all are listed.
-ghost use Rattle.std.specs.Prelude.{◌≡◌, ℕ, ◌-◌, ◌<◌, ◌≤◌, ◌∷◌, [], ◌++◌, length, All, IfOk, IfSome, IfNone, OnOk, OnErr, Err, false};
+ghost use Rattle.std.specs.Prelude.{◌≡◌, ℕ, ◌-◌, ◌<◌, ◌≤◌, ◌∷◌, [], ◌++◌, length, All, IfOk, IfSome, IfNone, Err, false};
 ghost use Rattle.std.specs.List.Sorted.{IsPermutation};
 ghost use Rattle.rbg_base.specs.Move.{most_pairs};
 ghost use Rattle.rbg_rules.specs.Games.{IsGame};
@@ -8,60 +8,77 @@ ghost use Rattle.rbg_rules.specs.Places.{IsPlaceOf};
 ghost use Rattle.rbg_rules.specs.Positions.{IsSwitchAt};
 ghost use Rattle.rbg_rules.specs.State.{IsStateOf};
 ghost use Rattle.rbg_rules.specs.Words.{after};
+ghost use Rattle.rbg_auto.specs.Steps.{AreAllThatFollow};
+ghost use Rattle.rbg_pairs.specs.Part.{IsTrialAt};
 ghost use Rattle.rbg_pairs.specs.Start.{IsPositionOf};
 ghost use Rattle.rbg_state.specs.History.{IsAfter};
 ghost use Rattle.rbg_moves.specs.internal.Asking.{question_of, IsGivenUp};
-ghost use Rattle.rbg_moves.specs.internal.Gathering.{IsWalked, ListsSwitches, LeavesOthers};
+ghost use Rattle.rbg_moves.specs.internal.Gathering.{AddsMove, IsWalked, ListsSwitches, LeavesOthers};
 ghost use Rattle.rbg_moves.specs.internal.Stepping.{place_behind, Behind, IsValidAt};
 
-use crate::asking::{join, origin_after};
+use crate::asking::{is_switch, origin_after};
 use crate::stepping::apply_at;
 use rbg_auto::Steps;
 use rbg_base::{MAX_PAIRS, MoveList, Pair, Position};
 use rbg_flat::Modifiers;
 use rbg_rules::Game;
 use rbg_search::{Over, Search};
-use rbg_state::SemiState;
+use rbg_state::{SemiState, Trial};
 
-/// The moves that a walk has found. It ends with the first move for which there is no room in the list.
+/// The moves that a walk has found. It ends with the first move for which there is no room in the list: the pairs of that
+/// move are then left in the front.
 #[derive(Drop)]
 pub(crate) struct Found {
     pub(crate) moves: MoveList,
     /// How many moves the list may hold.
     pub(crate) max: usize,
-    /// Where the list may hold none, the pairs of the first move that was found.
-    pub(crate) first: Vec<Pair>,
 }
 
 impl Found {
     /// Takes the switches out of these modifiers, by vertex and then by position, and adds the move of each behind the
-    /// front. Tells whether there is one more than there is room for.
+    /// front. Tells whether there is one more than there is room for: its switch is then the last pair of the front.
     fn add_switches(
         &mut self,
         game: &Game,
         pairs: &mut Modifiers,
-        front: &[Pair],
+        front: &mut Vec<Pair>,
     ) -> Result<bool, Over>
         requires lawful { IsGame game.now }
         requires within { All (λ pair. IsPositionOf game.now.rules pair.1) pairs.old }
-        requires short { length front.now < most_pairs }
+        requires short { length front.old.items < most_pairs }
         requires few { length self.old.moves ≤ self.old.max }
         ensures max { self.new.max ≡ self.old.max }
-        ensures lists { IfOk result (λ cut. ListsSwitches game.now pairs.old pairs.old front.now
-            self.old.max self.old.moves self.new.moves self.new.first.items cut) }
+        ensures lists { IfOk result (λ cut. ListsSwitches game.now pairs.old pairs.old
+            front.old.items self.old.max self.old.moves self.new.moves front.new.items cut) }
+        ensures front { IfOk result (λ cut. cut ≡ false → front.new.items ≡ front.old.items) }
         ensures others { IfOk result (λ cut. cut ≡ false
             → LeavesOthers game.now.rules pairs.old pairs.new) }
         ensures over { (over : Over) → result ≡ Err over → over ≡ Over.Memory }
     {
         while let Some(pair) = take_switch(game, pairs) {
-            if self.moves.len() == self.max {
-                if self.max == 0 {
-                    join(&mut self.first, front, pair)?;
-                }
+            if self.add(front, pair)? {
                 return Ok(true);
             }
-            self.moves.push(front, pair)?;
         }
+        Ok(false)
+    }
+
+    /// Adds the move of the front and one more pair. Where there is no room for it, the pair is added to the front, and the
+    /// answer is true.
+    #[inline(always)]
+    fn add(&mut self, front: &mut Vec<Pair>, pair: Pair) -> Result<bool, Over>
+        requires short { length front.old.items < most_pairs }
+        requires few { length self.old.moves ≤ self.old.max }
+        ensures max { self.new.max ≡ self.old.max }
+        ensures adds { IfOk result (AddsMove self.old.max self.old.moves self.new.moves
+            front.old.items front.new.items pair) }
+        ensures over { (over : Over) → result ≡ Err over → over ≡ Over.Memory }
+    {
+        if self.moves.len() == self.max {
+            front.push(pair)?;
+            return Ok(true);
+        }
+        self.moves.push(front, pair)?;
         Ok(false)
     }
 }
@@ -80,7 +97,8 @@ fn take_switch(game: &Game, pairs: &mut Modifiers) -> Option<Pair>
 
 /// Finds the moves that go on from here, and adds each of them behind the front: first those of one switch, then those
 /// behind each other modifier, both by vertex and then by position. Ends with the first one for which there is no room,
-/// and tells whether there is one.
+/// and tells whether there is one: then its pairs are left in the front, and the semi-state where its modifiers but the
+/// last led.
 #[cycle(walk)]
 pub(crate) fn walk<S: Steps>(
     search: &mut Search<'_, S>,
@@ -93,21 +111,98 @@ pub(crate) fn walk<S: Steps>(
     requires short { length front.old.items < most_pairs }
     requires few { length found.old.moves ≤ found.old.max }
     ensures search { search.new ≡ record search.old { opened = search.new.opened; taken = search.new.taken } }
-    ensures state { OnOk result (state.new ≡ record state.old { room = state.new.room }) }
-    ensures room { OnOk result (state.old.room ≤ state.new.room) }
-    ensures after { OnErr result (IsAfter state.old state.new) }
-    ensures front { OnOk result (front.new.items ≡ front.old.items) }
+    ensures state { IfOk result (λ ended. ended ≡ false
+        → (state.new ≡ record state.old { room = state.new.room })) }
+    ensures room { IfOk result (λ ended. ended ≡ false → state.old.room ≤ state.new.room) }
+    ensures after { IsAfter state.old state.new }
+    ensures front { IfOk result (λ ended. ended ≡ false → front.new.items ≡ front.old.items) }
     ensures max { found.new.max ≡ found.old.max }
     ensures walked { IfOk result (IsWalked search.old search.new
         (record { state = state.old.state; last = after }) front.old.items
-        found.old.max found.old.moves found.new.moves found.new.first.items) }
+        found.old.max found.old.moves found.new.moves front.new.items) }
+    ensures given_up { IsGivenUp search.old (question_of found.old.max)
+        state.old.state (stand_of after) (most_pairs - length front.old.items)
+        (result ≡ Err Over.Deep) (result ≡ Err Over.Wide) }
+{
+    if let Some(position) = search.only(state, origin_after(after)) {
+        return walk_only(search, state, front, found, after, position);
+    }
+    walk_each(search, state, front, found, after)
+}
+
+/// As `walk`, where one modifier alone comes next: it needs no list.
+#[cycle(walk)]
+#[inline(always)]
+fn walk_only<S: Steps>(
+    search: &mut Search<'_, S>,
+    state: &mut SemiState,
+    front: &mut Vec<Pair>,
+    found: &mut Found,
+    after: Option<Position>,
+    position: Position,
+) -> Result<bool, Over>
+    requires only { AreAllThatFollow search.old.game.rules (stand_of after) (position ∷ []) }
+    requires modifies { IsTrialAt search.old.game state.old.state state.old.state.vertex position
+        Trial.Modifies }
+    requires place { IsPlaceOf search.old.game (record { state = state.old.state; last = after }) }
+    requires short { length front.old.items < most_pairs }
+    requires few { length found.old.moves ≤ found.old.max }
+    ensures search { search.new ≡ record search.old { opened = search.new.opened; taken = search.new.taken } }
+    ensures state { IfOk result (λ ended. ended ≡ false
+        → (state.new ≡ record state.old { room = state.new.room })) }
+    ensures room { IfOk result (λ ended. ended ≡ false → state.old.room ≤ state.new.room) }
+    ensures after { IsAfter state.old state.new }
+    ensures front { IfOk result (λ ended. ended ≡ false → front.new.items ≡ front.old.items) }
+    ensures max { found.new.max ≡ found.old.max }
+    ensures walked { IfOk result (IsWalked search.old search.new
+        (record { state = state.old.state; last = after }) front.old.items
+        found.old.max found.old.moves found.new.moves front.new.items) }
+    ensures given_up { IsGivenUp search.old (question_of found.old.max)
+        state.old.state (stand_of after) (most_pairs - length front.old.items)
+        (result ≡ Err Over.Deep) (result ≡ Err Over.Wide) }
+{
+    let game = search.game();
+    let vertex = state.vertex();
+    search.reach_only(state, origin_after(after), position)?;
+    let pair = Pair { vertex, position };
+    if is_switch(game, position) {
+        let full = found.add(front, pair)?;
+        return Ok(full);
+    }
+    let ended = walk_behind(search, state, front, found, pair)?;
+    Ok(ended)
+}
+
+/// As `walk`, in the general way.
+#[cycle(walk)]
+#[inline(always)]
+fn walk_each<S: Steps>(
+    search: &mut Search<'_, S>,
+    state: &mut SemiState,
+    front: &mut Vec<Pair>,
+    found: &mut Found,
+    after: Option<Position>,
+) -> Result<bool, Over>
+    requires place { IsPlaceOf search.old.game (record { state = state.old.state; last = after }) }
+    requires short { length front.old.items < most_pairs }
+    requires few { length found.old.moves ≤ found.old.max }
+    ensures search { search.new ≡ record search.old { opened = search.new.opened; taken = search.new.taken } }
+    ensures state { IfOk result (λ ended. ended ≡ false
+        → (state.new ≡ record state.old { room = state.new.room })) }
+    ensures room { IfOk result (λ ended. ended ≡ false → state.old.room ≤ state.new.room) }
+    ensures after { IsAfter state.old state.new }
+    ensures front { IfOk result (λ ended. ended ≡ false → front.new.items ≡ front.old.items) }
+    ensures max { found.new.max ≡ found.old.max }
+    ensures walked { IfOk result (IsWalked search.old search.new
+        (record { state = state.old.state; last = after }) front.old.items
+        found.old.max found.old.moves found.new.moves front.new.items) }
     ensures given_up { IsGivenUp search.old (question_of found.old.max)
         state.old.state (stand_of after) (most_pairs - length front.old.items)
         (result ≡ Err Over.Deep) (result ≡ Err Over.Wide) }
 {
     let game = search.game();
     let mut pairs = search.take_list();
-    search.reach_into(state, origin_after(after), &mut pairs)?;
+    search.reach_flat(state, origin_after(after), &mut pairs)?;
     if found.add_switches(game, &mut pairs, front)? {
         search.keep_list(pairs);
         return Ok(true);
@@ -123,7 +218,8 @@ pub(crate) fn walk<S: Steps>(
     Ok(false)
 }
 
-/// Finds the moves behind a modifier that comes next, as `walk` does, and takes the modifier back.
+/// Finds the moves behind a modifier that comes next, as `walk` does. Where the walk doesn't end early, the modifier is taken
+/// back.
 #[cycle(walk)]
 fn walk_behind<S: Steps>(
     search: &mut Search<'_, S>,
@@ -138,14 +234,15 @@ fn walk_behind<S: Steps>(
     requires short { length front.old.items < most_pairs }
     requires few { length found.old.moves ≤ found.old.max }
     ensures search { search.new ≡ record search.old { opened = search.new.opened; taken = search.new.taken } }
-    ensures state { OnOk result (state.new ≡ record state.old { room = state.new.room }) }
-    ensures room { OnOk result (state.old.room ≤ state.new.room) }
-    ensures after { OnErr result (IsAfter state.old state.new) }
-    ensures front { OnOk result (front.new.items ≡ front.old.items) }
+    ensures state { IfOk result (λ ended. ended ≡ false
+        → (state.new ≡ record state.old { room = state.new.room })) }
+    ensures room { IfOk result (λ ended. ended ≡ false → state.old.room ≤ state.new.room) }
+    ensures after { IsAfter state.old state.new }
+    ensures front { IfOk result (λ ended. ended ≡ false → front.new.items ≡ front.old.items) }
     ensures max { found.new.max ≡ found.old.max }
     ensures walked { IfOk result (λ ended. Behind search.old.game state.old.state pair (λ later.
         IsWalked search.old search.new (place_behind later pair.1) (front.old.items ++ pair ∷ [])
-        found.old.max found.old.moves found.new.moves found.new.first.items ended)) }
+        found.old.max found.old.moves found.new.moves front.new.items ended)) }
     ensures given_up { Behind search.old.game state.old.state pair (λ later.
         IsGivenUp search.old (question_of found.old.max) later (after pair.1)
         (most_pairs - length (front.old.items ++ pair ∷ []))
@@ -158,8 +255,10 @@ fn walk_behind<S: Steps>(
     let mark = state.mark();
     apply_at(game, state, pair);
     front.push(pair)?;
-    let ended = walk(search, state, front, found, Some(pair.position))?;
+    if walk(search, state, front, found, Some(pair.position))? {
+        return Ok(true);
+    }
     front.pop();
     state.undo_to(mark);
-    Ok(ended)
+    Ok(false)
 }

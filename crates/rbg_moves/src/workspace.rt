@@ -3,21 +3,20 @@ ghost use Rattle.std.specs.Prelude.{◌≡◌, [], IfOk};
 
 use crate::place::Place;
 use rbg_base::{Memory, MoveList, Pair};
-use rbg_search::Buffers;
+use rbg_search::{Buffers, Tally};
 use rbg_state::SemiState;
 use std::alloc::Global;
 
 /// What questions leave to later ones: their buffers, and what they took up in all.
 pub struct Workspace {
-    pub(crate) searches: Buffers,
-    /// The copy of a semi-state on which a question is asked.
-    pub(crate) asked: SemiState,
-    /// The modifiers that a question has applied, each with its vertex.
+    pub(crate) buffers: Buffers,
+    /// What the questions took up in all.
+    pub(crate) searches: Tally,
+    /// The modifiers that a question has applied, each with its vertex; and where it looked for one move, the pairs of that
+    /// move.
     pub(crate) front: Vec<Pair>,
     /// Semi-states that are not in use.
     states: Vec<SemiState>,
-    /// A list of pairs that is not in use.
-    pub(crate) buffer: Vec<Pair>,
     /// Lists of moves that are not in use.
     lists: Vec<MoveList>,
 }
@@ -26,11 +25,10 @@ pub struct Workspace {
 impl Drop for Workspace {
     fn drop(self) {
         let Workspace {
+            buffers: _,
             searches: _,
-            asked: _,
             front: _,
             states: _,
-            buffer: _,
             lists: _,
         } = self;
     }
@@ -42,11 +40,10 @@ impl Workspace {
         ensures { result.searches ≡ record { openings = 0; pairs = 0 } }
     {
         Workspace {
-            searches: Buffers::new(alloc),
-            asked: SemiState::empty(alloc),
+            buffers: Buffers::new(alloc),
+            searches: Tally::new(),
             front: Vec::new(alloc),
             states: Vec::new(alloc),
-            buffer: Vec::new(alloc),
             lists: Vec::new(alloc),
         }
     }
@@ -102,7 +99,7 @@ impl Workspace {
     pub fn keep_pairs(&mut self, pairs: Vec<Pair>)
         ensures tally { self.new.searches ≡ self.old.searches }
     {
-        self.buffer = pairs;
+        self.front = pairs;
     }
 
     /// Keeps a list of moves that is no longer needed.

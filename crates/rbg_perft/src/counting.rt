@@ -190,25 +190,24 @@ fn count_here(
     ensures ended { IfOk result (λ counts. TellsFinished game.now place.old counts.ended) }
     ensures refused { IfErr result (IsNotCountedFrom game.now 0 Ends place.old) }
 {
-    match game.find_move(place, workspace)? {
-        Some(pairs) => {
-            workspace.keep_pairs(pairs);
-            Ok(GOING)
-        }
-        None => Ok(ENDED),
+    if game.has_move(place, workspace)? {
+        Ok(GOING)
+    } else {
+        Ok(ENDED)
     }
 }
 
-/// The legal moves, each once.
+/// The legal moves, each once. The place is given back.
 fn list_all(
     game: &PlayedGame,
-    place: &Place,
+    place: &mut Place,
     workspace: &mut Workspace,
 ) -> Result<MoveList, CountError>
-    requires place { IsPlaceOf game.now place.now }
-    ensures all { IfOk result (λ moves. AreLegalMoves game.now place.now moves) }
+    requires place { IsPlaceOf game.now place.old }
+    ensures all { IfOk result (λ moves. AreLegalMoves game.now place.old moves) }
+    ensures kept { place.new ≡ place.old }
     ensures refused { IfErr result (λ error. (further : ℕ) →
-        (extent : Extent) → IsNotCountedFrom game.now (suc further) extent place.now error) }
+        (extent : Extent) → IsNotCountedFrom game.now (suc further) extent place.old error) }
 {
     let gathered = game.gather_moves(place, usize::MAX, workspace)?;
     is_in_memory(&gathered.moves);

@@ -11,7 +11,7 @@ use rbg_base::{Move, Pair, Position};
 use rbg_game::{Game, load};
 use rbg_moves::{Listed, Over, Place, PlayedGame, Workspace};
 use rbg_perft::{CountError, Extent, count_from_start};
-use rbg_search::{Budget, FlatPart, Origin, Search};
+use rbg_search::{Budget, Buffers, FlatPart, Origin, Search};
 use rbg_state::SemiState;
 use std::alloc::Global;
 use std::io::{self, Write};
@@ -260,7 +260,9 @@ fn reach_from<W: Write>(
 {
     let _positions = game.positions();
     let copy = state.try_clone()?;
-    let answer = Search::new(alloc, game, steps, BUDGET).reach(state, Origin::Begin(Expr::Rules));
+    let mut buffers = Buffers::new(alloc);
+    let mut search = Search::new(alloc, game, steps, BUDGET, &mut buffers);
+    let answer = search.reach(state, Origin::Begin(Expr::Rules));
     Ok(tell_answer(&answer, *state == copy, output)?)
 }
 
@@ -298,7 +300,9 @@ fn ask_pattern<W: Write>(
         return Err(Stop::Wrong);
     }
     let copy = state.try_clone()?;
-    let answer = Search::new(alloc, game, steps, BUDGET).pattern(state, ASKED);
+    let mut buffers = Buffers::new(alloc);
+    let mut search = Search::new(alloc, game, steps, BUDGET, &mut buffers);
+    let answer = search.pattern(state, ASKED);
     Ok(tell_valid(answer, *state == copy, output)?)
 }
 

@@ -99,10 +99,6 @@ answered {h = h} {k = k} {s = s} {question = question} {f = f} some is forced = 
   taken = is.taken;
 }
 
-pub forced_ok : (h k : Searching) (s l : History) (f : Start) (pairs : List (ℕ × ℕ)) (r : Result Bool Over) → IsOk r → IfOk r (λ ends. HasReached h k s l f pairs ends) → (cut : Bool) (left : ℕ) → CountsForced h.game cut reach s.state f h.opened k.opened left h.modifiers
-forced_ok h k s l f pairs (Ok ends) ok is cut left = is.forced cut left
-forced_ok h k s l f pairs (Err e) ok is cut left = cc
-
 module _ {X Y : Type 0} {h k : Searching} {s l : History} {question : Question} {f : Start} {callee : Result X Over} (is : IsAnswered h k s l question f callee) where
   -- It was given up, and so is the one for which it was asked.
   pub answer_handed : (r : Result Y Over) (e : Over) → callee ≡ Err e → IsErrAnd r (λ y. y ≡ e) → IsAnswered h k s l question f r

@@ -21,7 +21,7 @@ coded_searching =
     (λ t. record { game = t.0; openings = t.1.0; modifiers = t.1.1.0; opened = t.1.1.1.0; taken = t.1.1.1.1 })
     (λ _. refl)
 
--- What searches left in buffers: how many openings they took up in all, and how many pairs they took.
+-- What searches took up in all: how many openings, and how many pairs.
 pub record Tally : Type 0 where
   pub openings : ℕ
   pub pairs : ℕ

@@ -29,7 +29,7 @@ impl<'a, S: Steps> Search<'a, S> {
         ensures marks { IfOk result (λ flat. HasMarksOf self.old.game flat.value.queue) }
         ensures memory { IfErr result (λ over. over ≡ Over.Memory) }
     {
-        match self.flats.pop() {
+        match self.buffers.flats.take() {
             Some(flat) => Ok(flat),
             None => Ok(Box::new(self.alloc, Flat::new(self.alloc, self.rules.game())?)?),
         }
@@ -137,7 +137,7 @@ impl<'a, S: Steps> Search<'a, S> {
         let many = flat.candidates(&self.rules);
         self.count_pairs(many);
         pairs.refill(&flat.found)?;
-        self.flats.push(flat)?;
+        self.buffers.flats.keep(flat);
         Ok(ends)
     }
 }

@@ -26,7 +26,7 @@ impl<'a, S: Steps> Search<'a, S> {
         ensures sized { IfOk result (λ flat. AreSizedFor self.old.game flat.value.sets) }
         ensures memory { IfErr result (λ over. over ≡ Over.Memory) }
     {
-        match self.sets.pop() {
+        match self.buffers.flats.take_sets() {
             Some(flat) => Ok(flat),
             None => self.new_sets(),
         }
@@ -129,8 +129,7 @@ impl<'a, S: Steps> Search<'a, S> {
         let ends = flat.ends();
         let many = flat.finish(self.rules.game(), paths, state, pairs)?;
         self.count_pairs(many);
-        // where there is no memory, it is let go
-        let _kept = self.sets.push(flat);
+        self.buffers.flats.keep_sets(flat);
         Ok(ends)
     }
 }

@@ -10,7 +10,7 @@ impl<'a, S: Steps> Search<'a, S> {
     pub fn take_list(&mut self) -> Modifiers
         ensures { self.new ≡ self.old }
     {
-        match self.lists.pop() {
+        match self.buffers.lists.pop() {
             Some(list) => list,
             None => Modifiers::new(self.alloc),
         }
@@ -21,6 +21,6 @@ impl<'a, S: Steps> Search<'a, S> {
         ensures { self.new ≡ self.old }
     {
         // where there is no memory, it is let go
-        let _kept = self.lists.push(list);
+        let _kept = self.buffers.lists.push(list);
     }
 }

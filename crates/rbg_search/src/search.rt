@@ -10,7 +10,6 @@ ghost use Rattle.rbg_rules.specs.Laws.{IsStart};
 ghost use Rattle.rbg_search.specs.Forced.{CountsForced};
 ghost use Rattle.rbg_flat.specs.Found.{HasCandidates};
 ghost use Rattle.rbg_flat.specs.Paths.{ArePathsOf};
-ghost use Rattle.rbg_flat.specs.internal.Leading.{AreSizedFor};
 ghost use Rattle.rbg_search.specs.Taken.{most_pairs_of};
 ghost use Rattle.rbg_search.specs.internal.Taking.{RanBehind};
 ghost use Rattle.rbg_search.specs.Answered.{IsAnswered, HasReached};
@@ -30,11 +29,12 @@ ghost use Rattle.rbg_search.specs.internal.Straight.{IsScanned};
 
 use crate::answer::is_valid;
 use crate::buffers::Buffers;
-use crate::fitting::{fitting_sets, flats_for, keep_flats};
 use crate::order::sort;
 use crate::over::Over;
 use crate::scan::{PatternScan, dead_end, scan_inside};
 use crate::single::only_modifier;
+use crate::standing::stand;
+use crate::tally::Tally;
 use rbg_auto::{Expr, Steps};
 use rbg_base::{Pair, Position, Vertex};
 use rbg_flat::{Flat as SetFlat, Modifiers, Paths};
@@ -43,7 +43,6 @@ use rbg_rules::Game;
 use rbg_state::{SemiState, Trial};
 use std::alloc::Global;
 use std::marker::Model;
-use std::mem::replace;
 
 /// How much a search may do.
 #[derive(Clone, Copy, PartialEq, Eq, Drop)]
@@ -63,7 +62,7 @@ pub struct FlatPart {
     pub ends: bool,
 }
 
-/// A search in a game: it counts the openings that it takes up, and keeps its buffers for further use.
+/// A search in a game: it counts the openings that it takes up, and has buffers that are lent to it.
 #[derive(Drop)]
 pub struct Search<'a, S: Steps> {
     pub(crate) alloc: Global,
@@ -71,12 +70,7 @@ pub struct Search<'a, S: Steps> {
     budget: Budget,
     opened: u32,
     taken: u64,
-    /// Flat parts that are not in use.
-    pub(crate) flats: Vec<Box<Flat>>,
-    /// Flat parts by sets that are not in use.
-    pub(crate) sets: Vec<Box<SetFlat>>,
-    /// Lists of modifiers that are not in use.
-    pub(crate) lists: Vec<Modifiers>,
+    pub(crate) buffers: &'a mut Buffers,
 }
 
 impl<'a, S: Steps> Model for Search<'a, S> {
@@ -94,20 +88,25 @@ impl<'a, S: Steps> Model for Search<'a, S> {
       taken = s.taken;
     } };
 
-    ghost use Rattle.std.specs.Prelude.{All, ◌<◌, ◌≤◌};
-    ghost use Rattle.rbg_flat.specs.internal.Leading.{AreSizedFor};
-    ghost use Rattle.rbg_pairs.specs.Part.{HasMarksOf};
+    ghost use Rattle.std.specs.Prelude.{◌<◌, ◌≤◌};
+    ghost use Rattle.rbg_search.specs.internal.Fitting.{IsOfSize};
     ghost use Rattle.rbg_search.specs.internal.Spent.{IsSpent};
 
     ghost invariant = { λ s.
-        All (λ flat. HasMarksOf s.rules flat.value.queue) s.flats.items × (s.opened ≤ s.budget.openings)
-        × All (λ flat. AreSizedFor s.rules flat.value.sets) s.sets.items
+        IsOfSize s.rules s.buffers.now.flats.positions s.buffers.now.flats.vertices
+        × (s.opened ≤ s.budget.openings)
         × IsSpent s.rules s.opened s.taken × (0 < s.budget.modifiers) };
 }
 
 impl<'a, S: Steps> Search<'a, S> {
-    /// A search that has taken up no opening.
-    pub fn new(alloc: Global, game: &'a Game, steps: &'a S, budget: Budget) -> Search<'a, S>
+    /// A search that has taken up no opening, with buffers that are lent to it.
+    pub fn new(
+        alloc: Global,
+        game: &'a Game,
+        steps: &'a S,
+        budget: Budget,
+        buffers: &'a mut Buffers,
+    ) -> Search<'a, S>
         requires { S.of_rules steps.now game.now.rules }
         ensures game { result.game ≡ game.now }
         ensures openings { result.openings ≡ budget.openings }
@@ -115,48 +114,21 @@ impl<'a, S: Steps> Search<'a, S> {
         ensures opened { result.opened ≡ 0 }
         ensures taken { result.taken ≡ 0 }
     {
-        Search::on_paths(alloc, game, steps, None, budget)
+        Search::with_paths(alloc, game, steps, None, budget, buffers)
     }
 
     /// As `new`, with the paths of the game where it has some: then flat parts are found by sets.
     #[inline(always)]
-    fn on_paths(
+    pub fn with_paths(
         alloc: Global,
         game: &'a Game,
         steps: &'a S,
         paths: Option<&'a Paths>,
         budget: Budget,
+        buffers: &'a mut Buffers,
     ) -> Search<'a, S>
         requires steps { S.of_rules steps.now game.now.rules }
         requires paths { IfSome paths (λ told. ArePathsOf game.now told.now) }
-        ensures game { result.game ≡ game.now }
-        ensures openings { result.openings ≡ budget.openings }
-        ensures modifiers { result.modifiers ≡ max budget.modifiers 1 }
-        ensures opened { result.opened ≡ 0 }
-        ensures taken { result.taken ≡ 0 }
-    {
-        let flats = Vec::new(alloc);
-        let sets = Vec::new(alloc);
-        let lists = Vec::new(alloc);
-        Search::with_buffers(alloc, game, steps, paths, budget, flats, sets, lists)
-    }
-
-    /// As `on_paths`, with these buffers, each of which is of use for the game.
-    #[inline(always)]
-    fn with_buffers(
-        alloc: Global,
-        game: &'a Game,
-        steps: &'a S,
-        paths: Option<&'a Paths>,
-        budget: Budget,
-        flats: Vec<Box<Flat>>,
-        sets: Vec<Box<SetFlat>>,
-        lists: Vec<Modifiers>,
-    ) -> Search<'a, S>
-        requires steps { S.of_rules steps.now game.now.rules }
-        requires paths { IfSome paths (λ told. ArePathsOf game.now told.now) }
-        requires flats { All (λ flat. HasMarksOf game.now flat.value.queue) flats.items }
-        requires sets { All (λ flat. AreSizedFor game.now flat.value.sets) sets.items }
         ensures game { result.game ≡ game.now }
         ensures openings { result.openings ≡ budget.openings }
         ensures modifiers { result.modifiers ≡ max budget.modifiers 1 }
@@ -164,6 +136,7 @@ impl<'a, S: Steps> Search<'a, S> {
         ensures taken { result.taken ≡ 0 }
     {
         let _positions = game.positions();
+        buffers.flats.fit(game);
         Search {
             alloc,
             rules: GameSteps::new(game, steps, paths),
@@ -173,52 +146,19 @@ impl<'a, S: Steps> Search<'a, S> {
             },
             opened: 0,
             taken: 0,
-            flats,
-            sets,
-            lists,
+            buffers,
         }
     }
 
-    /// A search that has taken up no opening, with these buffers, and with the paths of the game where it has some: then
-    /// flat parts are found by sets.
+    /// Ends the search: what it took up is counted. At the greatest number a count stays.
     #[inline(always)]
-    pub fn with_paths(
-        alloc: Global,
-        game: &'a Game,
-        steps: &'a S,
-        paths: Option<&'a Paths>,
-        budget: Budget,
-        buffers: &mut Buffers,
-    ) -> Search<'a, S>
-        requires steps { S.of_rules steps.now game.now.rules }
-        requires paths { IfSome paths (λ told. ArePathsOf game.now told.now) }
-        ensures game { result.game ≡ game.now }
-        ensures openings { result.openings ≡ budget.openings }
-        ensures modifiers { result.modifiers ≡ max budget.modifiers 1 }
-        ensures opened { result.opened ≡ 0 }
-        ensures taken { result.taken ≡ 0 }
-        ensures tally { buffers.new ≡ buffers.old }
+    pub fn leave(self, tally: &mut Tally)
+        ensures openings { tally.new.openings
+            ≡ min (tally.old.openings + self.entry.opened) (2 ^ 64 - 1) }
+        ensures pairs { tally.new.pairs ≡ min (tally.old.pairs + self.entry.taken) (2 ^ 64 - 1) }
     {
-        let flats = flats_for(alloc, game, paths, buffers);
-        let sets = replace(&mut buffers.sets, Vec::new(alloc));
-        let sets = fitting_sets(alloc, game, sets);
-        let lists = replace(&mut buffers.lists, Vec::new(alloc));
-        Search::with_buffers(alloc, game, steps, paths, budget, flats, sets, lists)
-    }
-
-    /// Ends the search, and gives its buffers back. What it took up is counted there; at the greatest number it stays.
-    #[inline(always)]
-    pub fn leave(self, buffers: &mut Buffers)
-        ensures openings { buffers.new.openings
-            ≡ min (buffers.old.openings + self.entry.opened) (2 ^ 64 - 1) }
-        ensures pairs { buffers.new.pairs
-            ≡ min (buffers.old.pairs + self.entry.taken) (2 ^ 64 - 1) }
-    {
-        buffers.openings = buffers.openings.saturating_add(u64::from(self.opened));
-        buffers.pairs = buffers.pairs.saturating_add(self.taken);
-        keep_flats(buffers, self.flats);
-        buffers.sets = self.sets;
-        buffers.lists = self.lists;
+        tally.openings = tally.openings.saturating_add(u64::from(self.opened));
+        tally.pairs = tally.pairs.saturating_add(self.taken);
     }
 
     /// The game that is searched.
@@ -281,38 +221,71 @@ impl<'a, S: Steps> Search<'a, S> {
         ensures found { IfOk result (λ ends. HasReached self.old self.new state.old state.new
             (start_of origin) pairs.new ends) }
     {
-        if let Some(position) = only_modifier(&self.rules, state, origin) {
-            return self.reach_only(state, origin, position, pairs);
+        if let Some(position) = self.only(state, origin) {
+            let ends = self.reach_only(state, origin, position)?;
+            pairs.clear();
+            pairs.push(state.vertex(), position)?;
+            return Ok(ends);
         }
+        self.reach_flat(state, origin, pairs)
+    }
+
+    /// As `reach_into`, in the general way, by a flat part.
+    #[inline(always)]
+    pub fn reach_flat(
+        &mut self,
+        state: &mut SemiState,
+        origin: Origin,
+        pairs: &mut Modifiers,
+    ) -> Result<bool, Over>
+        requires fits { IsStateOf self.old.game state.old.state }
+        requires stands { IsStart self.old.game.rules (start_of origin) }
+        ensures answered { IsAnswered self.old self.new state.old state.new reach (start_of origin)
+            result }
+        ensures found { IfOk result (λ ends. HasReached self.old self.new state.old state.new
+            (start_of origin) pairs.new ends) }
+    {
         let nested = self.rules.nesting();
         let ends = self.flat_part(state, origin, nested, pairs)?;
         Ok(ends)
     }
 
-    /// What is reached where one modifier alone comes next, and is valid.
+    /// The one modifier that comes next, if there is one alone and it is valid: then `reach_only` does what `reach_into`
+    /// does, and needs no list.
     #[inline(always)]
-    fn reach_only(
+    pub fn only(&self, state: &SemiState, origin: Origin) -> Option<Position>
+        requires { IsStateOf self.now.game state.now.state }
+        ensures only { IfSome result (λ p.
+            AreAllThatFollow self.now.game.rules (start_of origin) (p ∷ [])) }
+        ensures modifies { IfSome result (λ p.
+            IsTrialAt self.now.game state.now.state state.now.state.vertex p Trial.Modifies) }
+    {
+        only_modifier(&self.rules, state, origin)
+    }
+
+    /// What is reached where one modifier alone comes next, and is valid: that one. Returns whether a word may end with no
+    /// modifier more.
+    #[inline(always)]
+    pub fn reach_only(
         &mut self,
         state: &mut SemiState,
         origin: Origin,
         position: Position,
-        pairs: &mut Modifiers,
     ) -> Result<bool, Over>
         requires fits { IsStateOf self.old.game state.old.state }
         requires stands { IsStart self.old.game.rules (start_of origin) }
         requires only { AreAllThatFollow self.old.game.rules (start_of origin) (position ∷ []) }
         requires modifies { IsTrialAt self.old.game state.old.state state.old.state.vertex position
             Trial.Modifies }
-        ensures asked { IsAsked self.old self.new state.old state.new reach state.old.state
-            (start_of origin) self.old.modifiers result }
+        ensures answered { IsAnswered self.old self.new state.old state.new reach (start_of origin)
+            result }
         ensures found { IfOk result (λ ends. HasReached self.old self.new state.old state.new
-            (start_of origin) pairs.new ends) }
+            (start_of origin) ((state.old.state.vertex, position) ∷ []) ends) }
     {
+        let _modifiers = self.budget.modifiers;
         self.enter(state)?;
         let ends = self.rules.may_end(origin);
         self.count_pairs(1);
-        pairs.clear();
-        pairs.push(state.vertex(), position)?;
         Ok(ends)
     }
 
@@ -545,7 +518,7 @@ impl<'a, S: Steps> Search<'a, S> {
         }
         let modifiers = self.budget.modifiers;
         let mark = state.mark();
-        state.stand_at(vertex);
+        stand(state, vertex);
         let inside = Origin::Begin(Expr::Inside(position));
         let runs = self.word_runs(state, inside, nested - 1, modifiers);
         state.undo_to(mark);

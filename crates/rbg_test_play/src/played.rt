@@ -73,7 +73,8 @@ fn are_listed(game: &PlayedGame, place: &Place, wanted: &[(Vertex, Position)]) -
     requires { IsPlaceOf game.now place.now }
 {
     let listed = game.list_moves(place, 1)?;
-    let gathered = game.gather_moves(place, 1, &mut game.workspace())?;
+    let mut lent = place.try_clone()?;
+    let gathered = game.gather_moves(&mut lent, 1, &mut game.workspace())?;
     if listed.cut || gathered.cut || listed.moves.len() != 1 || gathered.moves.len() != 1 {
         return Ok(false);
     }
@@ -173,7 +174,8 @@ fn finds_nothing(game: &PlayedGame, place: &Place) -> Result<bool, Fail>
 fn lists_nothing(game: &PlayedGame, place: &Place) -> Result<bool, Fail>
     requires { IsPlaceOf game.now place.now }
 {
-    let gathered = game.gather_moves(place, 1, &mut game.workspace())?;
+    let mut lent = place.try_clone()?;
+    let gathered = game.gather_moves(&mut lent, 1, &mut game.workspace())?;
     Ok(gathered.moves.len() == 0 && game.list_moves(place, 1)?.moves.is_empty())
 }
 

@@ -1,29 +1,33 @@
--- Of which kind an action of the program is, and which are shifts or switches.
-use Rattle.std.specs.Prelude.{◌≡◌, ℕ, List, [], ◌∷◌, Bool, true, false}
+-- What the facts tell of an action of the program, and which are shifts or switches.
+use Rattle.std.specs.Prelude.{◌≡◌, ◌⊎◌, ℕ, List, [], ◌∷◌, Bool, true, false, IsTrue}
 use Rattle.rbg_rules.specs.declared.rule.Action.{Action}
 use Rattle.rbg_rules.specs.declared.rule.Action.TheVariants.{Shift, On, Off, Assign, Compare, Switch, Positive, Negative}
+use Rattle.rbg_flat.specs.declared.paths.Facts.{Facts}
 use Rattle.rbg_flat.specs.declared.paths.Kind.{Kind}
-use Rattle.rbg_flat.specs.declared.paths.Kind.TheVariants.{Modifier, Pattern, On as OnOne, OnEither, OnAny, Comparison, Plain}
+use Rattle.rbg_flat.specs.declared.paths.Kind.TheVariants.{OnEither, Modifier, Pattern, On as OnOne, Comparison, Plain}
 
--- The kind of an on of these pieces.
-abbrev pub IsOnKind : List ℕ → Kind → Type 0
-IsOnKind pieces Modifier = ⊥
-IsOnKind pieces Pattern = ⊥
-IsOnKind pieces (OnOne x) = pieces ≡ x ∷ []
-IsOnKind pieces (OnEither x y) = pieces ≡ x ∷ y ∷ []
-IsOnKind pieces OnAny = Unit {0}
-IsOnKind pieces Comparison = ⊥
-IsOnKind pieces Plain = ⊥
+-- The facts of an action of this kind that has no pieces.
+pub record HasNoPieces (kind : Kind) (sure : Bool) (told : Facts) : Type 0 where
+  pub kind_is : told.kind ≡ kind
+  pub sure_is : told.sure ≡ sure
+  pub alone_is : told.alone ≡ false
 
-abbrev pub ShowsKind : Action → Kind → Type 0
-ShowsKind (Off x) kind = kind ≡ Modifier
-ShowsKind (Assign v e) kind = kind ≡ Modifier
-ShowsKind (Switch n) kind = kind ≡ Modifier
-ShowsKind (Shift d) kind = kind ≡ Plain
-ShowsKind (On pieces) kind = IsOnKind pieces.items kind
-ShowsKind (Compare e r f) kind = kind ≡ Comparison
-ShowsKind Positive kind = kind ≡ Pattern
-ShowsKind Negative kind = kind ≡ Pattern
+-- The facts of an on of these pieces.
+pub record HasPieces (pieces : List ℕ) (told : Facts) : Type 0 where
+  pub kind : (told.kind ≡ OnOne) ⊎ (told.kind ≡ OnEither)
+  pub sure_is : told.sure ≡ false
+  pub alone : IsTrue told.alone → pieces ≡ told.piece ∷ []
+  pub two : told.kind ≡ OnEither → pieces ≡ told.piece ∷ told.other ∷ []
+
+abbrev pub ShowsFacts : Action → Facts → Type 0
+ShowsFacts (Off x) told = HasNoPieces Modifier true told
+ShowsFacts (Assign v e) told = HasNoPieces Modifier false told
+ShowsFacts (Switch n) told = HasNoPieces Modifier true told
+ShowsFacts (Shift d) told = HasNoPieces Plain false told
+ShowsFacts (On pieces) told = HasPieces pieces.items told
+ShowsFacts (Compare e r f) told = HasNoPieces Comparison false told
+ShowsFacts Positive told = HasNoPieces Pattern false told
+ShowsFacts Negative told = HasNoPieces Pattern false told
 
 abbrev pub shows_shift : Action → Bool
 shows_shift (Shift d) = true

@@ -84,6 +84,13 @@ pub record LeavesOthers (rules : Expression) (old new : List (ℕ × ℕ)) : Typ
   pub switching : All (λ q. IsSwitchAt rules q.1) switches
   pub plain : All (λ q. ¬ IsSwitchAt rules q.1) new
 
+-- The move of the front and the pair was added to a list that may hold so many; or, where there was no room, the pair to
+-- the front.
+abbrev pub AddsMove : ℕ → List (List (ℕ × ℕ)) → List (List (ℕ × ℕ)) → List (ℕ × ℕ) → List (ℕ × ℕ) → ℕ × ℕ → Bool → Type 0
+AddsMove max old new front front' q true = (length old ≡ max) × ((new ≡ old) × (front' ≡ front ++ q ∷ []))
+AddsMove max old new front front' q false =
+    (length old < max) × ((new ≡ old ++ (front ++ q ∷ []) ∷ []) × (front' ≡ front))
+
 -- A walk from a place gathered its moves behind these first pairs, which are fewer than a move may have, and counted what
 -- its question takes up.
 pub record IsWalked

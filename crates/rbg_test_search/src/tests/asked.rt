@@ -25,7 +25,7 @@ pub(crate) struct Asked<'a, S: Steps> {
 
 impl<'a, S: Steps> Asked<'a, S> {
     /// A search of the game.
-    pub(crate) fn search(&self, budget: Budget, buffers: &mut Buffers) -> Search<'a, S>
+    pub(crate) fn search<'b>(&'b self, budget: Budget, buffers: &'b mut Buffers) -> Search<'b, S>
         requires steps { S.of_rules self.now.steps.now self.now.game.now.rules }
         requires paths { IfSome self.now.paths (λ told. ArePathsOf self.now.game.now told.now) }
         ensures { result.game ≡ self.now.game.now }

@@ -6,7 +6,7 @@ use rbg_auto::{Steps, compact};
 use rbg_game::load;
 use rbg_moves::{Move, Over, Pair, Place, PlayedGame, try_move};
 use rbg_rules::Game;
-use rbg_search::{Budget, Search};
+use rbg_search::{Budget, Buffers, Search};
 use std::alloc::{AllocError, Global};
 use std::test::Fail;
 
@@ -56,7 +56,8 @@ fn ask_at<S: Steps>(
     if game.positions() < 2 || !game.is_pattern(2) {
         Err("no pattern stands at position 2")?;
     }
-    let mut search = Search::new(alloc, game, steps, budget);
+    let mut buffers = Buffers::new(alloc);
+    let mut search = Search::new(alloc, game, steps, budget, &mut buffers);
     Ok(Answer {
         valid: search.pattern(&mut state, 2),
         opened: search.opened(),

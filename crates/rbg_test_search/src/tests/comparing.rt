@@ -66,7 +66,6 @@ fn reach<S: Steps>(
     let mut state = place.state.try_clone()?;
     let mut search = asked.search(BUDGET, buffers);
     let reached = search.reach(&mut state, origin);
-    search.leave(buffers);
     expect(state == place.state, Odd::Reach)?;
     Ok(reached)
 }
@@ -123,7 +122,6 @@ fn pattern<S: Steps>(
     let mut state = place.state.try_clone()?;
     let mut search = asked.search(BUDGET, buffers);
     let valid = search.pattern(&mut state, position);
-    search.leave(buffers);
     expect(state == place.state, Odd::Pattern)?;
     Ok(valid)
 }

@@ -1,7 +1,9 @@
 -- A move is made, or there is none, or the question or the keeper's moves behind it were given up.
-use Rattle.std.proofs.Common.{◌∙◌, sym, arith}
+use Rattle.std.proofs.Common.{◌∙◌, false, sym, subst, arith}
+use Rattle.rbg_rules.specs.Moves.{AbstractPlace, IsLegal, Legal}
 use Rattle.rbg_ask.specs.declared.refusal.Refusal.TheVariants.{Memory}
 use Rattle.rbg_ask.specs.Chance.{no_memory}
+use Rattle.rbg_ask.specs.internal.Moving.{MovesOn}
 use Rattle.rbg_ask.specs.internal.Moving.{rests}
 use Rattle.rbg_ask.specs.internal.Refusing.{refusal_of_over, refusal_of_unsettled}
 use Rattle.rbg_base.proofs.Errors.{passed_on}
@@ -14,11 +16,12 @@ returns-in_err-gathered-clause-unmoved c =
 
 pub returns-then-count-eq0-clause-moves : goal.returns-then-count-eq0-clause-moves
 returns-then-count-eq0-clause-moves c =
-    rests (nothing_listed _ _ _ _ _ (omega arith) c.in_ok-gathered.ensures.lists.lists (sym c.len-count.ensures.count ∙ c.if-count-eq0.true))
+    subst (MovesOn c.args.game.now c.args.place.now false) (sym c.gather_moves.ensures.kept)
+    (rests (nothing_listed _ _ _ _ _ (omega arith) c.in_ok-gathered.ensures.lists.lists (sym c.len-count.ensures.count ∙ c.if-count-eq0.true)))
 
 pub make_move-requires-clause-legal : goal.make_move-requires-clause-legal
 make_move-requires-clause-legal c =
-    legal_at _ _ _ c.choose-index.result _ c.in_ok-gathered.ensures.lists.lists.legal c.get.ensures.pairs
+    subst (λ (p : AbstractPlace). IsLegal c.args.game.now p c.get.result.now) (sym c.gather_moves.ensures.kept) (legal_at _ _ _ c.choose-index.result _ c.in_ok-gathered.ensures.lists.lists.legal c.get.ensures.pairs)
 
 pub returns-in_err-make_move-clause-unmoved : goal.returns-in_err-make_move-clause-unmoved
 returns-in_err-make_move-clause-unmoved c =
@@ -27,7 +30,8 @@ returns-in_err-make_move-clause-unmoved c =
 pub returns-in_err-settle-clause-unmoved : goal.returns-in_err-settle-clause-unmoved
 returns-in_err-settle-clause-unmoved c =
     passed_on c.from_residual-in_err-settle.result (refusal_of_unsettled c.in_err-settle.field-0.0) _ c.from_residual-in_err-settle.ensures.1
-    (settle_unmoved _ _ _ _ _ c.in_err-settle.field-0.0 c.in_ok-make_move.ensures.to c.in_err-settle.ensures.heavy c.in_err-settle.ensures.endless)
+    (settle_unmoved _ _ _ _ _ c.in_err-settle.field-0.0 (subst (λ (p : AbstractPlace). Legal c.args.game.now p c.get.result.now c.make_move.new.place) c.gather_moves.ensures.kept c.in_ok-make_move.ensures.to) c.in_err-settle.ensures.heavy c.in_err-settle.ensures.endless)
 
 pub returns-clause-moves : goal.returns-clause-moves
-returns-clause-moves c = moves_on _ _ _ _ _ c.in_ok-make_move.ensures.to c.in_ok-settle.ensures.settles
+returns-clause-moves c =
+    moves_on _ _ _ _ _ (subst (λ (p : AbstractPlace). Legal c.args.game.now p c.get.result.now c.make_move.new.place) c.gather_moves.ensures.kept c.in_ok-make_move.ensures.to) c.in_ok-settle.ensures.settles

@@ -1,13 +1,11 @@
-use Rattle.std.proofs.Common.{◌≡◌, ℕ, ◌+◌, ◌*◌, ◌⊎◌, inl, inr, [], ◌∷◌, subst}
-use Rattle.std.specs.Int.{bit_at}
+use Rattle.std.proofs.Common.{◌≡◌, ℕ, ◌+◌, ◌*◌, ◌⊎◌, inl, inr, subst}
 use Rattle.rbg_rules.specs.Positions.{IsNumbered}
 use Rattle.rbg_flat.specs.Paths.{IsKind}
 use Rattle.rbg_flat.specs.declared.paths.Kind.{Kind}
 use Rattle.rbg_flat.specs.declared.paths.Kind.TheVariants.{Pattern, Plain}
 use Rattle.rbg_rules.specs.State.{AbstractGame, AbstractState}
 use Rattle.rbg_flat.specs.internal.Passing.{IsToTry}
-use Rattle.rbg_flat.proofs.Passings.{one_piece}
-use Rattle.rbg_flat.proofs.ToTry.{on_told, pattern_to_try, other_to_try}
+use Rattle.rbg_flat.proofs.ToTry.{pattern_to_try, other_to_try}
 use Rattle.rbg_flat.proofs.passing.any_to_try.Goals as goal
 
 everywhere : (game : AbstractGame) → IsNumbered game.rules → (s : AbstractState) (p : ℕ) (kind : Kind) → (kind ≡ Pattern) ⊎ (kind ≡ Plain) → IsKind game.rules p kind → (v : ℕ) → IsToTry game s v p
@@ -19,16 +17,6 @@ everywhere game numbered s p kind (inr is) told =
 pub returns-in-Pattern : goal.returns-in-Pattern
 returns-in-Pattern c = λ b small.
     (λ _. everywhere c.args.game.now c.requires.lawful.numbered c.args.state.now.state c.args.position c.kind.result c.in-Pattern.is c.kind.ensures (c.args.column * 64 + b), λ _. c.full_word.ensures b small)
-
-pub returns-in-On : goal.returns-in-On
-returns-in-On c = λ b small.
-    let here = c.args.column * 64 + b in
-    on_told c.args.game.now c.requires.lawful.numbered c.args.state.now.state c.args.position (c.in-On.piece ∷ []) (subst (λ (k : Kind). IsKind c.args.game.now.rules c.args.position k) c.in-On.is c.kind.ensures) here (bit_at c.standing.result b ≡ 1)
-    (one_piece c.in-On.piece c.args.state.now.state.pieces here (bit_at c.standing.result b ≡ 1) (c.standing.ensures b small))
-
-pub returns-in-OnEither : goal.returns-in-OnEither
-returns-in-OnEither c = λ b small.
-    on_told c.args.game.now c.requires.lawful.numbered c.args.state.now.state c.args.position (c.in-OnEither.piece ∷ c.in-OnEither.other ∷ []) (subst (λ (k : Kind). IsKind c.args.game.now.rules c.args.position k) c.in-OnEither.is c.kind.ensures) (c.args.column * 64 + b) (bit_at c.either_standing.result b ≡ 1) (c.either_standing.ensures b small)
 
 pub returns-in-Comparison : goal.returns-in-Comparison
 returns-in-Comparison c = λ b small. c.comparison_to_try.ensures (c.args.column * 64 + b) b small

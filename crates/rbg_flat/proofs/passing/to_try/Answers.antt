@@ -13,9 +13,9 @@ returns-in-Some c = λ b small.
     on_told c.args.game.now c.requires.lawful.numbered c.args.state.now.state c.args.position (c.in-Some.piece ∷ []) c.in-Some.ensures here (bit_at c.standing.result b ≡ 1)
     (one_piece c.in-Some.piece c.args.state.now.state.pieces here (bit_at c.standing.result b ≡ 1) (c.standing.ensures b small))
 
-pub returns-in-OnEither : goal.returns-in-OnEither
-returns-in-OnEither c = λ b small.
-    on_told c.args.game.now c.requires.lawful.numbered c.args.state.now.state c.args.position (c.in-OnEither.piece ∷ c.in-OnEither.other ∷ []) (subst (λ (k : Kind). IsKind c.args.game.now.rules c.args.position k) c.in-OnEither.is c.kind-kind.ensures) (c.args.column * 64 + b) (bit_at c.either_standing.result b ≡ 1) (c.either_standing.ensures b small)
+pub returns-in-Some-two_pieces : goal.returns-in-Some-two_pieces
+returns-in-Some-two_pieces c = λ b small.
+    on_told c.args.game.now c.requires.lawful.numbered c.args.state.now.state c.args.position (c.in-Some-two_pieces.piece ∷ c.in-Some-two_pieces.other ∷ []) c.in-Some-two_pieces.ensures (c.args.column * 64 + b) (bit_at c.either_standing.result b ≡ 1) (c.either_standing.ensures b small)
 
 pub returns-in-Pattern : goal.returns-in-Pattern
 returns-in-Pattern c = λ b small.

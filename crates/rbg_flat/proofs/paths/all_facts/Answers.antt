@@ -16,7 +16,6 @@ loop-index-preserved g c = record {
       told_more c.args.game.now c.loop-index.facts.items c.push.new.self.items c.facts_at.result c.loop-index.index c.in_ok-push.ensures.items c.loop-index.invariant.size c.loop-index.invariant.told
       (record {
         still = λ is. still_by c.args.game.now c.loop-index.index c.next.result.now (c.next.ensures c.args.game.now.rules c.requires) (c.facts_at.ensures.still is);
-        kind = c.facts_at.ensures.kind;
-        alone = c.facts_at.ensures.alone;
+        shown = c.facts_at.ensures.shown;
       });
 }

@@ -80,8 +80,8 @@ returns-in-Some-clause-tallies x c =
     let there = c.to.view_is ∙ c.in_ok-to.ensures.copy in
     let forced = subst (λ o. IfSome o (λ _. CountsForced c.search_in-search.result.game false (try_move ps) c.to.inside.state.state (stand_of c.to.inside.after) c.search_in-search.result.opened c.follow.new.search.opened (length ps) c.search_in-search.result.modifiers)) c.in-Some.is c.in_ok-end.ensures.followed.forced in
     tallies_one _
-    (subst (λ (qs : List (ℕ × ℕ)). IsTallied c.args.game.now (try_move qs) c.args.place.now c.args.workspace.now.searches c.leave.new.buffers) c.as_slice.ensures.pairs
-    (asked_tallies c.search_in-search.ensures.begun there (try_move ps) c.follow.new.search false (length ps) c.args.workspace.now.searches c.copy_of.new.self.searches c.leave.new.buffers (c.copy_of.ensures.tally ∙ c.search_in-search.ensures.tally) c.follow.ensures.kept
+    (subst (λ (qs : List (ℕ × ℕ)). IsTallied c.args.game.now (try_move qs) c.args.place.now c.args.workspace.now.searches c.leave.new.tally) c.as_slice.ensures.pairs
+    (asked_tallies c.search_in-search.ensures.begun there (try_move ps) c.follow.new.search false (length ps) c.args.workspace.now.searches c.copy_of.new.self.searches c.leave.new.tally c.copy_of.ensures.tally c.follow.ensures.kept
     (record { counted = c.in_ok-end.ensures.followed.counted; paired = c.in_ok-end.ensures.followed.paired; forced = forced }) c.leave.ensures.openings c.leave.ensures.pairs))
 
 pub returns-in-None-clause-tallies : goal.returns-in-None-clause-tallies
@@ -94,8 +94,8 @@ returns-in-None-clause-tallies x c =
     let begun = c.search_in-search.ensures.begun in
     let illegal = tried_as asked.game here ps ps c.follow.new.state.state c.in_ok-end.end None refl c.in-None.is c.in_ok-end.ensures.followed.tried in
     tallies_one _
-    (subst (λ (qs : List (ℕ × ℕ)). IsTallied game (try_move qs) c.args.place.now c.args.workspace.now.searches c.leave.new.buffers) c.as_slice.ensures.pairs
-    (subst (λ (p : AbstractPlace). IsTallied game (try_move ps) p c.args.workspace.now.searches c.leave.new.buffers) there
-    (tallied game (try_move ps) here asked c.follow.new.search c.args.workspace.now.searches c.copy_of.new.self.searches c.leave.new.buffers (ap (λ (h : Searching). h.game) begun) (ap (λ (h : Searching). h.opened) begun) (ap (λ (h : Searching). h.taken) begun) (c.copy_of.ensures.tally ∙ c.search_in-search.ensures.tally) c.follow.ensures.kept c.in_ok-end.ensures.followed.counted
+    (subst (λ (qs : List (ℕ × ℕ)). IsTallied game (try_move qs) c.args.place.now c.args.workspace.now.searches c.leave.new.tally) c.as_slice.ensures.pairs
+    (subst (λ (p : AbstractPlace). IsTallied game (try_move ps) p c.args.workspace.now.searches c.leave.new.tally) there
+    (tallied game (try_move ps) here asked c.follow.new.search c.args.workspace.now.searches c.copy_of.new.self.searches c.leave.new.tally (ap (λ (h : Searching). h.game) begun) (ap (λ (h : Searching). h.opened) begun) (ap (λ (h : Searching). h.taken) begun) c.copy_of.ensures.tally c.follow.ensures.kept c.in_ok-end.ensures.followed.counted
     (illegal_counts asked.game true here ps asked.opened c.follow.new.search.opened illegal (omega (arith, c.in_ok-end.ensures.followed.counted.sum)))
     c.in_ok-end.ensures.followed.paired c.leave.ensures.openings c.leave.ensures.pairs)))

@@ -5,10 +5,14 @@ use Rattle.std.proofs.lemmas.Result.{err_from_is_err_and}
 use Rattle.rbg_base.specs.Move.{most_pairs}
 use Rattle.rbg_rules.specs.State.{AbstractGame, IsStateOf}
 use Rattle.rbg_rules.specs.Laws.{IsStart}
+use Rattle.rbg_rules.specs.Words.{Start}
+use Rattle.rbg_auto.specs.Steps.{AreAllThatFollow}
 use Rattle.rbg_rules.specs.Moves.{AbstractPlace, stand_of}
 use Rattle.rbg_state.specs.History.{History, IsAfter}
 use Rattle.rbg_state.proofs.Histories.{after_nothing, after_both}
 use Rattle.rbg_pairs.specs.Start.{start_of, IsPositionOf}
+use Rattle.rbg_rules.specs.Positions.{IsSwitchAt}
+use Rattle.rbg_search.specs.Answered.{HasReached}
 use Rattle.rbg_search.specs.Searching.{Searching}
 use Rattle.rbg_search.proofs.Asking.{after_room, room_twice}
 use Rattle.rbg_search.proofs.Kept.{kept_since, kept_twice}
@@ -17,51 +21,52 @@ use Rattle.rbg_search.proofs.Turns.{turn_fewer}
 use Rattle.rbg_moves.specs.internal.Gathering.{IsWalked, LeavesOthers}
 use Rattle.rbg_moves.specs.internal.Stepping.{place_behind}
 use Rattle.rbg_moves.proofs.Steps.{place_start, modifier_position}
-use Rattle.rbg_moves.proofs.Further.{answered_as, has_come, switches_as, none_come, walk_begun, walk_ended, walk_whole, walk_turn, others_plain, turn_whole, turn_fits, turn_valid, turn_on, turn_ended, turn_given_up, too_many, made, made_given_up}
+use Rattle.rbg_moves.proofs.Further.{answered_as, has_come, switches_as, none_come, walk_begun, walk_ended, walk_whole, walked_any, walk_switch, one_turn, turn_done, walk_turn, others_plain, turn_whole, turn_fits, turn_valid, turn_on, turn_ended, turn_given_up, too_many, made, made_given_up}
 use Rattle.rbg_moves.proofs.Results.{on_err, err_of}
 use Rattle.rbg_moves.proofs.walking.+walk.Goals as goal
 
-pub walk-reach_into-requires-clause-stands : goal.walk-reach_into-requires-clause-stands
-walk-reach_into-requires-clause-stands g t c =
+pub walk_each-reach_flat-requires-clause-stands : goal.walk_each-reach_flat-requires-clause-stands
+walk_each-reach_flat-requires-clause-stands g t c =
     let game = c.args.search.now.game in
     let place : AbstractPlace = record { state = c.args.state.now.state; last = c.args.after } in
     let stands = subst (IsStart game.rules) (sym c.origin_after.ensures) (place_start game c.game-game.ensures.lawful.numbered place c.requires.place) in
     subst (λ (x : Searching). IsStart x.game.rules (start_of c.origin_after.result)) (sym c.take_list-pairs.ensures) stands
 
-pub walk-returns-in_err-reach_into-clause-given_up : goal.walk-returns-in_err-reach_into-clause-given_up
-walk-returns-in_err-reach_into-clause-given_up g t c =
+pub walk_each-returns-in_err-reach_flat-clause-given_up : goal.walk_each-returns-in_err-reach_flat-clause-given_up
+walk_each-returns-in_err-reach_flat-clause-given_up g t c =
     let p = err_from_is_err_and c.from_residual.result c.from_residual.ensures.1 in
-    rw (p.1, p.2) (none_come c.args.found.now.max (most_pairs - length c.args.front.now.items) c.game-game.ensures.lawful.numbered (answered_as c.take_list-pairs.ensures c.origin_after.ensures c.in_err-reach_into.ensures.answered))
+    rw (p.1, p.2) (none_come c.args.found.now.max (most_pairs - length c.args.front.now.items) c.game-game.ensures.lawful.numbered (answered_as c.take_list-pairs.ensures c.origin_after.ensures c.in_err-reach_flat.ensures.answered))
 
-pub walk-returns-then-branch-clause-walked : goal.walk-returns-then-branch-clause-walked
-walk-returns-then-branch-clause-walked g t c =
+pub walk_each-returns-then-branch-clause-walked : goal.walk_each-returns-then-branch-clause-walked
+walk_each-returns-then-branch-clause-walked g t c =
     let place : AbstractPlace = record { state = c.args.state.now.state; last = c.args.after } in
-    let come = has_come c.take_list-pairs.ensures c.origin_after.ensures c.reach_into.ensures.answered c.in_ok-reach_into.was c.in_ok-reach_into.ensures.found in
-    subst (λ (x : Searching). IsWalked c.args.search.now x place c.args.front.now.items c.args.found.now.max c.args.found.now.moves c.add_switches.new.self.moves c.add_switches.new.self.first.items true) (sym c.keep_list.ensures)
-    (walk_ended c.args.after c.game-game.ensures.lawful.numbered come c.requires.short (switches_as c.game-game.ensures.game c.deref.ensures.value c.if-branch.true c.in_ok-add_switches.ensures.lists))
+    let come = has_come c.take_list-pairs.ensures c.origin_after.ensures c.reach_flat.ensures.answered c.in_ok-reach_flat.was c.in_ok-reach_flat.ensures.found in
+    subst (λ (x : Searching). IsWalked c.args.search.now x place c.args.front.now.items c.args.found.now.max c.args.found.now.moves c.add_switches.new.self.moves c.add_switches.new.front.items true) (sym c.keep_list.ensures)
+    (walk_ended c.args.after c.game-game.ensures.lawful.numbered come c.requires.short (switches_as c.game-game.ensures.game refl c.if-branch.true c.in_ok-add_switches.ensures.lists))
 
-pub walk-loop-pair-init : goal.walk-loop-pair-init
-walk-loop-pair-init g t c =
+pub walk_each-loop-pair-init : goal.walk_each-loop-pair-init
+walk_each-loop-pair-init g t c =
     let old = c.args.search.now in
-    let pairs : List (ℕ × ℕ) = c.reach_into.new.pairs in
-    let ends = c.in_ok-reach_into.field-0 in
-    let come = has_come c.take_list-pairs.ensures c.origin_after.ensures c.reach_into.ensures.answered c.in_ok-reach_into.was c.in_ok-reach_into.ensures.found in
+    let pairs : List (ℕ × ℕ) = c.reach_flat.new.pairs in
+    let ends = c.in_ok-reach_flat.field-0 in
+    let come = has_come c.take_list-pairs.ensures c.origin_after.ensures c.reach_flat.ensures.answered c.in_ok-reach_flat.was c.in_ok-reach_flat.ensures.found in
     let others : LeavesOthers old.game.rules pairs c.add_switches.new.pairs = subst (λ (x : AbstractGame). LeavesOthers x.rules pairs c.add_switches.new.pairs) c.game-game.ensures.game (c.in_ok-add_switches.ensures.others c.if-branch.false) in
     record {
       done = others.switches;
+      first = c.add_switches.new.front.items;
       whole = record { ends = ends; part = flat_permuted old.game c.args.state.now.state (stand_of c.args.after) pairs (others.switches ++ c.add_switches.new.pairs) ends others.moves come.found.reached };
       plain = others.plain;
-      search = kept_since old c.take_list-pairs.new.self c.reach_into.new.self c.take_list-pairs.ensures c.reach_into.ensures.answered.kept;
+      search = kept_since old c.take_list-pairs.new.self c.reach_flat.new.self c.take_list-pairs.ensures c.reach_flat.ensures.answered.kept;
       state = come.asked.given_back;
       room = come.asked.room;
       enough = come.found.enough;
-      front = refl;
+      front = c.in_ok-add_switches.ensures.front c.if-branch.false;
       max = c.add_switches.ensures.max;
-      so_far = walk_begun c.args.after c.game-game.ensures.lawful.numbered come others (switches_as c.game-game.ensures.game c.deref.ensures.value c.if-branch.false c.in_ok-add_switches.ensures.lists);
+      so_far = walk_begun c.args.after c.game-game.ensures.lawful.numbered come others (switches_as c.game-game.ensures.game refl c.if-branch.false c.in_ok-add_switches.ensures.lists);
     }
 
-pub walk-walk_behind-requires : goal.walk-walk_behind-requires
-walk-walk_behind-requires g t c κs within =
+pub walk_each-walk_behind-requires : goal.walk_each-walk_behind-requires
+walk_each-walk_behind-requires g t c κs within =
     let now = c.loop-pair in
     let inv = c.loop-pair.invariant in
     let turn = walk_turn c.game-game.ensures.lawful inv.search (ap (λ (h : History). h.state) inv.state) inv.front inv.max inv.whole inv.plain inv.so_far c.in-Some.ensures.permutation in
@@ -69,27 +74,27 @@ walk-walk_behind-requires g t c κs within =
     let few = inv.so_far.gathers.few in
     (omega (arith, size, c.requires.short, c.decreases), (within, (turn_fits turn c.requires.place.state, (turn_valid turn c.requires.place.state, (inv.enough, (omega (arith, size, c.requires.short), omega (arith, few, inv.max)))))))
 
-pub walk-returns-in_err-ended-clause-given_up : goal.walk-returns-in_err-ended-clause-given_up
-walk-returns-in_err-ended-clause-given_up g t c =
+pub walk_each-returns-in_err-ended-clause-given_up : goal.walk_each-returns-in_err-ended-clause-given_up
+walk_each-returns-in_err-ended-clause-given_up g t c =
     let inv = c.loop-pair.invariant in
     let turn = walk_turn c.game-game.ensures.lawful inv.search (ap (λ (h : History). h.state) inv.state) inv.front inv.max inv.whole inv.plain inv.so_far c.in-Some.ensures.permutation in
     let p = err_from_is_err_and c.from_residual-in_err-ended.result c.from_residual-in_err-ended.ensures.1 in
     rw (p.1, p.2) (turn_given_up turn _ _ c.requires.short c.in_err-ended.ensures.given_up)
 
-pub walk-returns-then-ended-clause-walked : goal.walk-returns-then-ended-clause-walked
-walk-returns-then-ended-clause-walked g t c =
+pub walk_each-returns-then-ended-clause-walked : goal.walk_each-returns-then-ended-clause-walked
+walk_each-returns-then-ended-clause-walked g t c =
     let inv = c.loop-pair.invariant in
     let place : AbstractPlace = record { state = c.args.state.now.state; last = c.args.after } in
     let turn = walk_turn c.game-game.ensures.lawful inv.search (ap (λ (h : History). h.state) inv.state) inv.front inv.max inv.whole inv.plain inv.so_far c.in-Some.ensures.permutation in
-    subst (λ (x : Searching). IsWalked c.args.search.now x place c.args.front.now.items c.args.found.now.max c.args.found.now.moves c.walk_behind.new.found.moves c.walk_behind.new.found.first.items true) (sym c.keep_list-then-ended.ensures)
+    subst (λ (x : Searching). IsWalked c.args.search.now x place c.args.front.now.items c.args.found.now.max c.args.found.now.moves c.walk_behind.new.found.moves c.walk_behind.new.front.items true) (sym c.keep_list-then-ended.ensures)
     (turn_ended turn c.requires.short c.if-ended.true c.in_ok-ended.ensures.walked)
 
-pub walk-loop-pair-smaller : goal.walk-loop-pair-smaller
-walk-loop-pair-smaller g t c =
+pub walk_each-loop-pair-smaller : goal.walk_each-loop-pair-smaller
+walk_each-loop-pair-smaller g t c =
     turn_fewer c.loop-pair.pairs c.take_least.new.self c.in-Some.pair c.in-Some.ensures.permutation
 
-pub walk-loop-pair-preserved : goal.walk-loop-pair-preserved
-walk-loop-pair-preserved g t c =
+pub walk_each-loop-pair-preserved : goal.walk_each-loop-pair-preserved
+walk_each-loop-pair-preserved g t c =
     let now = c.loop-pair in
     let inv = c.loop-pair.invariant in
     let then = c.walk_behind.new in
@@ -98,24 +103,110 @@ walk-loop-pair-preserved g t c =
     let more = c.in_ok-ended.ensures in
     record {
       done = inv.done ++ q ∷ [];
+      first = then.front.items;
       whole = turn_whole turn;
       plain = others_plain c.args.search.now.game now.pairs c.take_least.new.self q inv.plain c.in-Some.ensures.permutation;
       search = kept_twice c.args.search.now now.search then.search inv.search c.walk_behind.ensures.search;
-      state = room_twice c.args.state.now now.state then.state inv.state more.state;
-      room = omega (arith, inv.room, more.room);
-      enough = omega (arith, inv.enough, more.room);
-      front = more.front ∙ inv.front;
+      state = room_twice c.args.state.now now.state then.state inv.state (more.state c.if-ended.false);
+      room = (let later = more.room c.if-ended.false in let kept = inv.room in omega (arith, kept, later));
+      enough = (let later = more.room c.if-ended.false in let kept = inv.enough in omega (arith, kept, later));
+      front = more.front c.if-ended.false ∙ inv.front;
       max = c.walk_behind.ensures.max ∙ inv.max;
       so_far = turn_on turn c.if-ended.false more.walked;
     }
 
-pub walk-returns-clause-walked : goal.walk-returns-clause-walked
-walk-returns-clause-walked g t c =
+pub walk_each-returns-clause-walked : goal.walk_each-returns-clause-walked
+walk_each-returns-clause-walked g t c =
     let now = c.loop-pair in
     let inv = c.loop-pair.invariant in
     let place : AbstractPlace = record { state = c.args.state.now.state; last = c.args.after } in
-    subst (λ (x : Searching). IsWalked c.args.search.now x place c.args.front.now.items c.args.found.now.max c.args.found.now.moves now.found.moves now.found.first.items false) (sym c.keep_list-2.ensures)
-    (walk_whole c.game-game.ensures.lawful.numbered c.requires.short inv.whole c.in_default.ensures.none inv.so_far)
+    subst (λ (x : Searching). IsWalked c.args.search.now x place c.args.front.now.items c.args.found.now.max c.args.found.now.moves now.found.moves now.front.items false) (sym c.keep_list-2.ensures)
+    (walked_any now.front.items (walk_whole c.game-game.ensures.lawful.numbered c.requires.short inv.whole c.in_default.ensures.none inv.so_far))
+
+after_kept : (h k : History) → k ≡ record h { room = k.room } → IsAfter h k
+after_kept h k kept = after_room h h k (after_nothing h) kept
+
+-- ---- what comes next is one modifier alone
+
+pub walk-walk_only-requires : goal.walk-walk_only-requires
+walk-walk_only-requires g t c κs within =
+    let game = c.args.search.now.game in
+    (omega (arith, c.requires.short, c.decreases), (within, (subst (λ (f : Start). AreAllThatFollow game.rules f (c.in-Some.position ∷ [])) c.origin_after.ensures c.in-Some.ensures.only, (c.in-Some.ensures.modifies, (c.requires.place, (c.requires.short, c.requires.few))))))
+
+pub walk-walk_each-requires : goal.walk-walk_each-requires
+walk-walk_each-requires g t c κs within = (omega (arith, c.requires.short, c.decreases), (within, (c.requires.place, (c.requires.short, c.requires.few))))
+
+pub walk_only-reach_only-requires-clause-stands : goal.walk_only-reach_only-requires-clause-stands
+walk_only-reach_only-requires-clause-stands g t c =
+    let game = c.args.search.now.game in
+    let place : AbstractPlace = record { state = c.args.state.now.state; last = c.args.after } in
+    subst (IsStart game.rules) (sym c.origin_after.ensures) (place_start game c.game-game.ensures.lawful.numbered place c.requires.place)
+
+pub walk_only-reach_only-requires-clause-only : goal.walk_only-reach_only-requires-clause-only
+walk_only-reach_only-requires-clause-only g t c = subst (λ (f : Start). AreAllThatFollow c.args.search.now.game.rules f (c.args.position ∷ [])) (sym c.origin_after.ensures) c.requires.only
+
+pub walk_only-returns-in_err-reach_only-clause-given_up : goal.walk_only-returns-in_err-reach_only-clause-given_up
+walk_only-returns-in_err-reach_only-clause-given_up g t c =
+    let p = err_from_is_err_and c.from_residual.result c.from_residual.ensures.1 in
+    rw (p.1, p.2) (none_come c.args.found.now.max (most_pairs - length c.args.front.now.items) c.game-game.ensures.lawful.numbered (answered_as refl c.origin_after.ensures c.in_err-reach_only.ensures.answered))
+
+pub walk_only-returns-in_err-reach_only-clause-after : goal.walk_only-returns-in_err-reach_only-clause-after
+walk_only-returns-in_err-reach_only-clause-after g t c = after_kept c.args.state.now c.reach_only.new.state c.reach_only.ensures.answered.given_back
+
+false_not_true : false ≡ true → ⊥
+false_not_true e = cc
+
+pub walk_only-is_switch-requires-clause-position : goal.walk_only-is_switch-requires-clause-position
+walk_only-is_switch-requires-clause-position g t c =
+    let game = c.args.search.now.game in
+    subst (λ (x : AbstractGame). IsPositionOf x.rules c.args.position) (sym c.game-game.ensures.game) (modifier_position game c.game-game.ensures.lawful.numbered c.args.position c.requires.modifies.0)
+
+pub walk_only-returns-then-is_switch-clause-walked : goal.walk_only-returns-then-is_switch-clause-walked
+walk_only-returns-then-is_switch-clause-walked g t c =
+    let h = c.args.search.now in
+    let found = subst (λ (v : ℕ). HasReached h c.reach_only.new.self c.args.state.now c.reach_only.new.state (start_of c.origin_after.result) ((v, c.args.position) ∷ []) c.in_ok-reach_only.field-0) (sym c.vertex-vertex.ensures) c.in_ok-reach_only.ensures.found in
+    let come = has_come refl c.origin_after.ensures c.reach_only.ensures.answered c.in_ok-reach_only.was found in
+    let switches : IsSwitchAt h.game.rules c.args.position = subst (λ (x : AbstractGame). IsSwitchAt x.rules c.args.position) c.game-game.ensures.game (c.is_switch.ensures.0 c.if-is_switch.true) in
+    walk_switch c.args.after c.game-game.ensures.lawful.numbered come c.requires.short c.requires.few switches c.in_ok-full.full c.in_ok-full.ensures.adds
+
+pub walk_only-returns-then-is_switch-clause-after : goal.walk_only-returns-then-is_switch-clause-after
+walk_only-returns-then-is_switch-clause-after g t c = after_kept c.args.state.now c.reach_only.new.state c.reach_only.ensures.answered.given_back
+
+pub walk_only-walk_behind-requires : goal.walk_only-walk_behind-requires
+walk_only-walk_behind-requires g t c κs within =
+    let h = c.args.search.now in
+    let found = subst (λ (v : ℕ). HasReached h c.reach_only.new.self c.args.state.now c.reach_only.new.state (start_of c.origin_after.result) ((v, c.args.position) ∷ []) c.in_ok-reach_only.field-0) (sym c.vertex-vertex.ensures) c.in_ok-reach_only.ensures.found in
+    let come = has_come refl c.origin_after.ensures c.reach_only.ensures.answered c.in_ok-reach_only.was found in
+    let plain : ¬ IsSwitchAt h.game.rules c.args.position = λ is. false_not_true (sym c.if-is_switch.false ∙ c.is_switch.ensures.1 (subst (λ (x : AbstractGame). IsSwitchAt x.rules c.args.position) (sym c.game-game.ensures.game) is)) in
+    let turn = one_turn c.args.after c.args.front.now.items c.args.found.now.moves c.game-game.ensures.lawful come c.requires.few plain in
+    (omega (arith, c.requires.short, c.decreases), (within, (turn_fits turn c.requires.place.state, (turn_valid turn c.requires.place.state, (come.found.enough, (c.requires.short, c.requires.few))))))
+
+pub walk_only-returns-in_err-ended-clause-given_up : goal.walk_only-returns-in_err-ended-clause-given_up
+walk_only-returns-in_err-ended-clause-given_up g t c =
+    let h = c.args.search.now in
+    let found = subst (λ (v : ℕ). HasReached h c.reach_only.new.self c.args.state.now c.reach_only.new.state (start_of c.origin_after.result) ((v, c.args.position) ∷ []) c.in_ok-reach_only.field-0) (sym c.vertex-vertex.ensures) c.in_ok-reach_only.ensures.found in
+    let come = has_come refl c.origin_after.ensures c.reach_only.ensures.answered c.in_ok-reach_only.was found in
+    let plain : ¬ IsSwitchAt h.game.rules c.args.position = λ is. false_not_true (sym c.if-is_switch.false ∙ c.is_switch.ensures.1 (subst (λ (x : AbstractGame). IsSwitchAt x.rules c.args.position) (sym c.game-game.ensures.game) is)) in
+    let turn = one_turn c.args.after c.args.front.now.items c.args.found.now.moves c.game-game.ensures.lawful come c.requires.few plain in
+    let p = err_from_is_err_and c.from_residual-in_err-ended.result c.from_residual-in_err-ended.ensures.1 in
+    rw (p.1, p.2) (turn_given_up turn _ _ c.requires.short c.in_err-ended.ensures.given_up)
+
+pub walk_only-returns-in_err-ended-clause-after : goal.walk_only-returns-in_err-ended-clause-after
+walk_only-returns-in_err-ended-clause-after g t c =
+    after_both c.args.state.now c.reach_only.new.state c.walk_behind.new.state (after_kept c.args.state.now c.reach_only.new.state c.reach_only.ensures.answered.given_back) c.walk_behind.ensures.after
+
+pub walk_only-returns-clause-after : goal.walk_only-returns-clause-after
+walk_only-returns-clause-after g t c =
+    after_both c.args.state.now c.reach_only.new.state c.walk_behind.new.state (after_kept c.args.state.now c.reach_only.new.state c.reach_only.ensures.answered.given_back) c.walk_behind.ensures.after
+
+pub walk_only-returns-clause-walked : goal.walk_only-returns-clause-walked
+walk_only-returns-clause-walked g t c =
+    let h = c.args.search.now in
+    let found = subst (λ (v : ℕ). HasReached h c.reach_only.new.self c.args.state.now c.reach_only.new.state (start_of c.origin_after.result) ((v, c.args.position) ∷ []) c.in_ok-reach_only.field-0) (sym c.vertex-vertex.ensures) c.in_ok-reach_only.ensures.found in
+    let come = has_come refl c.origin_after.ensures c.reach_only.ensures.answered c.in_ok-reach_only.was found in
+    let plain : ¬ IsSwitchAt h.game.rules c.args.position = λ is. false_not_true (sym c.if-is_switch.false ∙ c.is_switch.ensures.1 (subst (λ (x : AbstractGame). IsSwitchAt x.rules c.args.position) (sym c.game-game.ensures.game) is)) in
+    let turn = one_turn c.args.after c.args.front.now.items c.args.found.now.moves c.game-game.ensures.lawful come c.requires.few plain in
+    turn_done turn c.requires.short c.in_ok-ended.ended c.in_ok-ended.ensures.walked
 
 -- ---- behind a modifier
 
@@ -136,39 +227,60 @@ walk_behind-walk-requires g t c κs within =
     let short : length c.push.new.self.items < most_pairs = omega (arith, c.requires.short, pushed, c.len.ensures, c.args.front.now.ok.0, c.if-len-eq-MAX_PAIRS.false) in
     (omega (arith, c.requires.short, pushed, c.decreases), (within, (record { state = fits; last = (position.from_one, position.there) }, (short, c.requires.few))))
 
-pub walk_behind-returns-in_err-ended-clause-given_up : goal.walk_behind-returns-in_err-ended-clause-given_up
-walk_behind-returns-in_err-ended-clause-given_up g t c =
-    let p = err_from_is_err_and c.from_residual-in_err-ended.result c.from_residual-in_err-ended.ensures.1 in
+pub walk_behind-returns-in_err-walk-clause-given_up : goal.walk_behind-returns-in_err-walk-clause-given_up
+walk_behind-returns-in_err-walk-clause-given_up g t c =
+    let p = err_from_is_err_and c.from_residual-in_err-walk.result c.from_residual-in_err-walk.ensures.1 in
     rw (p.1, p.2)
-    (made_given_up c.args.search.now c.args.found.now.max c.game-game.result.now c.game-game.ensures.lawful.numbered c.args.state.now.state c.apply_at.new.state.state c.args.pair c.pair.inside.position (c.args.front.now.items ++ c.args.pair ∷ []) c.push.new.self.items c.game-game.ensures.game (ap (λ (x : ℕ × ℕ). x.1) c.pair.view_is) c.in_ok-push.ensures.items c.apply_at.ensures.applied c.in_err-ended.ensures.given_up)
+    (made_given_up c.args.search.now c.args.found.now.max c.game-game.result.now c.game-game.ensures.lawful.numbered c.args.state.now.state c.apply_at.new.state.state c.args.pair c.pair.inside.position (c.args.front.now.items ++ c.args.pair ∷ []) c.push.new.self.items c.game-game.ensures.game (ap (λ (x : ℕ × ℕ). x.1) c.pair.view_is) c.in_ok-push.ensures.items c.apply_at.ensures.applied c.in_err-walk.ensures.given_up)
+
+pub walk_behind-returns-then-branch-clause-walked : goal.walk_behind-returns-then-branch-clause-walked
+walk_behind-returns-then-branch-clause-walked g t c =
+    let old = c.args.search.now in
+    let had = c.args.found.now in
+    let has = c.walk.new.found in
+    let first : List (ℕ × ℕ) = c.walk.new.front.items in
+    let walked = subst (IsWalked old c.walk.new.search (place_behind c.apply_at.new.state.state c.pair.inside.position) c.push.new.self.items had.max had.moves has.moves first) c.if-branch.true c.in_ok-walk.ensures.walked in
+    made (λ ps s n. IsWalked old c.walk.new.search (place_behind s n) ps had.max had.moves has.moves first true) old.game c.game-game.result.now c.game-game.ensures.lawful.numbered c.args.state.now.state c.apply_at.new.state.state c.args.pair c.pair.inside.position (c.args.front.now.items ++ c.args.pair ∷ []) c.push.new.self.items c.game-game.ensures.game (ap (λ (x : ℕ × ℕ). x.1) c.pair.view_is) c.in_ok-push.ensures.items c.apply_at.ensures.applied walked
 
 pub walk_behind-returns-clause-walked : goal.walk_behind-returns-clause-walked
 walk_behind-returns-clause-walked g t c =
     let old = c.args.search.now in
     let had = c.args.found.now in
     let has = c.walk.new.found in
-    made (λ ps s n. IsWalked old c.walk.new.search (place_behind s n) ps had.max had.moves has.moves has.first.items c.in_ok-ended.ended) old.game c.game-game.result.now c.game-game.ensures.lawful.numbered c.args.state.now.state c.apply_at.new.state.state c.args.pair c.pair.inside.position (c.args.front.now.items ++ c.args.pair ∷ []) c.push.new.self.items c.game-game.ensures.game (ap (λ (x : ℕ × ℕ). x.1) c.pair.view_is) c.in_ok-push.ensures.items c.apply_at.ensures.applied c.in_ok-ended.ensures.walked
+    let walked = subst (IsWalked old c.walk.new.search (place_behind c.apply_at.new.state.state c.pair.inside.position) c.push.new.self.items had.max had.moves has.moves c.walk.new.front.items) c.if-branch.false c.in_ok-walk.ensures.walked in
+    made (λ ps s n. IsWalked old c.walk.new.search (place_behind s n) ps had.max had.moves has.moves c.pop.new.self.items false) old.game c.game-game.result.now c.game-game.ensures.lawful.numbered c.args.state.now.state c.apply_at.new.state.state c.args.pair c.pair.inside.position (c.args.front.now.items ++ c.args.pair ∷ []) c.push.new.self.items c.game-game.ensures.game (ap (λ (x : ℕ × ℕ). x.1) c.pair.view_is) c.in_ok-push.ensures.items c.apply_at.ensures.applied
+    (walked_any c.pop.new.self.items walked)
 
--- ---- after an error all changes can be taken back
+-- ---- all changes can be taken back
 
-after_kept : (h k : History) → k ≡ record h { room = k.room } → IsAfter h k
-after_kept h k kept = after_room h h k (after_nothing h) kept
+pub walk_each-returns-in_err-reach_flat-clause-after : goal.walk_each-returns-in_err-reach_flat-clause-after
+walk_each-returns-in_err-reach_flat-clause-after g t c = after_kept c.args.state.now c.reach_flat.new.state c.reach_flat.ensures.answered.given_back
 
-pub walk-returns-in_err-reach_into-clause-after : goal.walk-returns-in_err-reach_into-clause-after
-walk-returns-in_err-reach_into-clause-after g t c = on_err _ _ (after_kept c.args.state.now c.reach_into.new.state c.reach_into.ensures.answered.given_back)
+pub walk_each-returns-in_err-add_switches-clause-after : goal.walk_each-returns-in_err-add_switches-clause-after
+walk_each-returns-in_err-add_switches-clause-after g t c = after_kept c.args.state.now c.reach_flat.new.state c.reach_flat.ensures.answered.given_back
 
-pub walk-returns-in_err-add_switches-clause-after : goal.walk-returns-in_err-add_switches-clause-after
-walk-returns-in_err-add_switches-clause-after g t c = on_err _ _ (after_kept c.args.state.now c.reach_into.new.state c.reach_into.ensures.answered.given_back)
+pub walk_each-returns-then-branch-clause-after : goal.walk_each-returns-then-branch-clause-after
+walk_each-returns-then-branch-clause-after g t c = after_kept c.args.state.now c.reach_flat.new.state c.reach_flat.ensures.answered.given_back
 
-pub walk-returns-in_err-ended-clause-after : goal.walk-returns-in_err-ended-clause-after
-walk-returns-in_err-ended-clause-after g t c =
-    on_err _ _
-    (after_both c.args.state.now c.loop-pair.state c.walk_behind.new.state (after_kept c.args.state.now c.loop-pair.state c.loop-pair.invariant.state)
-    (err_of c.walk_behind.result c.in_err-ended.field-0.0 _ c.in_err-ended.was c.walk_behind.ensures.after))
+pub walk_each-returns-in_err-ended-clause-after : goal.walk_each-returns-in_err-ended-clause-after
+walk_each-returns-in_err-ended-clause-after g t c =
+    after_both c.args.state.now c.loop-pair.state c.walk_behind.new.state (after_kept c.args.state.now c.loop-pair.state c.loop-pair.invariant.state) c.walk_behind.ensures.after
+
+pub walk_each-returns-then-ended-clause-after : goal.walk_each-returns-then-ended-clause-after
+walk_each-returns-then-ended-clause-after g t c =
+    after_both c.args.state.now c.loop-pair.state c.walk_behind.new.state (after_kept c.args.state.now c.loop-pair.state c.loop-pair.invariant.state) c.walk_behind.ensures.after
+
+pub walk_each-returns-clause-after : goal.walk_each-returns-clause-after
+walk_each-returns-clause-after g t c = after_kept c.args.state.now c.loop-pair.state c.loop-pair.invariant.state
+
+pub walk_behind-returns-then-len-eq-MAX_PAIRS-clause-after : goal.walk_behind-returns-then-len-eq-MAX_PAIRS-clause-after
+walk_behind-returns-then-len-eq-MAX_PAIRS-clause-after g t c = after_nothing c.args.state.now
 
 pub walk_behind-returns-in_err-push-clause-after : goal.walk_behind-returns-in_err-push-clause-after
-walk_behind-returns-in_err-push-clause-after g t c = on_err _ _ c.apply_at.ensures.after
+walk_behind-returns-in_err-push-clause-after g t c = c.apply_at.ensures.after
 
-pub walk_behind-returns-in_err-ended-clause-after : goal.walk_behind-returns-in_err-ended-clause-after
-walk_behind-returns-in_err-ended-clause-after g t c =
-    on_err _ _ (after_both c.args.state.now c.apply_at.new.state c.walk.new.state c.apply_at.ensures.after (err_of c.walk.result c.in_err-ended.field-0.0 _ c.in_err-ended.was c.walk.ensures.after))
+pub walk_behind-returns-in_err-walk-clause-after : goal.walk_behind-returns-in_err-walk-clause-after
+walk_behind-returns-in_err-walk-clause-after g t c = after_both c.args.state.now c.apply_at.new.state c.walk.new.state c.apply_at.ensures.after c.walk.ensures.after
+
+pub walk_behind-returns-then-branch-clause-after : goal.walk_behind-returns-then-branch-clause-after
+walk_behind-returns-then-branch-clause-after g t c = after_both c.args.state.now c.apply_at.new.state c.walk.new.state c.apply_at.ensures.after c.walk.ensures.after

@@ -1,9 +1,11 @@
 -- What is behind each first move is added to the counts so far.
 use Rattle.std.proofs.Common.{rules, ◌≡◌, ◌≢◌, ℕ, List, ◌+◌, ◌-◌, ◌<◌, ◌≤◌, ◌⊎◌, length, suc, take, refl, subst, sym, arith, Some}
-use Rattle.std.specs.Prelude.{IfSome}
+use Rattle.std.specs.Prelude.{All, IfSome}
 use Rattle.std.proofs.lemmas.Option.{slice_get_within, get_or_from_slice_get}
-use Rattle.rbg_rules.specs.Moves.{IsLegal}
-use Rattle.rbg_perft.specs.Counting.{AreCountedBehind}
+use Rattle.rbg_rules.specs.Moves.{AbstractPlace, IsLegal}
+use Rattle.rbg_rules.specs.Places.{IsPlaceOf}
+use Rattle.rbg_moves.specs.Settling.{Settles}
+use Rattle.rbg_perft.specs.Counting.{AreCountedBehind, AreLegalMoves}
 use Rattle.rbg_perft.specs.Counting.Sums.{none}
 use Rattle.rbg_perft.specs.declared.extent.Extent.TheVariants.{Moves}
 use Rattle.rbg_perft.specs.internal.Refusing.{error_of_unsettled}
@@ -74,12 +76,15 @@ count_behind-returns-in_err-counts-clause-refused t c =
 pub count_from-count_behind-requires : goal.count_from-count_behind-requires
 count_from-count_behind-requires t c =
     let some : 0 < c.args.moves = omega (arith, c.if-moves-eq0.false) in
-    (search rules, (c.settle.ensures.place, (c.in_ok-listed.ensures.all.legal, c.in_ok-listed.ensures.all.different)))
+    let same = sym c.list_all.ensures.kept in
+    (search rules, (subst (IsPlaceOf c.args.game.now) same c.settle.ensures.place, (subst (λ (p : AbstractPlace). All (IsLegal c.args.game.now p) c.in_ok-listed.listed) same c.in_ok-listed.ensures.all.legal, c.in_ok-listed.ensures.all.different)))
 
 pub count_from-returns-clause-counted : goal.count_from-returns-clause-counted
 count_from-returns-clause-counted t c =
     let some : 0 < c.args.moves = omega (arith, c.if-moves-eq0.false) in
-    counted_from c.args.game.now c.args.moves c.args.extent c.args.place.now c.settle.new.place c.in_ok-listed.listed c.in_ok-counts.counts.sequences c.in_ok-counts.counts.ended some c.in_ok-settle.ensures.settles c.in_ok-listed.ensures.all c.in_ok-counts.ensures.counted
+    let same = sym c.list_all.ensures.kept in
+    counted_from c.args.game.now c.args.moves c.args.extent c.args.place.now c.list_all.new.place c.in_ok-listed.listed c.in_ok-counts.counts.sequences c.in_ok-counts.counts.ended some
+    (subst (Settles c.args.game.now c.args.place.now) same c.in_ok-settle.ensures.settles) (subst (λ (p : AbstractPlace). AreLegalMoves c.args.game.now p c.in_ok-listed.listed) same c.in_ok-listed.ensures.all) c.in_ok-counts.ensures.counted
 
 pub count_from-returns-in_err-settle-clause-refused : goal.count_from-returns-in_err-settle-clause-refused
 count_from-returns-in_err-settle-clause-refused t c =
@@ -97,7 +102,7 @@ pub count_from-returns-in_err-counts-clause-refused : goal.count_from-returns-in
 count_from-returns-in_err-counts-clause-refused t c =
     let some : 0 < c.args.moves = omega (arith, c.if-moves-eq0.false) in
     passed_on c.from_residual-in_err-counts.result c.in_err-counts.field-0.0 _ c.from_residual-in_err-counts.ensures.1
-    (refused_next _ _ _ _ c.in_err-counts.field-0.0 some (c.in_err-counts.ensures.refused c.args.place.now c.in_ok-settle.ensures.settles))
+    (refused_next _ _ _ _ c.in_err-counts.field-0.0 some (c.in_err-counts.ensures.refused c.args.place.now (subst (Settles c.args.game.now c.args.place.now) (sym c.list_all.ensures.kept) c.in_ok-settle.ensures.settles)))
 
 pub count_behind-returns-then-not-asks_ends-clause-counted :
     goal.count_behind-returns-then-not-asks_ends-clause-counted

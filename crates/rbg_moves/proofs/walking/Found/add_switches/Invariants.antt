@@ -1,5 +1,5 @@
 -- What the loop over the switches keeps.
-use Rattle.std.proofs.Common.{◌≡◌, ◌≤◌, ◌++◌, ℕ, List, All, length, false}
+use Rattle.std.proofs.Common.{◌≡◌, ◌≤◌, ◌++◌, ℕ, List, [], All, length, false}
 use Rattle.std.specs.List.Sorted.{IsPermutation}
 use Rattle.rbg_rules.specs.Positions.{IsSwitchAt}
 use Rattle.rbg_moves.specs.internal.Gathering.{ListsSwitches}
@@ -12,7 +12,8 @@ invariant-loop-pair l = record {
   switching : All (λ (q : ℕ × ℕ). IsSwitchAt l.game.rules q.1) taken;
   max : l.self.max ≡ l.fn.self.max;
   few : length l.self.moves ≤ l.self.max;
-  lists : ListsSwitches l.game l.fn.pairs taken l.front l.fn.self.max l.fn.self.moves l.self.moves l.self.first.items false;
+  front : l.front.items ≡ l.fn.front.items;
+  lists : ListsSwitches l.game l.fn.pairs taken l.fn.front.items l.fn.self.max l.fn.self.moves l.self.moves [] false;
 }
 
 abbrev pub decreases-loop-pair : goal.decreases-loop-pair

@@ -43,7 +43,7 @@ use Rattle.rbg_search.proofs.Trying.{tries_none, tries_end, tries_deep, tries_fa
 use Rattle.rbg_search.proofs.search.Search.+search.Goals as goal
 
 pub ask-undo_to-requires : goal.ask-undo_to-requires
-ask-undo_to-requires g t c = mark_within c.args.state.now c.stand_at.new.self c.word_runs-runs.new.state c.mark-mark.result c.mark-mark.ensures c.stand_at.ensures.after c.word_runs-runs.ensures.asked.given_back
+ask-undo_to-requires g t c = mark_within c.args.state.now c.stand.new.state c.word_runs-runs.new.state c.mark-mark.result c.mark-mark.ensures c.stand.ensures.after c.word_runs-runs.ensures.asked.given_back
 
 pub ask-is_valid-requires : goal.ask-is_valid-requires
 ask-is_valid-requires g t c = record {
@@ -53,7 +53,7 @@ ask-is_valid-requires g t c = record {
 pub ask-returns-clause-valid : goal.ask-returns-clause-valid
 ask-returns-clause-valid g t c =
     let here : AbstractState = at_vertex c.args.state.now.state c.args.vertex in
-    let moved : c.stand_at.new.self.state ≡ here = ap (λ (h : History). h.state) c.stand_at.ensures.moved in
+    let moved : c.stand.new.state.state ≡ here = c.stand.ensures.moved in
     let decides : IsTrue c.in_ok-runs.field-0 ↔ SomeWordRuns c.word_runs-runs.new.self.game here (beginning (inside c.args.position)) =
     onward_rules (λ x. IsTrue c.in_ok-runs.field-0 ↔ SomeWordRuns x here (beginning (inside c.args.position))) c.args.self.now c.word_runs-runs.new.self c.word_runs-runs.ensures.asked.kept
     (subst (λ (s : AbstractState). IsTrue c.in_ok-runs.field-0 ↔ SomeWordRuns c.args.self.now.game s (beginning (inside c.args.position))) moved c.in_ok-runs.ensures.answer) in
@@ -61,7 +61,7 @@ ask-returns-clause-valid g t c =
 
 pub ask-word_runs-runs-requires : goal.ask-word_runs-runs-requires
 ask-word_runs-runs-requires g t c κs within =
-    let fits : IsStateOf c.args.self.now.game c.stand_at.new.self.state = c.stand_at.ensures.fits c.args.self.now.game c.requires.fits in
+    let fits : IsStateOf c.args.self.now.game c.stand.new.state.state = c.stand.ensures.fits c.args.self.now.game c.requires.fits in
     let nested : NestsFrom c.args.self.now.game.rules (c.args.nested - 1) (beginning (inside c.args.position)) = c.requires.nested (c.args.nested - 1) (omega (arith, c.requires.some)) in
     (search rules, (within, (fits, (nested, pattern_inside c.args.self.now.game.rules c.args.position c.requires.there))))
 
@@ -76,18 +76,18 @@ ask-returns-in-Some-clause-asked g t c = record {
 
 pub ask-returns-in_err-runs-clause-asked : goal.ask-returns-in_err-runs-clause-asked
 ask-returns-in_err-runs-clause-asked g t c =
-    let given = back c.args.state.now c.stand_at.new.self c.word_runs-runs.new.state c.undo_to.new.self c.mark-mark.result c.mark-mark.ensures c.stand_at.ensures.after c.word_runs-runs.ensures.asked.given_back c.undo_to.ensures.given_back in
+    let given = back c.args.state.now c.stand.new.state c.word_runs-runs.new.state c.undo_to.new.self c.mark-mark.result c.mark-mark.ensures c.stand.ensures.after c.word_runs-runs.ensures.asked.given_back c.undo_to.ensures.given_back in
     let there =
-    asked_there c.word_runs-runs.ensures.asked c.args.state.now c.undo_to.new.self (at_vertex c.args.state.now.state c.args.vertex) c.args.self.now.modifiers (sym (ap (λ (h : History). h.state) c.stand_at.ensures.moved)) (ap (λ (x : Searching). x.modifiers) c.self.view_is) given
-    (given_room c.args.state.now c.stand_at.new.self c.word_runs-runs.new.state c.undo_to.new.self c.stand_at.ensures.capacity c.word_runs-runs.ensures.asked.given_back c.word_runs-runs.ensures.asked.room c.undo_to.ensures.capacity given) in
+    asked_there c.word_runs-runs.ensures.asked c.args.state.now c.undo_to.new.self (at_vertex c.args.state.now.state c.args.vertex) c.args.self.now.modifiers (sym c.stand.ensures.moved) (ap (λ (x : Searching). x.modifiers) c.self.view_is) given
+    (given_room c.args.state.now c.stand.new.state c.word_runs-runs.new.state c.undo_to.new.self c.stand.ensures.capacity c.word_runs-runs.ensures.asked.given_back c.word_runs-runs.ensures.asked.room c.undo_to.ensures.capacity given) in
     handed_on there c.from_residual.result c.in_err-runs.field-0.0 c.in_err-runs.was c.from_residual.ensures.1
 
 pub ask-returns-clause-asked : goal.ask-returns-clause-asked
 ask-returns-clause-asked g t c =
-    let given = back c.args.state.now c.stand_at.new.self c.word_runs-runs.new.state c.undo_to.new.self c.mark-mark.result c.mark-mark.ensures c.stand_at.ensures.after c.word_runs-runs.ensures.asked.given_back c.undo_to.ensures.given_back in
+    let given = back c.args.state.now c.stand.new.state c.word_runs-runs.new.state c.undo_to.new.self c.mark-mark.result c.mark-mark.ensures c.stand.ensures.after c.word_runs-runs.ensures.asked.given_back c.undo_to.ensures.given_back in
     let there =
-    asked_there c.word_runs-runs.ensures.asked c.args.state.now c.undo_to.new.self (at_vertex c.args.state.now.state c.args.vertex) c.args.self.now.modifiers (sym (ap (λ (h : History). h.state) c.stand_at.ensures.moved)) (ap (λ (x : Searching). x.modifiers) c.self.view_is) given
-    (given_room c.args.state.now c.stand_at.new.self c.word_runs-runs.new.state c.undo_to.new.self c.stand_at.ensures.capacity c.word_runs-runs.ensures.asked.given_back c.word_runs-runs.ensures.asked.room c.undo_to.ensures.capacity given) in
+    asked_there c.word_runs-runs.ensures.asked c.args.state.now c.undo_to.new.self (at_vertex c.args.state.now.state c.args.vertex) c.args.self.now.modifiers (sym c.stand.ensures.moved) (ap (λ (x : Searching). x.modifiers) c.self.view_is) given
+    (given_room c.args.state.now c.stand.new.state c.word_runs-runs.new.state c.undo_to.new.self c.stand.ensures.capacity c.word_runs-runs.ensures.asked.given_back c.word_runs-runs.ensures.asked.room c.undo_to.ensures.capacity given) in
     answered_on there c.in_ok-runs.field-0 c.is_valid.result c.in_ok-runs.was
 
 -- ---- a flat part by pairs

@@ -63,7 +63,7 @@ returns-in_err-reserve-clause-answered g c =
 
 pub returns-in_err-valid-clause-answered : goal.returns-in_err-valid-clause-answered
 returns-in_err-valid-clause-answered g c =
-    let some : 0 < c.args.self.now.modifiers = subst (λ (m : ℕ). 0 < m) (ap (λ (x : Searching). x.modifiers) c.self.view_is) c.self.invariant.4 in
+    let some : 0 < c.args.self.now.modifiers = subst (λ (m : ℕ). 0 < m) (ap (λ (x : Searching). x.modifiers) c.self.view_is) c.self.invariant.3 in
     let at = still_here c.args.state.now c.reserve.new.self c.vertex-vertex.result c.vertex-vertex.ensures c.reserve.ensures.kept in
     let asked = asked_here c.ask.ensures.asked at c.reserve.ensures.kept c.reserve.ensures.no_less in
     answered some (handed_on asked c.from_residual-in_err-valid.result c.in_err-valid.field-0.0 c.in_err-valid.was c.from_residual-in_err-valid.ensures.1)
@@ -71,7 +71,7 @@ returns-in_err-valid-clause-answered g c =
 
 pub returns-clause-answered : goal.returns-clause-answered
 returns-clause-answered g c =
-    let some : 0 < c.args.self.now.modifiers = subst (λ (m : ℕ). 0 < m) (ap (λ (x : Searching). x.modifiers) c.self.view_is) c.self.invariant.4 in
+    let some : 0 < c.args.self.now.modifiers = subst (λ (m : ℕ). 0 < m) (ap (λ (x : Searching). x.modifiers) c.self.view_is) c.self.invariant.3 in
     let at = still_here c.args.state.now c.reserve.new.self c.vertex-vertex.result c.vertex-vertex.ensures c.reserve.ensures.kept in
     let asked = asked_here c.ask.ensures.asked at c.reserve.ensures.kept c.reserve.ensures.no_less in
     answered some (answered_on asked c.in_ok-valid.valid c.in_ok-valid.valid c.in_ok-valid.was)

@@ -1,32 +1,22 @@
-use Rattle.std.proofs.Common.{◌≡◌, ℕ, ◌<◌, ap, subst}
-use Rattle.rbg_search.proofs.Takings.{not_ok}
-use Rattle.rbg_rules.specs.State.{AbstractGame}
-use Rattle.rbg_search.specs.Searching.{Searching}
+use Rattle.std.proofs.Common.{◌≡◌, ℕ, List, [], ◌∷◌, ◌++◌, ap, ◌∙◌, sym, subst}
 use Rattle.rbg_pairs.specs.Start.{start_of}
-use Rattle.rbg_pairs.specs.Nesting.{NestsFrom}
-use Rattle.rbg_search.proofs.Asks.{answered, handed_on, answered_on, forced_ok}
+use Rattle.rbg_state.specs.History.{History}
+use Rattle.rbg_search.specs.Answered.{HasReached}
+use Rattle.rbg_search.proofs.Asks.{answer_handed, answer_on, answer_lost}
 use Rattle.rbg_search.proofs.search.Search.reach_into.Goals as goal
 
-pub flat_part-requires-clause-nested : goal.flat_part-requires-clause-nested
-flat_part-requires-clause-nested g c =
-    let game : c.self.inside.rules ≡ c.args.self.now.game = ap (λ (x : Searching). x.game) c.self.view_is in
-    subst (λ (x : AbstractGame). NestsFrom x.rules c.nesting-nested.result (start_of c.args.origin)) game (c.nesting-nested.ensures.nests (start_of c.args.origin))
-
 pub returns-in_err-ends-clause-answered : goal.returns-in_err-ends-clause-answered
-returns-in_err-ends-clause-answered g c =
-    let some : 0 < c.args.self.now.modifiers = subst (λ (m : ℕ). 0 < m) (ap (λ (x : Searching). x.modifiers) c.self.view_is) c.self.invariant.4 in
-    answered some (handed_on c.flat_part.ensures.asked c.from_residual.result c.in_err-ends.field-0.0 c.in_err-ends.was c.from_residual.ensures.1)
-    (λ ok. absurd (not_ok c.from_residual.result c.in_err-ends.field-0.0 c.from_residual.ensures.1 ok))
+returns-in_err-ends-clause-answered g c = answer_handed c.reach_only.ensures.answered c.from_residual.result c.in_err-ends.field-0.0 c.in_err-ends.was c.from_residual.ensures.1
 
-pub returns-clause-answered : goal.returns-clause-answered
-returns-clause-answered g c =
-    let some : 0 < c.args.self.now.modifiers = subst (λ (m : ℕ). 0 < m) (ap (λ (x : Searching). x.modifiers) c.self.view_is) c.self.invariant.4 in
-    answered some (answered_on c.flat_part.ensures.asked c.in_ok-ends.ends c.in_ok-ends.ends c.in_ok-ends.was) (λ _ cut. c.in_ok-ends.ensures.found.reaches.forced cut c.args.self.now.modifiers)
+pub returns-in_err-push-clause-answered : goal.returns-in_err-push-clause-answered
+returns-in_err-push-clause-answered g c = answer_lost c.reach_only.ensures.answered c.in_ok-ends.ends c.in_ok-ends.was c.from_residual-in_err-push.result c.from_residual-in_err-push.ensures.1
 
 pub returns-in-Some-clause-answered : goal.returns-in-Some-clause-answered
-returns-in-Some-clause-answered g c =
-    let some : 0 < c.args.self.now.modifiers = subst (λ (m : ℕ). 0 < m) (ap (λ (x : Searching). x.modifiers) c.self.view_is) c.self.invariant.4 in
-    answered some c.reach_only.ensures.asked (λ ok cut. forced_ok c.args.self.now c.reach_only.new.self c.args.state.now c.reach_only.new.state (start_of c.args.origin) c.reach_only.new.pairs c.reach_only.result ok c.reach_only.ensures.found cut c.args.self.now.modifiers)
+returns-in-Some-clause-answered g c = answer_on c.reach_only.ensures.answered c.in_ok-ends.ends c.in_ok-ends.was
 
-pub returns-clause-found : goal.returns-clause-found
-returns-clause-found g c = c.in_ok-ends.ensures.found.reaches
+pub returns-in-Some-clause-found : goal.returns-in-Some-clause-found
+returns-in-Some-clause-found g c =
+    let here : c.vertex.result ≡ c.args.state.now.state.vertex = c.vertex.ensures ∙ ap (λ (h : History). h.state.vertex) c.reach_only.ensures.answered.given_back in
+    let items : c.push.new.self ≡ (c.args.state.now.state.vertex, c.in-Some.position) ∷ [] =
+    c.in_ok-push.ensures ∙ ap (λ (xs : List (ℕ × ℕ)). xs ++ (c.vertex.result, c.in-Some.position) ∷ []) c.clear.ensures ∙ ap (λ (v : ℕ). (v, c.in-Some.position) ∷ []) here in
+    subst (λ (xs : List (ℕ × ℕ)). HasReached c.args.self.now c.reach_only.new.self c.args.state.now c.reach_only.new.state (start_of c.args.origin) xs c.in_ok-ends.ends) (sym items) c.in_ok-ends.ensures.found

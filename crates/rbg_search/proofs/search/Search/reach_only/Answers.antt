@@ -13,14 +13,12 @@ use Rattle.rbg_search.proofs.Alone.{only_position, some_pair, alone_whole, alone
 use Rattle.rbg_search.specs.Taken.{most_pairs_of}
 use Rattle.rbg_search.specs.internal.Spent.{IsSpentButOne}
 use Rattle.rbg_search.proofs.Fewness.{one_opened}
-use Rattle.rbg_search.proofs.Takings.{own_part}
+use Rattle.rbg_search.proofs.Takings.{own_part, not_ok}
 use Rattle.rbg_search.proofs.Kept.{onward_rules, rules_before}
-use Rattle.rbg_search.proofs.search.Search.reach_only.Given.{Over}
 use Rattle.std.proofs.Common.{refl}
-use Rattle.rbg_search.specs.declared.over.Over.TheVariants.{Deep, Wide, Memory}
-use Rattle.rbg_search.proofs.Asks.{not_entered}
-use Rattle.rbg_search.proofs.Counted.{memory_not_deep, memory_not_wide, ok_not_err}
-use Rattle.rbg_search.proofs.CountedSteps.{not_memory}
+use Rattle.rbg_search.specs.declared.over.Over.TheVariants.{Deep, Wide}
+use Rattle.rbg_search.proofs.Asks.{answered, not_entered}
+use Rattle.rbg_search.proofs.Counted.{ok_not_err}
 use Rattle.rbg_search.proofs.Finding.{finds_none, finds_asked, finds_own}
 use Rattle.std.specs.Prelude.{Result, Err, IsOk}
 use Rattle.rbg_pairs.specs.Part.{IsTrialAt}
@@ -76,44 +74,36 @@ count_pairs-requires-clause-one g c =
     onward_rules (λ x. IsSpentButOne x opened c.enter.new.self.taken) now c.enter.new.self c.enter.ensures.kept
     (subst (λ (n : ℕ). IsSpentButOne now.game opened n) (sym c.enter.ensures.none_taken) (one_opened now.game now.opened now.taken opened c.enter.ensures.spent c.in_ok-enter.ensures.opened))
 
--- The list has the one pair.
-items : (g : Over) (c : goal.In_ok-push g) → c.push.new.self ≡ (c.args.state.now.state.vertex, c.args.position) ∷ []
-items g c =
-    let here : c.vertex.result ≡ c.args.state.now.state.vertex = c.vertex.ensures ∙ ap (λ (h : History). h.state.vertex) c.enter.ensures.given_back in
-    c.in_ok-push.ensures ∙ ap (λ (xs : List (ℕ × ℕ)). xs ++ (c.vertex.result, c.args.position) ∷ []) c.clear.ensures ∙ ap (λ (v : ℕ). (v, c.args.position) ∷ []) here
+pub returns-in_err-enter-clause-answered : goal.returns-in_err-enter-clause-answered
+returns-in_err-enter-clause-answered g c =
+    let some : 0 < c.args.self.now.modifiers = subst (λ (m : ℕ). 0 < m) (ap (λ (x : Searching). x.modifiers) c.self.view_is) c.self.invariant.3 in
+    answered some
+    (not_entered c.args.self.now c.enter.new.self c.args.state.now c.enter.new.state (start_of c.args.origin) c.enter.result c.from_residual.result c.in_err-enter.field-0.0 c.in_err-enter.was c.from_residual.ensures.1 c.enter.ensures.kept c.enter.ensures.given_back c.enter.ensures.room
+    (c.enter.ensures.counts c.args.state.now.state (start_of c.args.origin) c.requires.stands) c.enter.ensures.grows c.enter.ensures.none_taken)
+    (λ ok. absurd (not_ok c.from_residual.result c.in_err-enter.field-0.0 c.from_residual.ensures.1 ok))
 
-pub returns-in_err-enter-clause-asked : goal.returns-in_err-enter-clause-asked
-returns-in_err-enter-clause-asked g c =
-    not_entered c.args.self.now c.enter.new.self c.args.state.now c.enter.new.state (start_of c.args.origin) c.enter.result c.from_residual.result c.in_err-enter.field-0.0 c.in_err-enter.was c.from_residual.ensures.1 c.enter.ensures.kept c.enter.ensures.given_back c.enter.ensures.room
-    (c.enter.ensures.counts c.args.state.now.state (start_of c.args.origin) c.requires.stands) c.enter.ensures.grows c.enter.ensures.none_taken
+pub returns-clause-answered : goal.returns-clause-answered
+returns-clause-answered g c =
+    let h = c.args.self.now in
+    let e = c.enter.new.self in
+    let s = c.args.state.now in
+    let l = c.enter.new.state in
+    let f = start_of c.args.origin in
+    let some : 0 < h.modifiers = subst (λ (m : ℕ). 0 < m) (ap (λ (x : Searching). x.modifiers) c.self.view_is) c.self.invariant.3 in
+    let begun : Finds h e s l f [] = finds_none h e e s l f c.enter.ensures.lawful c.requires.stands c.enter.ensures.kept refl c.enter.ensures.given_back c.enter.ensures.room c.in_ok-enter.ensures.enough c.in_ok-enter.ensures.opened c.enter.ensures.none_taken c.enter.ensures.spent in
+    let ends = decided h e f c.may_end-ends.result c.self-2.inside.rules c.enter.ensures.kept (ap (λ (x : Searching). x.game) c.self-2.view_is) c.may_end-ends.ensures in
+    answered some
+    (asked h e c.count_pairs.new.self s l f c.args.position c.may_end-ends.result begun c.requires.fits c.requires.only ends c.requires.modifies c.count_pairs.ensures.kept c.count_pairs.ensures.opened c.count_pairs.ensures.taken _
+    (ok_not_err c.may_end-ends.result Deep) (ok_not_err c.may_end-ends.result Wide))
+    (λ _ cut. (found h e c.count_pairs.new.self s l f c.args.position c.may_end-ends.result begun c.requires.fits c.requires.only ends c.requires.modifies c.count_pairs.ensures.kept c.count_pairs.ensures.opened c.count_pairs.ensures.taken).forced cut h.modifiers)
 
-pub returns-in_err-push-clause-asked : goal.returns-in_err-push-clause-asked
-returns-in_err-push-clause-asked g c =
+pub returns-clause-found : goal.returns-clause-found
+returns-clause-found g c =
     let h = c.args.self.now in
     let e = c.enter.new.self in
     let s = c.args.state.now in
     let l = c.enter.new.state in
     let f = start_of c.args.origin in
     let begun : Finds h e s l f [] = finds_none h e e s l f c.enter.ensures.lawful c.requires.stands c.enter.ensures.kept refl c.enter.ensures.given_back c.enter.ensures.room c.in_ok-enter.ensures.enough c.in_ok-enter.ensures.opened c.enter.ensures.none_taken c.enter.ensures.spent in
-    let ends = decided h e f c.may_end-ends.result c.self.inside.rules c.enter.ensures.kept (ap (λ (x : Searching). x.game) c.self.view_is) c.may_end-ends.ensures in
-    let r = c.from_residual-in_err-push.result in
-    asked h e c.count_pairs.new.self s l f c.args.position c.may_end-ends.result begun c.requires.fits c.requires.only ends c.requires.modifies c.count_pairs.ensures.kept c.count_pairs.ensures.opened c.count_pairs.ensures.taken r
-    (not_memory r Memory Deep c.from_residual-in_err-push.ensures.1 refl memory_not_deep) (not_memory r Memory Wide c.from_residual-in_err-push.ensures.1 refl memory_not_wide)
-
--- The flat part is begun, and it is known whether a word may end.
-begun : (g : Over) (c : goal.In_ok-push g) → Finds c.args.self.now c.enter.new.self c.args.state.now c.enter.new.state (start_of c.args.origin) []
-begun g c =
-    finds_none c.args.self.now c.enter.new.self c.enter.new.self c.args.state.now c.enter.new.state (start_of c.args.origin) c.enter.ensures.lawful c.requires.stands c.enter.ensures.kept refl c.enter.ensures.given_back c.enter.ensures.room c.in_ok-enter.ensures.enough c.in_ok-enter.ensures.opened c.enter.ensures.none_taken c.enter.ensures.spent
-
-ends : (g : Over) (c : goal.In_ok-push g) → Decides c.may_end-ends.result (Ends c.args.self.now.game.rules (start_of c.args.origin) [])
-ends g c = decided c.args.self.now c.enter.new.self (start_of c.args.origin) c.may_end-ends.result c.self.inside.rules c.enter.ensures.kept (ap (λ (x : Searching). x.game) c.self.view_is) c.may_end-ends.ensures
-
-pub returns-clause-asked : goal.returns-clause-asked
-returns-clause-asked g c =
-    asked c.args.self.now c.enter.new.self c.count_pairs.new.self c.args.state.now c.enter.new.state (start_of c.args.origin) c.args.position c.may_end-ends.result (begun g c) c.requires.fits c.requires.only (ends g c) c.requires.modifies c.count_pairs.ensures.kept c.count_pairs.ensures.opened c.count_pairs.ensures.taken _
-    (ok_not_err c.may_end-ends.result Deep) (ok_not_err c.may_end-ends.result Wide)
-
-pub returns-clause-found : goal.returns-clause-found
-returns-clause-found g c =
-    subst (λ (xs : List (ℕ × ℕ)). HasReached c.args.self.now c.count_pairs.new.self c.args.state.now c.enter.new.state (start_of c.args.origin) xs c.may_end-ends.result) (sym (items g c))
-    (found c.args.self.now c.enter.new.self c.count_pairs.new.self c.args.state.now c.enter.new.state (start_of c.args.origin) c.args.position c.may_end-ends.result (begun g c) c.requires.fits c.requires.only (ends g c) c.requires.modifies c.count_pairs.ensures.kept c.count_pairs.ensures.opened c.count_pairs.ensures.taken)
+    let ends = decided h e f c.may_end-ends.result c.self-2.inside.rules c.enter.ensures.kept (ap (λ (x : Searching). x.game) c.self-2.view_is) c.may_end-ends.ensures in
+    found h e c.count_pairs.new.self s l f c.args.position c.may_end-ends.result begun c.requires.fits c.requires.only ends c.requires.modifies c.count_pairs.ensures.kept c.count_pairs.ensures.opened c.count_pairs.ensures.taken

@@ -1,0 +1,20 @@
+-- Which games flat parts that are kept fit.
+use Rattle.std.specs.Prelude.{◌≡◌, ℕ, length}
+use Rattle.rbg_rules.specs.Positions.{positions_of}
+use Rattle.rbg_rules.specs.State.{AbstractGame}
+use Rattle.rbg_flat.specs.internal.Leading.{AreSizedFor}
+use Rattle.rbg_flat.specs.internal.Sets.{SetsOfVertices}
+use Rattle.rbg_pairs.specs.Part.{HasMarksOf}
+use Rattle.rbg_pairs.specs.Meeting.{Met}
+
+-- The game has so many positions and vertices.
+pub record IsOfSize (game : AbstractGame) (positions vertices : ℕ) : Type 0 where
+  pub positions_are : length (positions_of game.rules) ≡ positions
+  pub vertices_are : length game.board.first ≡ vertices
+
+-- The marks are of use for each game that has so many positions and vertices; so are the sets.
+pub record FitMarks (positions vertices : ℕ) (met : Met) : Type 0 where
+  pub fit : (game : AbstractGame) → IsOfSize game positions vertices → HasMarksOf game met
+
+pub record FitSets (positions vertices : ℕ) (sets : SetsOfVertices) : Type 0 where
+  pub fit : (game : AbstractGame) → IsOfSize game positions vertices → AreSizedFor game sets
