@@ -1,5 +1,5 @@
 //! What the questions at a place have in common.
-ghost use Rattle.std.specs.Prelude.{◌≡◌, ◌<◌, ◌≤◌, ◌↔◌, [], ◌∷◌, ◌++◌, length, IfSome, OnOk, IsTrue};
+ghost use Rattle.std.specs.Prelude.{◌≡◌, ◌≤◌, ◌↔◌, length, IfSome, IsTrue};
 ghost use Rattle.rbg_base.specs.Move.{IsMoveLength};
 ghost use Rattle.rbg_rules.specs.Games.{IsGame};
 ghost use Rattle.rbg_rules.specs.Positions.{IsSwitchAt};
@@ -10,7 +10,7 @@ ghost use Rattle.rbg_moves.specs.internal.Asking.{begun_in};
 ghost use Rattle.rbg_flat.specs.internal.Shown.{shows_switch};
 
 use rbg_auto::{Expr, Steps};
-use rbg_base::{Memory, Move, Pair, Position};
+use rbg_base::{Move, Pair, Position};
 use rbg_flat::Paths;
 use rbg_rules::limits::{MAX_MODIFIERS, MAX_OPENINGS};
 use rbg_rules::{Action, Game};
@@ -88,17 +88,4 @@ pub(crate) fn move_of(pairs: &[Pair]) -> Move
         Ok(whole) => whole,
         Err(_) => unreachable!(),
     }
-}
-
-/// Puts these pairs and one more into the buffer, in place of what it held.
-pub(crate) fn join(buffer: &mut Vec<Pair>, front: &[Pair], last: Pair) -> Result<(), Memory>
-    ensures { OnOk result (buffer.new.items ≡ front.now ++ last ∷ []) }
-{
-    buffer.clear();
-    // most fronts are short, so that no block is copied
-    for pair in front {
-        buffer.push(*pair)?;
-    }
-    buffer.push(last)?;
-    Ok(())
 }
