@@ -27,7 +27,7 @@ pub record IsComparisonAt (rules : Expression) (p : ℕ) : Type 0 where
 pub record IsSureAt (rules : Expression) (p : ℕ) : Type 0 where
   pub stands : ((x : ℕ) × HasAction rules p (off x)) ⊎ ((n : ℕ) × HasAction rules p (switch n))
 
--- The kind of the action at the position.
+-- The kind of the action at the position. That an on of the kind `OnEither` has two pieces is said with its facts.
 abbrev pub IsKind : Expression → ℕ → Kind → Type 0
 IsKind rules p OnEither = (wanted : List ℕ) × HasAction rules p (on wanted)
 IsKind rules p Modifier = IsModifierAt rules p

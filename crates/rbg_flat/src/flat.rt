@@ -51,14 +51,6 @@ impl Flat {
         })
     }
 
-    /// Whether it is of use for the game.
-    pub fn is_for(&self, game: &Game) -> bool
-        ensures { IsTrue result → AreSizedFor game.now self.now.sets }
-    {
-        self.sets.size() == game.positions() + 1
-            && (game.board().len() + 63) / 64 <= self.sets.columns()
-    }
-
     /// Begins anew in a semi-state, at a place in the rules.
     pub fn begin(&mut self, game: &Game, paths: &Paths, state: &SemiState, origin: Origin)
         requires lawful { IsGame game.now }

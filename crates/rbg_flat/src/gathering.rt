@@ -38,7 +38,7 @@ pub(crate) fn is_modifier(game: &Game, paths: &Paths, position: Position) -> boo
     matches!(paths.kind(game, position), Kind::Modifier)
 }
 
-/// The same where an action stands, by a try. Only assignments are tried so: offs and switches are always valid.
+/// As `keeps`, by a try. Only assignments are tried so: offs and switches are always valid.
 #[inline(never)]
 fn is_kept(game: &Game, state: &SemiState, position: Position) -> bool
     requires lawful { IsGame game.now }

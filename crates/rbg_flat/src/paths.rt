@@ -247,7 +247,7 @@ fn facts_of(action: &Action, still: bool) -> Facts
     }
 }
 
-/// The facts of an action of this kind that has no pieces.
+/// The facts of an action of this kind, of which no pieces are told.
 fn plain_facts(still: bool, kind: Kind, sure: bool) -> Facts
     ensures still { result.still ≡ still }
     ensures shown { HasNoPieces kind sure result }

@@ -91,13 +91,6 @@ impl Sets {
         self.marks.clear_last(place);
     }
 
-    /// Below which size the positions are.
-    pub(crate) fn size(&self) -> usize
-        ensures { result ≡ self.now.size }
-    {
-        self.size
-    }
-
     /// How many words a row has.
     pub(crate) fn columns(&self) -> usize
         ensures is { result ≡ self.now.columns }

@@ -46,15 +46,6 @@ impl Flat {
         })
     }
 
-    /// Whether there are marks for the game.
-    #[inline(always)]
-    pub fn is_for(&self, game: &Game) -> bool
-        ensures { IsTrue result → HasMarksOf game.now self.now.queue }
-    {
-        self.queue
-            .is_for(game.positions() as Position, game.board().len())
-    }
-
     /// Begins anew, at a vertex: meets the positions that may come first.
     pub fn begin<S: Steps>(
         &mut self,

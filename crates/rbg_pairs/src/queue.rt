@@ -63,15 +63,6 @@ impl Queue {
         })
     }
 
-    /// Whether the marks are for the positions from 0 to this one, at vertices below this one.
-    pub(crate) fn is_for(&self, last: Position, vertices: usize) -> bool
-        requires { vertices ≤ 2 ^ 16 }
-        ensures vertices { IsTrue result → self.now.vertices ≡ vertices }
-        ensures marks { IsTrue result → self.now.marks ≡ (last + 1) * vertices }
-    {
-        self.vertices == vertices && self.marks == (last as usize + 1) * vertices
-    }
-
     /// How many pairs were met.
     pub(crate) fn len(&self) -> usize
         ensures count { result ≡ length self.now.pairs }

@@ -4,7 +4,7 @@ use crate::flat_pool::FlatPool;
 use rbg_flat::Modifiers;
 use std::alloc::Global;
 
-/// What searches leave to later ones, so that these take no memory. A search borrows them.
+/// What searches leave to later ones, so that these take less memory. A search borrows them.
 #[derive(Drop)]
 pub struct Buffers {
     /// Flat parts that are not in use.

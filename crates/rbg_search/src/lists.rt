@@ -6,7 +6,7 @@ use rbg_auto::Steps;
 use rbg_flat::Modifiers;
 
 impl<'a, S: Steps> Search<'a, S> {
-    /// A list to lend to `reach_into`: one that was kept, where there is one. What it holds is of no use.
+    /// A list to lend to `reach_into` or `reach_flat`: one that was kept, where there is one. What it holds is of no use.
     pub fn take_list(&mut self) -> Modifiers
         ensures { self.new ≡ self.old }
     {

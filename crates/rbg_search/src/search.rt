@@ -250,8 +250,8 @@ impl<'a, S: Steps> Search<'a, S> {
         Ok(ends)
     }
 
-    /// The one modifier that comes next, if there is one alone and it is valid: then `reach_only` does what `reach_into`
-    /// does, and needs no list.
+    /// The one modifier that comes next, if there is one alone and it is valid, as far as that is told without a try: then
+    /// `reach_only` does what `reach_into` does, and needs no list.
     #[inline(always)]
     pub fn only(&self, state: &SemiState, origin: Origin) -> Option<Position>
         requires { IsStateOf self.now.game state.now.state }

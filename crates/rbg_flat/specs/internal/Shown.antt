@@ -6,7 +6,7 @@ use Rattle.rbg_flat.specs.declared.paths.Facts.{Facts}
 use Rattle.rbg_flat.specs.declared.paths.Kind.{Kind}
 use Rattle.rbg_flat.specs.declared.paths.Kind.TheVariants.{OnEither, Modifier, Pattern, On as OnOne, Comparison, Plain}
 
--- The facts of an action of this kind that has no pieces.
+-- The facts of an action of this kind, of which no pieces are told.
 pub record HasNoPieces (kind : Kind) (sure : Bool) (told : Facts) : Type 0 where
   pub kind_is : told.kind ≡ kind
   pub sure_is : told.sure ≡ sure

@@ -10,8 +10,8 @@ use Rattle.rbg_pairs.specs.Flat.{IsFlatPart}
 use Rattle.rbg_search.specs.Searching.{Searching}
 use Rattle.rbg_moves.specs.internal.Asking.{CountsAnswer, question_of, is_cut}
 
--- A list of pairs that is wanted and not among these. Where there is room for none, `first` is this list behind these
--- first pairs, and as long as a move may be.
+-- A list of pairs that is wanted and not among these. Where there is room for none, `first` is this list behind the
+-- front, and as long as a move may be.
 pub record IsMissing
     (IsWanted : List (ℕ × ℕ) → Type 0) (front : List (ℕ × ℕ)) (max : ℕ) (found : List (List (ℕ × ℕ)))
     (first : List (ℕ × ℕ))
