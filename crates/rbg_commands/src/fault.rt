@@ -3,12 +3,9 @@
 use crate::player_refusal::PlayerRefusal;
 use rbg_console::{Refusal, Status, write_text};
 use rbg_game::LoadError;
-use rbg_hosting::HallFault;
-use rbg_keeping::KeepingFault;
-use rbg_match::MatchError;
+use rbg_keeping::ServingFault;
 use rbg_network::{ClientError, GatherError};
 use rbg_player::PlayerError;
-use rbg_serving::ServeError;
 use std::alloc::AllocError;
 use std::io::{self, Write};
 use thiserror::Error;
@@ -68,47 +65,16 @@ impl From<LoadError> for Fault {
     }
 }
 
-impl From<MatchError> for Fault {
-    fn from(error: MatchError) -> Fault {
+impl From<ServingFault> for Fault {
+    fn from(error: ServingFault) -> Fault {
         match error {
-            MatchError::Config => Fault::Config,
-            MatchError::Memory => Fault::Memory(AllocError),
-        }
-    }
-}
-
-impl From<HallFault> for Fault {
-    fn from(error: HallFault) -> Fault {
-        match error {
-            HallFault::Hall => Fault::Config,
-            HallFault::Refused(error) => Fault::from(error),
-            HallFault::Device => Fault::Device,
-            HallFault::Absent => Fault::Absent,
-            HallFault::Rounds => Fault::Rounds,
-            HallFault::Memory(error) => Fault::Memory(error),
-        }
-    }
-}
-
-impl From<KeepingFault> for Fault {
-    fn from(error: KeepingFault) -> Fault {
-        match error {
-            KeepingFault::Refused(error) => Fault::from(error),
-            KeepingFault::Config => Fault::Config,
-            KeepingFault::Script(line) => Fault::Script(line),
-            KeepingFault::Device => Fault::Device,
-            KeepingFault::Absent => Fault::Absent,
-            KeepingFault::Rounds => Fault::Rounds,
-            KeepingFault::Memory(error) => Fault::Memory(error),
-        }
-    }
-}
-
-impl From<ServeError> for Fault {
-    fn from(error: ServeError) -> Fault {
-        match error {
-            ServeError::Rounds => Fault::Rounds,
-            ServeError::Memory => Fault::Memory(AllocError),
+            ServingFault::Refused(error) => Fault::from(error),
+            ServingFault::Config => Fault::Config,
+            ServingFault::Script(line) => Fault::Script(line),
+            ServingFault::Device => Fault::Device,
+            ServingFault::Absent => Fault::Absent,
+            ServingFault::Rounds => Fault::Rounds,
+            ServingFault::Memory(error) => Fault::Memory(error),
         }
     }
 }

@@ -1,12 +1,12 @@
 //! What the words of the command line ask for is done.
 
 use crate::ask::ask_file;
-use crate::fault::report;
-use crate::serving::{demo_file, play, serve_file, serve_hall};
+use crate::fault::{Fault, report};
+use crate::serving::{demo_file, play, serve_file};
 use crate::task::Task;
 use rbg_answering::{run_recorded, run_task};
 use rbg_console::{Files, Status, write_words};
-use rbg_hosting::run_hall_script;
+use rbg_hosting::{run_hall_script, serve_files};
 use rbg_keeping::{run_cut, run_script};
 use rbg_listing::run_moves;
 use rbg_network::Network;
@@ -52,7 +52,9 @@ fn obey<F: Files, N: Network, R: Read, W: Write>(
             names,
             port,
             service,
-        } => serve_hall(alloc, names.as_slice(), files, network, port, service),
+        } => serve_files(alloc, names.as_slice(), files, network, port, service).map_err(
+            |fault| Fault::from(fault),
+        ),
         Task::Ask { file } => ask_file(alloc, files, file, input, output),
         Task::Demo { file, service } => demo_file(alloc, files, file, network, service),
         Task::Serve {

@@ -1,10 +1,8 @@
 //! The commands `serve`, `demo` and `play`: matches over connections.
-ghost use Rattle.std.specs.Prelude.{◌≡◌, ℕ, List, Option, length, IfOk};
+ghost use Rattle.std.specs.Prelude.{ℕ, List, Option, IfOk};
 ghost use Rattle.rbg_commands.specs.Served.{IsMatchRecord, plain_record, timed_record};
 ghost use Rattle.rbg_console.specs.Files.{MayBe};
-ghost use Rattle.rbg_game.specs.Loading.{Loads};
 ghost use Rattle.rbg_keeping.specs.Played.{IsPlayedMatch};
-ghost use Rattle.rbg_match.specs.PlayingOn.{seats_of};
 
 use crate::fault::Fault;
 use crate::inputs::read_description;
@@ -12,14 +10,12 @@ use crate::printed::outcome_line;
 use crate::task::Service;
 use rbg_client::{Client, connect_players, tell_who_gave_up};
 use rbg_console::Files;
-use rbg_game::{Game, load};
-use rbg_hosting::{HallService, serve_files};
-use rbg_keeping::{Serving, serve_match};
+use rbg_game::load;
+use rbg_keeping::{NOTHING_KEPT, Serving, serve_lines, serve_match};
 use rbg_match::Match;
-use rbg_network::{ClientError, Network, News};
+use rbg_network::{ClientError, Hosting, Network, News};
 use rbg_player::Heard;
 use rbg_record::{write_record, write_record_1};
-use rbg_serving::{Clock, Line, serve};
 use rbg_wire::Outcome;
 use std::alloc::Global;
 
@@ -39,28 +35,6 @@ pub fn serve_file<F: Files, N: Network>(
     record_match(alloc, &played)
 }
 
-/// The record of a match, in version 2.
-fn record_match(alloc: Global, played: &Match) -> Result<Vec<u8>, Fault>
-    ensures { (known : Option (List ℕ)) (description : List ℕ) →
-        MayBe known description → IsPlayedMatch description played.now →
-        IfOk result (λ told. IsMatchRecord timed_record known told.items) }
-{
-    Ok(write_record(alloc, played)?)
-}
-
-/// Referees a match of each file's game at once, between the players that connect to the port and join it, and gives the
-/// records.
-pub fn serve_hall<F: Files, N: Network>(
-    alloc: Global,
-    names: &[&str],
-    files: &mut F,
-    network: &mut N,
-    port: u16,
-    service: HallService<'_>,
-) -> Result<Vec<u8>, Fault> {
-    Ok(serve_files(alloc, names, files, network, port, service)?)
-}
-
 /// Referees a match of the file's game between players of this process, and gives its record of version 1.
 pub fn demo_file<F: Files, N: Network>(
     alloc: Global,
@@ -76,15 +50,6 @@ pub fn demo_file<F: Files, N: Network>(
     record_plainly(alloc, &played)
 }
 
-/// The record of a match, in version 1.
-fn record_plainly(alloc: Global, played: &Match) -> Result<Vec<u8>, Fault>
-    ensures { (known : Option (List ℕ)) (description : List ℕ) →
-        MayBe known description → IsPlayedMatch description played.now →
-        IfOk result (λ told. IsMatchRecord plain_record known told.items) }
-{
-    Ok(write_record_1(alloc, played)?)
-}
-
 /// Referees a match of the text's game between players of this process.
 fn demo_text<N: Network>(
     alloc: Global,
@@ -96,9 +61,44 @@ fn demo_text<N: Network>(
 {
     let game = load(alloc, text)?;
     let mut lines = connect_players(alloc, network, game.players())?;
-    let played = serve_lines(alloc, game, text, network, service, lines.as_mut_slice());
+    let serving = Serving {
+        config: service.config,
+        rounds: service.rounds,
+        keeping: NOTHING_KEPT,
+        hosting: Hosting {
+            wait: None,
+            quiet: true,
+        },
+    };
+    let played = serve_lines(
+        alloc,
+        game,
+        text,
+        network,
+        &serving,
+        None::<N::Log>,
+        lines.as_mut_slice(),
+    );
     tell_who_gave_up(network, lines.as_slice());
-    played
+    Ok(played?)
+}
+
+/// The record of a match, in version 2.
+fn record_match(alloc: Global, played: &Match) -> Result<Vec<u8>, Fault>
+    ensures { (known : Option (List ℕ)) (description : List ℕ) →
+        MayBe known description → IsPlayedMatch description played.now →
+        IfOk result (λ told. IsMatchRecord timed_record known told.items) }
+{
+    Ok(write_record(alloc, played)?)
+}
+
+/// The record of a match, in version 1.
+fn record_plainly(alloc: Global, played: &Match) -> Result<Vec<u8>, Fault>
+    ensures { (known : Option (List ℕ)) (description : List ℕ) →
+        MayBe known description → IsPlayedMatch description played.now →
+        IfOk result (λ told. IsMatchRecord plain_record known told.items) }
+{
+    Ok(write_record_1(alloc, played)?)
 }
 
 /// Plays a seat of the match at the port, or of this one of the matches there, and gives the match's last message. A
@@ -168,45 +168,4 @@ fn tell_seat<N: Network>(network: &mut N, client: &Client<N::Stream>) -> bool {
         }
         None => false,
     }
-}
-
-/// Referees a match over the lines, one for each seat, until it has ended. A clock begins with it.
-fn serve_lines<N: Network, L: Line>(
-    alloc: Global,
-    game: Game,
-    text: &[u8],
-    network: &mut N,
-    service: Service,
-    lines: &mut [L],
-) -> Result<Match, Fault>
-    requires loaded { Loads text.now game }
-    requires lines { length lines.old ≡ seats_of game }
-    ensures { IfOk result (λ played. IsPlayedMatch text.now played) }
-{
-    let mut clock = network.start_clock()?;
-    serve_by(alloc, game, text, service, lines, &mut clock)
-}
-
-fn serve_by<L: Line, C: Clock>(
-    alloc: Global,
-    game: Game,
-    text: &[u8],
-    service: Service,
-    lines: &mut [L],
-    clock: &mut C,
-) -> Result<Match, Fault>
-    requires loaded { Loads text.now game }
-    requires lines { length lines.old ≡ seats_of game }
-    ensures { IfOk result (λ played. IsPlayedMatch text.now played) }
-{
-    let (mut played, mut outbox) = Match::new(alloc, game, text, service.config, clock.now())?;
-    serve(
-        alloc,
-        lines,
-        &mut played,
-        &mut outbox,
-        clock,
-        service.rounds,
-    )?;
-    Ok(played)
 }

@@ -14,34 +14,27 @@ use Rattle.rbg_floor.specs.declared.error.HallError.{HallError}
 use Rattle.rbg_match.specs.Config.{IsWithinLimits}
 use Rattle.rbg_match.specs.declared.config.Config.{Config}
 use Rattle.rbg_refereeing.specs.Scripts.{config_for}
+use Rattle.rbg_refereeing.specs.Errors.{IsOfScript}
+use Rattle.rbg_refereeing.specs.declared.error.RefereeingError.{RefereeingError}
 use Rattle.rbg_script.specs.declared.error.ScriptError.{ScriptError}
 use Rattle.rbg_script.specs.declared.error.ScriptError.TheVariants.{Line, Memory as NoMemory}
 use Rattle.rbg_script.specs.Scripts.{AbstractScript, SpellsScript, HasMisfit, IsReason, misfit}
 use Rattle.rbg_hosting.specs.declared.error.HostingError.{HostingError}
-use Rattle.rbg_hosting.specs.declared.error.HostingError.TheVariants.{Tables, Load, Script, Memory}
-use Rattle.rbg_hosting.specs.Errors.{IsOfHall, IsOfScript}
-use Rattle.rbg_hosting.specs.Halls.{MayBeDescriptions, IsHeardHall, IsNoHall}
+use Rattle.rbg_hosting.specs.Errors.{IsOfHall}
+use Rattle.rbg_hosting.specs.Halls.{MayBeDescriptions, IsHeardHall, IsNoHall, IsNotHeard}
 use Rattle.rbg_hosting.specs.Scripts.{event_for}
 use Rattle.rbg_hosting.specs.Tables.{texts_of, IsGames, AreTablesOf}
-use Rattle.rbg_hosting.specs.internal.Loading.{IsNotLoaded}
 use Rattle.rbg_hosting.proofs.TableLemmas.{as_many, config_in}
-
--- a description was refused
-pub refused_hall : (descriptions : List (List ℕ)) (error : HostingError) → IsNotLoaded descriptions error → (text : List ℕ) → IsNoHall descriptions text error
-refused_hall descriptions Tables why text = absurd why
-refused_hall descriptions (Load error) why text = why
-refused_hall descriptions (Script number) why text = absurd why
-refused_hall descriptions Memory why text = tt {0}
 
 reason_has : (text : List ℕ) (number : ℕ) → IsReason text (Line number) → HasMisfit text number
 reason_has text _ (misfit number has) = has
 
 -- a text that is no script, where the descriptions are games'
-pub script_is_no_hall : (descriptions : List (List ℕ)) → All IsGames descriptions → (reason : ScriptError) (error : HostingError) → IsOfScript reason error → (text : List ℕ) → IsReason text reason → IsNoHall descriptions text error
-script_is_no_hall descriptions games (Line number) error is text reason =
-    subst (λ e. IsNoHall descriptions text e) (sym is) (games, reason_has text number reason)
-script_is_no_hall descriptions games NoMemory error is text reason =
-    subst (λ e. IsNoHall descriptions text e) (sym is) (tt {0})
+pub script_not_heard : (descriptions : List (List ℕ)) → All IsGames descriptions → (reason : ScriptError) (error : RefereeingError) → IsOfScript reason error → (text : List ℕ) → IsReason text reason → IsNotHeard descriptions text error
+script_not_heard descriptions games (Line number) error is text reason =
+    subst (λ e. IsNotHeard descriptions text e) (sym is) (games, reason_has text number reason)
+script_not_heard descriptions games NoMemory error is text reason =
+    subst (λ e. IsNotHeard descriptions text e) (sym is) (tt {0})
 
 -- the config of a script is within the limits
 script_config : (text : List ℕ) (script : AbstractScript) → SpellsScript text script → IsWithinLimits (config_for script.config)

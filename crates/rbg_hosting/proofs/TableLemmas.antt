@@ -8,8 +8,8 @@ use Rattle.rbg_floor.specs.Halls.{AbstractTable}
 use Rattle.rbg_floor.specs.Openings.{AreLoaded, start_of, starts_of}
 use Rattle.rbg_game.specs.Loading.{Loads}
 use Rattle.rbg_match.specs.declared.config.Config.{Config}
-use Rattle.rbg_hosting.specs.declared.error.HostingError.{HostingError}
-use Rattle.rbg_hosting.specs.declared.error.HostingError.TheVariants.{Tables, Load, Script, Memory}
+use Rattle.rbg_refereeing.specs.declared.error.RefereeingError.{RefereeingError}
+use Rattle.rbg_refereeing.specs.declared.error.RefereeingError.TheVariants.{Load, Script, Memory}
 use Rattle.rbg_hosting.specs.Tables.{texts_of, IsGames, IsTableOf, AreTablesOf}
 use Rattle.rbg_hosting.specs.Tables.AreTablesOf.{no_table, one_more}
 use Rattle.rbg_hosting.specs.internal.Loading.{IsNotTable, IsNotLoaded}
@@ -63,8 +63,7 @@ parts_at descriptions k description below is =
     ∙ map-append (λ (d : Vec ℕ). d.items) (take k descriptions) (description ∷ drop (k + 1) descriptions)
 
 -- a description has no table
-pub not_loaded : (config : Config) (descriptions : List (Vec ℕ)) (k : ℕ) (description : Vec ℕ) (tables : List AbstractTable) → k < length descriptions → description ≡ get_or descriptions k description → AreTablesOf config (texts_of (take k descriptions)) tables → (error : HostingError) → IsNotTable description.items error → IsNotLoaded (texts_of descriptions) error
-not_loaded config descriptions k description tables below is are Tables why = why
+pub not_loaded : (config : Config) (descriptions : List (Vec ℕ)) (k : ℕ) (description : Vec ℕ) (tables : List AbstractTable) → k < length descriptions → description ≡ get_or descriptions k description → AreTablesOf config (texts_of (take k descriptions)) tables → (error : RefereeingError) → IsNotTable description.items error → IsNotLoaded (texts_of descriptions) error
 not_loaded config descriptions k description tables below is are (Load error) why = record {
   earlier = texts_of (take k descriptions);
   description = description.items;

@@ -1,18 +1,17 @@
 -- What is answered to descriptions and a script: a text that is printed, and a status.
 use Rattle.std.specs.Prelude.{◌≡◌, ℕ, List}
 use Rattle.rbg_console.specs.declared.status.Status.{Status}
-use Rattle.rbg_console.specs.declared.status.Status.TheVariants.{Success, Refused, BadInput}
-use Rattle.rbg_refereeing.specs.Answers.{refused_line, script_line}
+use Rattle.rbg_console.specs.declared.status.Status.TheVariants.{Success, BadInput}
+use Rattle.rbg_refereeing.specs.Answers.{script_line}
+use Rattle.rbg_refereeing.specs.Faults as of_inputs
 use Rattle.rbg_hosting.specs.declared.error.HostingError.{HostingError}
-use Rattle.rbg_hosting.specs.declared.error.HostingError.TheVariants.{Tables, Load, Script, Memory}
+use Rattle.rbg_hosting.specs.declared.error.HostingError.TheVariants.{Tables, Input}
 use Rattle.rbg_hosting.specs.Halls.{IsNoHall, IsScriptsHall}
 
--- The line of what is wrong, and its status. Nothing answers refused memory.
+-- the line of what is wrong, and its status
 abbrev pub AnswersFault : HostingError → (text : List ℕ) → Status → Type 0
 AnswersFault Tables text status = (text ≡ script_line 0) × (status ≡ BadInput)
-AnswersFault (Load error) text status = (text ≡ refused_line error) × (status ≡ Refused)
-AnswersFault (Script number) text status = (text ≡ script_line number) × (status ≡ BadInput)
-AnswersFault Memory text status = ⊥
+AnswersFault (Input error) text status = of_inputs.AnswersFault error text status
 
 -- The answer to descriptions and a script.
 --   heard: the text is the printed lines of the hall that hears the script.

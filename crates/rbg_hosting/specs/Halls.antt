@@ -4,9 +4,11 @@ use Rattle.rbg_floor.specs.Halls.{AbstractTable}
 use Rattle.rbg_floor.specs.Limits.{most_tables}
 use Rattle.rbg_floor.specs.Wholes.{IsOfHall}
 use Rattle.rbg_refereeing.specs.Scripts.{config_for}
+use Rattle.rbg_refereeing.specs.declared.error.RefereeingError.{RefereeingError}
+use Rattle.rbg_refereeing.specs.declared.error.RefereeingError.TheVariants.{Load, Script, Memory}
 use Rattle.rbg_script.specs.Scripts.{AbstractScript, SpellsScript, HasMisfit}
 use Rattle.rbg_hosting.specs.declared.error.HostingError.{HostingError}
-use Rattle.rbg_hosting.specs.declared.error.HostingError.TheVariants.{Tables, Load, Script, Memory}
+use Rattle.rbg_hosting.specs.declared.error.HostingError.TheVariants.{Tables, Input}
 use Rattle.rbg_hosting.specs.Printed.{IsPrintedHall}
 use Rattle.rbg_hosting.specs.Scripts.{event_for}
 use Rattle.rbg_hosting.specs.Tables.{AreTablesOf, IsGames, HasRefused}
@@ -33,13 +35,18 @@ pub record IsScriptsHall (descriptions : List (List ℕ)) (text printed : List �
   pub spells : SpellsScript text script
   pub played : IsPrintedScript descriptions script printed
 
--- Why a hall has no printed lines.
---   Tables: there is no description, or there are too many.
+-- Why a hall doesn't hear the script.
 --   Load: the first description that is no game's has the fault that is named.
 --   Script: each description is a game's, and the text is no script; its first line that is not of its form is named.
 --   Memory: memory ran out.
+abbrev pub IsNotHeard : (descriptions : List (List ℕ)) → (text : List ℕ) → RefereeingError → Type 0
+IsNotHeard descriptions text (Load error) = HasRefused descriptions error
+IsNotHeard descriptions text (Script number) = All IsGames descriptions × HasMisfit text number
+IsNotHeard descriptions text Memory = Unit {0}
+
+-- Why a hall has no printed lines.
+--   Tables: there is no description, or there are too many.
+--   Input: the hall doesn't hear the script.
 abbrev pub IsNoHall : (descriptions : List (List ℕ)) → (text : List ℕ) → HostingError → Type 0
 IsNoHall descriptions text Tables = ¬ MayBeDescriptions descriptions
-IsNoHall descriptions text (Load error) = HasRefused descriptions error
-IsNoHall descriptions text (Script number) = All IsGames descriptions × HasMisfit text number
-IsNoHall descriptions text Memory = Unit {0}
+IsNoHall descriptions text (Input error) = IsNotHeard descriptions text error

@@ -6,7 +6,7 @@ ghost use Rattle.rbg_hosting.specs.Tables.{texts_of};
 use crate::HostingError;
 use crate::hearing::hall_texts;
 use rbg_console::Status;
-use rbg_refereeing::{Answer, answer_refused, answer_script};
+use rbg_refereeing::{Answer, answer_fault, answer_script};
 use std::alloc::{AllocError, Global};
 
 /// Answers descriptions and a script: with the printed lines of the hall that hears it, or with the line of what is wrong.
@@ -23,18 +23,16 @@ pub fn answer_hall(
             text: lines,
             status: Status::Success,
         }),
-        Err(error) => answer_fault(alloc, error),
+        Err(error) => answer_hosting(alloc, error),
     }
 }
 
 /// The line of what is wrong.
-fn answer_fault(alloc: Global, error: HostingError) -> Result<Answer, AllocError>
+fn answer_hosting(alloc: Global, error: HostingError) -> Result<Answer, AllocError>
     ensures { IfOk result (λ answer. AnswersFault error answer.text.items answer.status) }
 {
     match error {
         HostingError::Tables => answer_script(alloc, 0),
-        HostingError::Load(error) => answer_refused(alloc, error),
-        HostingError::Script(number) => answer_script(alloc, number),
-        HostingError::Memory => Err(AllocError),
+        HostingError::Input(error) => answer_fault(alloc, error),
     }
 }

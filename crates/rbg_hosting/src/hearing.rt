@@ -11,7 +11,7 @@ use crate::tables::tables_of;
 use rbg_floor::{TABLES, whole_hall};
 use rbg_hall::HallOut;
 use rbg_match::Config;
-use rbg_refereeing::config_of;
+use rbg_refereeing::{RefereeingError, config_of};
 use rbg_script::{Script, ScriptError, read_script};
 use std::alloc::Global;
 
@@ -54,7 +54,7 @@ fn refuse_script(
         refusals: 0,
     };
     tables_of(alloc, descriptions, config)?;
-    Err(HostingError::from(error))
+    Err(HostingError::Input(RefereeingError::from(error)))
 }
 
 /// Hears a script that was read.
@@ -73,7 +73,7 @@ fn hear_script(
     let out = queues_of(alloc, descriptions, script)?;
     match hall_lines(alloc, &out) {
         Ok(lines) => Ok(lines),
-        Err(_) => Err(HostingError::Memory),
+        Err(_) => Err(HostingError::Input(RefereeingError::Memory)),
     }
 }
 
@@ -93,7 +93,7 @@ fn queues_of(
     let tables = tables_of(alloc, descriptions, config_of(script.config))?;
     let events = match events_of(alloc, script.events.as_slice()) {
         Ok(events) => events,
-        Err(_) => return Err(HostingError::Memory),
+        Err(_) => return Err(HostingError::Input(RefereeingError::Memory)),
     };
     match whole_hall(alloc, tables, events.as_slice()) {
         Ok(out) => Ok(out),

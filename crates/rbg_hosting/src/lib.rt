@@ -3,7 +3,6 @@
 
 mod answer;
 mod error;
-mod fault;
 mod hearing;
 mod printed;
 mod reading;
@@ -14,7 +13,6 @@ mod tables;
 
 pub use answer::answer_hall;
 pub use error::HostingError;
-pub use fault::HallFault;
 pub use hearing::hall_texts;
 pub use run::{run_hall_script, serve_files};
 pub use serving::{HallService, serve_hall};

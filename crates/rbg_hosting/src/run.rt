@@ -1,13 +1,13 @@
 //! Runs of a hall's commands, from the names of files.
 
+use crate::HallService;
 use crate::answer::answer_hall;
 use crate::reading::{read_all, whole_texts};
 use crate::serving::serve_hall;
-use crate::{HallFault, HallService};
 use rbg_console::{Files, Input, MAX_INPUT, Status, read_input, write_text};
-use rbg_game::LoadError;
+use rbg_keeping::ServingFault;
 use rbg_network::Network;
-use rbg_refereeing::{Answer, answer_device, answer_refused, answer_script};
+use rbg_refereeing::{Answer, RefereeingError, answer_device, answer_fault, answer_script};
 use std::alloc::{AllocError, Global};
 use std::io::{Read, Write};
 
@@ -51,16 +51,8 @@ fn answer_read(
 ) -> Result<Answer, AllocError> {
     match whole_texts(alloc, descriptions)? {
         Ok(texts) => answer_hall(alloc, texts.as_slice(), script),
-        Err(error) => answer_unloaded(alloc, error),
+        Err(error) => answer_fault(alloc, RefereeingError::from(error)),
     }
-}
-
-/// The answer to a description that is refused.
-fn answer_unloaded(alloc: Global, error: LoadError) -> Result<Answer, AllocError> {
-    if error.is_memory() {
-        return Err(AllocError);
-    }
-    answer_refused(alloc, error)
 }
 
 /// Plays a match of each file's game at once, between the players that connect to the port and join it, and gives the
@@ -72,21 +64,12 @@ pub fn serve_files<F: Files, N: Network>(
     network: &mut N,
     port: u16,
     service: HallService<'_>,
-) -> Result<Vec<u8>, HallFault> {
+) -> Result<Vec<u8>, ServingFault> {
     let Some(descriptions) = read_all(alloc, names, files)? else {
-        return Err(HallFault::Device);
+        return Err(ServingFault::Device);
     };
     match whole_texts(alloc, descriptions)? {
         Ok(texts) => serve_hall(alloc, texts.as_slice(), network, port, service),
-        Err(error) => Err(refused(error)),
-    }
-}
-
-/// The fault of a description that is refused.
-fn refused(error: LoadError) -> HallFault {
-    if error.is_memory() {
-        HallFault::Memory(AllocError)
-    } else {
-        HallFault::Refused(error)
+        Err(error) => Err(ServingFault::from(error)),
     }
 }

@@ -1,17 +1,17 @@
 //! A hall over connections: its players are waited for, its matches are played at once, and their records are given.
 ghost use Rattle.std.specs.Prelude.{◌≡◌, ◌≤◌, [], List, length, IfOk, OnOk};
 ghost use Rattle.rbg_floor.specs.Halls.{AbstractTable, begun_at};
-ghost use Rattle.rbg_floor.specs.Openings.{IsNewHall};
+ghost use Rattle.rbg_floor.specs.Openings.{AreLoaded, IsNewHall, starts_of};
 ghost use Rattle.rbg_hall.specs.Limits.{lines_in_all};
 ghost use Rattle.rbg_hosting.specs.Records.{AreHallsRecords, ArePrintedMatches, HasEnded};
 ghost use Rattle.rbg_hosting.specs.Tables.{texts_of};
 ghost use Rattle.rbg_hosting.specs.internal.Writing.{AppendsMatch, AppendsRecord};
 ghost use Rattle.rbg_match.specs.Matches.{HasHistory};
 
-use crate::HallFault;
 use crate::tables::tables_of;
-use rbg_floor::{Hall, Table};
+use rbg_floor::{Hall, HallError, Table};
 use rbg_hall::{HallOut, LINES};
+use rbg_keeping::ServingFault;
 use rbg_log::Log;
 use rbg_match::{Config, Match};
 use rbg_network::{Hosting, Network, News, StreamLine, gather};
@@ -41,14 +41,14 @@ pub fn serve_hall<N: Network>(
     network: &mut N,
     port: u16,
     service: HallService<'_>,
-) -> Result<Vec<u8>, HallFault>
+) -> Result<Vec<u8>, ServingFault>
     ensures { IfOk result (λ records.
         AreHallsRecords service.entry.config (texts_of descriptions.now) records.items) }
 {
     let tables = tables_of(alloc, descriptions, service.config)?;
     let count = tables.len();
     let players = players_of(tables.as_slice());
-    let (mut hall, mut out) = Hall::<N::Log>::new(alloc, tables)?;
+    let (mut hall, mut out) = open_hall(alloc, tables)?;
     keep_logs(alloc, network, &mut hall, count, service)?;
     let mut lines = accept_lines(alloc, network, port, players, service)?;
     let mut clock = network.start_clock()?;
@@ -62,6 +62,19 @@ pub fn serve_hall<N: Network>(
     Ok(records_of(alloc, &hall, count)?)
 }
 
+/// A new hall of these tables.
+fn open_hall<W: Log>(alloc: Global, tables: Vec<Table>) -> Result<(Hall<W>, HallOut), ServingFault>
+    requires { AreLoaded tables.items }
+    ensures { IfOk result (λ made. IsNewHall (starts_of tables.items) made.0 made.1) }
+{
+    match Hall::new(alloc, tables) {
+        Ok(made) => Ok(made),
+        Err(HallError::Tables) => Err(ServingFault::Config),
+        Err(HallError::Config { .. }) => Err(ServingFault::Config),
+        Err(HallError::Memory) => Err(ServingFault::Memory(AllocError)),
+    }
+}
+
 /// Begins the logs of that many matches, if they are wanted: each is a new file with the name given, a point and the
 /// match's number.
 fn keep_logs<N: Network>(
@@ -70,7 +83,7 @@ fn keep_logs<N: Network>(
     hall: &mut Hall<N::Log>,
     tables: usize,
     service: HallService<'_>,
-) -> Result<(), HallFault>
+) -> Result<(), ServingFault>
     ensures state { hall.new.state ≡ hall.old.state }
     ensures failed { hall.new.failed ≡ hall.old.failed }
 {
@@ -92,7 +105,7 @@ fn run_hall<S: Read + Write + Drop, C: Clock, W: Log>(
     out: &mut HallOut,
     clock: &mut C,
     rounds: u64,
-) -> Result<(), HallFault>
+) -> Result<(), ServingFault>
     requires lines { length lines.old ≤ lines_in_all }
     requires clock { C.told clock.old [] }
     ensures { OnOk result ((starts : List AbstractTable) →
@@ -106,11 +119,13 @@ fn run_hall<S: Read + Write + Drop, C: Clock, W: Log>(
 }
 
 /// Why a hall is served no more. Where a log failed, that is the reason.
-fn fault_of<W: Log>(hall: &Hall<W>, error: ServeError) -> HallFault {
+fn fault_of<W: Log>(hall: &Hall<W>, error: ServeError) -> ServingFault {
     if hall.has_log_failed() {
-        HallFault::Device
-    } else {
-        HallFault::from(error)
+        return ServingFault::Device;
+    }
+    match error {
+        ServeError::Rounds => ServingFault::Rounds,
+        ServeError::Memory => ServingFault::Memory(AllocError),
     }
 }
 
@@ -130,11 +145,11 @@ fn accept_lines<N: Network>(
     port: u16,
     players: usize,
     service: HallService<'_>,
-) -> Result<Vec<StreamLine<N::Stream>>, HallFault>
+) -> Result<Vec<StreamLine<N::Stream>>, ServingFault>
     ensures { IfOk result (λ lines. length lines.items ≤ lines_in_all) }
 {
     if players > LINES {
-        return Err(HallFault::Hall);
+        return Err(ServingFault::Config);
     }
     let hosting = service.hosting;
     let rounds = service.rounds;

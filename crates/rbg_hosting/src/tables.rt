@@ -4,11 +4,10 @@ ghost use Rattle.rbg_floor.specs.Openings.{AreLoaded, start_of, starts_of};
 ghost use Rattle.rbg_hosting.specs.Tables.{AreTablesOf, IsTableOf, texts_of};
 ghost use Rattle.rbg_hosting.specs.internal.Loading.{IsNotLoaded, IsNotTable};
 
-use crate::HostingError;
-use rbg_base::Memory;
 use rbg_floor::Table;
 use rbg_game::load;
 use rbg_match::Config;
+use rbg_refereeing::RefereeingError;
 use std::alloc::Global;
 
 /// A table for each description, in order.
@@ -16,7 +15,7 @@ pub(crate) fn tables_of(
     alloc: Global,
     descriptions: &[Vec<u8>],
     config: Config,
-) -> Result<Vec<Table>, HostingError>
+) -> Result<Vec<Table>, RefereeingError>
     ensures tables { IfOk result (λ tables.
         AreTablesOf config (texts_of descriptions.now) (starts_of tables.items)) }
     ensures loaded { IfOk result (λ tables. AreLoaded tables.items) }
@@ -32,21 +31,24 @@ pub(crate) fn tables_of(
     Ok(tables)
 }
 
-fn add(tables: &mut Vec<Table>, table: Table) -> Result<(), Memory>
-    ensures { OnOk result (tables.new.items ≡ tables.old.items ++ table ∷ []) }
+fn add(tables: &mut Vec<Table>, table: Table) -> Result<(), RefereeingError>
+    ensures added { OnOk result (tables.new.items ≡ tables.old.items ++ table ∷ []) }
+    ensures refused { IfErr result (λ error. error ≡ RefereeingError.Memory) }
 {
-    tables.push(table)?;
-    Ok(())
+    match tables.push(table) {
+        Ok(()) => Ok(()),
+        Err(_) => Err(RefereeingError::Memory),
+    }
 }
 
 /// The table for a description.
-fn table_of(alloc: Global, description: &[u8], config: Config) -> Result<Table, HostingError>
+fn table_of(alloc: Global, description: &[u8], config: Config) -> Result<Table, RefereeingError>
     ensures table { IfOk result (λ table. IsTableOf config description.now (start_of table)) }
     ensures refused { IfErr result (IsNotTable description.now) }
 {
     let game = load(alloc, description)?;
     match description.to_vec(alloc) {
         Ok(text) => Ok(Table { game, text, config }),
-        Err(_) => Err(HostingError::Memory),
+        Err(_) => Err(RefereeingError::Memory),
     }
 }

@@ -4,10 +4,11 @@ ghost use Rattle.rbg_game.specs.Loading.{Loads};
 ghost use Rattle.rbg_log.specs.Logs.{IsLog};
 ghost use Rattle.rbg_match.specs.Matches.{HasHistory};
 ghost use Rattle.rbg_match.specs.PlayingOn.{seats_of};
-ghost use Rattle.rbg_script.specs.Config.{ConfigHasSpelling};
 ghost use Rattle.rbg_script.specs.Scripts.{script_of, script_text};
+ghost use Rattle.rbg_refereeing.specs.Matches.{IsScriptPlayed};
+ghost use Rattle.rbg_script.specs.Config.{ConfigHasSpelling};
 
-use crate::KeepingFault;
+use crate::ServingFault;
 use rbg_log::{Log, LoggedMatch};
 use rbg_match::Outbox;
 use rbg_refereeing::play_script;
@@ -21,10 +22,12 @@ pub fn resume_match<W: Log>(
     description: &[u8],
     script: &Script,
     log: W,
-) -> Result<(LoggedMatch<W>, Outbox), KeepingFault>
+) -> Result<(LoggedMatch<W>, Outbox), ServingFault>
     ensures resumes { IfOk result (λ made. ConfigHasSpelling script.now.config → W.told log [] →
         W.told made.0.log (script_text (script_of script.now))
         × IsLog description.now (script_text (script_of script.now)) made.0.played made.1) }
+    ensures played { IfOk result (λ made.
+        IsScriptPlayed description.now (script_of script.now) made.0.played made.1) }
     ensures seats { IfOk result (λ made. length made.1 ≡ seats_of made.0.played.game) }
     ensures loads { IfOk result (λ made. Loads description.now made.0.played.game) }
     ensures until { IfOk result (λ made. made.0.until ≡ None) }

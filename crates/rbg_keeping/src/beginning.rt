@@ -6,7 +6,7 @@ ghost use Rattle.rbg_keeping.specs.Played.{IsPlayedMatch};
 
 use crate::bounded::play_on;
 use crate::joining::{accept_players, tell_names};
-use crate::{Keeping, KeepingFault, Serving};
+use crate::{Keeping, Serving, ServingFault};
 use rbg_game::{Game, load};
 use rbg_log::{Log, LoggedMatch};
 use rbg_match::{Match, Outbox};
@@ -22,7 +22,7 @@ pub(crate) fn serve_text<N: Network>(
     network: &mut N,
     port: u16,
     serving: &Serving<'_>,
-) -> Result<Match, KeepingFault>
+) -> Result<Match, ServingFault>
     ensures { IfOk result (λ played. IsPlayedMatch text.now played) }
 {
     let game = load(alloc, text)?;
@@ -45,15 +45,15 @@ pub(crate) fn serve_text<N: Network>(
 fn create_log<N: Network>(
     network: &mut N,
     keeping: &Keeping<'_>,
-) -> Result<Option<N::Log>, KeepingFault> {
+) -> Result<Option<N::Log>, ServingFault> {
     match keeping.log {
         Some(name) => Ok(Some(network.create_log(name, keeping.sync)?)),
         None => Ok(None),
     }
 }
 
-/// Referees a match over the lines, one for each seat. A clock begins with it.
-fn serve_lines<N: Network, W: Log, L: Line>(
+/// Referees a match over the lines, one for each seat, until it has ended. A clock begins with it.
+pub fn serve_lines<N: Network, W: Log, L: Line>(
     alloc: Global,
     game: Game,
     text: &[u8],
@@ -61,7 +61,7 @@ fn serve_lines<N: Network, W: Log, L: Line>(
     serving: &Serving<'_>,
     log: W,
     lines: &mut [L],
-) -> Result<Match, KeepingFault>
+) -> Result<Match, ServingFault>
     requires loaded { Loads text.now game }
     requires lines { length lines.old ≡ seats_of game }
     ensures { IfOk result (λ played. IsPlayedMatch text.now played) }
@@ -79,7 +79,7 @@ fn serve_by<W: Log, L: Line, C: Clock>(
     log: W,
     lines: &mut [L],
     clock: &mut C,
-) -> Result<Match, KeepingFault>
+) -> Result<Match, ServingFault>
     requires loaded { Loads text.now game }
     requires lines { length lines.old ≡ seats_of game }
     ensures { IfOk result (λ played. IsPlayedMatch text.now played) }
@@ -97,7 +97,7 @@ fn open<W: Log>(
     serving: &Serving<'_>,
     now: u64,
     log: W,
-) -> Result<(LoggedMatch<W>, Outbox), KeepingFault>
+) -> Result<(LoggedMatch<W>, Outbox), ServingFault>
     requires { Loads text.now game }
     ensures played { IfOk result (λ made. IsPlayedMatch text.now made.0.played) }
     ensures game { IfOk result (λ made. made.0.played.game ≡ game) }

@@ -3,7 +3,7 @@ ghost use Rattle.std.specs.Prelude.{◌≡◌, ℕ, List, length, IfOk, OnOk};
 ghost use Rattle.rbg_match.specs.PlayingOn.{seats_of};
 ghost use Rattle.rbg_keeping.specs.Played.{IsPlayedMatch};
 
-use crate::{KeepingFault, Serving};
+use crate::{Serving, ServingFault};
 use rbg_log::{Log, LoggedMatch};
 use rbg_match::{Match, Outbox};
 use rbg_serving::{Clock, Line, ServeError};
@@ -18,7 +18,7 @@ pub(crate) fn play_on<W: Log, L: Line, C: Clock>(
     lines: &mut [L],
     outbox: &mut Outbox,
     clock: &mut C,
-) -> Result<Match, KeepingFault>
+) -> Result<Match, ServingFault>
     requires lines { length lines.old ≡ seats_of logged.played.game }
     requires seats { length outbox.old ≡ seats_of logged.played.game }
     ensures { (text : List ℕ) → IsPlayedMatch text logged.played →
@@ -38,7 +38,7 @@ fn serve_rounds<W: Log, L: Line, C: Clock>(
     lines: &mut [L],
     outbox: &mut Outbox,
     clock: &mut C,
-) -> Result<(), KeepingFault>
+) -> Result<(), ServingFault>
     requires lines { length lines.old ≡ seats_of logged.old.played.game }
     requires seats { length outbox.old ≡ seats_of logged.old.played.game }
     ensures { (text : List ℕ) → IsPlayedMatch text logged.old.played →
@@ -46,7 +46,7 @@ fn serve_rounds<W: Log, L: Line, C: Clock>(
 {
     match logged.serve(alloc, lines, outbox, clock, rounds) {
         Ok(_) => Ok(()),
-        Err(ServeError::Rounds) => Err(KeepingFault::Rounds),
+        Err(ServeError::Rounds) => Err(ServingFault::Rounds),
         Err(ServeError::Memory) => Err(fault_of(logged)),
     }
 }
@@ -65,9 +65,9 @@ fn begin_bound<W: Log>(logged: &mut LoggedMatch<W>, serving: &Serving<'_>, now: 
 }
 
 /// Why a match handles no more events.
-fn fault_of<W: Log>(logged: &LoggedMatch<W>) -> KeepingFault {
+fn fault_of<W: Log>(logged: &LoggedMatch<W>) -> ServingFault {
     match logged.stopped() {
-        Some(stop) => KeepingFault::from(stop),
-        None => KeepingFault::Memory(AllocError),
+        Some(stop) => ServingFault::from(stop),
+        None => ServingFault::Memory(AllocError),
     }
 }

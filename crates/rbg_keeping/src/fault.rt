@@ -1,4 +1,4 @@
-//! Why a match isn't played to its end.
+//! Why matches aren't played to their ends.
 
 use rbg_game::LoadError;
 use rbg_log::{LogFailure, OpenError, Stop};
@@ -9,93 +9,93 @@ use std::alloc::AllocError;
 use std::io;
 use thiserror::Error;
 
-/// Why a match isn't played to its end.
+/// Why a match, or those of a hall, aren't played to their ends.
 #[derive(Clone, Copy, Debug, PartialEq, Eq, Error)]
-pub enum KeepingFault {
+pub enum ServingFault {
     /// The description is refused. The error may be out of memory.
     #[error("{0}")]
     Refused(LoadError),
-    /// The config is outside its limits. The words of no command lead here.
+    /// The config is outside its limits, or a hall has not as many tables or players. The words of no command lead here.
     #[error("a number of the config is outside its limits")]
     Config,
     /// This line of the log that goes on is missing, or not of its form; 0 if it is longer than an input may be.
     #[error("line {0} of the log is not of its form")]
     Script(usize),
-    /// A file can't be read or a log written, a connection can't be made, or the clock can't be read.
+    /// A file can't be read, a log can't be made or written, a connection can't be made, or the clock can't be read.
     #[error("device")]
     Device,
     /// Not all players have come in time.
     #[error("not all have come in time")]
     Absent,
-    /// The match has not ended in as many rounds, or as much time, as it may have.
+    /// It has not ended in as many rounds, or as much time, as it may have.
     #[error("out of rounds")]
     Rounds,
     #[error("out of memory")]
     Memory(#[from(alloc)] AllocError),
 }
 
-impl From<LoadError> for KeepingFault {
-    fn from(error: LoadError) -> KeepingFault {
-        KeepingFault::Refused(error)
+impl From<LoadError> for ServingFault {
+    fn from(error: LoadError) -> ServingFault {
+        ServingFault::Refused(error)
     }
 }
 
-impl From<OpenError> for KeepingFault {
-    fn from(error: OpenError) -> KeepingFault {
+impl From<OpenError> for ServingFault {
+    fn from(error: OpenError) -> ServingFault {
         match error {
-            OpenError::Config => KeepingFault::Config,
-            OpenError::Log => KeepingFault::Device,
-            OpenError::Memory => KeepingFault::Memory(AllocError),
+            OpenError::Config => ServingFault::Config,
+            OpenError::Log => ServingFault::Device,
+            OpenError::Memory => ServingFault::Memory(AllocError),
         }
     }
 }
 
-impl From<ScriptError> for KeepingFault {
-    fn from(error: ScriptError) -> KeepingFault {
+impl From<ScriptError> for ServingFault {
+    fn from(error: ScriptError) -> ServingFault {
         match error {
-            ScriptError::Line(line) => KeepingFault::Script(line),
-            ScriptError::Memory => KeepingFault::Memory(AllocError),
+            ScriptError::Line(line) => ServingFault::Script(line),
+            ScriptError::Memory => ServingFault::Memory(AllocError),
         }
     }
 }
 
-impl From<RefereeingError> for KeepingFault {
-    fn from(error: RefereeingError) -> KeepingFault {
+impl From<RefereeingError> for ServingFault {
+    fn from(error: RefereeingError) -> ServingFault {
         match error {
-            RefereeingError::Load(error) => KeepingFault::Refused(error),
-            RefereeingError::Script(line) => KeepingFault::Script(line),
-            RefereeingError::Memory => KeepingFault::Memory(AllocError),
+            RefereeingError::Load(error) => ServingFault::Refused(error),
+            RefereeingError::Script(line) => ServingFault::Script(line),
+            RefereeingError::Memory => ServingFault::Memory(AllocError),
         }
     }
 }
 
-impl From<LogFailure> for KeepingFault {
-    fn from(_failure: LogFailure) -> KeepingFault {
-        KeepingFault::Device
+impl From<LogFailure> for ServingFault {
+    fn from(_failure: LogFailure) -> ServingFault {
+        ServingFault::Device
     }
 }
 
-impl From<Stop> for KeepingFault {
-    fn from(stop: Stop) -> KeepingFault {
+impl From<Stop> for ServingFault {
+    fn from(stop: Stop) -> ServingFault {
         match stop {
-            Stop::Log => KeepingFault::Device,
-            Stop::Time => KeepingFault::Rounds,
+            Stop::Log => ServingFault::Device,
+            Stop::Time => ServingFault::Rounds,
         }
     }
 }
 
-impl From<GatherError> for KeepingFault {
-    fn from(error: GatherError) -> KeepingFault {
+impl From<GatherError> for ServingFault {
+    fn from(error: GatherError) -> ServingFault {
         match error {
-            GatherError::Device(_) => KeepingFault::Device,
-            GatherError::Absent => KeepingFault::Absent,
-            GatherError::Memory(error) => KeepingFault::Memory(error),
+            GatherError::Device(_) => ServingFault::Device,
+            GatherError::Absent => ServingFault::Absent,
+            GatherError::Memory(error) => ServingFault::Memory(error),
         }
     }
 }
 
-impl From<io::Error> for KeepingFault {
-    fn from(_error: io::Error) -> KeepingFault {
-        KeepingFault::Device
+impl From<io::Error> for ServingFault {
+    fn from(_error: io::Error) -> ServingFault {
+        ServingFault::Device
     }
 }

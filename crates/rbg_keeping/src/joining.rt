@@ -1,7 +1,7 @@
 //! The players of a match.
 ghost use Rattle.std.specs.Prelude.{◌≡◌, length, IfOk};
 
-use crate::{KeepingFault, Serving};
+use crate::{Serving, ServingFault};
 use rbg_network::{Network, News, StreamLine, gather};
 use std::alloc::Global;
 
@@ -12,7 +12,7 @@ pub(crate) fn accept_players<N: Network>(
     port: u16,
     players: usize,
     serving: &Serving<'_>,
-) -> Result<Vec<StreamLine<N::Stream>>, KeepingFault>
+) -> Result<Vec<StreamLine<N::Stream>>, ServingFault>
     ensures { IfOk result (λ lines. length lines.items ≡ players) }
 {
     let mut listener = network.listen(port)?;

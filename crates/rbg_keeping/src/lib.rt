@@ -14,8 +14,9 @@ mod serving;
 mod task;
 
 pub use again::resume_match;
+pub use beginning::serve_lines;
 pub use cut::run_cut;
-pub use fault::KeepingFault;
+pub use fault::ServingFault;
 pub use script::run_script;
 pub use serving::serve_match;
-pub use task::{Keeping, Serving};
+pub use task::{Keeping, NOTHING_KEPT, Serving};

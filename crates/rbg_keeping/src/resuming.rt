@@ -2,11 +2,13 @@
 ghost use Rattle.std.specs.Prelude.{◌≡◌, ℕ, List, length, IfOk};
 ghost use Rattle.rbg_match.specs.PlayingOn.{seats_of};
 ghost use Rattle.rbg_keeping.specs.Played.{IsPlayedMatch};
+ghost use Rattle.rbg_refereeing.specs.Matches.{IsScriptPlayed};
+ghost use Rattle.rbg_script.specs.Scripts.{script_of};
 
 use crate::again::resume_match;
 use crate::bounded::play_on;
 use crate::joining::{accept_players, tell_names};
-use crate::{KeepingFault, Serving};
+use crate::{Serving, ServingFault};
 use rbg_console::{Files, Input, MAX_INPUT};
 use rbg_game::load;
 use rbg_log::{LaterClock, Log, LoggedMatch, cut_stumps, whole_lines};
@@ -26,7 +28,7 @@ pub(crate) fn resume_text<F: Files, N: Network>(
     network: &mut N,
     port: u16,
     serving: &Serving<'_>,
-) -> Result<Match, KeepingFault>
+) -> Result<Match, ServingFault>
     ensures { IfOk result (λ played. IsPlayedMatch text.now played) }
 {
     load(alloc, text)?;
@@ -43,16 +45,16 @@ pub(crate) fn resume_text<F: Files, N: Network>(
 }
 
 /// The script that a log holds. A last line that isn't whole is left out.
-fn read_log<F: Files>(alloc: Global, files: &mut F, name: &str) -> Result<Script, KeepingFault> {
+fn read_log<F: Files>(alloc: Global, files: &mut F, name: &str) -> Result<Script, ServingFault> {
     match files.read_file(alloc, name, MAX_INPUT)? {
         Input::Whole(bytes) => Ok(read_script(alloc, whole_lines(bytes.as_slice()))?),
-        Input::TooLong => Err(KeepingFault::Script(0)),
-        Input::Device => Err(KeepingFault::Device),
+        Input::TooLong => Err(ServingFault::Script(0)),
+        Input::Device => Err(ServingFault::Device),
     }
 }
 
 /// The match where its script leaves it.
-fn stopped_match(alloc: Global, text: &[u8], script: &Script) -> Result<Match, KeepingFault>
+fn stopped_match(alloc: Global, text: &[u8], script: &Script) -> Result<Match, ServingFault>
     ensures { IfOk result (λ played. IsPlayedMatch text.now played) }
 {
     let (played, _) = play_script(alloc, text, script)?;
@@ -70,7 +72,7 @@ fn resume_script<N: Network>(
     serving: &Serving<'_>,
     moment: u64,
     seats: usize,
-) -> Result<Match, KeepingFault>
+) -> Result<Match, ServingFault>
     ensures { IfOk result (λ played. IsPlayedMatch text.now played) }
 {
     let mut script = script;
@@ -87,7 +89,9 @@ fn begin_again<N: Network>(
     name: &str,
     network: &mut N,
     serving: &Serving<'_>,
-) -> Result<(LoggedMatch<N::Log>, Outbox), KeepingFault>
+) -> Result<(LoggedMatch<N::Log>, Outbox), ServingFault>
+    ensures resumed { IfOk result (λ made.
+        IsScriptPlayed text.now (script_of script.now) made.0.played made.1) }
     ensures played { IfOk result (λ made. IsPlayedMatch text.now made.0.played) }
     ensures seats { IfOk result (λ made. length made.1 ≡ seats_of made.0.played.game) }
 {
@@ -106,7 +110,7 @@ fn go_on<N: Network, W: Log>(
     logged: LoggedMatch<W>,
     outbox: Outbox,
     moment: u64,
-) -> Result<Match, KeepingFault>
+) -> Result<Match, ServingFault>
     requires { length outbox ≡ seats_of logged.played.game }
     ensures { (text : List ℕ) → IsPlayedMatch text logged.played →
         IfOk result (λ played. IsPlayedMatch text played) }

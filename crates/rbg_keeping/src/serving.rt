@@ -4,7 +4,7 @@ ghost use Rattle.rbg_keeping.specs.Played.{IsPlayedMatch};
 
 use crate::beginning::serve_text;
 use crate::resuming::resume_text;
-use crate::{KeepingFault, Serving};
+use crate::{Serving, ServingFault};
 use rbg_console::Files;
 use rbg_match::Match;
 use rbg_network::{Network, News};
@@ -19,7 +19,7 @@ pub fn serve_match<F: Files, N: Network>(
     network: &mut N,
     port: u16,
     serving: &Serving<'_>,
-) -> Result<Match, KeepingFault>
+) -> Result<Match, ServingFault>
     ensures { IfOk result (λ played. IsPlayedMatch text.now played) }
 {
     let played = match serving.keeping.resume {
@@ -34,7 +34,7 @@ pub fn serve_match<F: Files, N: Network>(
 fn tell_end<N: Network>(
     network: &mut N,
     serving: &Serving<'_>,
-    played: &Result<Match, KeepingFault>,
+    played: &Result<Match, ServingFault>,
 ) {
     match played {
         Ok(played) => {
@@ -42,7 +42,7 @@ fn tell_end<N: Network>(
                 serving.hosting.tell(network, &News::Ended { outcome });
             }
         }
-        Err(KeepingFault::Rounds) => serving.hosting.tell(network, &bound_of(serving)),
+        Err(ServingFault::Rounds) => serving.hosting.tell(network, &bound_of(serving)),
         Err(_) => {}
     }
 }

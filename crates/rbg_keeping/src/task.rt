@@ -18,6 +18,15 @@ pub struct Keeping<'a> {
     pub names: Option<&'a str>,
 }
 
+/// Nothing is kept, and rounds are counted.
+pub const NOTHING_KEPT: Keeping<'static> = Keeping {
+    log: None,
+    resume: None,
+    sync: false,
+    minutes: None,
+    names: None,
+};
+
 /// How a match between players at a port is served.
 #[derive(Clone, Copy)]
 pub struct Serving<'a> {

@@ -13,5 +13,5 @@ returns-in-Err c =
     let texts = texts_of c.args.descriptions.now in
     let script = c.args.script.now in
     let error = c.in-Err.error in
-    IfOk-weaker c.answer_fault.result (λ answer. AnswersFault error answer.text.items answer.status) (λ answer. IsHallAnswer texts script answer.text.items answer.status)
-    (λ answer says. unheard error answer.text.items answer.status c.in-Err.ensures.refused says) c.answer_fault.ensures
+    IfOk-weaker c.answer_hosting.result (λ answer. AnswersFault error answer.text.items answer.status) (λ answer. IsHallAnswer texts script answer.text.items answer.status)
+    (λ answer says. unheard error answer.text.items answer.status c.in-Err.ensures.refused says) c.answer_hosting.ensures

@@ -7,7 +7,7 @@ use Rattle.rbg_hosting.proofs.serving.serve_hall.Goals as goal
 pub returns : goal.returns
 returns g c =
     let starts = starts_of c.in_ok-tables.tables.items in
-    let first = c.in_ok-hall.ensures.made in
+    let first = c.in_ok-hall.ensures in
     let made : IsNewHall starts c.keep_logs.new.hall c.in_ok-hall.out = record {
       lawful = first.lawful;
       configs = first.configs;

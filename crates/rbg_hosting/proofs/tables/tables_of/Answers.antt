@@ -24,6 +24,6 @@ loop-description-preserved c =
     let description = c.description-item.result in
     let one : IsTableOf config description.items (start_of table) = subst (λ text. IsTableOf config text (start_of table)) c.as_slice.ensures.value c.in-Ok.ensures.table in
     record {
-      are = one_more_table config c.args.descriptions.now c.loop-description.description-index description c.loop-description.tables.items c.add.new.tables.items table (search rules) c.description-item.is c.loop-description.invariant.are one c.in_ok-add-in-Ok.ensures;
-      loaded = one_more_loaded config description.items c.loop-description.tables.items c.add.new.tables.items table c.loop-description.invariant.loaded one c.in_ok-add-in-Ok.ensures;
+      are = one_more_table config c.args.descriptions.now c.loop-description.description-index description c.loop-description.tables.items c.add.new.tables.items table (search rules) c.description-item.is c.loop-description.invariant.are one c.in_ok-add-in-Ok.ensures.added;
+      loaded = one_more_loaded config description.items c.loop-description.tables.items c.add.new.tables.items table c.loop-description.invariant.loaded one c.in_ok-add-in-Ok.ensures.added;
     }

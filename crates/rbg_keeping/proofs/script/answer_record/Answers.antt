@@ -4,7 +4,7 @@ use Rattle.rbg_answering.specs.Answers.{form_line}
 use Rattle.rbg_console.specs.declared.status.Status.TheVariants.{BadInput}
 use Rattle.rbg_keeping.specs.Runs.{IsScriptAnswer}
 use Rattle.rbg_keeping.specs.Runs.IsScriptAnswer.{not_of_form}
-use Rattle.rbg_keeping.proofs.KeepingLemmas.{both}
+use Rattle.rbg_refereeing.proofs.CallerLemmas.{both}
 use Rattle.rbg_keeping.proofs.script.answer_record.Goals as goal
 
 pub returns-in-Err-Form : goal.returns-in-Err-Form
