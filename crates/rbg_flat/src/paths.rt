@@ -93,21 +93,12 @@ impl Paths {
 
     /// The facts of a position. They are lent, since a copy would be read as one word, from which each field is cut.
     #[inline(always)]
-    fn facts(&self, position: Position) -> &Facts
-        requires { position < length self.now.facts.items }
-        ensures { slice_get self.now.facts.items position ≡ Some result.now }
-    {
-        &self.facts[position as usize]
-    }
-
-    /// Whether no shift comes next behind a position, as far as that is told.
-    #[inline(always)]
-    pub(crate) fn is_still(&self, game: &Game, position: Position) -> bool
+    pub(crate) fn facts(&self, game: &Game, position: Position) -> &Facts
         requires paths { ArePathsOf game.now self.now }
         requires there { position ≤ length (positions_of game.now.rules) }
-        ensures { IsTrue result → IsStill game.now.rules position }
+        ensures { AreFacts game.now position result.now }
     {
-        self.facts(position).still
+        &self.facts[position as usize]
     }
 
     /// Whether to look for a dead end in the pattern at a position.
@@ -117,52 +108,6 @@ impl Paths {
             Some(branches) => *branches,
             None => false,
         }
-    }
-
-    /// The piece of the on at a position, where that is an on of one piece alone.
-    #[inline(always)]
-    pub(crate) fn lone_piece(&self, game: &Game, position: Position) -> Option<Piece>
-        requires paths { ArePathsOf game.now self.now }
-        requires there { position ≤ length (positions_of game.now.rules) }
-        ensures { IfSome result (λ x. HasAction game.now.rules position (on (x ∷ []))) }
-    {
-        let facts = self.facts(position);
-        if facts.alone { Some(facts.piece) } else { None }
-    }
-
-    /// The pieces of the on at a position, where that is an on of two.
-    #[inline(always)]
-    pub(crate) fn two_pieces(&self, game: &Game, position: Position) -> Option<(Piece, Piece)>
-        requires paths { ArePathsOf game.now self.now }
-        requires there { position ≤ length (positions_of game.now.rules) }
-        ensures { IfSome result (λ xs.
-            HasAction game.now.rules position (on (xs.0 ∷ xs.1 ∷ []))) }
-    {
-        let facts = self.facts(position);
-        match facts.kind {
-            Kind::OnEither => Some((facts.piece, facts.other)),
-            _ => None,
-        }
-    }
-
-    /// Whether a modifier stands at a position that is valid everywhere, as far as that is told.
-    #[inline(always)]
-    pub(crate) fn is_sure(&self, game: &Game, position: Position) -> bool
-        requires paths { ArePathsOf game.now self.now }
-        requires there { position ≤ length (positions_of game.now.rules) }
-        ensures { IsTrue result → IsSureAt game.now.rules position }
-    {
-        self.facts(position).sure
-    }
-
-    /// The kind of the action at a position.
-    #[inline(always)]
-    pub(crate) fn kind(&self, game: &Game, position: Position) -> Kind
-        requires paths { ArePathsOf game.now self.now }
-        requires there { position ≤ length (positions_of game.now.rules) }
-        ensures { IsKind game.now.rules position result }
-    {
-        self.facts(position).kind
     }
 }
 
@@ -315,14 +260,5 @@ pub fn is_shift(game: &Game, position: Position) -> bool
 fn shifts(action: &Action) -> bool
     ensures { result ≡ shows_shift action.now }
 {
-    match action {
-        Action::Shift { .. } => true,
-        Action::On { .. }
-        | Action::Off { .. }
-        | Action::Assign { .. }
-        | Action::Compare { .. }
-        | Action::Switch { .. }
-        | Action::Positive
-        | Action::Negative => false,
-    }
+    matches!(action, Action::Shift { .. })
 }
