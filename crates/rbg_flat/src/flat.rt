@@ -17,7 +17,7 @@ ghost use Rattle.rbg_flat.specs.internal.Sets.{IsInWord, IsMarked, IsOpen, IsDon
 ghost use Rattle.rbg_flat.specs.internal.Places.{IsLatest, IsSomeOpen};
 ghost use Rattle.std.specs.Int.{bit_at};
 ghost use Rattle.rbg_flat.specs.internal.Leading.{AreSizedFor, AreOn, IsOnBoard, IsPositionIn, LeadsFrom, EndsFrom};
-ghost use Rattle.rbg_flat.specs.internal.Setting.{IsSet, HasBegun, LeadsOn};
+ghost use Rattle.rbg_flat.specs.internal.Setting.{AreReady, HasBegun, LeadsOn};
 
 use crate::found::Modifiers;
 use crate::gathering::{gather_place, keeps};
@@ -203,8 +203,7 @@ impl Flat {
     /// written down first, so that no register holds it while targets are met.
     #[inline(always)]
     fn lead(&mut self, setting: &Setting, origin: Origin, vertex: Vertex)
-        requires set { IsSet setting.now }
-        requires sized { AreSizedFor setting.now.game.now self.old.sets }
+        requires ready { AreReady setting.now self.old.sets }
         requires vertex { vertex < length setting.now.game.now.board.first }
         requires stands { IsStart setting.now.game.now.rules (start_of origin) }
         ensures { LeadsOn setting.now self.old self.new
@@ -220,8 +219,7 @@ impl Flat {
     /// holds. No pattern stands at the position.
     #[inline(always)]
     fn try_word(&mut self, setting: &Setting, place: usize, position: Position, column: usize)
-        requires set { IsSet setting.now }
-        requires sized { AreSizedFor setting.now.game.now self.old.sets }
+        requires ready { AreReady setting.now self.old.sets }
         requires on { AreOn setting.now.game.now self.old.sets }
         requires latest { IsLatest self.old.sets place position column }
         requires open { IsSomeOpen self.old.sets position column }
@@ -252,8 +250,7 @@ impl Flat {
         word: u64,
         held: u64,
     )
-        requires set { IsSet setting.now }
-        requires sized { AreSizedFor setting.now.game.now self.old.sets }
+        requires ready { AreReady setting.now self.old.sets }
         requires latest { IsLatest self.old.sets place position column }
         requires position { IsPositionIn setting.now.game.now position }
         requires board { IsOnBoard setting.now.game.now column word }
@@ -287,8 +284,7 @@ impl Flat {
     /// another.
     #[inline(always)]
     fn lead_word(&mut self, setting: &Setting, position: Position, column: usize, word: u64)
-        requires set { IsSet setting.now }
-        requires sized { AreSizedFor setting.now.game.now self.old.sets }
+        requires ready { AreReady setting.now self.old.sets }
         requires board { IsOnBoard setting.now.game.now column word }
         requires position { IsPositionIn setting.now.game.now position }
         ensures { LeadsOn setting.now self.old self.new
@@ -313,8 +309,7 @@ impl Flat {
     /// Leads on from a position at all vertices of a word at once. No shift comes next, so the first one tells of all.
     #[inline(always)]
     fn lead_still(&mut self, setting: &Setting, position: Position, column: usize, word: u64)
-        requires set { IsSet setting.now }
-        requires sized { AreSizedFor setting.now.game.now self.old.sets }
+        requires ready { AreReady setting.now self.old.sets }
         requires board { IsOnBoard setting.now.game.now column word }
         requires position { IsPositionIn setting.now.game.now position }
         requires still { IsStill setting.now.game.now.rules position }

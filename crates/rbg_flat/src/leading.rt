@@ -3,7 +3,7 @@ ghost use Rattle.std.specs.Prelude.{◌≡◌, ◌+◌, ◌*◌, ◌<◌, ℕ, l
 ghost use Rattle.rbg_leaps.specs.Limits.{row_words};
 ghost use Rattle.rbg_flat.specs.internal.Sets.{Meets, IsInWord};
 ghost use Rattle.rbg_flat.specs.internal.Leading.{AreSizedFor, IsTargetFor, IsAmong, IsAmongBits, IsPositionIn};
-ghost use Rattle.rbg_flat.specs.internal.Setting.{IsSet, IsToTryIn};
+ghost use Rattle.rbg_flat.specs.internal.Setting.{AreReady, IsToTryIn};
 
 use crate::passing::to_try;
 use crate::sets::Sets;
@@ -22,8 +22,7 @@ fn meet_at(
     column: usize,
     word: u64,
 )
-    requires set { IsSet setting.now }
-    requires sized { AreSizedFor setting.now.game.now sets.old }
+    requires ready { AreReady setting.now sets.old }
     requires position { IsPositionIn setting.now.game.now position }
     requires place { place < length sets.old.marks }
     requires at { place ≡ position * sets.old.columns + column }
@@ -40,8 +39,7 @@ fn meet_at(
 /// Meets the vertices of a target. Where each row has one word, the place is the position.
 #[inline(always)]
 fn meet_target(sets: &mut Sets, setting: &Setting, target: &Target, narrow: bool)
-    requires set { IsSet setting.now }
-    requires sized { AreSizedFor setting.now.game.now sets.old }
+    requires ready { AreReady setting.now sets.old }
     requires one { IsTrue narrow → sets.old.columns ≡ 1 }
     requires target { IsTargetFor setting.now.game.now target.now }
     ensures { Meets sets.old sets.new
@@ -61,8 +59,7 @@ fn meet_target(sets: &mut Sets, setting: &Setting, target: &Target, narrow: bool
 /// Meets the vertices of targets.
 #[inline(always)]
 fn meet_all(sets: &mut Sets, setting: &Setting, targets: &[Target], narrow: bool)
-    requires set { IsSet setting.now }
-    requires sized { AreSizedFor setting.now.game.now sets.old }
+    requires ready { AreReady setting.now sets.old }
     requires one { IsTrue narrow → sets.old.columns ≡ 1 }
     requires targets { All (IsTargetFor setting.now.game.now) targets.now }
     ensures { Meets sets.old sets.new (IsAmong targets.now) (IsToTryIn setting.now) }
@@ -76,8 +73,7 @@ fn meet_all(sets: &mut Sets, setting: &Setting, targets: &[Target], narrow: bool
 /// line with its answer.
 #[inline(always)]
 pub(crate) fn meet_targets(sets: &mut Sets, setting: &Setting, targets: &[Target])
-    requires set { IsSet setting.now }
-    requires sized { AreSizedFor setting.now.game.now sets.old }
+    requires ready { AreReady setting.now sets.old }
     requires targets { All (IsTargetFor setting.now.game.now) targets.now }
     ensures { Meets sets.old sets.new (IsAmong targets.now) (IsToTryIn setting.now) }
 {
@@ -97,8 +93,7 @@ pub(crate) fn meet_bits(
     column: usize,
     word: u64,
 )
-    requires set { IsSet setting.now }
-    requires sized { AreSizedFor setting.now.game.now sets.old }
+    requires ready { AreReady setting.now sets.old }
     requires column { column < row_words setting.now.game.now }
     requires targets { All (λ t. IsPositionIn setting.now.game.now t.position) targets.now }
     ensures { Meets sets.old sets.new (IsAmongBits targets.now column word)

@@ -24,13 +24,13 @@ meet_bits-requires-clause-targets c =
     let q = c.args.position in
     let v : ℕ = c.args.column * 64 + c.lowest-bit.result in
     let stands : IsStart game.rules (after q) = goes_on game.rules q c.action-action.result.now c.action-action.ensures in
-    let are : AreTargetsFrom game (after q) v c.leads-may_end.result.0.now = c.leads-may_end.ensures.from game c.requires.set.paths.leaps (c.requires.board _ c.lowest-bit.ensures.set) stands in
-    targets_in game c.requires.set.lawful.numbered q c.requires.still c.args.column c.args.word v (bit_in q c.args.column c.args.word _ c.lowest-bit.ensures.small c.lowest-bit.ensures.set) c.leads-may_end.result.0.now are (IsToTryIn c.args.setting.now)
+    let are : AreTargetsFrom game (after q) v c.leads-may_end.result.0.now = c.leads-may_end.ensures.from game c.requires.ready.set.paths.leaps (c.requires.board _ c.lowest-bit.ensures.set) stands in
+    targets_in game c.requires.ready.set.lawful.numbered q c.requires.still c.args.column c.args.word v (bit_in q c.args.column c.args.word _ c.lowest-bit.ensures.small c.lowest-bit.ensures.set) c.leads-may_end.result.0.now are (IsToTryIn c.args.setting.now)
 
 pub returns : goal.returns
 returns c =
     let game = c.args.setting.now.game.now in
-    let numbered = c.requires.set.lawful.numbered in
+    let numbered = c.requires.ready.set.lawful.numbered in
     let q = c.args.position in
     let opens = IsToTryIn c.args.setting.now in
     let old = c.args.self.now in
@@ -39,12 +39,12 @@ returns c =
     let there = bit_in q c.args.column c.args.word _ c.lowest-bit.ensures.small c.lowest-bit.ensures.set in
     let below = c.requires.board _ c.lowest-bit.ensures.set in
     let stands : IsStart game.rules (after q) = goes_on game.rules q c.action-action.result.now c.action-action.ensures in
-    let are : AreTargetsFrom game (after q) v c.leads-may_end.result.0.now = c.leads-may_end.ensures.from game c.requires.set.paths.leaps below stands in
+    let are : AreTargetsFrom game (after q) v c.leads-may_end.result.0.now = c.leads-may_end.ensures.from game c.requires.ready.set.paths.leaps below stands in
     let met = meets_still game numbered q c.requires.still c.args.column c.args.word v there c.leads-may_end.result.0.now are opens old.sets new c.meet_bits.ensures in
-    let ends = learns_or old.ends c.leads-may_end.result.1 (EndsAcross game (after q) v) (c.leads-may_end.ensures.ends game c.requires.set.paths.leaps below stands) in
+    let ends = learns_or old.ends c.leads-may_end.result.1 (EndsAcross game (after q) v) (c.leads-may_end.ensures.ends game c.requires.ready.set.paths.leaps below stands) in
     record {
-      sized = same_size game old.sets new met.size met.columns c.requires.sized;
+      sized = same_size game old.sets new met.size met.columns c.requires.ready.sized;
       met = met;
       ends = ends_still game numbered q c.requires.still c.args.column c.args.word v there old.ends _ ends;
-      on = still_on_board game c.requires.set.lawful q c.args.column c.args.word opens c.requires.still c.requires.board old.sets new met;
+      on = still_on_board game c.requires.ready.set.lawful q c.args.column c.args.word opens c.requires.still c.requires.board old.sets new met;
     }

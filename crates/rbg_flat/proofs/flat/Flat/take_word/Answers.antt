@@ -13,7 +13,7 @@ lead_word-requires-clause-board c = λ b set. c.requires.board b (c.requires.wit
 
 pub returns-then-held-ne0-clause-begun : goal.returns-then-held-ne0-clause-begun
 returns-then-held-ne0-clause-begun c = λ f told is.
-    word_done c.args.setting.now.game.now c.requires.set.lawful c.args.setting.now.state.now.state c.requires.set.fits f
+    word_done c.args.setting.now.game.now c.requires.ready.set.lawful c.args.setting.now.state.now.state c.requires.ready.set.fits f
     c.args.self.now.sets c.close_word.new.self c.lead_word.new.self.sets c.args.self.now.ends c.lead_word.new.self.ends
     c.args.position c.args.column c.args.word c.args.held
     c.close_word.ensures c.requires.marked c.lead_word.ensures.met c.lead_word.ensures.ends c.requires.within told is
@@ -21,7 +21,7 @@ returns-then-held-ne0-clause-begun c = λ f told is.
 pub returns-else-held-ne0-clause-begun : goal.returns-else-held-ne0-clause-begun
 returns-else-held-ne0-clause-begun c = λ f told is.
     let none : c.args.held ≡ 0 = c.if-held-ne0.false in
-    word_done c.args.setting.now.game.now c.requires.set.lawful c.args.setting.now.state.now.state c.requires.set.fits f
+    word_done c.args.setting.now.game.now c.requires.ready.set.lawful c.args.setting.now.state.now.state c.requires.ready.set.fits f
     c.args.self.now.sets c.close_word.new.self c.close_word.new.self c.args.self.now.ends c.args.self.now.ends
     c.args.position c.args.column c.args.word c.args.held
     c.close_word.ensures c.requires.marked
@@ -55,7 +55,7 @@ returns-else-held-ne0-clause-done c = λ v there.
 pub returns-then-held-ne0-clause-quiet : goal.returns-then-held-ne0-clause-quiet
 returns-then-held-ne0-clause-quiet c = λ v p pattern apart done.
     closes_quiet c.args.self.now.sets c.close_word.new.self c.args.position c.args.column c.args.word c.close_word.ensures v p apart
-    (meets_quiet c.close_word.new.self c.lead_word.new.self.sets (LeadsFrom c.args.setting.now.game.now c.args.position c.args.column c.args.held) (IsToTryIn c.args.setting.now) c.lead_word.ensures.met v p (pattern_to_try c.args.setting.now.game.now c.requires.set.lawful.numbered c.args.setting.now.state.now.state p pattern v) done)
+    (meets_quiet c.close_word.new.self c.lead_word.new.self.sets (LeadsFrom c.args.setting.now.game.now c.args.position c.args.column c.args.held) (IsToTryIn c.args.setting.now) c.lead_word.ensures.met v p (pattern_to_try c.args.setting.now.game.now c.requires.ready.set.lawful.numbered c.args.setting.now.state.now.state p pattern v) done)
 
 pub returns-else-held-ne0-clause-quiet : goal.returns-else-held-ne0-clause-quiet
 returns-else-held-ne0-clause-quiet c = λ v p pattern apart done. closes_quiet c.args.self.now.sets c.close_word.new.self c.args.position c.args.column c.args.word c.close_word.ensures v p apart done
