@@ -1,5 +1,5 @@
 //! What was found is gathered: the modifiers that are valid, and how many candidates there are.
-ghost use Rattle.std.specs.Prelude.{◌≡◌, ◌≢◌, ◌↔◌, ℕ, ◌+◌, ◌*◌, ◌/◌, ◌<◌, ◌≤◌, ◌^◌, length, count_ones, IfOk, OnOk, IsTrue};
+ghost use Rattle.std.specs.Prelude.{◌≡◌, ◌↔◌, ◌/◌, ◌<◌, ◌≤◌, ◌^◌, length, count_ones, IfOk, IsTrue};
 ghost use Rattle.rbg_rules.specs.Games.{IsGame};
 ghost use Rattle.rbg_rules.specs.Positions.{IsModifierAt, positions_of};
 ghost use Rattle.rbg_rules.specs.State.{IsStateOf};

@@ -1,8 +1,8 @@
 //! How sets are led on by leaps.
-ghost use Rattle.std.specs.Prelude.{◌≡◌, ◌+◌, ◌*◌, ◌<◌, ℕ, length, All, IsTrue};
+ghost use Rattle.std.specs.Prelude.{◌≡◌, ◌+◌, ◌*◌, ◌<◌, length, All, IsTrue};
 ghost use Rattle.rbg_leaps.specs.Limits.{row_words};
 ghost use Rattle.rbg_flat.specs.internal.Sets.{Meets, IsInWord};
-ghost use Rattle.rbg_flat.specs.internal.Leading.{AreSizedFor, IsTargetFor, IsAmong, IsAmongBits, IsPositionIn};
+ghost use Rattle.rbg_flat.specs.internal.Leading.{IsTargetFor, IsAmong, IsAmongBits, IsPositionIn};
 ghost use Rattle.rbg_flat.specs.internal.Setting.{AreReady, IsToTryIn};
 
 use crate::passing::to_try;

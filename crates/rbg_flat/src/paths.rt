@@ -1,12 +1,10 @@
 //! The leaps of a game, and what flat parts need to know of each position.
-ghost use Rattle.std.specs.Prelude.{◌≡◌, ℕ, ◌+◌, ◌≤◌, ◌<◌, ◌↔◌, All, Some, [], ◌∷◌, length, take, slice_get, true, IfOk, IfSome, IfNone, IsTrue};
+ghost use Rattle.std.specs.Prelude.{◌≡◌, ℕ, ◌+◌, ◌≤◌, ◌<◌, ◌↔◌, All, Some, length, slice_get, true, IfOk, IfSome, IfNone, IsTrue};
 ghost use Rattle.rbg_rules.specs.Games.{IsGame};
-ghost use Rattle.rbg_rules.specs.Expression.{on};
-ghost use Rattle.rbg_rules.specs.Positions.{HasAction, positions_of};
-ghost use Rattle.rbg_rules.specs.State.{AbstractGame};
+ghost use Rattle.rbg_rules.specs.Positions.{positions_of};
 ghost use Rattle.rbg_leaps.specs.Leaps.{IsShiftAt};
 ghost use Rattle.rbg_leaps.specs.Limits.{IsTooLarge};
-ghost use Rattle.rbg_flat.specs.Paths.{AreFacts, AreShown, ArePathsOf, IsKind, IsStill, IsSureAt};
+ghost use Rattle.rbg_flat.specs.Paths.{AreFacts, AreShown, ArePathsOf};
 ghost use Rattle.rbg_flat.specs.internal.Leading.{IsPositionIn};
 ghost use Rattle.rbg_flat.specs.internal.Shown.{ShowsFacts, HasNoPieces, HasPieces, shows_shift};
 

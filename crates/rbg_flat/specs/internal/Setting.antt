@@ -11,13 +11,13 @@ use Rattle.rbg_flat.specs.internal.Leading.{AreSizedFor, AreOn, LearnsEnd}
 use Rattle.rbg_flat.specs.internal.Passing.{IsToTry}
 use Rattle.rbg_flat.specs.internal.Sets.{SetsOfVertices, IsMarked, IsOpen, Meets}
 
--- The game is one, and the paths and the semi-state are its own.
+-- The game is a lawful one, and the paths and the semi-state are its own.
 pub record IsSet (setting : Setting) : Type 0 where
   pub lawful : IsGame setting.game.now
   pub paths : ArePathsOf setting.game.now setting.paths.now
   pub fits : IsStateOf setting.game.now setting.state.now.state
 
--- The sets have the size that a flat part takes there.
+-- All this is so, and the sets have the size that a flat part of the game takes.
 pub record AreReady (setting : Setting) (sets : SetsOfVertices) : Type 0 where
   pub set : IsSet setting
   pub sized : AreSizedFor setting.game.now sets
