@@ -37,22 +37,12 @@ plain_inside at p Negative x plain first empty = absurd (cc plain)
 pattern_inside : (at : ℕ → Laid) (p : ℕ) (a : Action) (x : Expression) → shows_pattern a ≡ true → (at p).first ≡ firsts x → (at p).may_be_empty ≡ may_be_empty x → IsLaid at x [] true → IsLaidInside at p (action_of a x)
 pattern_inside at p Positive x pattern first empty laid = (first, empty, laid)
 pattern_inside at p Negative x pattern first empty laid = (first, empty, laid)
-pattern_inside at p (Shift d) x pattern first empty laid = absurd (cc pattern)
-pattern_inside at p (On pieces) x pattern first empty laid = absurd (cc pattern)
-pattern_inside at p (Off q) x pattern first empty laid = absurd (cc pattern)
-pattern_inside at p (Assign v e) x pattern first empty laid = absurd (cc pattern)
-pattern_inside at p (Compare e r f) x pattern first empty laid = absurd (cc pattern)
-pattern_inside at p (Switch n) x pattern first empty laid = absurd (cc pattern)
+pattern_inside at p _ x pattern first empty laid = absurd (cc pattern)
 
 inside_positions : (a : Action) (x : Expression) → shows_pattern a ≡ true → positions_inside (action_of a x) ≡ positions_of x
 inside_positions Positive x pattern = refl
 inside_positions Negative x pattern = refl
-inside_positions (Shift d) x pattern = absurd (cc pattern)
-inside_positions (On pieces) x pattern = absurd (cc pattern)
-inside_positions (Off q) x pattern = absurd (cc pattern)
-inside_positions (Assign v e) x pattern = absurd (cc pattern)
-inside_positions (Compare e r f) x pattern = absurd (cc pattern)
-inside_positions (Switch n) x pattern = absurd (cc pattern)
+inside_positions _ x pattern = absurd (cc pattern)
 
 -- What is laid at a position without an inside, and at that of a pattern.
 abbrev pub plain_laid : List ℕ → Bool → Laid

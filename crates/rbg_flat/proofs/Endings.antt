@@ -1,5 +1,5 @@
 -- Places from which nothing goes on.
-use Rattle.std.proofs.Common.{◌≡◌, ◌≢◌, ℕ, ◌+◌, ◌*◌, ◌%◌, ◌<◌, ◌≤◌, ◌⊎◌, inl, inr, List, [], ◌∷◌, ◌++◌, length, get_or, take, Bool, refl, sym, ap, subst, ◌∙◌, arith}
+use Rattle.std.proofs.Common.{rules, ◌≡◌, ◌≢◌, ℕ, ◌+◌, ◌*◌, ◌%◌, ◌<◌, ◌≤◌, ◌⊎◌, inl, inr, List, [], ◌∷◌, ◌++◌, length, get_or, take, Bool, refl, sym, ap, subst, ◌∙◌, arith}
 use Rattle.std.specs.Prelude.{◌↔◌, Contains, IsTrue}
 use Rattle.std.specs.Int.{bit_at}
 use native.Mathlib.Decide.{ℕ_discrete}
@@ -161,14 +161,7 @@ module _
     here = at_vertex s v
 
     fits_here : IsStateOf game here
-    fits_here = record {
-      player = fits.player;
-      vertices = fits.vertices;
-      pieces = fits.pieces;
-      variables = fits.variables;
-      bounds = fits.bounds;
-      vertex = subst (λ (k : ℕ). v < k) (sym fits.vertices) below;
-    }
+    fits_here = let vertex : v < length s.pieces = subst (λ (k : ℕ). v < k) (sym fits.vertices) below in search rules
 
     try_there : (u p : ℕ) → IsToTry game here u p → IsToTry game s u p
     try_there u p is = record {

@@ -1,15 +1,9 @@
 -- What is found in the end.
-use Rattle.std.proofs.Common.{◌≡◌, ◌≢◌, ℕ, zero, suc, ◌+◌, ◌-◌, ◌*◌, ◌/◌, ◌%◌, ◌^◌, ◌<◌, ◌≤◌, ◌⊎◌, inl, inr, List, [], ◌++◌, Bool, true, false, length, get_or, map, refl, sym, ap, subst, ◌∙◌, arith}
-use Rattle.std.specs.Prelude.{Contains, IsTrue, ◌↔◌, nat_eq}
-use Rattle.std.specs.List.{list_any, IsDistinct}
-use Rattle.std.proofs.lemmas.Nat.{mul-le, div-mul-add, mod-mul-add}
-use Rattle.std.proofs.lemmas.Bool.{eqb-true}
-use Rattle.std.proofs.lemmas.Bool.Decides.{Decides-eqb}
-use Rattle.std.proofs.lemmas.List.{length-append, length-map, get_or-map}
+use Rattle.std.proofs.Common.{◌≡◌, ℕ, ◌+◌, ◌-◌, ◌*◌, ◌/◌, ◌^◌, ◌<◌, ◌≤◌, ◌⊎◌, inl, inr, List, [], ◌++◌, Bool, true, false, length, get_or, refl, sym, ap, subst, ◌∙◌, arith}
+use Rattle.std.specs.Prelude.{All, IsTrue, ◌↔◌}
+use Rattle.std.proofs.lemmas.Nat.{mul-le, div-mul-add}
+use Rattle.std.proofs.lemmas.List.{length-append, length-map}
 use Rattle.std.proofs.lemmas.List.Elements.{Contains-get_or}
-use Rattle.std.proofs.lemmas.Map.Made.{IsDistinct-from_AllPairs}
-use Rattle.std.proofs.lemmas.Map.Steps.{length-le_from_distinct_below}
-use Rattle.std.proofs.lemmas.Map.Views.{Contains-from_any}
 use native.Mathlib.Decide.{ℕ_discrete}
 use Rattle.rbg_rules.specs.Expression.{AbstractAction, shift, on, off, assignment, comparison, switch, positive, negative}
 use Rattle.rbg_rules.specs.Games.{IsGame}
@@ -26,6 +20,7 @@ use Rattle.rbg_flat.specs.internal.Leading.{AreOn}
 use Rattle.rbg_flat.specs.internal.Sets.{SetsOfVertices, IsMarked, IsOpen}
 use Rattle.rbg_flat.specs.internal.Places.{ForgetsPlace, IsMetAt}
 use Rattle.rbg_flat.proofs.ChainLemmas.{candidate_of, met_of}
+use Rattle.rbg_flat.proofs.Numberings.{HasNumber, few_pairs}
 use Rattle.rbg_flat.proofs.Lists.{lists_none, lists_same, lists_join, lists_map}
 use Rattle.rbg_flat.proofs.Steps.{all_marked}
 use Rattle.rbg_flat.proofs.Takings.{bit_decided}
@@ -51,66 +46,22 @@ module _ (game : AbstractGame) (numbered : IsNumbered game.rules) (s : AbstractS
       let same : modifies.action ≡ applies.action = one_stands game.rules numbered p modifies.action applies.action modifies.stands applies.stands in
       by_action applies.action applies.stands (sym (ap is_modifier same) ∙ modifies.modifies) applies.acts
 
--- the number of a pair among those of the positions from 1 on
-abbrev number : ℕ → ℕ × ℕ → ℕ
-number n q = q.1 * n + q.0 - n
-
-row_before : (n p : ℕ) → 0 < p → n ≤ p * n
-row_before n zero some = absurd (omega (arith, some))
-row_before n (suc p) some = grind arith
-
-one_pair : (n v w p q : ℕ) → v < n → w < n → p * n + v ≡ q * n + w → (v ≡ w) × (p ≡ q)
-one_pair n v w p q first second same = (
-  sym (mod-mul-add p n v first) ∙ ap (λ (x : ℕ). x % n) same ∙ mod-mul-add q n w second,
-  sym (div-mul-add p n v first) ∙ ap (λ (x : ℕ). x / n) same ∙ div-mul-add q n w second,
-)
-
 module _ (game : AbstractGame) (lawful : IsGame game) (s : AbstractState) (first : SetsOfVertices) (on_board : AreOn game first) where
   abbrev vertices : ℕ
   vertices = length game.board.first
 
   -- No more pairs than positions and vertices.
   module _ (now : SetsOfVertices) (pairs : List (ℕ × ℕ)) (lists : Lists (IsGone first now) pairs) where
-    at : (i : ℕ) (d : ℕ × ℕ) → i < length pairs → IsGone first now (get_or pairs i d)
-    at i d below = (lists.all (get_or pairs i d)).0 (Contains-get_or pairs i d below)
-
-    differ : (i j : ℕ) (e : ℕ) → i < j → j < length (map (number vertices) pairs) → get_or (map (number vertices) pairs) i e ≢ get_or (map (number vertices) pairs) j e
-    differ i j e before below same =
-        let long = length-map pairs (number vertices) in
-        let d : ℕ × ℕ = (0, 0) in
-        let at_j : j < length pairs = omega (arith, below, long) in
-        let at_i : i < length pairs = omega (arith, at_j, before) in
+    within : All (HasNumber vertices (most_candidates game + vertices)) pairs
+    within i d below =
         let q : ℕ × ℕ = get_or pairs i d in
-        let r : ℕ × ℕ = get_or pairs j d in
-        let one = (at i d at_i).marked in
-        let other = (at j d at_j).marked in
-        let is_q : get_or (map (number vertices) pairs) i e ≡ q.1 * vertices + q.0 - vertices = get_or-map (number vertices) pairs i d e at_i in
-        let is_r : get_or (map (number vertices) pairs) j e ≡ r.1 * vertices + r.0 - vertices = get_or-map (number vertices) pairs j d e at_j in
-        let least_q = row_before vertices q.1 (on_board.from_one q.0 q.1 one) in
-        let least_r = row_before vertices r.1 (on_board.from_one r.0 r.1 other) in
-        let sums : q.1 * vertices + q.0 ≡ r.1 * vertices + r.0 = omega (arith, same, is_q, is_r, least_q, least_r) in
-        let both = one_pair vertices q.0 r.0 q.1 r.1 (on_board.vertex q.0 q.1 one) (on_board.vertex r.0 r.1 other) sums in
-        lists.different i j d before at_j (λ k. (both.0 k, both.1 k))
-
-    below_all : (x : ℕ) → Contains (map (number vertices) pairs) x → x < most_candidates game
-    below_all x (i, below, is) =
-        let long = length-map pairs (number vertices) in
-        let d : ℕ × ℕ = (0, 0) in
-        let at_i : i < length pairs = omega (arith, below, long) in
-        let q : ℕ × ℕ = get_or pairs i d in
-        let one = (at i d at_i).marked in
-        let is_q : get_or (map (number vertices) pairs) i x ≡ q.1 * vertices + q.0 - vertices = get_or-map (number vertices) pairs i d x at_i in
-        let least_q = row_before vertices q.1 (on_board.from_one q.0 q.1 one) in
-        let under = on_board.vertex q.0 q.1 one in
+        let one = ((lists.all q).0 (Contains-get_or pairs i d below)).marked in
+        let vertex = on_board.vertex q.0 q.1 one in
         let most : q.1 * vertices ≤ length (positions_of game.rules) * vertices = mul-le q.1 vertices (length (positions_of game.rules)) vertices (on_board.there q.0 q.1 one) (omega arith) in
-        omega (arith, is, is_q, least_q, under, most)
+        record { vertex = vertex; from_one = on_board.from_one q.0 q.1 one; below = omega (arith, vertex, most) }
 
     pub few_gone : length pairs ≤ most_candidates game
-    few_gone =
-        let distinct : IsDistinct nat_eq (map (number vertices) pairs) = IsDistinct-from_AllPairs Decides-eqb (map (number vertices) pairs) differ in
-        let all : (x : ℕ) → list_any (nat_eq x) (map (number vertices) pairs) ≡ true → x < most_candidates game = λ x any. below_all x (Contains-from_any eqb-true x (map (number vertices) pairs) any) in
-        let short = length-le_from_distinct_below (map (number vertices) pairs) (most_candidates game) distinct all in
-        omega (arith, short, length-map pairs (number vertices))
+    few_gone = let few = few_pairs vertices (most_candidates game + vertices) pairs lists.different within in omega (arith, few)
 
   -- At first nothing is gathered.
   pub gathered_none : Gathered game s first first [] 0

@@ -22,6 +22,7 @@ pub mod Switches
 pub mod FirstSwitches
 pub mod Having
 pub mod Gatherings
+pub mod Numberings
 pub mod Finishings
 pub mod Stills
 mod Endings

@@ -6,16 +6,12 @@ use Rattle.std.proofs.lemmas.Bool.{cases_lt}
 use Rattle.std.proofs.lemmas.Option.{slice_get-get_or, slice_get_within, get_or_from_slice_get}
 use Rattle.std.proofs.lemmas.List.{take_more, length_push, get_or_push}
 use Rattle.std.proofs.lemmas.List.Elements.{Contains-push, Contains-push_cases, Contains-append_left, Contains-get_or, All-contains}
-use Rattle.rbg_rules.specs.Expression.{AbstractAction, shift, on, off, assignment, comparison, switch, positive, negative, Expression}
+use Rattle.rbg_rules.specs.Expression.{shift, on}
 use Rattle.rbg_rules.specs.Games.{IsGame}
-use Rattle.rbg_rules.specs.Positions.{IsNumbered, HasAction, positions_of}
+use Rattle.rbg_rules.specs.Positions.{IsNumbered, positions_of}
 use Rattle.rbg_rules.specs.State.{AbstractGame}
-use Rattle.rbg_rules.specs.Table.{Stands}
 use Rattle.rbg_rules.specs.Words.{after, Follows, Ends}
-use Rattle.rbg_rules.specs.declared.rule.Action.{Action}
-use Rattle.rbg_rules.specs.declared.rule.Action.TheVariants.{Shift, On, Off, Assign, Compare, Switch, Positive, Negative}
 use Rattle.rbg_rules.proofs.LocalityLemmas.{locality_law}
-use Rattle.rbg_rules.proofs.PositionLemmas.{one_stands}
 use Rattle.rbg_auto.specs.Steps.{AreNext}
 use Rattle.rbg_leaps.specs.declared.target.Target.{Target}
 use Rattle.rbg_leaps.specs.Asked.{AreTargetsFrom}
@@ -25,39 +21,11 @@ use Rattle.rbg_flat.specs.declared.paths.Facts.{Facts}
 use Rattle.rbg_flat.specs.Paths.{IsStill, AreFacts}
 use Rattle.rbg_flat.specs.internal.Leading.{IsAmongBits, IsOnBoard, IsPositionIn, LeadsFrom, EndsFrom, LearnsEnd, AreOn}
 use Rattle.rbg_flat.specs.internal.Sets.{SetsOfVertices, IsInWord, IsMarked, IsOpen, Meets}
-use Rattle.rbg_flat.specs.internal.Shown.{shows_shift}
 use Rattle.rbg_flat.proofs.Leaping.{within, leap_among, some_leap, target_position}
 use Rattle.rbg_flat.proofs.Meetings.{meets_both, meets_same}
 
 true_not_false : true ≡ false → ⊥
 true_not_false e = cc
-
-abbrev is_shift : AbstractAction → Bool
-is_shift (shift d) = true
-is_shift (on xs) = false
-is_shift (off x) = false
-is_shift (assignment v e) = false
-is_shift (comparison e r f) = false
-is_shift (switch n) = false
-is_shift (positive x) = false
-is_shift (negative x) = false
-
-other_stands : (rules : Expression) → IsNumbered rules → (p : ℕ) (a : AbstractAction) → HasAction rules p a → is_shift a ≡ false → IsTrue false ↔ IsShiftAt rules p
-other_stands rules numbered p a stands plain = (
-  (λ e. absurd (true_not_false (sym e))),
-  (λ other. absurd (true_not_false (ap is_shift (one_stands rules numbered p (shift other.direction) a other.stands stands) ∙ plain))),
-)
-
--- A shift stands at a position exactly where the program's action there is one.
-pub stands_shift : (rules : Expression) → IsNumbered rules → (p : ℕ) (i : Action) → Stands rules p i → IsTrue (shows_shift i) ↔ IsShiftAt rules p
-stands_shift rules numbered p (Shift d) stands = ((λ _. record { direction = d; stands = stands }), (λ _. refl))
-stands_shift rules numbered p (On pieces) stands = other_stands rules numbered p _ stands refl
-stands_shift rules numbered p (Off x) stands = other_stands rules numbered p (off x) stands refl
-stands_shift rules numbered p (Assign v e) stands = other_stands rules numbered p _ stands refl
-stands_shift rules numbered p (Compare e r f) stands = other_stands rules numbered p _ stands refl
-stands_shift rules numbered p (Switch n) stands = other_stands rules numbered p (switch n) stands refl
-stands_shift rules numbered p Positive (x, stands) = other_stands rules numbered p (positive x) stands refl
-stands_shift rules numbered p Negative (x, stands) = other_stands rules numbered p (negative x) stands refl
 
 -- What comes next are positions of the game.
 pub next_within : (game : AbstractGame) → IsNumbered game.rules → (p : ℕ) (positions : List ℕ) → AreNext game.rules p positions → All (IsPositionIn game) positions

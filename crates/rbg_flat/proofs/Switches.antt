@@ -1,4 +1,4 @@
--- Where switches stand.
+-- Where switches stand, and shifts.
 use Rattle.std.proofs.Common.{◌≡◌, ℕ, Bool, true, false, refl, sym, ap, ◌∙◌}
 use Rattle.std.specs.Prelude.{IsTrue, ◌↔◌}
 use Rattle.rbg_rules.specs.Expression.{AbstractAction, shift, off, switch, positive, negative, Expression}
@@ -7,28 +7,52 @@ use Rattle.rbg_rules.specs.Table.{Stands}
 use Rattle.rbg_rules.specs.declared.rule.Action.{Action}
 use Rattle.rbg_rules.specs.declared.rule.Action.TheVariants.{Shift, On, Off, Assign, Compare, Switch, Positive, Negative}
 use Rattle.rbg_rules.proofs.PositionLemmas.{one_stands}
-use Rattle.rbg_flat.specs.internal.Shown.{shows_switch}
+use Rattle.rbg_leaps.specs.Leaps.{IsShiftAt}
+use Rattle.rbg_flat.specs.internal.Shown.{shows_shift, shows_switch}
 
-true_not_false : true ≡ false → ⊥
-true_not_false e = cc
+abbrev shifts : AbstractAction → Bool
+shifts (shift d) = true
+shifts _ = false
 
 abbrev switches : AbstractAction → Bool
 switches (switch n) = true
 switches _ = false
 
-other_stands : (rules : Expression) → IsNumbered rules → (p : ℕ) (a : AbstractAction) → HasAction rules p a → switches a ≡ false → IsTrue false ↔ IsSwitchAt rules p
-other_stands rules numbered p a stands plain = (
-  (λ e. absurd (true_not_false (sym e))),
-  (λ other. absurd (true_not_false (ap switches (one_stands rules numbered p (switch other.player) a other.stands stands) ∙ plain))),
-)
+module _ (rules : Expression) (numbered : IsNumbered rules) (p : ℕ) where
+  -- Where an action of no such kind stands, none of the kind does.
+  other_stands : (kind : AbstractAction → Bool) (Is : Type 0) → (Is → (b : AbstractAction) × HasAction rules p b × (kind b ≡ true)) → (a : AbstractAction) → HasAction rules p a → kind a ≡ false → IsTrue false ↔ Is
+  other_stands kind Is of a stands plain = (
+    (λ e. absurd (true_not_false (sym e))),
+    (λ is. let (b, other, so) = of is in absurd (true_not_false (sym so ∙ ap kind (one_stands rules numbered p b a other stands) ∙ plain))),
+  )
+    where
+      true_not_false : true ≡ false → ⊥
+      true_not_false e = cc
 
--- A switch stands at a position exactly where the program's action there is one.
-pub stands_switch : (rules : Expression) → IsNumbered rules → (p : ℕ) (i : Action) → Stands rules p i → IsTrue (shows_switch i) ↔ IsSwitchAt rules p
-stands_switch rules numbered p (Shift d) stands = other_stands rules numbered p (shift d) stands refl
-stands_switch rules numbered p (On pieces) stands = other_stands rules numbered p _ stands refl
-stands_switch rules numbered p (Off x) stands = other_stands rules numbered p (off x) stands refl
-stands_switch rules numbered p (Assign v e) stands = other_stands rules numbered p _ stands refl
-stands_switch rules numbered p (Compare e r f) stands = other_stands rules numbered p _ stands refl
-stands_switch rules numbered p (Switch n) stands = ((λ _. record { player = n; stands = stands }), (λ _. refl))
-stands_switch rules numbered p Positive (x, stands) = other_stands rules numbered p (positive x) stands refl
-stands_switch rules numbered p Negative (x, stands) = other_stands rules numbered p (negative x) stands refl
+  no_shift : (a : AbstractAction) → HasAction rules p a → shifts a ≡ false → IsTrue false ↔ IsShiftAt rules p
+  no_shift = other_stands shifts (IsShiftAt rules p) (λ is. (shift is.direction, is.stands, refl))
+
+  no_switch : (a : AbstractAction) → HasAction rules p a → switches a ≡ false → IsTrue false ↔ IsSwitchAt rules p
+  no_switch = other_stands switches (IsSwitchAt rules p) (λ is. (switch is.player, is.stands, refl))
+
+  -- A shift stands at a position exactly where the program's action there is one.
+  pub stands_shift : (i : Action) → Stands rules p i → IsTrue (shows_shift i) ↔ IsShiftAt rules p
+  stands_shift (Shift d) stands = ((λ _. record { direction = d; stands = stands }), (λ _. refl))
+  stands_shift (On pieces) stands = no_shift _ stands refl
+  stands_shift (Off x) stands = no_shift (off x) stands refl
+  stands_shift (Assign v e) stands = no_shift _ stands refl
+  stands_shift (Compare e r f) stands = no_shift _ stands refl
+  stands_shift (Switch n) stands = no_shift (switch n) stands refl
+  stands_shift Positive (x, stands) = no_shift (positive x) stands refl
+  stands_shift Negative (x, stands) = no_shift (negative x) stands refl
+
+  -- So does a switch.
+  pub stands_switch : (i : Action) → Stands rules p i → IsTrue (shows_switch i) ↔ IsSwitchAt rules p
+  stands_switch (Shift d) stands = no_switch (shift d) stands refl
+  stands_switch (On pieces) stands = no_switch _ stands refl
+  stands_switch (Off x) stands = no_switch (off x) stands refl
+  stands_switch (Assign v e) stands = no_switch _ stands refl
+  stands_switch (Compare e r f) stands = no_switch _ stands refl
+  stands_switch (Switch n) stands = ((λ _. record { player = n; stands = stands }), (λ _. refl))
+  stands_switch Positive (x, stands) = no_switch (positive x) stands refl
+  stands_switch Negative (x, stands) = no_switch (negative x) stands refl

@@ -9,3 +9,4 @@ pub mod Passing
 pub mod Gathering
 pub mod Bits
 pub mod Ending
+pub mod Setting

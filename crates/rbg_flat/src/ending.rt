@@ -9,10 +9,12 @@ ghost use Rattle.rbg_flat.specs.Chains.{at_vertex};
 ghost use Rattle.rbg_flat.specs.Ending.{IsDeadEnd};
 ghost use Rattle.rbg_flat.specs.Paths.{ArePathsOf};
 ghost use Rattle.rbg_flat.specs.internal.Ending.{AreDead, IsDeadTarget, IsFilledTarget};
+ghost use Rattle.rbg_flat.specs.internal.Setting.{IsSet};
 
 use crate::gathering::is_modifier;
 use crate::passing::to_try;
 use crate::paths::Paths;
+use crate::setting::Setting;
 use crate::words::{lowest, shared, without};
 use rbg_auto::Expr;
 use rbg_base::{Position, Vertex};
@@ -54,7 +56,12 @@ impl Paths {
         }
         let origin = Origin::Begin(Expr::Inside(pattern));
         let (targets, ends) = self.leaps.leads(origin, vertex);
-        if are_dead(game, self, state, targets) {
+        let setting = Setting {
+            game,
+            paths: self,
+            state,
+        };
+        if are_dead(&setting, targets) {
             let many = targets.len();
             Some(DeadEnd { many, ends })
         } else {
@@ -65,16 +72,15 @@ impl Paths {
 
 /// Whether nothing goes on from the targets, each of which has one vertex and a greater position than the one before it.
 #[inline(always)]
-fn are_dead(game: &Game, paths: &Paths, state: &SemiState, targets: &[Target]) -> bool
-    requires lawful { IsGame game.now }
-    requires paths { ArePathsOf game.now paths.now }
-    requires fits { IsStateOf game.now state.now.state }
-    requires targets { All (IsFilledTarget game.now) targets.now }
-    ensures { IsTrue result → (last : ℕ) × AreDead game.now state.now.state targets.now last }
+fn are_dead(setting: &Setting, targets: &[Target]) -> bool
+    requires set { IsSet setting.now }
+    requires targets { All (IsFilledTarget setting.now.game.now) targets.now }
+    ensures { IsTrue result → (last : ℕ)
+        × AreDead setting.now.game.now setting.now.state.now.state targets.now last }
 {
     let mut before = 0;
     for target in targets {
-        if target.position <= before || !is_dead(game, paths, state, target) {
+        if target.position <= before || !is_dead(setting, target) {
             return false;
         }
         before = target.position;
@@ -84,17 +90,16 @@ fn are_dead(game: &Game, paths: &Paths, state: &SemiState, targets: &[Target]) -
 
 /// Whether a target has one vertex, and nothing goes on there.
 #[inline(always)]
-fn is_dead(game: &Game, paths: &Paths, state: &SemiState, target: &Target) -> bool
-    requires lawful { IsGame game.now }
-    requires paths { ArePathsOf game.now paths.now }
-    requires fits { IsStateOf game.now state.now.state }
-    requires target { IsFilledTarget game.now target.now }
-    ensures { IsTrue result → IsDeadTarget game.now state.now.state target.now }
+fn is_dead(setting: &Setting, target: &Target) -> bool
+    requires set { IsSet setting.now }
+    requires target { IsFilledTarget setting.now.game.now target.now }
+    ensures { IsTrue result
+        → IsDeadTarget setting.now.game.now setting.now.state.now.state target.now }
 {
     let rest = without(target.word, lowest(target.word));
-    if rest != 0 || is_modifier(game, paths, target.position) {
+    if rest != 0 || is_modifier(setting.game, setting.paths, target.position) {
         return false;
     }
-    let opens = to_try(game, paths, state, target.position, target.column as usize);
+    let opens = to_try(setting, target.position, target.column as usize);
     shared(target.word, opens) == 0
 }

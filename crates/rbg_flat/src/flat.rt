@@ -1,5 +1,5 @@
 //! A flat part that is being found, by sets of vertices.
-ghost use Rattle.std.specs.Prelude.{◌≡◌, ℕ, ◌+◌, ◌*◌, ◌/◌, ◌<◌, ◌≤◌, ◌↔◌, ◌⊎◌, ◌^◌, length, IfOk, IfSome, IfNone, OnOk, IsTrue, false};
+ghost use Rattle.std.specs.Prelude.{◌≡◌, ◌≢◌, ℕ, ◌+◌, ◌*◌, ◌/◌, ◌<◌, ◌≤◌, ◌↔◌, ◌⊎◌, ◌^◌, length, IfOk, IfSome, IfNone, OnOk, IsTrue, false};
 ghost use Rattle.rbg_rules.specs.Games.{IsGame};
 ghost use Rattle.rbg_rules.specs.Laws.{IsStart};
 ghost use Rattle.rbg_rules.specs.Positions.{IsNumbered, IsPatternAt, positions_of};
@@ -12,10 +12,12 @@ ghost use Rattle.rbg_flat.specs.Chains.{Holds};
 ghost use Rattle.rbg_flat.specs.Paths.{ArePathsOf, IsStill};
 ghost use Rattle.rbg_flat.specs.Found.{AreFound, HasCandidates, most_candidates};
 ghost use Rattle.rbg_flat.specs.internal.Begun.{IsBegun};
-ghost use Rattle.rbg_flat.specs.internal.Passing.{IsToTry, Passes};
-ghost use Rattle.rbg_flat.specs.internal.Sets.{Meets, IsInWord, IsMarked, IsOpen, IsLastOf, IsDone, KeepsDone, WaitsLast, weight};
+ghost use Rattle.rbg_flat.specs.internal.Passing.{Passes};
+ghost use Rattle.rbg_flat.specs.internal.Sets.{IsInWord, IsMarked, IsOpen, IsDone, KeepsDone, WaitsLast, weight};
+ghost use Rattle.rbg_flat.specs.internal.Places.{IsLatest, IsSomeOpen};
 ghost use Rattle.std.specs.Int.{bit_at};
-ghost use Rattle.rbg_flat.specs.internal.Leading.{AreSizedFor, AreOn, IsOnBoard, LeadsFrom, EndsFrom, LearnsEnd};
+ghost use Rattle.rbg_flat.specs.internal.Leading.{AreSizedFor, AreOn, IsOnBoard, IsPositionIn, LeadsFrom, EndsFrom};
+ghost use Rattle.rbg_flat.specs.internal.Setting.{AreReady, HasBegun, LeadsOn};
 
 use crate::found::Modifiers;
 use crate::gathering::{gather_place, keeps};
@@ -23,6 +25,7 @@ use crate::leading::{meet_bits, meet_targets};
 use crate::passing::held;
 use crate::paths::{Kind, Paths};
 use crate::sets::Sets;
+use crate::setting::Setting;
 use crate::words::{lowest, unit_word, without};
 use rbg_base::{Memory, Pair, Position, Vertex};
 use rbg_leaps::Origin;
@@ -66,7 +69,8 @@ impl Flat {
     {
         self.sets.clear();
         self.ends = false;
-        self.lead(game, paths, state, origin, state.vertex());
+        let setting = Setting { game, paths, state };
+        self.lead(&setting, origin, state.vertex());
     }
 
     /// Goes on up to the next vertex that is to be asked about a pattern, and returns it with the pattern's position;
@@ -93,6 +97,7 @@ impl Flat {
         ensures done { IfNone result ((v p : ℕ) → ¬ IsOpen self.new.sets v p) }
         ensures lighter { weight self.new.sets ≤ weight self.old.sets }
     {
+        let setting = Setting { game, paths, state };
         while let Some(place) = self.sets.waiting() {
             let position = self.sets.position_at(place);
             let vertex = self.sets.first_open(place);
@@ -100,7 +105,7 @@ impl Flat {
                 return Some(Pair { vertex, position });
             }
             let column = self.sets.column_at(place);
-            self.try_word(game, paths, state, place, position, column, vertex);
+            self.try_word(&setting, place, position, column);
         }
         None
     }
@@ -139,11 +144,12 @@ impl Flat {
         ensures less { IsOpen self.old.sets vertex position
             → weight self.new.sets < weight self.old.sets }
     {
+        let setting = Setting { game, paths, state };
         let column = vertex as usize / 64;
         let word = unit_word(vertex % 64);
         let held = if valid { word } else { 0 };
         let place = self.sets.place(position, column);
-        self.take_word(game, paths, state, place, position, column, word, held);
+        self.take_word(&setting, place, position, column, word, held);
     }
 
     /// Whether a word may end with no modifier more, once nothing is left to be looked at.
@@ -196,73 +202,40 @@ impl Flat {
     /// Leads on from a place in the rules and a vertex: meets where leaps lead from there. What is learned of the end is
     /// written down first, so that no register holds it while targets are met.
     #[inline(always)]
-    fn lead(
-        &mut self,
-        game: &Game,
-        paths: &Paths,
-        state: &SemiState,
-        origin: Origin,
-        vertex: Vertex,
-    )
-        requires lawful { IsGame game.now }
-        requires paths { ArePathsOf game.now paths.now }
-        requires fits { IsStateOf game.now state.now.state }
-        requires sized { AreSizedFor game.now self.old.sets }
-        requires vertex { vertex < length game.now.board.first }
-        requires stands { IsStart game.now.rules (start_of origin) }
-        ensures met { Meets self.old.sets self.new.sets
-            (λ v p. IsLeap game.now (start_of origin) vertex p v)
-            (IsToTry game.now state.now.state) }
-        ensures ends { LearnsEnd self.old.ends self.new.ends
-            (EndsAcross game.now (start_of origin) vertex) }
-        ensures on { AreOn game.now self.old.sets → AreOn game.now self.new.sets }
+    fn lead(&mut self, setting: &Setting, origin: Origin, vertex: Vertex)
+        requires ready { AreReady setting.now self.old.sets }
+        requires vertex { vertex < length setting.now.game.now.board.first }
+        requires stands { IsStart setting.now.game.now.rules (start_of origin) }
+        ensures { LeadsOn setting.now self.old self.new
+            (λ v p. IsLeap setting.now.game.now (start_of origin) vertex p v)
+            (EndsAcross setting.now.game.now (start_of origin) vertex) }
     {
-        let (targets, ends) = paths.leaps.leads(origin, vertex);
+        let (targets, ends) = setting.paths.leaps.leads(origin, vertex);
         self.ends |= ends;
-        meet_targets(&mut self.sets, game, paths, state, targets);
+        meet_targets(&mut self.sets, setting, targets);
     }
 
-    /// Tries a position at all vertices that are open at the latest waiting place, of which one is given, and leads on
-    /// from those at which it holds. No pattern stands at the position.
+    /// Tries a position at all vertices that are open at the latest waiting place, and leads on from those at which it
+    /// holds. No pattern stands at the position.
     #[inline(always)]
-    fn try_word(
-        &mut self,
-        game: &Game,
-        paths: &Paths,
-        state: &SemiState,
-        place: usize,
-        position: Position,
-        column: usize,
-        vertex: Vertex,
-    )
-        requires lawful { IsGame game.now }
-        requires paths { ArePathsOf game.now paths.now }
-        requires fits { IsStateOf game.now state.now.state }
-        requires sized { AreSizedFor game.now self.old.sets }
-        requires on { AreOn game.now self.old.sets }
-        requires place { place < length self.old.sets.marks }
-        requires last { IsLastOf self.old.sets.waiting place }
-        requires at { place ≡ position * self.old.sets.columns + column }
-        requires column { vertex / 64 ≡ column }
-        requires below { column < self.old.sets.columns }
-        requires open { IsOpen self.old.sets vertex position }
-        requires marked { IsMarked self.old.sets vertex position }
-        requires plain { ¬ IsPatternAt game.now.rules position }
-        ensures sized { AreSizedFor game.now self.new.sets }
-        ensures begun { (f : Start)
-            → IsBegun game.now state.now.state f (IsMarked self.old.sets) (IsOpen self.old.sets)
-            self.old.ends
-            → IsBegun game.now state.now.state f (IsMarked self.new.sets) (IsOpen self.new.sets)
-            self.new.ends }
-        ensures on { AreOn game.now self.new.sets }
+    fn try_word(&mut self, setting: &Setting, place: usize, position: Position, column: usize)
+        requires ready { AreReady setting.now self.old.sets }
+        requires on { AreOn setting.now.game.now self.old.sets }
+        requires latest { IsLatest self.old.sets place position column }
+        requires open { IsSomeOpen self.old.sets position column }
+        requires plain { ¬ IsPatternAt setting.now.game.now.rules position }
+        ensures sized { AreSizedFor setting.now.game.now self.new.sets }
+        ensures begun { (f : Start) → HasBegun setting.now f self.old
+            → HasBegun setting.now f self.new }
+        ensures on { AreOn setting.now.game.now self.new.sets }
         ensures done { KeepsDone self.old.sets self.new.sets }
-        ensures quiet { (v p : ℕ) → IsPatternAt game.now.rules p → IsDone self.new.sets v p
-            → IsDone self.old.sets v p }
+        ensures quiet { (v p : ℕ) → IsPatternAt setting.now.game.now.rules p
+            → IsDone self.new.sets v p → IsDone self.old.sets v p }
         ensures less { weight self.new.sets < weight self.old.sets }
     {
         let word = self.sets.open_at(place, position, column);
-        let held = held(game, paths, state, position, column, word);
-        self.take_word(game, paths, state, place, position, column, word, held);
+        let held = held(setting, position, column, word);
+        self.take_word(setting, place, position, column, word, held);
     }
 
     /// Takes the bits of a word off what is open at the latest waiting place, and leads on from those at which the
@@ -270,42 +243,31 @@ impl Flat {
     #[inline(always)]
     fn take_word(
         &mut self,
-        game: &Game,
-        paths: &Paths,
-        state: &SemiState,
+        setting: &Setting,
         place: usize,
         position: Position,
         column: usize,
         word: u64,
         held: u64,
     )
-        requires lawful { IsGame game.now }
-        requires paths { ArePathsOf game.now paths.now }
-        requires fits { IsStateOf game.now state.now.state }
-        requires sized { AreSizedFor game.now self.old.sets }
-        requires place { place < length self.old.sets.marks }
-        requires last { IsLastOf self.old.sets.waiting place }
-        requires at { place ≡ position * self.old.sets.columns + column }
-        requires column { column < self.old.sets.columns }
-        requires from_one { 0 < position }
-        requires there { position ≤ length (positions_of game.now.rules) }
-        requires board { IsOnBoard game.now column word }
+        requires ready { AreReady setting.now self.old.sets }
+        requires latest { IsLatest self.old.sets place position column }
+        requires position { IsPositionIn setting.now.game.now position }
+        requires board { IsOnBoard setting.now.game.now column word }
         requires marked { (b : ℕ) → bit_at word b ≡ 1
             → (b < 64) × IsMarked self.old.sets (column * 64 + b) position }
         requires within { (b : ℕ) → bit_at held b ≡ 1 → bit_at word b ≡ 1 }
-        ensures sized { AreSizedFor game.now self.new.sets }
+        ensures sized { AreSizedFor setting.now.game.now self.new.sets }
         ensures begun { (f : Start)
-            → ((b : ℕ) → b < 64 → bit_at word b ≡ 1
-            → (bit_at held b ≡ 1) ↔ Passes game.now state.now.state (column * 64 + b) position)
-            → IsBegun game.now state.now.state f (IsMarked self.old.sets) (IsOpen self.old.sets)
-            self.old.ends
-            → IsBegun game.now state.now.state f (IsMarked self.new.sets) (IsOpen self.new.sets)
-            self.new.ends }
-        ensures on { AreOn game.now self.old.sets → AreOn game.now self.new.sets }
+            → ((b : ℕ) → b < 64 → bit_at word b ≡ 1 → (bit_at held b ≡ 1)
+            ↔ Passes setting.now.game.now setting.now.state.now.state (column * 64 + b) position)
+            → HasBegun setting.now f self.old → HasBegun setting.now f self.new }
+        ensures on { AreOn setting.now.game.now self.old.sets
+            → AreOn setting.now.game.now self.new.sets }
         ensures still_done { KeepsDone self.old.sets self.new.sets }
         ensures done { (v : ℕ) → IsInWord position column word v position
             → IsDone self.new.sets v position }
-        ensures quiet { (v p : ℕ) → IsPatternAt game.now.rules p
+        ensures quiet { (v p : ℕ) → IsPatternAt setting.now.game.now.rules p
             → ¬ IsInWord position column word v p → IsDone self.new.sets v p
             → IsDone self.old.sets v p }
         ensures less { (v : ℕ) → IsOpen self.old.sets v position
@@ -314,113 +276,55 @@ impl Flat {
     {
         self.sets.close_word(place, position, column, word);
         if held != 0 {
-            self.lead_word(game, paths, state, position, column, held);
+            self.lead_word(setting, position, column, held);
         }
     }
 
-    /// Leads on from a position at each vertex of a word: at all of them at once where no shift comes next.
+    /// Leads on from a position at each vertex of a word: at all of them at once where no shift comes next, else one after
+    /// another.
     #[inline(always)]
-    fn lead_word(
-        &mut self,
-        game: &Game,
-        paths: &Paths,
-        state: &SemiState,
-        position: Position,
-        column: usize,
-        word: u64,
-    )
-        requires lawful { IsGame game.now }
-        requires paths { ArePathsOf game.now paths.now }
-        requires fits { IsStateOf game.now state.now.state }
-        requires sized { AreSizedFor game.now self.old.sets }
-        requires board { IsOnBoard game.now column word }
-        requires column { column < self.old.sets.columns }
-        requires from_one { 0 < position }
-        requires there { position ≤ length (positions_of game.now.rules) }
-        ensures sized { AreSizedFor game.now self.new.sets }
-        ensures met { Meets self.old.sets self.new.sets (LeadsFrom game.now position column word)
-            (IsToTry game.now state.now.state) }
-        ensures ends { LearnsEnd self.old.ends self.new.ends
-            (EndsFrom game.now position column word) }
-        ensures on { AreOn game.now self.old.sets → AreOn game.now self.new.sets }
+    fn lead_word(&mut self, setting: &Setting, position: Position, column: usize, word: u64)
+        requires ready { AreReady setting.now self.old.sets }
+        requires board { IsOnBoard setting.now.game.now column word }
+        requires position { IsPositionIn setting.now.game.now position }
+        ensures { LeadsOn setting.now self.old self.new
+            (LeadsFrom setting.now.game.now position column word)
+            (EndsFrom setting.now.game.now position column word) }
     {
-        match first_still(game, paths, position, column, word) {
-            Some(vertex) => self.lead_still(game, paths, state, position, vertex, column, word),
-            None => self.lead_each(game, paths, state, position, column, word),
+        if word != 0 && setting.paths.facts(setting.game, position).still {
+            self.lead_still(setting, position, column, word);
+            return;
         }
-    }
-
-    /// Leads on from a position at all vertices of a word at once, of which one is given. No shift comes next.
-    #[inline(always)]
-    fn lead_still(
-        &mut self,
-        game: &Game,
-        paths: &Paths,
-        state: &SemiState,
-        position: Position,
-        vertex: Vertex,
-        column: usize,
-        word: u64,
-    )
-        requires lawful { IsGame game.now }
-        requires paths { ArePathsOf game.now paths.now }
-        requires fits { IsStateOf game.now state.now.state }
-        requires sized { AreSizedFor game.now self.old.sets }
-        requires board { IsOnBoard game.now column word }
-        requires column { column < self.old.sets.columns }
-        requires from_one { 0 < position }
-        requires there { position ≤ length (positions_of game.now.rules) }
-        requires still { IsStill game.now.rules position }
-        requires in_word { IsInWord position column word vertex position }
-        ensures sized { AreSizedFor game.now self.new.sets }
-        ensures met { Meets self.old.sets self.new.sets (LeadsFrom game.now position column word)
-            (IsToTry game.now state.now.state) }
-        ensures ends { LearnsEnd self.old.ends self.new.ends
-            (EndsAcross game.now (after position) vertex) }
-        ensures on { AreOn game.now self.old.sets → AreOn game.now self.new.sets }
-    {
         // an action stands there
-        let _action = game.action(position);
-        let origin = Origin::After(position);
-        let (targets, may_end) = paths.leaps.leads(origin, vertex);
-        self.ends |= may_end;
-        meet_bits(&mut self.sets, game, paths, state, targets, column, word);
-    }
-
-    /// Leads on from a position at each vertex of a word, one after another.
-    #[inline(always)]
-    fn lead_each(
-        &mut self,
-        game: &Game,
-        paths: &Paths,
-        state: &SemiState,
-        position: Position,
-        column: usize,
-        word: u64,
-    )
-        requires lawful { IsGame game.now }
-        requires paths { ArePathsOf game.now paths.now }
-        requires fits { IsStateOf game.now state.now.state }
-        requires sized { AreSizedFor game.now self.old.sets }
-        requires board { IsOnBoard game.now column word }
-        requires from_one { 0 < position }
-        requires there { position ≤ length (positions_of game.now.rules) }
-        ensures sized { AreSizedFor game.now self.new.sets }
-        ensures met { Meets self.old.sets self.new.sets (LeadsFrom game.now position column word)
-            (IsToTry game.now state.now.state) }
-        ensures ends { LearnsEnd self.old.ends self.new.ends
-            (EndsFrom game.now position column word) }
-        ensures on { AreOn game.now self.old.sets → AreOn game.now self.new.sets }
-    {
-        // an action stands there
-        let _action = game.action(position);
+        let _action = setting.game.action(position);
         let mut rest = word;
         while rest != 0 {
             let bit = lowest(rest);
             let vertex = column as Vertex * 64 + bit;
             rest = without(rest, bit);
-            self.lead(game, paths, state, Origin::After(position), vertex);
+            self.lead(setting, Origin::After(position), vertex);
         }
+    }
+
+    /// Leads on from a position at all vertices of a word at once. No shift comes next, so the first one tells of all.
+    #[inline(always)]
+    fn lead_still(&mut self, setting: &Setting, position: Position, column: usize, word: u64)
+        requires ready { AreReady setting.now self.old.sets }
+        requires board { IsOnBoard setting.now.game.now column word }
+        requires position { IsPositionIn setting.now.game.now position }
+        requires still { IsStill setting.now.game.now.rules position }
+        requires some { word ≢ 0 }
+        ensures { LeadsOn setting.now self.old self.new
+            (LeadsFrom setting.now.game.now position column word)
+            (EndsFrom setting.now.game.now position column word) }
+    {
+        // an action stands there
+        let _action = setting.game.action(position);
+        let bit = lowest(word);
+        let vertex = column as Vertex * 64 + bit;
+        let (targets, may_end) = setting.paths.leaps.leads(Origin::After(position), vertex);
+        self.ends |= may_end;
+        meet_bits(&mut self.sets, setting, targets, column, word);
     }
 }
 
@@ -446,27 +350,5 @@ fn is_pattern(game: &Game, paths: &Paths, sets: &Sets, vertex: Vertex, position:
     requires marked { IsMarked sets.now vertex position }
     ensures { IsTrue result ↔ IsPatternAt game.now.rules position }
 {
-    matches!(paths.kind(game, position), Kind::Pattern)
-}
-
-/// The first vertex of a word, where no shift comes next behind a position.
-#[inline(always)]
-fn first_still(
-    game: &Game,
-    paths: &Paths,
-    position: Position,
-    column: usize,
-    word: u64,
-) -> Option<Vertex>
-    requires paths { ArePathsOf game.now paths.now }
-    requires there { position ≤ length (positions_of game.now.rules) }
-    requires narrow { column < 2 ^ 25 }
-    ensures still { IfSome result (λ _. IsStill game.now.rules position) }
-    ensures there { IfSome result (λ v. IsInWord position column word v position) }
-{
-    if word != 0 && paths.is_still(game, position) {
-        Some(column as Vertex * 64 + lowest(word))
-    } else {
-        None
-    }
+    matches!(paths.facts(game, position).kind, Kind::Pattern)
 }

@@ -1,5 +1,5 @@
 //! What was found is gathered: the modifiers that are valid, and how many candidates there are.
-ghost use Rattle.std.specs.Prelude.{◌≡◌, ◌≢◌, ◌↔◌, ℕ, ◌+◌, ◌*◌, ◌/◌, ◌<◌, ◌≤◌, ◌^◌, length, count_ones, IfOk, OnOk, IsTrue};
+ghost use Rattle.std.specs.Prelude.{◌≡◌, ◌↔◌, ◌/◌, ◌<◌, ◌≤◌, ◌^◌, length, count_ones, IfOk, IsTrue};
 ghost use Rattle.rbg_rules.specs.Games.{IsGame};
 ghost use Rattle.rbg_rules.specs.Positions.{IsModifierAt, positions_of};
 ghost use Rattle.rbg_rules.specs.State.{IsStateOf};
@@ -24,7 +24,7 @@ pub(crate) fn keeps(game: &Game, paths: &Paths, state: &SemiState, position: Pos
     ensures { IsTrue result ↔ Keeps game.now state.now.state position }
 {
     is_modifier(game, paths, position)
-        && (paths.is_sure(game, position) || is_kept(game, state, position))
+        && (paths.facts(game, position).sure || is_kept(game, state, position))
 }
 
 /// Whether a modifier stands at a position.
@@ -35,7 +35,7 @@ pub(crate) fn is_modifier(game: &Game, paths: &Paths, position: Position) -> boo
     requires there { position ≤ length (positions_of game.now.rules) }
     ensures { IsTrue result ↔ IsModifierAt game.now.rules position }
 {
-    matches!(paths.kind(game, position), Kind::Modifier)
+    matches!(paths.facts(game, position).kind, Kind::Modifier)
 }
 
 /// As `keeps`, by a try. Only assignments are tried so: offs and switches are always valid.

@@ -10,6 +10,7 @@ mod leading;
 mod passing;
 mod paths;
 mod sets;
+mod setting;
 mod table;
 mod words;
 

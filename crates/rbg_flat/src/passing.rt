@@ -1,16 +1,18 @@
 //! At which vertices what is met is to be looked at, and at which it passes: it is no modifier, and valid there.
-ghost use Rattle.std.specs.Prelude.{◌≡◌, ◌<◌, ◌≤◌, ◌↔◌, ◌+◌, ◌*◌, [], ◌∷◌, ℕ, length, slice_get, slice_index, Some, IsTrue};
+ghost use Rattle.std.specs.Prelude.{◌≡◌, ◌<◌, ◌≤◌, ◌↔◌, ◌+◌, ◌*◌, [], ◌∷◌, ℕ, length, slice_get, Some, IsTrue};
 ghost use Rattle.std.specs.Int.{bit_at};
 ghost use Rattle.rbg_rules.specs.Games.{IsGame};
-ghost use Rattle.rbg_rules.specs.Positions.{IsModifierAt, IsPatternAt, positions_of};
+ghost use Rattle.rbg_rules.specs.Positions.{IsPatternAt, positions_of};
 ghost use Rattle.rbg_rules.specs.State.{IsStateOf};
 ghost use Rattle.rbg_leaps.specs.Limits.{row_words};
 ghost use Rattle.rbg_flat.specs.Paths.{ArePathsOf, IsKind};
 ghost use Rattle.rbg_flat.specs.declared.paths.Kind.TheVariants.{On, Comparison};
 ghost use Rattle.rbg_flat.specs.internal.Passing.{Passes, IsOneOf, IsToTry};
 ghost use Rattle.rbg_flat.specs.internal.Leading.{IsOnBoard, IsPositionIn};
+ghost use Rattle.rbg_flat.specs.internal.Setting.{IsSet, IsToTryIn};
 
 use crate::paths::{Kind, Paths};
+use crate::setting::Setting;
 use crate::words::{full_word, lowest, unit_word, without};
 use rbg_base::{Piece, Position, Vertex};
 use rbg_rules::{Action, Game};
@@ -19,36 +21,28 @@ use rbg_state::{SemiState, Trial};
 /// The bits of a column at whose vertices what is met at a position is to be looked at: all for a pattern, none for a
 /// modifier, for an on those on which one of its pieces stands, and for a comparison all or none, as it holds.
 #[inline(always)]
-pub(crate) fn to_try(
-    game: &Game,
-    paths: &Paths,
-    state: &SemiState,
-    position: Position,
-    column: usize,
-) -> u64
-    requires lawful { IsGame game.now }
-    requires paths { ArePathsOf game.now paths.now }
-    requires fits { IsStateOf game.now state.now.state }
-    requires position { IsPositionIn game.now position }
-    requires column { column < row_words game.now }
+pub(crate) fn to_try(setting: &Setting, position: Position, column: usize) -> u64
+    requires set { IsSet setting.now }
+    requires position { IsPositionIn setting.now.game.now position }
+    requires column { column < row_words setting.now.game.now }
     ensures { (b : ℕ) → b < 64 → (bit_at result b ≡ 1)
-        ↔ IsToTry game.now state.now.state (column * 64 + b) position }
+        ↔ IsToTryIn setting.now (column * 64 + b) position }
 {
+    let facts = setting.paths.facts(setting.game, position);
     // most of what is met are ons of one piece; a fourth test of the kind would become a jump table
-    if let Some(piece) = paths.lone_piece(game, position) {
-        return standing(state, piece, column);
+    if facts.alone {
+        return standing(setting.state, facts.piece, column);
     }
-    let kind = paths.kind(game, position);
-    if let Kind::Modifier = kind {
+    if let Kind::Modifier = facts.kind {
         return 0;
     }
-    if let Some((piece, other)) = paths.two_pieces(game, position) {
-        return either_standing(state, piece, other, column);
+    if let Kind::OnEither = facts.kind {
+        return either_standing(setting.state, facts.piece, facts.other, column);
     }
-    if let Kind::Pattern = kind {
+    if let Kind::Pattern = facts.kind {
         return full_word();
     }
-    any_to_try(game, paths, state, position, column)
+    any_to_try(setting.game, setting.paths, setting.state, position, column)
 }
 
 /// The same for an action of any kind. The kind is read again, since to hand it over would cost each word that is met.
@@ -68,7 +62,7 @@ fn any_to_try(
     ensures { (b : ℕ) → b < 64 → (bit_at result b ≡ 1)
         ↔ IsToTry game.now state.now.state (column * 64 + b) position }
 {
-    match paths.kind(game, position) {
+    match paths.facts(game, position).kind {
         Kind::Modifier => 0,
         Kind::Pattern | Kind::Plain => full_word(),
         Kind::Comparison => comparison_to_try(game, state, position),
@@ -173,30 +167,21 @@ fn stands_at(pieces: &[Piece], vertex: usize, piece: Piece) -> bool
 /// Of the bits of a word that are to be looked at, those at whose vertices the action at a position passes. It is no
 /// pattern.
 #[inline(always)]
-pub(crate) fn held(
-    game: &Game,
-    paths: &Paths,
-    state: &SemiState,
-    position: Position,
-    column: usize,
-    word: u64,
-) -> u64
-    requires lawful { IsGame game.now }
-    requires paths { ArePathsOf game.now paths.now }
-    requires fits { IsStateOf game.now state.now.state }
-    requires position { IsPositionIn game.now position }
-    requires plain { ¬ IsPatternAt game.now.rules position }
-    requires board { IsOnBoard game.now column word }
+pub(crate) fn held(setting: &Setting, position: Position, column: usize, word: u64) -> u64
+    requires set { IsSet setting.now }
+    requires position { IsPositionIn setting.now.game.now position }
+    requires plain { ¬ IsPatternAt setting.now.game.now.rules position }
+    requires board { IsOnBoard setting.now.game.now column word }
     ensures within { (b : ℕ) → bit_at result b ≡ 1 → bit_at word b ≡ 1 }
     ensures told { (b : ℕ) → b < 64 → bit_at word b ≡ 1
-        → IsToTry game.now state.now.state (column * 64 + b) position → (bit_at result b ≡ 1)
-        ↔ Passes game.now state.now.state (column * 64 + b) position }
+        → IsToTryIn setting.now (column * 64 + b) position → (bit_at result b ≡ 1)
+        ↔ Passes setting.now.game.now setting.now.state.now.state (column * 64 + b) position }
 {
-    match paths.kind(game, position) {
+    match setting.paths.facts(setting.game, position).kind {
         // what is to be looked at passes
         Kind::On | Kind::OnEither | Kind::Comparison => word,
         Kind::Modifier | Kind::Pattern | Kind::Plain => {
-            passing(game, state, position, column, word)
+            passing(setting.game, setting.state, position, column, word)
         }
     }
 }

@@ -1,12 +1,10 @@
 //! The leaps of a game, and what flat parts need to know of each position.
-ghost use Rattle.std.specs.Prelude.{◌≡◌, ℕ, ◌+◌, ◌≤◌, ◌<◌, ◌↔◌, All, Some, [], ◌∷◌, length, take, slice_get, true, IfOk, IfSome, IfNone, IsTrue};
+ghost use Rattle.std.specs.Prelude.{◌≡◌, ℕ, ◌+◌, ◌≤◌, ◌<◌, ◌↔◌, All, Some, length, slice_get, true, IfOk, IfSome, IfNone, IsTrue};
 ghost use Rattle.rbg_rules.specs.Games.{IsGame};
-ghost use Rattle.rbg_rules.specs.Expression.{on};
-ghost use Rattle.rbg_rules.specs.Positions.{HasAction, positions_of};
-ghost use Rattle.rbg_rules.specs.State.{AbstractGame};
+ghost use Rattle.rbg_rules.specs.Positions.{positions_of};
 ghost use Rattle.rbg_leaps.specs.Leaps.{IsShiftAt};
 ghost use Rattle.rbg_leaps.specs.Limits.{IsTooLarge};
-ghost use Rattle.rbg_flat.specs.Paths.{AreFacts, AreShown, ArePathsOf, IsKind, IsStill, IsSureAt};
+ghost use Rattle.rbg_flat.specs.Paths.{AreFacts, AreShown, ArePathsOf};
 ghost use Rattle.rbg_flat.specs.internal.Leading.{IsPositionIn};
 ghost use Rattle.rbg_flat.specs.internal.Shown.{ShowsFacts, HasNoPieces, HasPieces, shows_shift};
 
@@ -93,21 +91,12 @@ impl Paths {
 
     /// The facts of a position. They are lent, since a copy would be read as one word, from which each field is cut.
     #[inline(always)]
-    fn facts(&self, position: Position) -> &Facts
-        requires { position < length self.now.facts.items }
-        ensures { slice_get self.now.facts.items position ≡ Some result.now }
-    {
-        &self.facts[position as usize]
-    }
-
-    /// Whether no shift comes next behind a position, as far as that is told.
-    #[inline(always)]
-    pub(crate) fn is_still(&self, game: &Game, position: Position) -> bool
+    pub(crate) fn facts(&self, game: &Game, position: Position) -> &Facts
         requires paths { ArePathsOf game.now self.now }
         requires there { position ≤ length (positions_of game.now.rules) }
-        ensures { IsTrue result → IsStill game.now.rules position }
+        ensures { AreFacts game.now position result.now }
     {
-        self.facts(position).still
+        &self.facts[position as usize]
     }
 
     /// Whether to look for a dead end in the pattern at a position.
@@ -117,52 +106,6 @@ impl Paths {
             Some(branches) => *branches,
             None => false,
         }
-    }
-
-    /// The piece of the on at a position, where that is an on of one piece alone.
-    #[inline(always)]
-    pub(crate) fn lone_piece(&self, game: &Game, position: Position) -> Option<Piece>
-        requires paths { ArePathsOf game.now self.now }
-        requires there { position ≤ length (positions_of game.now.rules) }
-        ensures { IfSome result (λ x. HasAction game.now.rules position (on (x ∷ []))) }
-    {
-        let facts = self.facts(position);
-        if facts.alone { Some(facts.piece) } else { None }
-    }
-
-    /// The pieces of the on at a position, where that is an on of two.
-    #[inline(always)]
-    pub(crate) fn two_pieces(&self, game: &Game, position: Position) -> Option<(Piece, Piece)>
-        requires paths { ArePathsOf game.now self.now }
-        requires there { position ≤ length (positions_of game.now.rules) }
-        ensures { IfSome result (λ xs.
-            HasAction game.now.rules position (on (xs.0 ∷ xs.1 ∷ []))) }
-    {
-        let facts = self.facts(position);
-        match facts.kind {
-            Kind::OnEither => Some((facts.piece, facts.other)),
-            _ => None,
-        }
-    }
-
-    /// Whether a modifier stands at a position that is valid everywhere, as far as that is told.
-    #[inline(always)]
-    pub(crate) fn is_sure(&self, game: &Game, position: Position) -> bool
-        requires paths { ArePathsOf game.now self.now }
-        requires there { position ≤ length (positions_of game.now.rules) }
-        ensures { IsTrue result → IsSureAt game.now.rules position }
-    {
-        self.facts(position).sure
-    }
-
-    /// The kind of the action at a position.
-    #[inline(always)]
-    pub(crate) fn kind(&self, game: &Game, position: Position) -> Kind
-        requires paths { ArePathsOf game.now self.now }
-        requires there { position ≤ length (positions_of game.now.rules) }
-        ensures { IsKind game.now.rules position result }
-    {
-        self.facts(position).kind
     }
 }
 
@@ -315,14 +258,5 @@ pub fn is_shift(game: &Game, position: Position) -> bool
 fn shifts(action: &Action) -> bool
     ensures { result ≡ shows_shift action.now }
 {
-    match action {
-        Action::Shift { .. } => true,
-        Action::On { .. }
-        | Action::Off { .. }
-        | Action::Assign { .. }
-        | Action::Compare { .. }
-        | Action::Switch { .. }
-        | Action::Positive
-        | Action::Negative => false,
-    }
+    matches!(action, Action::Shift { .. })
 }

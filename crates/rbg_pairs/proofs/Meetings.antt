@@ -1,12 +1,13 @@
 -- What a mark says of the pairs that were met.
-use Rattle.std.proofs.Common.{◌≡◌, ◌≢◌, ℕ, ◌+◌, ◌*◌, ◌/◌, ◌%◌, ◌<◌, ◌≤◌, ◌⊎◌, List, [], ◌∷◌, ◌++◌, length, get_or, take, set, append_assoc, Bool, true, false, refl, sym, ap, ◌∙◌, subst, inl, inr, arith}
-use Rattle.std.proofs.lemmas.Bool.Decides.{Decides-eqb}
-use Rattle.std.specs.Prelude.{◌==◌, Decides, All, AllPairs, Contains}
-use Rattle.std.proofs.lemmas.Nat.{div-mul-add, mod-mul-add, rows as products}
+use Rattle.std.proofs.Common.{◌≡◌, ◌≢◌, ℕ, ◌+◌, ◌*◌, ◌/◌, ◌%◌, ◌<◌, ◌≤◌, List, [], ◌∷◌, ◌++◌, length, get_or, take, set, append_assoc, Bool, true, false, refl, sym, ap, ◌∙◌, subst, inl, inr, arith}
+use Rattle.std.specs.Prelude.{◌==◌, All, AllPairs, Contains}
+use Rattle.std.proofs.lemmas.Nat.{div-mul-add, rows as products}
 use Rattle.std.proofs.lemmas.List.{get_or-set_same, get_or-set_other, length-set, length-take, get_or-take, append-nil, take_more, take_more_set}
 use Rattle.std.proofs.Math.Nat.{mul-le-mul_right}
 use Rattle.std.proofs.lemmas.List.Elements.{All-nil, All-push, Contains-append_left, Contains-push, Contains-push_cases, Contains-get_or, All-contains, All-weaker}
 use Rattle.std.proofs.lemmas.List.Quantifiers.{all_pairs_push}
+use native.Mathlib.Decide.{ℕ_discrete}
+use Rattle.rbg_flat.proofs.Numberings.{one_pair}
 use Rattle.rbg_pairs.specs.Meeting.{HasMark, Adds, MeetsAll, AreMarked, is_marked, mark_at, SetsMark}
 use Rattle.std.specs.Int.{bit_at}
 use Rattle.std.specs.Int.{w64}
@@ -18,13 +19,6 @@ use Rattle.std.proofs.lemmas.List.{length-replicate}
 
 abbrev pub pair : ℕ → ℕ → ℕ × ℕ
 pair v p = (v, p)
-
--- A mark is one pair's.
-pub one_pair : (n v w p q : ℕ) → v < n → w < n → p * n + v ≡ q * n + w → pair v p ≡ pair w q
-one_pair n v w p q first second same =
-    let positions : p ≡ q = sym (div-mul-add p n v first) ∙ ap (λ (x : ℕ). x / n) same ∙ div-mul-add q n w second in
-    let vertices : v ≡ w = sym (mod-mul-add p n v first) ∙ ap (λ (x : ℕ). x % n) same ∙ mod-mul-add q n w second in
-    λ i. (vertices i, positions i)
 
 -- The position of a mark has a row.
 pub row_of : (n size rows v p : ℕ) → size ≡ rows * n → HasMark n size (v, p) → p < rows
@@ -45,16 +39,6 @@ one_mark rows v w p q first second same =
     let parts : v / 64 ≡ w / 64 = ap (λ (x : ℕ × ℕ). x.1) both in
     let vertices : v ≡ w = omega (arith, parts, bits, words) in
     λ i. (vertices i, positions i)
-
-pub same_or_not : (a b : ℕ) → (a ≡ b) ⊎ (a ≢ b)
-same_or_not a b = by_test (a == b) (Decides-eqb a b)
-  where
-    false_not_true : false ≡ true → ⊥
-    false_not_true e = cc
-
-    by_test : (r : Bool) → Decides r (a ≡ b) → (a ≡ b) ⊎ (a ≢ b)
-    by_test true decides = inl (decides.0 refl)
-    by_test false decides = inr (λ e. false_not_true (decides.1 e))
 
 -- A pair without its mark was not met, and one with it was.
 pub not_met : (n size c : ℕ) (marks : List ℕ) (pairs : List (ℕ × ℕ)) (v p : ℕ) → AreMarked n size c marks pairs → HasMark n size (v, p) → is_marked marks (mark_at c (v, p)) ≡ false → ¬ Contains pairs (v, p)
@@ -78,15 +62,15 @@ added n size c marks after pairs v p are has unmarked sets = record {
     other w q differ = sets.others (mark_at c (w, q)) differ
 
     to : (w q : ℕ) → HasMark n size (w, q) → is_marked after (mark_at c (w, q)) ≡ true → Contains (pairs ++ (v, p) ∷ []) (w, q)
-    to w q below marked = elim (same_or_not (mark_at c (w, q)) (mark_at c (v, p))) [
-      | inl same ↦ subst (Contains (pairs ++ (v, p) ∷ [])) (sym (one_mark c w v q p (row_of n size c w q are.size below) (row_of n size c v p are.size has) same)) (Contains-push pairs (v, p))
-      | inr differ ↦ Contains-append_left pairs ((v, p) ∷ []) (w, q) ((are.marked w q below).0 (sym (other w q differ) ∙ marked))
+    to w q below marked = elim (ℕ_discrete (mark_at c (w, q)) (mark_at c (v, p))) [
+      | yes same ↦ subst (Contains (pairs ++ (v, p) ∷ [])) (sym (one_mark c w v q p (row_of n size c w q are.size below) (row_of n size c v p are.size has) same)) (Contains-push pairs (v, p))
+      | no differ ↦ Contains-append_left pairs ((v, p) ∷ []) (w, q) ((are.marked w q below).0 (sym (other w q differ) ∙ marked))
     ]
 
     from : (w q : ℕ) → HasMark n size (w, q) → Contains (pairs ++ (v, p) ∷ []) (w, q) → is_marked after (mark_at c (w, q)) ≡ true
-    from w q below met = elim (same_or_not (mark_at c (w, q)) (mark_at c (v, p))) [
-      | inl same ↦ ap (λ (k : ℕ). is_marked after k) same ∙ sets.set
-      | inr differ ↦ elim (Contains-push_cases pairs (v, p) (w, q) met) [
+    from w q below met = elim (ℕ_discrete (mark_at c (w, q)) (mark_at c (v, p))) [
+      | yes same ↦ ap (λ (k : ℕ). is_marked after k) same ∙ sets.set
+      | no differ ↦ elim (Contains-push_cases pairs (v, p) (w, q) met) [
         | inl before ↦ other w q differ ∙ (are.marked w q below).1 before
         | inr same ↦ absurd (differ (ap (mark_at c) (sym same)))
       ]
@@ -127,7 +111,7 @@ none_met_in_zeros n size c many marks zeros sized small room =
 -- A mark that is set in its word, and no other there.
 pub sets_mark : (words : List ℕ) (k : ℕ) → k < length words * 64 → SetsMark words (set words (k / 64) (bit_or (get_or words (k / 64) 0) (1 * 2 ^ (k % 64) % 2 ^ 64))) k
 unfolding is_marked
-sets_mark words k below = record { size = length-set words (k / 64) (bit_or (get_or words (k / 64) 0) (1 * 2 ^ (k % 64) % 2 ^ 64)); set = same; others = λ j differ. other j differ (same_or_not (j / 64) (k / 64)) }
+sets_mark words k below = record { size = length-set words (k / 64) (bit_or (get_or words (k / 64) 0) (1 * 2 ^ (k % 64) % 2 ^ 64)); set = same; others = λ j differ. elim (ℕ_discrete (j / 64) (k / 64)) [ yes word ↦ same_word j differ word | no words_differ ↦ other_word j words_differ ] }
   where
     there : k / 64 < length words
     there = omega (arith, below)
@@ -141,26 +125,27 @@ sets_mark words k below = record { size = length-set words (k / 64) (bit_or (get
     same : is_marked (set words (k / 64) (bit_or (get_or words (k / 64) 0) (1 * 2 ^ (k % 64) % 2 ^ 64))) k ≡ true
     same = ap (λ (n : ℕ). bit_at n (k % 64) == 1) here ∙ ap (λ (n : ℕ). n == 1) (bit_at_set_same w64 (get_or words (k / 64) 0) (k % 64) small)
 
-    other : (j : ℕ) → j ≢ k → (j / 64 ≡ k / 64) ⊎ (j / 64 ≢ k / 64) → is_marked (set words (k / 64) (bit_or (get_or words (k / 64) 0) (1 * 2 ^ (k % 64) % 2 ^ 64))) j ≡ is_marked words j
-    other j differ (inl word) =
+    same_word : (j : ℕ) → j ≢ k → j / 64 ≡ k / 64 → is_marked (set words (k / 64) (bit_or (get_or words (k / 64) 0) (1 * 2 ^ (k % 64) % 2 ^ 64))) j ≡ is_marked words j
+    same_word j differ word =
         let bits : j % 64 ≢ k % 64 = λ e. differ (omega (arith, word, e)) in
         ap (λ (i : ℕ). bit_at (get_or (set words (k / 64) (bit_or (get_or words (k / 64) 0) (1 * 2 ^ (k % 64) % 2 ^ 64))) i 0) (j % 64) == 1) word
         ∙ ap (λ (n : ℕ). bit_at n (j % 64) == 1) here
         ∙ ap (λ (n : ℕ). n == 1) (bit_at_set_other w64 (get_or words (k / 64) 0) (k % 64) small (j % 64) bits)
         ∙ ap (λ (i : ℕ). bit_at (get_or words i 0) (j % 64) == 1) (sym word)
-    other j differ (inr words_differ) = ap (λ (n : ℕ). bit_at n (j % 64) == 1) (get_or-set_other words (k / 64) (j / 64) (bit_or (get_or words (k / 64) 0) (1 * 2 ^ (k % 64) % 2 ^ 64)) 0 words_differ)
+
+    other_word : (j : ℕ) → j / 64 ≢ k / 64 → is_marked (set words (k / 64) (bit_or (get_or words (k / 64) 0) (1 * 2 ^ (k % 64) % 2 ^ 64))) j ≡ is_marked words j
+    other_word j words_differ = ap (λ (n : ℕ). bit_at n (j % 64) == 1) (get_or-set_other words (k / 64) (j / 64) (bit_or (get_or words (k / 64) 0) (1 * 2 ^ (k % 64) % 2 ^ 64)) 0 words_differ)
 
 -- A word that is set to 0 has no mark, and the other words keep theirs.
-pub zeroed : (words : List ℕ) (i k : ℕ) → i < length words → (k / 64 ≡ i) ⊎ (k / 64 ≢ i) → is_marked (set words i 0) k ≡ true → is_marked words k ≡ true
+pub still_marked : (words : List ℕ) (i k : ℕ) → i < length words → is_marked (set words i 0) k ≡ true → is_marked words k ≡ true
 unfolding is_marked
-zeroed words i k below (inl word) is = absurd (false_not_true (sym (ap (λ (j : ℕ). bit_at (get_or (set words i 0) j 0) (k % 64) == 1) word ∙ ap (λ (n : ℕ). bit_at n (k % 64) == 1) (get_or-set_same words i 0 0 below) ∙ ap (λ (n : ℕ). n == 1) (bit_at-zero (k % 64))) ∙ is))
+still_marked words i k below is = elim (ℕ_discrete (k / 64) i) [
+  | yes word ↦ absurd (false_not_true (sym (ap (λ (j : ℕ). bit_at (get_or (set words i 0) j 0) (k % 64) == 1) word ∙ ap (λ (n : ℕ). bit_at n (k % 64) == 1) (get_or-set_same words i 0 0 below) ∙ ap (λ (n : ℕ). n == 1) (bit_at-zero (k % 64))) ∙ is))
+  | no differ ↦ ap (λ (n : ℕ). bit_at n (k % 64) == 1) (sym (get_or-set_other words i (k / 64) 0 0 differ)) ∙ is
+]
   where
     false_not_true : false ≡ true → ⊥
     false_not_true e = cc
-zeroed words i k below (inr differ) is = ap (λ (n : ℕ). bit_at n (k % 64) == 1) (sym (get_or-set_other words i (k / 64) 0 0 differ)) ∙ is
-
-pub still_marked : (words : List ℕ) (i k : ℕ) → i < length words → is_marked (set words i 0) k ≡ true → is_marked words k ≡ true
-still_marked words i k below is = zeroed words i k below (same_or_not (k / 64) i) is
 
 pub still_unmarked : (words : List ℕ) (i k : ℕ) → i < length words → is_marked words k ≡ false → is_marked (set words i 0) k ≡ false
 still_unmarked words i k below is = by_case (is_marked (set words i 0) k) refl

@@ -27,27 +27,13 @@ pub struct Parts {
 /// A game that was checked: its rules speak of its own players, pieces, variables and directions, and their actions
 /// are numbered.
 pub struct Game {
-    players: Vec<String>,
-    pieces: Vec<String>,
-    variables: Vec<String>,
-    bounds: Vec<u32>,
-    directions: Vec<String>,
-    board: Board,
-    rules: Rules,
+    parts: Parts,
 }
 
 /// Written out, so that letting a game go is one call in the proofs of those who hold one, not a step for each part.
 impl Drop for Game {
     fn drop(self) {
-        let Game {
-            players: _,
-            pieces: _,
-            variables: _,
-            bounds: _,
-            directions: _,
-            board: _,
-            rules: _,
-        } = self;
+        let Game { parts: _ } = self;
     }
 }
 
@@ -60,24 +46,13 @@ impl Model for Game {
 
     ghost coded = { coded_game };
 
-    ghost use Rattle.rbg_rules.specs.Texts.{texts};
-    ghost use Rattle.rbg_rules.specs.Translation.{rules_of};
+    ghost use Rattle.rbg_rules.specs.Parts.{game_of_parts};
 
-    ghost view = { λ g. record {
-      players = texts g.players.items;
-      pieces = texts g.pieces.items;
-      variables = texts g.variables.items;
-      bounds = g.bounds.items;
-      directions = texts g.directions.items;
-      board = g.board;
-      rules = rules_of g.rules;
-    } };
+    ghost view = { λ g. game_of_parts g.parts };
 
     ghost use Rattle.rbg_rules.specs.Kept.{IsKept};
 
-    ghost invariant = { λ g.
-        IsKept (texts g.players.items) (texts g.pieces.items) (texts g.variables.items) g.bounds.items
-        (texts g.directions.items) g.board g.rules };
+    ghost invariant = { λ g. IsKept g.parts };
 }
 
 impl Game {
@@ -90,15 +65,7 @@ impl Game {
             ≡ length (positions_of (rules_of parts.rules)) }
         ensures { result ≡ game_of_parts parts }
     {
-        Game {
-            players: parts.players,
-            pieces: parts.pieces,
-            variables: parts.variables,
-            bounds: parts.bounds,
-            directions: parts.directions,
-            board: parts.board,
-            rules: parts.rules,
-        }
+        Game { parts }
     }
 
     /// How many players there are. They are numbered from 1 in order of text; the keeper is 0.
@@ -106,7 +73,7 @@ impl Game {
         ensures count { result ≡ length self.now.players }
         ensures lawful { IsGame self.now }
     {
-        self.players.len()
+        self.parts.players.len()
     }
 
     /// The name of a player.
@@ -115,7 +82,7 @@ impl Game {
         requires there { player ≤ length self.now.players }
         ensures { slice_get self.now.players (player - 1) ≡ Some result.now }
     {
-        self.players[player as usize - 1].as_str()
+        self.parts.players[player as usize - 1].as_str()
     }
 
     /// How many pieces there are. They are numbered from 0 in order of text.
@@ -123,7 +90,7 @@ impl Game {
         ensures count { result ≡ length self.now.pieces }
         ensures lawful { IsGame self.now }
     {
-        self.pieces.len()
+        self.parts.pieces.len()
     }
 
     /// The name of a piece.
@@ -131,7 +98,7 @@ impl Game {
         requires { piece < length self.now.pieces }
         ensures { slice_get self.now.pieces piece ≡ Some result.now }
     {
-        self.pieces[piece as usize].as_str()
+        self.parts.pieces[piece as usize].as_str()
     }
 
     /// How many variables there are, numbered from 0: the players' scores in order, and then the others.
@@ -139,7 +106,7 @@ impl Game {
         ensures count { result ≡ length self.now.variables }
         ensures lawful { IsGame self.now }
     {
-        self.variables.len()
+        self.parts.variables.len()
     }
 
     /// The name of a variable.
@@ -147,7 +114,7 @@ impl Game {
         requires { variable < length self.now.variables }
         ensures { slice_get self.now.variables variable ≡ Some result.now }
     {
-        self.variables[variable as usize].as_str()
+        self.parts.variables[variable as usize].as_str()
     }
 
     /// The greatest value of a variable.
@@ -155,7 +122,7 @@ impl Game {
         requires { variable < length self.now.variables }
         ensures { slice_get self.now.bounds variable ≡ Some result }
     {
-        self.bounds[variable as usize]
+        self.parts.bounds[variable as usize]
     }
 
     /// How many directions there are, numbered from 0.
@@ -163,7 +130,7 @@ impl Game {
         ensures count { result ≡ length self.now.directions }
         ensures lawful { IsGame self.now }
     {
-        self.directions.len()
+        self.parts.directions.len()
     }
 
     /// The name of a direction.
@@ -171,14 +138,14 @@ impl Game {
         requires { direction < length self.now.directions }
         ensures { slice_get self.now.directions direction ≡ Some result.now }
     {
-        self.directions[direction as usize].as_str()
+        self.parts.directions[direction as usize].as_str()
     }
 
     pub fn board(&self) -> &Board
         ensures board { result.now ≡ self.now.board }
         ensures lawful { IsGame self.now }
     {
-        &self.board
+        &self.parts.board
     }
 
     /// How many positions there are. They are numbered from 1.
@@ -186,7 +153,7 @@ impl Game {
         ensures count { result ≡ length (positions_of self.now.rules) }
         ensures lawful { IsGame self.now }
     {
-        self.rules.actions.len()
+        self.parts.rules.actions.len()
     }
 
     /// The action at a position.
@@ -195,7 +162,7 @@ impl Game {
         requires there { position ≤ length (positions_of self.now.rules) }
         ensures { Stands self.now.rules position result.now }
     {
-        &self.rules.actions[position as usize - 1]
+        &self.parts.rules.actions[position as usize - 1]
     }
 
     /// Whether a pattern stands at a position.
@@ -204,7 +171,7 @@ impl Game {
         requires there { position ≤ length (positions_of self.now.rules) }
         ensures { IsTrue result ↔ IsPatternAt self.now.rules position }
     {
-        self.rules.actions[position as usize - 1].is_pattern()
+        self.parts.rules.actions[position as usize - 1].is_pattern()
     }
 
     /// The rules: their tree and the actions by position.
@@ -212,6 +179,6 @@ impl Game {
         ensures rules { rules_of result.now ≡ self.now.rules }
         ensures lawful { IsGame self.now }
     {
-        &self.rules
+        &self.parts.rules
     }
 }

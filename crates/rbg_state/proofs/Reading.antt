@@ -1,13 +1,16 @@
 -- What the parts of arithmetic read.
-use Rattle.std.proofs.Common.{◌≡◌, ℕ, ◌<◌, List, [], ◌∷◌, length, get_or, map, sym, subst, ap, arith}
+use Rattle.std.proofs.Common.{◌≡◌, ℕ, ◌<◌, List, [], ◌∷◌, length, get_or, map, sym, subst, ap, ◌∙◌, arith}
 use Rattle.std.proofs.lemmas.List.Elements.{All-cons}
 use Rattle.std.specs.List.{All}
 use Rattle.std.specs.Prelude.{Vec, Box}
 use Rattle.std.specs.Global.{Global}
-use Rattle.rbg_rules.specs.Expression.{AbstractArithmetic, number, variable, piece_count, negated, sum, difference, product, quotient}
-use Rattle.rbg_rules.specs.State.{AbstractGame}
-use Rattle.rbg_rules.specs.Games.{HasNamesOf}
+use Rattle.rbg_base.specs.declared.relation.Relation.{Relation}
+use Rattle.rbg_rules.specs.Expression.{AbstractAction, AbstractArithmetic, assignment, comparison, number, variable, piece_count, negated, sum, difference, product, quotient}
+use Rattle.rbg_rules.specs.State.{AbstractGame, AbstractState, IsStateOf}
+use Rattle.rbg_rules.specs.Games.{HasNamesOf, IsActionOf, IsGame}
 use Rattle.rbg_rules.specs.Translation.{arithmetic_of, operation_of, operated, changed}
+use Rattle.rbg_rules.specs.Table.{Shows}
+use Rattle.rbg_rules.specs.declared.rule.Action.{Action}
 use Rattle.rbg_rules.specs.declared.arithmetic.Arithmetic.{Arithmetic}
 use Rattle.rbg_rules.specs.declared.arithmetic.Arithmetic.TheVariants.{Negated, Chain}
 use Rattle.rbg_rules.specs.declared.arithmetic.Operation.{Operation}
@@ -26,6 +29,14 @@ reads_variables game (sum e f) (left, right) = (reads_variables game e left, rea
 reads_variables game (difference e f) (left, right) = (reads_variables game e left, reads_variables game f right)
 reads_variables game (product e f) (left, right) = (reads_variables game e left, reads_variables game f right)
 reads_variables game (quotient e f) (left, right) = (reads_variables game e left, reads_variables game f right)
+
+-- The arithmetic of an action of the game reads variables that a semi-state has.
+module _ (game : AbstractGame) (lawful : IsGame game) (s : AbstractState) (fits : IsStateOf game s) (i : Action) (named : (a : AbstractAction) → Shows a i → IsActionOf game a) where
+  pub assigned_reads : (v : ℕ) (e : AbstractArithmetic) → Shows (assignment v e) i → (v < length s.values) × ReadsBelow (length s.values) e
+  assigned_reads v e shown = let is = named (assignment v e) shown in rw (fits.variables ∙ lawful.bounds) (is.0, reads_variables game e is.1)
+
+  pub compared_reads : (e : AbstractArithmetic) (r : Relation) (f : AbstractArithmetic) → Shows (comparison e r f) i → ReadsBelow (length s.values) e × ReadsBelow (length s.values) f
+  compared_reads e r f shown = let is = named (comparison e r f) shown in rw (fits.variables ∙ lawful.bounds) (reads_variables game e is.0, reads_variables game f is.1)
 
 -- an operation makes this of what comes before it
 pub operation_of_is : (o : Operation) (e : AbstractArithmetic) → operation_of o e ≡ operated o.operator e (arithmetic_of o.operand)

@@ -106,8 +106,8 @@ impl Occupancy {
         ensures replaced { slice_get self.old vertex ≡ Some result }
     {
         let replaced = replace(&mut self.pieces[vertex as usize], piece);
-        self.rows.take(replaced, vertex);
-        self.rows.add(piece, vertex);
+        self.rows.change(replaced, vertex, false);
+        self.rows.change(piece, vertex, true);
         replaced
     }
 }

@@ -1,5 +1,5 @@
 //! The vertices on which each piece of the game stands, as rows of bits.
-ghost use Rattle.std.specs.Prelude.{◌≡◌, ℕ, List, ◌≤◌, ◌<◌, ◌^◌, ◌*◌, ◌/◌, ◌==◌, ◌++◌, [], ◌∷◌, count_by, count_ones, length, slice_set, take, IfOk, IfSome, IfNone, OnErr, IsTrue};
+ghost use Rattle.std.specs.Prelude.{◌≡◌, ℕ, List, ◌≤◌, ◌<◌, ◌^◌, ◌*◌, ◌/◌, ◌==◌, ◌++◌, [], ◌∷◌, count_by, count_ones, length, slice_set, take, IfOk, IfSome, IfNone, OnErr, IsTrue, if◌then◌else◌};
 ghost use Rattle.rbg_state.specs.Rows.{IsWordOf, word_of, HasBit, AreRows, ChangesBit, ChangesWord};
 
 use crate::occupancy::refill;
@@ -28,7 +28,7 @@ impl Rows {
             words: vec![in alloc; 0; kinds.saturating_mul(columns)]?,
         };
         for index in 0..pieces.len() {
-            rows.add(pieces[index], index as Vertex);
+            rows.change(pieces[index], index as Vertex, true);
         }
         Ok(rows)
     }
@@ -142,26 +142,20 @@ impl Rows {
         }
     }
 
-    /// The piece stands on the vertex from now on.
+    /// From now on the piece stands on the vertex, or doesn't.
     #[inline(always)]
-    pub(crate) fn add(&mut self, piece: Piece, vertex: Vertex)
+    pub(crate) fn change(&mut self, piece: Piece, vertex: Vertex, stands: bool)
         requires { vertex / 64 < self.old.columns }
         ensures columns { self.new.columns ≡ self.old.columns }
-        ensures changed { ChangesBit self.old.columns self.old.words.items self.new.words.items piece vertex 1 }
+        ensures changed { ChangesBit self.old.columns self.old.words.items self.new.words.items
+            piece vertex (if stands then 1 else 0) }
     {
-        if let Some(word) = self.word(piece, vertex) {
+        let Some(word) = self.word(piece, vertex) else {
+            return;
+        };
+        if stands {
             set_bit(&mut self.words, word, vertex % 64);
-        }
-    }
-
-    /// The piece no longer stands on the vertex.
-    #[inline(always)]
-    pub(crate) fn take(&mut self, piece: Piece, vertex: Vertex)
-        requires { vertex / 64 < self.old.columns }
-        ensures columns { self.new.columns ≡ self.old.columns }
-        ensures changed { ChangesBit self.old.columns self.old.words.items self.new.words.items piece vertex 0 }
-    {
-        if let Some(word) = self.word(piece, vertex) {
+        } else {
             clear_bit(&mut self.words, word, vertex % 64);
         }
     }

@@ -165,8 +165,8 @@ impl SemiState {
         relation: Relation,
         right: &Arithmetic,
     ) -> Applied
-        requires left { ReadsBelow (length self.now.state.values) (arithmetic_of left.now) }
-        requires right { ReadsBelow (length self.now.state.values) (arithmetic_of right.now) }
+        requires { ReadsBelow (length self.now.state.values) (arithmetic_of left.now)
+            × ReadsBelow (length self.now.state.values) (arithmetic_of right.now) }
         ensures { (game : AbstractGame)
             → Answers game (comparison (arithmetic_of left.now) relation (arithmetic_of right.now))
             self.now self.now result }
@@ -180,8 +180,8 @@ impl SemiState {
     /// As `compare`, in a call of its own, since a comparison is seldom applied.
     #[inline(never)]
     fn compare_apart(&self, left: &Arithmetic, relation: Relation, right: &Arithmetic) -> Applied
-        requires left { ReadsBelow (length self.now.state.values) (arithmetic_of left.now) }
-        requires right { ReadsBelow (length self.now.state.values) (arithmetic_of right.now) }
+        requires { ReadsBelow (length self.now.state.values) (arithmetic_of left.now)
+            × ReadsBelow (length self.now.state.values) (arithmetic_of right.now) }
         ensures { (game : AbstractGame)
             → Answers game (comparison (arithmetic_of left.now) relation (arithmetic_of right.now))
             self.now self.now result }

@@ -100,8 +100,8 @@ impl SemiState {
         right: &Arithmetic,
         vertex: Vertex,
     ) -> Trial
-        requires left { ReadsBelow (length self.now.state.values) (arithmetic_of left.now) }
-        requires right { ReadsBelow (length self.now.state.values) (arithmetic_of right.now) }
+        requires { ReadsBelow (length self.now.state.values) (arithmetic_of left.now)
+            × ReadsBelow (length self.now.state.values) (arithmetic_of right.now) }
         ensures { (game : AbstractGame)
             → Tells game (comparison (arithmetic_of left.now) relation (arithmetic_of right.now))
             (record self.now.state { vertex = vertex }) result }

@@ -1,5 +1,5 @@
 -- The proofs of `tree::push_first` and the two functions over parts.
-use Rattle.std.proofs.Common.{rules, ◌≡◌, Bool, true, false, List, subst, arith}
+use Rattle.std.proofs.Common.{rules, ◌≡◌, ℕ, Bool, true, false, List, subst, arith}
 use Rattle.std.proofs.lemmas.Result.{IfOk-weaker}
 use Rattle.rbg_rules.specs.declared.rule.Rule.{Rule}
 use Rattle.rbg_rules.specs.declared.rule.Rule.TheVariants.{Then, Or}
@@ -7,6 +7,10 @@ use Rattle.rbg_auto.specs.internal.Trees.{GivesFirsts, GivesFirstsOfSequence, Gi
 use Rattle.rbg_auto.proofs.TreeLemmas.{firsts_act, firsts_pattern, firsts_then, firsts_or, firsts_star, sequence_goes_on, sequence_stops, sum_with_empty, sum_without_empty}
 use Rattle.rbg_auto.proofs.tree.+first.Goals.{push_first_of_sum-then-branch, push_first_of_sum-else-branch}
 use Rattle.rbg_auto.proofs.tree.+first.Goals as goal
+
+-- Whether a part may be empty is known.
+told : (part : Rule) {old new : List ℕ} {a b : Bool} → a ≡ b → GivesFirsts part old new a → GivesFirsts part old new b
+told part {old} {new} = subst (λ (b : Bool). GivesFirsts part old new b)
 
 pub push_first-returns-in_ok-push-in-Act : goal.push_first-returns-in_ok-push-in-Act
 push_first-returns-in_ok-push-in-Act t c = rw c.in-Act.is (firsts_act c.in-Act.position c.args.first.now.items c.push.new.self.items c.in_ok-push-in-Act.ensures.items)
@@ -39,17 +43,13 @@ push_first-returns-in_ok-push_first-in-Star t c =
 pub push_first_of_sequence-returns-then-not-branch :
     goal.push_first_of_sequence-returns-then-not-branch
 push_first_of_sequence-returns-then-not-branch t c =
-    let new = c.push_first.new.first.items in
     let none : c.in_ok-push_first.field-0 ≡ false = search rules in
-    sequence_stops c.args.parts.now c.loop-part.part-index c.part-item.result c.args.first.now.items c.loop-part.first.items new (omega arith) c.part-item.is c.loop-part.invariant
-    (subst (λ (b : Bool). GivesFirsts c.part-item.result c.loop-part.first.items new b) none c.in_ok-push_first.ensures)
+    sequence_stops c.args.parts.now c.loop-part.part-index c.part-item.result c.args.first.now.items c.loop-part.first.items c.push_first.new.first.items (omega arith) c.part-item.is c.loop-part.invariant (told c.part-item.result none c.in_ok-push_first.ensures)
 
 pub push_first_of_sequence-loop-part-preserved : goal.push_first_of_sequence-loop-part-preserved
 push_first_of_sequence-loop-part-preserved t c =
-    let new = c.push_first.new.first.items in
     let some : c.in_ok-push_first.field-0 ≡ true = search rules in
-    sequence_goes_on c.args.parts.now c.loop-part.part-index c.part-item.result c.args.first.now.items c.loop-part.first.items new (omega arith) c.part-item.is c.loop-part.invariant
-    (subst (λ (b : Bool). GivesFirsts c.part-item.result c.loop-part.first.items new b) some c.in_ok-push_first.ensures)
+    sequence_goes_on c.args.parts.now c.loop-part.part-index c.part-item.result c.args.first.now.items c.loop-part.first.items c.push_first.new.first.items (omega arith) c.part-item.is c.loop-part.invariant (told c.part-item.result some c.in_ok-push_first.ensures)
 
 pub push_first_of_sum-loop-part-preserved : goal.push_first_of_sum-loop-part-preserved
 push_first_of_sum-loop-part-preserved t c =
@@ -59,10 +59,10 @@ push_first_of_sum-loop-part-preserved t c =
           let some : c.in_ok-push_first.field-0 ≡ true = search rules in
           rw w.may_be_empty-is
           (sum_with_empty c.args.parts.now c.loop-part.part-index c.part-item.result c.args.first.now.items c.loop-part.first.items new c.loop-part.may_be_empty (omega arith) c.part-item.is c.loop-part.invariant
-          (subst (λ (b : Bool). GivesFirsts c.part-item.result c.loop-part.first.items new b) some c.in_ok-push_first.ensures))
+          (told c.part-item.result some c.in_ok-push_first.ensures))
       | push_first_of_sum-else-branch w ↦
           let none : c.in_ok-push_first.field-0 ≡ false = search rules in
           rw w.may_be_empty-is
           (sum_without_empty c.args.parts.now c.loop-part.part-index c.part-item.result c.args.first.now.items c.loop-part.first.items new c.loop-part.may_be_empty (omega arith) c.part-item.is c.loop-part.invariant
-          (subst (λ (b : Bool). GivesFirsts c.part-item.result c.loop-part.first.items new b) none c.in_ok-push_first.ensures))
+          (told c.part-item.result none c.in_ok-push_first.ensures))
     ]

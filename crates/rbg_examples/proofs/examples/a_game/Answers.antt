@@ -77,15 +77,6 @@ edge (suc (suc v)) d u e = absurd (cc e)
 name_before : (name : List ℕ) (names : List (List ℕ)) → IsTrue (is_name name) → list_any (λ other. bytes_eq other name) names ≡ false → AreLawfulNames names → AreLawfulNames (name ∷ names)
 name_before name names is others = lawful_name name names is (differs name names others)
 
-variable_names : AreLawfulNames looking_right.variables
-variable_names = name_before _ _ refl refl (name_before _ _ refl refl (name_before _ _ refl refl no_names))
-
-piece_names : AreLawfulNames looking_right.pieces
-piece_names = name_before _ _ refl refl (name_before _ _ refl refl no_names)
-
-direction_names : AreLawfulNames looking_right.directions
-direction_names = name_before _ _ refl refl (name_before _ _ refl refl (name_before _ _ refl refl (name_before _ _ refl refl no_names)))
-
 pub returns : goal.returns
 returns c = record {
   numbered = record { in_order = refl };
@@ -93,9 +84,9 @@ returns c = record {
   actions = λ p a h. (speaks p a h).0;
   switches = no_switch_inside;
   scores = refl;
-  variable_names = variable_names;
-  piece_names = piece_names;
-  direction_names = direction_names;
+  variable_names = name_before _ _ refl refl (name_before _ _ refl refl (name_before _ _ refl refl no_names));
+  piece_names = name_before _ _ refl refl (name_before _ _ refl refl no_names);
+  direction_names = name_before _ _ refl refl (name_before _ _ refl refl (name_before _ _ refl refl (name_before _ _ refl refl no_names)));
   bounds = refl;
   board = record { from_vertex = λ v d u e. (edge v d u e).0; to_vertex = λ v d u e. (edge v d u e).1 };
   some_vertex = omega arith;

@@ -4,4 +4,4 @@ use Rattle.rbg_flat.specs.internal.Ending.{AreDead}
 use Rattle.rbg_flat.proofs.ending.are_dead.Given as goal
 
 abbrev pub invariant-loop-target : goal.invariant-loop-target
-invariant-loop-target l = AreDead l.game l.state.state (take l.target-index l.targets) l.before
+invariant-loop-target l = AreDead l.setting.game.now l.setting.state.now.state (take l.target-index l.targets) l.before

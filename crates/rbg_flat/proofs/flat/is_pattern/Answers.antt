@@ -6,4 +6,4 @@ false_not_true : false ≡ true → ⊥
 false_not_true e = cc
 
 pub returns-in_default : goal.returns-in_default
-returns-in_default c = (λ e. absurd (false_not_true e), λ pattern. absurd (c.in_default.not-Pattern (pattern_kind c.args.game.now.rules c.requires.lawful.numbered c.args.position c.kind.result c.kind.ensures pattern)))
+returns-in_default c = (λ e. absurd (false_not_true e), λ pattern. absurd (c.in_default.not-Pattern (pattern_kind c.args.game.now.rules c.requires.lawful.numbered c.args.position c.facts.result.now.kind c.facts.ensures.shown.kind pattern)))

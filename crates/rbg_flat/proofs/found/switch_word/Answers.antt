@@ -52,26 +52,16 @@ loop-index-preserved c =
 whole : (rules : Expression) (words : List Word) (k : ℕ) (known : Option (ℕ × ℕ)) → length words ≤ k → IsLeastSoFar rules (pairs_in words) (take k words) known → IsLeastSoFar rules (pairs_in words) words known
 whole rules words k known over is = subst (λ (ws : List Word). IsLeastSoFar rules (pairs_in words) ws known) (take_all k words over) is
 
-pub returns-clause-switches : goal.returns-clause-switches
-returns-clause-switches c =
+pub returns : goal.returns
+returns c =
     let rules = c.args.game.now.rules in
     let words : List Word = c.args.words.now in
     let known = c.loop-index.least in
-    told_some (λ q. IsSwitchAt rules q.1) words known
-    (at_end rules words c.requires.filled (told words known) (whole rules words c.loop-index.index (told words known) c.loop-index-test.false c.loop-index.invariant.known)).1
-
-pub returns-clause-least : goal.returns-clause-least
-returns-clause-least c =
-    let rules = c.args.game.now.rules in
-    let words : List Word = c.args.words.now in
-    let known = c.loop-index.least in
-    told_some (λ q. (x : ℕ × ℕ) → Contains (pairs_in words) x → IsSwitchAt rules x.1 → ¬ IsBefore x q) words known
-    (at_end rules words c.requires.filled (told words known) (whole rules words c.loop-index.index (told words known) c.loop-index-test.false c.loop-index.invariant.known)).2
-
-pub returns-clause-none : goal.returns-clause-none
-returns-clause-none c =
-    let rules = c.args.game.now.rules in
-    let words : List Word = c.args.words.now in
-    let known = c.loop-index.least in
-    told_none (All (λ (q : ℕ × ℕ). ¬ IsSwitchAt rules q.1) (pairs_in words)) words known
-    (at_end rules words c.requires.filled (told words known) (whole rules words c.loop-index.index (told words known) c.loop-index-test.false c.loop-index.invariant.known)).3
+    let is = c.loop-index.invariant in
+    let all = at_end rules words c.requires.filled (told words known) (whole rules words c.loop-index.index (told words known) c.loop-index-test.false is.known) in
+    record {
+      below = is.below;
+      switches = told_some (λ q. IsSwitchAt rules q.1) words known all.1;
+      least = told_some (λ q. (x : ℕ × ℕ) → Contains (pairs_in words) x → IsSwitchAt rules x.1 → ¬ IsBefore x q) words known all.2;
+      none = told_none (All (λ (q : ℕ × ℕ). ¬ IsSwitchAt rules q.1) (pairs_in words)) words known all.3;
+    }

@@ -7,5 +7,5 @@ is_kept-requires-clause-from_one c =
     let modifier = c.is_modifier.ensures.0 c.if-is_modifier.true in
     (action_within c.args.game.now.rules c.requires.lawful.numbered c.args.position modifier.action modifier.stands).0
 
-pub returns-then-is_sure : goal.returns-then-is_sure
-returns-then-is_sure c = (λ _. sure_keeps c.args.game.now c.args.state.now.state c.args.position (c.is_sure.ensures c.if-is_sure.true), λ _. c.if-is_sure.true)
+pub returns-then-facts : goal.returns-then-facts
+returns-then-facts c = (λ _. sure_keeps c.args.game.now c.args.state.now.state c.args.position (c.facts.ensures.shown.sure c.if-facts.true), λ _. c.if-facts.true)

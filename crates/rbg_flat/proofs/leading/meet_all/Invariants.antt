@@ -1,9 +1,9 @@
 -- The targets so far.
 use Rattle.std.proofs.Common.{take}
-use Rattle.rbg_flat.specs.internal.Passing.{IsToTry}
+use Rattle.rbg_flat.specs.internal.Setting.{IsToTryIn}
 use Rattle.rbg_flat.specs.internal.Sets.{Meets}
 use Rattle.rbg_flat.specs.internal.Leading.{IsAmong}
 use Rattle.rbg_flat.proofs.leading.meet_all.Given as goal
 
 abbrev pub invariant-loop-target : goal.invariant-loop-target
-invariant-loop-target l = Meets l.fn.sets l.sets (IsAmong (take l.target-index l.targets)) (IsToTry l.game l.state.state)
+invariant-loop-target l = Meets l.fn.sets l.sets (IsAmong (take l.target-index l.targets)) (IsToTryIn l.setting)

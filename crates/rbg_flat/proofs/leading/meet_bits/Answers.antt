@@ -1,7 +1,7 @@
 use Rattle.std.proofs.Common.{List, subst}
 use Rattle.std.proofs.lemmas.List.{take_all}
 use Rattle.rbg_leaps.specs.declared.target.Target.{Target}
-use Rattle.rbg_flat.specs.internal.Passing.{IsToTry}
+use Rattle.rbg_flat.specs.internal.Setting.{IsToTryIn}
 use Rattle.rbg_flat.specs.internal.Sets.{Meets}
 use Rattle.rbg_flat.specs.internal.Leading.{IsAmongBits}
 use Rattle.rbg_flat.proofs.Stills.{meets_bits_more}
@@ -10,9 +10,9 @@ use Rattle.rbg_flat.proofs.leading.meet_bits.Goals as goal
 pub loop-target-preserved : goal.loop-target-preserved
 loop-target-preserved c =
     meets_bits_more c.args.targets.now c.loop-target.target-index (record { position = 0; column = 0; word = 0 }) c.loop-target-test.true c.args.column c.args.word
-    c.args.sets.now c.loop-target.sets c.meet_at.new.sets (IsToTry c.args.game.now c.args.state.now.state) c.loop-target.invariant c.meet_at.ensures
+    c.args.sets.now c.loop-target.sets c.meet_at.new.sets (IsToTryIn c.args.setting.now) c.loop-target.invariant c.meet_at.ensures
 
 pub returns : goal.returns
 returns c =
-    subst (λ (ts : List Target). Meets c.args.sets.now c.loop-target.sets (IsAmongBits ts c.args.column c.args.word) (IsToTry c.args.game.now c.args.state.now.state))
+    subst (λ (ts : List Target). Meets c.args.sets.now c.loop-target.sets (IsAmongBits ts c.args.column c.args.word) (IsToTryIn c.args.setting.now))
     (take_all c.loop-target.target-index c.args.targets.now c.loop-target-test.false) c.loop-target.invariant

@@ -1,9 +1,9 @@
 -- The targets so far were met.
 use Rattle.std.proofs.Common.{take}
 use Rattle.rbg_flat.specs.internal.Leading.{IsAmongBits}
-use Rattle.rbg_flat.specs.internal.Passing.{IsToTry}
+use Rattle.rbg_flat.specs.internal.Setting.{IsToTryIn}
 use Rattle.rbg_flat.specs.internal.Sets.{Meets}
 use Rattle.rbg_flat.proofs.leading.meet_bits.Given as goal
 
 abbrev pub invariant-loop-target : goal.invariant-loop-target
-invariant-loop-target l = Meets l.fn.sets l.sets (IsAmongBits (take l.target-index l.targets) l.column l.word) (IsToTry l.game l.state.state)
+invariant-loop-target l = Meets l.fn.sets l.sets (IsAmongBits (take l.target-index l.targets) l.column l.word) (IsToTryIn l.setting)

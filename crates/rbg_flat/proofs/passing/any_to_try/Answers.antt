@@ -16,7 +16,7 @@ everywhere game numbered s p kind (inr is) told =
 
 pub returns-in-Pattern : goal.returns-in-Pattern
 returns-in-Pattern c = λ b small.
-    (λ _. everywhere c.args.game.now c.requires.lawful.numbered c.args.state.now.state c.args.position c.kind.result c.in-Pattern.is c.kind.ensures (c.args.column * 64 + b), λ _. c.full_word.ensures b small)
+    (λ _. everywhere c.args.game.now c.requires.lawful.numbered c.args.state.now.state c.args.position c.facts.result.now.kind c.in-Pattern.is c.facts.ensures.shown.kind (c.args.column * 64 + b), λ _. c.full_word.ensures b small)
 
 pub returns-in-Comparison : goal.returns-in-Comparison
 returns-in-Comparison c = λ b small. c.comparison_to_try.ensures (c.args.column * 64 + b) b small

@@ -20,4 +20,4 @@ passes game numbered s p kind (inr (inr is)) told v = (comparison_to_try game nu
 
 pub returns-in-On-clause-told : goal.returns-in-On-clause-told
 returns-in-On-clause-told c = λ b small set is.
-    (λ _. passes c.args.game.now c.requires.lawful.numbered c.args.state.now.state c.args.position c.kind.result c.in-On.is c.kind.ensures (c.args.column * 64 + b) is, λ _. set)
+    (λ _. passes c.args.setting.now.game.now c.requires.set.lawful.numbered c.args.setting.now.state.now.state c.args.position c.facts.result.now.kind c.in-On.is c.facts.ensures.shown.kind (c.args.column * 64 + b) is, λ _. set)

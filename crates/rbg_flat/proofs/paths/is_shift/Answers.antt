@@ -1,4 +1,4 @@
-use Rattle.rbg_flat.proofs.Stills.{stands_shift}
+use Rattle.rbg_flat.proofs.Switches.{stands_shift}
 use Rattle.rbg_flat.proofs.paths.is_shift.Goals as goal
 
 pub returns : goal.returns

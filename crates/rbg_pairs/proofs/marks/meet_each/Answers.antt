@@ -24,30 +24,22 @@ loop-listed-preserved c =
     let bit_is = bit_of_mark rows v p in
     let tested = c.is_marked.ensures (mark_at rows (v, p)) place bit_is in
     let more : take (index + 1) positions ≡ take index positions ++ p ∷ [] = take_more positions index 0 before in
-    elim c.if-not-is_marked.branch [
-      | then-not-is_marked w ↦
-          let unmarked : is_marked words (mark_at rows (v, p)) ≡ false = sym tested ∙ w.if-not-is_marked.true in
-          record {
-            words = c.if-not-is_marked.auto.words ∙ c.loop-listed.invariant.words;
-            room = c.if-not-is_marked.auto.room ∙ c.loop-listed.invariant.room;
-            within = omega (arith, w.count-is, c.loop-listed.invariant.within);
-            met = λ n size are has.
-                rw (w.words-is, w.room-is, w.count-is, more)
-                (met_now n size rows words old room count v p (take index positions) (c.loop-listed.invariant.met n size are has).0 (c.loop-listed.invariant.met n size are has).1 (has index 0 before) unmarked within below);
-          }
-      | else-not-is_marked w ↦
-          let marked : is_marked words (mark_at rows (v, p)) ≡ true = sym tested ∙ w.if-not-is_marked.false in
-          record {
-            words = c.if-not-is_marked.auto.words ∙ c.loop-listed.invariant.words;
-            room = c.if-not-is_marked.auto.room ∙ c.loop-listed.invariant.room;
-            within = omega (arith, w.count-is, c.loop-listed.invariant.within);
-            met = λ n size are has.
-                rw (w.words-is, w.room-is, w.count-is, more) (
-                  (c.loop-listed.invariant.met n size are has).0,
-                  met_before n size rows words old (take count room) v p (take index positions) (c.loop-listed.invariant.met n size are has).0 (c.loop-listed.invariant.met n size are has).1 (has index 0 before) marked,
-                );
-          }
-    ]
+    let is = c.loop-listed.invariant in
+    record {
+      words = c.if-not-is_marked.auto.words ∙ is.words;
+      room = c.if-not-is_marked.auto.room ∙ is.room;
+      within = elim c.if-not-is_marked.branch [ then-not-is_marked w ↦ omega (arith, w.count-is, is.within) | else-not-is_marked w ↦ omega (arith, w.count-is, is.within) ];
+      met = λ n size are has.
+          let (so_far, all) = is.met n size are has in
+          elim c.if-not-is_marked.branch [
+            | then-not-is_marked w ↦
+                let unmarked : is_marked words (mark_at rows (v, p)) ≡ false = sym tested ∙ w.if-not-is_marked.true in
+                rw (w.words-is, w.room-is, w.count-is, more) (met_now n size rows words old room count v p (take index positions) so_far all (has index 0 before) unmarked within below)
+            | else-not-is_marked w ↦
+                let marked : is_marked words (mark_at rows (v, p)) ≡ true = sym tested ∙ w.if-not-is_marked.false in
+                rw (w.words-is, w.room-is, w.count-is, more) (so_far, met_before n size rows words old (take count room) v p (take index positions) so_far all (has index 0 before) marked)
+          ];
+    }
 
 pub returns-clause-met : goal.returns-clause-met
 returns-clause-met c = λ n size are has.

@@ -1,6 +1,37 @@
-use Rattle.rbg_flat.proofs.Stills.{ends_still}
+use Rattle.rbg_flat.specs.internal.Setting.{IsToTryIn}
+use Rattle.rbg_flat.proofs.Takings.{goes_on}
+use Rattle.rbg_flat.proofs.Wordwise.{meets_bit, ends_bit, meets_all, ends_all}
 use Rattle.rbg_flat.proofs.flat.Flat.lead_word.Goals as goal
 
-pub returns-in-Some-clause-ends : goal.returns-in-Some-clause-ends
-returns-in-Some-clause-ends c =
-    ends_still c.args.game.now c.requires.lawful.numbered c.args.position c.in-Some.ensures.still c.args.column c.args.word c.in-Some.vertex c.in-Some.ensures.there c.args.self.now.ends c.lead_still.new.self.ends c.lead_still.ensures.ends
+pub lead-requires-clause-stands : goal.lead-requires-clause-stands
+lead-requires-clause-stands c = goes_on c.args.setting.now.game.now.rules c.args.position c.action-action.result.now c.action-action.ensures
+
+pub loop-rest-preserved : goal.loop-rest-preserved
+loop-rest-preserved c =
+    let game = c.args.setting.now.game.now in
+    let opens = IsToTryIn c.args.setting.now in
+    let is = c.loop-rest.invariant in
+    let led = c.lead.ensures in
+    let out = c.without-rest.ensures in
+    let set = is.rest_in c.lowest-bit.result c.lowest-bit.ensures.set in
+    record {
+      rest_in = λ b there. is.rest_in b (out.only b there);
+      led = record {
+        sized = led.sized;
+        met = meets_bit game c.args.position c.args.column c.args.word opens c.loop-rest.rest c.lowest-bit.result c.without-rest.result c.lowest-bit.ensures.small set out.gone out.only out.others c.args.self.now.sets c.loop-rest.self.sets c.lead.new.self.sets is.led.met led.met;
+        ends = ends_bit game c.args.position c.args.column c.args.word opens c.loop-rest.rest c.lowest-bit.result c.without-rest.result c.lowest-bit.ensures.small set out.gone out.only out.others c.args.self.now.ends c.loop-rest.self.ends c.lead.new.self.ends is.led.ends led.ends;
+        on = λ on. led.on (is.led.on on);
+      };
+    }
+
+pub returns : goal.returns
+returns c =
+    let game = c.args.setting.now.game.now in
+    let opens = IsToTryIn c.args.setting.now in
+    let led = c.loop-rest.invariant.led in
+    record {
+      sized = led.sized;
+      met = meets_all game c.args.position c.args.column c.args.word opens c.loop-rest.rest c.loop-rest-test.false c.args.self.now.sets c.loop-rest.self.sets led.met;
+      ends = ends_all game c.args.position c.args.column c.args.word opens c.loop-rest.rest c.loop-rest-test.false c.args.self.now.ends c.loop-rest.self.ends led.ends;
+      on = led.on;
+    }

@@ -9,7 +9,7 @@ use Rattle.rbg_rules.proofs.game.Game.action.Goals as goal
 
 pub returns : goal.returns
 returns c =
-    let rules = c.self.inside.rules in
+    let rules = c.self.inside.parts.rules in
     of_seen (λ (x : Expression). Stands x c.args.position c.index.result.now) (ap (λ (g : AbstractGame). g.rules) c.self.view_is) c.requires.there
     (λ there. subst (Stands (rules_of rules) c.args.position) (sym c.index.ensures)
     (stands_at rules.actions.items rules.tree c.self.invariant.lawful.numbered c.self.invariant.actions c.args.position c.index.result.now c.requires.from_one there))

@@ -1,8 +1,8 @@
-use Rattle.std.proofs.Common.{sym, ◌∙◌, refl}
+use Rattle.std.proofs.Common.{sym, refl}
 use Rattle.std.proofs.lemmas.Option.{get_or_from_slice_get}
-use Rattle.rbg_rules.specs.Expression.{assignment, comparison}
+use Rattle.rbg_rules.specs.Expression.{assignment}
 use Rattle.rbg_rules.specs.Translation.{arithmetic_of}
-use Rattle.rbg_state.proofs.Reading.{reads_variables}
+use Rattle.rbg_state.proofs.Reading.{assigned_reads, compared_reads}
 use Rattle.rbg_state.proofs.state.SemiState.act.Goals as goal
 
 pub returns-in-Shift : goal.returns-in-Shift
@@ -24,24 +24,13 @@ pub returns-in-Switch : goal.returns-in-Switch
 returns-in-Switch c = rw c.in-Switch.is (λ a shown. rw shown (c.switch.ensures c.args.game.now))
 
 pub assign-requires-clause-reads : goal.assign-requires-clause-reads
-assign-requires-clause-reads c =
-    let named = c.requires.named (assignment c.in-Assign.variable (arithmetic_of c.in-Assign.value)) (rw c.in-Assign.is refl) in
-    rw (c.requires.fits.variables ∙ c.requires.lawful.bounds) (reads_variables c.args.game.now (arithmetic_of c.in-Assign.value) named.1)
+assign-requires-clause-reads c = (assigned_reads c.args.game.now c.requires.lawful c.args.self.now.state c.requires.fits c.args.action.now c.requires.named c.in-Assign.variable (arithmetic_of c.in-Assign.value) (rw c.in-Assign.is refl)).1
 
 pub assign-requires-clause-variable : goal.assign-requires-clause-variable
-assign-requires-clause-variable c =
-    let named = c.requires.named (assignment c.in-Assign.variable (arithmetic_of c.in-Assign.value)) (rw c.in-Assign.is refl) in
-    rw (c.requires.fits.variables ∙ c.requires.lawful.bounds) named.0
+assign-requires-clause-variable c = (assigned_reads c.args.game.now c.requires.lawful c.args.self.now.state c.requires.fits c.args.action.now c.requires.named c.in-Assign.variable (arithmetic_of c.in-Assign.value) (rw c.in-Assign.is refl)).0
 
 pub bound-requires : goal.bound-requires
 bound-requires c = (c.requires.named (assignment c.in-Assign.variable (arithmetic_of c.in-Assign.value)) (rw c.in-Assign.is refl)).0
 
-pub compare_apart-requires-clause-left : goal.compare_apart-requires-clause-left
-compare_apart-requires-clause-left c =
-    let named = c.requires.named (comparison (arithmetic_of c.in-Compare.left) c.in-Compare.relation (arithmetic_of c.in-Compare.right)) (rw c.in-Compare.is refl) in
-    rw (c.requires.fits.variables ∙ c.requires.lawful.bounds) (reads_variables c.args.game.now (arithmetic_of c.in-Compare.left) named.0)
-
-pub compare_apart-requires-clause-right : goal.compare_apart-requires-clause-right
-compare_apart-requires-clause-right c =
-    let named = c.requires.named (comparison (arithmetic_of c.in-Compare.left) c.in-Compare.relation (arithmetic_of c.in-Compare.right)) (rw c.in-Compare.is refl) in
-    rw (c.requires.fits.variables ∙ c.requires.lawful.bounds) (reads_variables c.args.game.now (arithmetic_of c.in-Compare.right) named.1)
+pub compare_apart-requires : goal.compare_apart-requires
+compare_apart-requires c = compared_reads c.args.game.now c.requires.lawful c.args.self.now.state c.requires.fits c.args.action.now c.requires.named (arithmetic_of c.in-Compare.left) c.in-Compare.relation (arithmetic_of c.in-Compare.right) (rw c.in-Compare.is refl)

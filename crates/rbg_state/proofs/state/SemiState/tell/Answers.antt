@@ -1,9 +1,9 @@
 use Rattle.std.proofs.Common.{sym, ◌∙◌, refl, ap}
 use Rattle.std.proofs.lemmas.Option.{get_or_from_slice_get}
 use Rattle.rbg_board.specs.Graph.{Graph, next}
-use Rattle.rbg_rules.specs.Expression.{assignment, comparison}
+use Rattle.rbg_rules.specs.Expression.{assignment}
 use Rattle.rbg_rules.specs.Translation.{arithmetic_of}
-use Rattle.rbg_state.proofs.Reading.{reads_variables}
+use Rattle.rbg_state.proofs.Reading.{assigned_reads, compared_reads}
 use Rattle.rbg_state.specs.Trials.{at_vertex}
 use Rattle.rbg_state.proofs.state.SemiState.tell.Goals as goal
 
@@ -26,19 +26,10 @@ pub returns-in-Switch-clause-told : goal.returns-in-Switch-clause-told
 returns-in-Switch-clause-told c = rw c.in-Switch.is (λ a shown. rw shown (refl, (_, refl)))
 
 pub tell_assign-requires : goal.tell_assign-requires
-tell_assign-requires c =
-    let named = c.requires.named (assignment c.in-Assign.variable (arithmetic_of c.in-Assign.value)) (rw c.in-Assign.is refl) in
-    rw (c.requires.fits.variables ∙ c.requires.lawful.bounds) (reads_variables c.args.game.now (arithmetic_of c.in-Assign.value) named.1)
+tell_assign-requires c = (assigned_reads c.args.game.now c.requires.lawful c.args.self.now.state c.requires.fits c.args.action.now c.requires.named c.in-Assign.variable (arithmetic_of c.in-Assign.value) (rw c.in-Assign.is refl)).1
 
 pub bound-requires : goal.bound-requires
 bound-requires c = (c.requires.named (assignment c.in-Assign.variable (arithmetic_of c.in-Assign.value)) (rw c.in-Assign.is refl)).0
 
-pub tell_compare-requires-clause-left : goal.tell_compare-requires-clause-left
-tell_compare-requires-clause-left c =
-    let named = c.requires.named (comparison (arithmetic_of c.in-Compare.left) c.in-Compare.relation (arithmetic_of c.in-Compare.right)) (rw c.in-Compare.is refl) in
-    rw (c.requires.fits.variables ∙ c.requires.lawful.bounds) (reads_variables c.args.game.now (arithmetic_of c.in-Compare.left) named.0)
-
-pub tell_compare-requires-clause-right : goal.tell_compare-requires-clause-right
-tell_compare-requires-clause-right c =
-    let named = c.requires.named (comparison (arithmetic_of c.in-Compare.left) c.in-Compare.relation (arithmetic_of c.in-Compare.right)) (rw c.in-Compare.is refl) in
-    rw (c.requires.fits.variables ∙ c.requires.lawful.bounds) (reads_variables c.args.game.now (arithmetic_of c.in-Compare.right) named.1)
+pub tell_compare-requires : goal.tell_compare-requires
+tell_compare-requires c = compared_reads c.args.game.now c.requires.lawful c.args.self.now.state c.requires.fits c.args.action.now c.requires.named (arithmetic_of c.in-Compare.left) c.in-Compare.relation (arithmetic_of c.in-Compare.right) (rw c.in-Compare.is refl)

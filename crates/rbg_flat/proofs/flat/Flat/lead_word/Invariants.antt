@@ -1,0 +1,15 @@
+-- From the vertices that aren't left all is led on.
+use Rattle.std.proofs.Common.{◌≡◌, ℕ}
+use Rattle.std.specs.Int.{bit_at}
+use Rattle.rbg_flat.specs.internal.Leading.{LeadsPast, EndsPast}
+use Rattle.rbg_flat.specs.internal.Setting.{LeadsOn}
+use Rattle.rbg_flat.proofs.flat.Flat.lead_word.Given as goal
+
+abbrev pub invariant-loop-rest : goal.invariant-loop-rest
+invariant-loop-rest l = record {
+  rest_in : (b : ℕ) → bit_at l.rest b ≡ 1 → bit_at l.word b ≡ 1;
+  led : LeadsOn l.setting l.fn.self l.self (LeadsPast l.setting.game.now l.position l.column l.word l.rest) (EndsPast l.setting.game.now l.position l.column l.word l.rest);
+}
+
+abbrev pub decreases-loop-rest : goal.decreases-loop-rest
+decreases-loop-rest l = l.rest

@@ -1,6 +1,0 @@
-use Rattle.rbg_state.proofs.RowLemmas.{bit_changed}
-use Rattle.rbg_state.proofs.rows.Rows.add.Goals as goal
-
-pub returns-in-Some-clause-changed : goal.returns-in-Some-clause-changed
-returns-in-Some-clause-changed c =
-    bit_changed c.args.self.now.columns c.args.self.now.words.items c.set_bit.new.words.items c.args.piece c.args.vertex 1 c.in-Some.word c.in-Some.ensures.some c.in-Some.ensures.there c.set_bit.ensures
