@@ -2,7 +2,7 @@
 use Rattle.std.specs.Prelude.{ℕ, zero, suc, ◌+◌, ◌-◌, ◌<◌, ◌≤◌, List, [], ◌∷◌, Option, Some, None, IfSome, if◌then◌else◌, ◌==◌, nat_lt, slice_index}
 use Rattle.std.proofs.Common.{arith}
 use Rattle.std.proofs.lemmas.Bool.{cond_both, ltb-true}
-use Rattle.rbg_board.specs.Sites.{IsRow, IsSite, vertex_above, vertex_here, vertex_below}
+use Rattle.rbg_board.specs.Sites.{IsRow, IsSite, vertex_above, vertex_here, vertex_below, vertex_in}
 use Rattle.rbg_board.specs.declared.rows.Site.{Site}
 
 -- the cell before a cell, if there is one
@@ -92,7 +92,7 @@ choose_below limit (k ∷ ks) (vertex ∷ vertices) d below =
 -- a vertex of a range that ends below the limit
 within : (limit start c size : ℕ)
     → start + size ≤ limit
-    → IsBelow limit (if nat_lt c size then Some (start + c) else None)
+    → IsBelow limit (vertex_in start size c)
 within limit start c size fits =
     cond_both (nat_lt c size) (Some (start + c)) None (IsBelow limit)
     (λ test. let below : c < size = ltb-true c size test in omega arith)
