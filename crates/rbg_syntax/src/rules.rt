@@ -40,7 +40,7 @@ impl<'a> Parser<'a> {
         if !self.goes_on(level) {
             return Ok(first);
         }
-        let parts = self.further(alloc, level, first, brackets)?;
+        let parts = self.further(alloc, first, level, brackets)?;
         Ok(joined(level, parts))
     }
 
@@ -49,8 +49,8 @@ impl<'a> Parser<'a> {
     fn further(
         &mut self,
         alloc: Global,
-        level: Level,
         first: Rule<'a>,
+        level: Level,
         brackets: u8,
     ) -> Reading<Vec<Rule<'a>>>
         ensures { GivesWithin (λ v. (map rule_of v.items, self.new)) result
@@ -63,6 +63,16 @@ impl<'a> Parser<'a> {
             parts.push(self.further_part(alloc, level, brackets)?)?;
         }
         Ok(parts)
+    }
+
+    /// Whether a further part follows.
+    fn goes_on(&self, level: Level) -> bool
+        ensures { result ≡ next_is (goes_on level) self.now }
+    {
+        match level {
+            Level::Sum => self.next_is(Symbol::Plus),
+            Level::Sequence => self.next_begins_atom(),
+        }
     }
 
     /// A part after a first one: in a sum with its `+`.
@@ -89,16 +99,6 @@ impl<'a> Parser<'a> {
         match level {
             Level::Sum => self.list(alloc, Level::Sequence, brackets),
             Level::Sequence => self.item(alloc, brackets),
-        }
-    }
-
-    /// Whether a further part follows.
-    fn goes_on(&self, level: Level) -> bool
-        ensures { result ≡ next_is (goes_on level) self.now }
-    {
-        match level {
-            Level::Sum => self.next_is(Symbol::Plus),
-            Level::Sequence => self.next_begins_atom(),
         }
     }
 
