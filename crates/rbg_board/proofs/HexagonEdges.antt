@@ -6,13 +6,13 @@ use Rattle.rbg_board.specs.Graph.{Graph, IsGraphOf, UsesOnly}
 use Rattle.rbg_board.specs.Cells.{Rows, cells_in, IsCell, number_along}
 use Rattle.rbg_board.specs.Hexagon.{Compass, NorthWest, NorthEast, East, SouthEast, SouthWest, West, compass, Grows, Shrinks, SouthWestStep, SouthEastStep, CompassStep, HexagonEdge, GrowsThenShrinks, MakesHexagon}
 use Rattle.rbg_board.specs.Sites.{cells_above, site_at, vertex_above, vertex_below, IsLaidOut}
-use Rattle.rbg_board.specs.Shapes.{cell_before, at_cell, cell_left, cell_right, first_six, hexagon_vertices, hexagon_leads}
+use Rattle.rbg_board.specs.Shapes.{cell_before, at_cell, cell_left, cell_right, first_six, way_vertex, hexagon_leads}
 use Rattle.rbg_board.specs.declared.rows.Site.{Site}
 use Rattle.rbg_board.proofs.Numbering.{row_of_cell}
 use Rattle.rbg_board.proofs.Layouts.{IsLed}
 use Rattle.rbg_board.proofs.Choices.{is_first_six}
 use Rattle.rbg_board.proofs.Neighbours.{at_cell_some, cell_before_some, some_cell_before, below_some, above_some, at_above, at_below, at_left, at_right}
-use Rattle.rbg_board.proofs.Ways.{AreWays, IsStepped, step_left, step_right}
+use Rattle.rbg_board.proofs.Ways.{IsStepped, step_left, step_right}
 use Rattle.rbg_board.proofs.Ways as edges
 
 -- the cells to the left and to the right, in a longer and in a shorter row
@@ -49,25 +49,6 @@ module _ (site : Site) (cells : ℕ) where
     | inr shorter ↦ inr (shorter, sym (ap vertex (right_shorter shorter)) ∙ some)
   ]
 
-abbrev way_place : Compass → ℕ
-way_place NorthWest = 0
-way_place NorthEast = 1
-way_place East = 2
-way_place SouthEast = 3
-way_place SouthWest = 4
-way_place West = 5
-
-pub way_stands : (way : Compass) → slice_get compass (way_place way) ≡ Some way
-way_stands NorthWest = refl
-way_stands _ = refl
-
-abbrev pub are_points : AreWays compass
-are_points = record { place = way_place; stands = way_stands; places = refl }
-
--- the vertex that way from a site
-abbrev way_vertex : Compass → Site → Option ℕ
-way_vertex way site = get_or (hexagon_vertices site) (way_place way) None
-
 -- the next cell that way
 abbrev IsWayCell : Rows → Compass → ℕ → ℕ → ℕ → Type 0
 IsWayCell rows way r c u = IsStepped rows (CompassStep rows way r c) u
@@ -97,13 +78,13 @@ module _ (rows : Rows) (lawful : GrowsThenShrinks rows) where
         let found = below_some rows r c to u some in
         record { to_row = r + 1; to_cell = to; step = (refl, step found.0); is_to_cell = found.0; to_number = found.1 }
 
-    south_west : (u : ℕ) → way_vertex SouthWest (site_at rows r c) ≡ Some u → IsWayCell rows SouthWest r c u
+    south_west : (u : ℕ) → way_vertex (site_at rows r c) SouthWest ≡ Some u → IsWayCell rows SouthWest r c u
     south_west u some = elim (left_some (site_at rows r c) (cells_in rows (r + 1)) (vertex_below (site_at rows r c)) u some) [
       | inl (longer, here) ↦ in_row_below _ c u here (λ there. inl (grows r c there longer, refl))
       | inr (shorter, (to, before, here)) ↦ in_row_below _ to u here (λ there. inr (shrinks r to there shorter, before))
     ]
 
-    south_east : (u : ℕ) → way_vertex SouthEast (site_at rows r c) ≡ Some u → IsWayCell rows SouthEast r c u
+    south_east : (u : ℕ) → way_vertex (site_at rows r c) SouthEast ≡ Some u → IsWayCell rows SouthEast r c u
     south_east u some = elim (right_some (site_at rows r c) (cells_in rows (r + 1)) (vertex_below (site_at rows r c)) u some) [
       | inl (longer, here) ↦ in_row_below _ (c + 1) u here (λ there. inl (grows r (c + 1) there longer, refl))
       | inr (shorter, here) ↦ in_row_below _ c u here (λ there. inr (shrinks r c there shorter, refl))
@@ -131,20 +112,20 @@ module _ (rows : Rows) (lawful : GrowsThenShrinks rows) where
         let (k, next, is_to_cell, number) = above_some rows r c to u some in
         record { to_row = k; to_cell = to; step = (next, step k next); is_to_cell = is_to_cell; to_number = number }
 
-    north_west : (u : ℕ) → way_vertex NorthWest (site_at rows r c) ≡ Some u → IsWayCell rows NorthWest r c u
+    north_west : (u : ℕ) → way_vertex (site_at rows r c) NorthWest ≡ Some u → IsWayCell rows NorthWest r c u
     north_west u some = elim (left_some (site_at rows r c) (cells_above rows r) (vertex_above (site_at rows r c)) u some) [
       | inl (longer, here) ↦ in_row_above _ c u here (λ k next. inr (shrinks_above k next longer, refl))
       | inr (shorter, (to, before, here)) ↦ in_row_above _ to u here (λ k next. inl (grows_above k next shorter, before))
     ]
 
-    north_east : (u : ℕ) → way_vertex NorthEast (site_at rows r c) ≡ Some u → IsWayCell rows NorthEast r c u
+    north_east : (u : ℕ) → way_vertex (site_at rows r c) NorthEast ≡ Some u → IsWayCell rows NorthEast r c u
     north_east u some = elim (right_some (site_at rows r c) (cells_above rows r) (vertex_above (site_at rows r c)) u some) [
       | inl (longer, here) ↦ in_row_above _ (c + 1) u here (λ k next. inr (shrinks_above k next longer, refl))
       | inr (shorter, here) ↦ in_row_above _ c u here (λ k next. inl (grows_above k next shorter, refl))
     ]
 
     -- a vertex that way is that of the next cell that way
-    way_cell : (way : Compass) (u : ℕ) → way_vertex way (site_at rows r c) ≡ Some u → IsWayCell rows way r c u
+    way_cell : (way : Compass) (u : ℕ) → way_vertex (site_at rows r c) way ≡ Some u → IsWayCell rows way r c u
     way_cell NorthWest u some = north_west u some
     way_cell NorthEast u some = north_east u some
     way_cell East u some = step_right rows r c u some
@@ -154,7 +135,7 @@ module _ (rows : Rows) (lawful : GrowsThenShrinks rows) where
 
 -- and the next cell that way has the vertex that way
 module _ (rows : Rows) (r c r' c' : ℕ) (is_to_cell : IsCell rows r' c') where
-  to_south_west : SouthWestStep rows r c r' c' → way_vertex SouthWest (site_at rows r c) ≡ Some (number_along rows r' c')
+  to_south_west : SouthWestStep rows r c r' c' → way_vertex (site_at rows r c) SouthWest ≡ Some (number_along rows r' c')
   to_south_west step =
       let vertex = vertex_below (site_at rows r c) in
       elim step.1 [
@@ -163,7 +144,7 @@ module _ (rows : Rows) (r c r' c' : ℕ) (is_to_cell : IsCell rows r' c') where
             ap (at_cell vertex) (left_shorter (site_at rows r c) (cells_in rows (r + 1)) (omega (arith, shrunk.0))) ∙ ap (at_cell vertex) (some_cell_before c c' shrunk.1) ∙ at_below rows r c r' c' is_to_cell step.0
       ]
 
-  to_south_east : SouthEastStep rows r c r' c' → way_vertex SouthEast (site_at rows r c) ≡ Some (number_along rows r' c')
+  to_south_east : SouthEastStep rows r c r' c' → way_vertex (site_at rows r c) SouthEast ≡ Some (number_along rows r' c')
   to_south_east step =
       let vertex = vertex_below (site_at rows r c) in
       elim step.1 [
@@ -178,19 +159,19 @@ module _ (rows : Rows) (r c r' c' : ℕ) (is_to_cell : IsCell rows r' c') where
   longer : r ≡ r' + 1 → Shrinks rows r' → cells_in rows r < cells_above rows r
   longer next shrunk = omega (arith, above_is rows r r' next, ap (cells_in rows) next, shrunk)
 
-  to_north_west : SouthEastStep rows r' c' r c → way_vertex NorthWest (site_at rows r c) ≡ Some (number_along rows r' c')
+  to_north_west : SouthEastStep rows r' c' r c → way_vertex (site_at rows r c) NorthWest ≡ Some (number_along rows r' c')
   to_north_west step = elim step.1 [
     | inl grown ↦ ap (at_cell (vertex_above (site_at rows r c))) (left_shorter (site_at rows r c) (cells_above rows r) (not_longer step.0 grown.0) ∙ some_cell_before c c' grown.1) ∙ at_above rows r c r' c' is_to_cell step.0
     | inr shrunk ↦ ap (at_cell (vertex_above (site_at rows r c))) (left_longer (site_at rows r c) (cells_above rows r) (longer step.0 shrunk.0) ∙ ap Some shrunk.1) ∙ at_above rows r c r' c' is_to_cell step.0
   ]
 
-  to_north_east : SouthWestStep rows r' c' r c → way_vertex NorthEast (site_at rows r c) ≡ Some (number_along rows r' c')
+  to_north_east : SouthWestStep rows r' c' r c → way_vertex (site_at rows r c) NorthEast ≡ Some (number_along rows r' c')
   to_north_east step = elim step.1 [
     | inl grown ↦ ap (vertex_above (site_at rows r c)) (right_shorter (site_at rows r c) (cells_above rows r) (not_longer step.0 grown.0) ∙ grown.1) ∙ at_above rows r c r' c' is_to_cell step.0
     | inr shrunk ↦ ap (vertex_above (site_at rows r c)) (right_longer (site_at rows r c) (cells_above rows r) (longer step.0 shrunk.0) ∙ sym shrunk.1) ∙ at_above rows r c r' c' is_to_cell step.0
   ]
 
-  cell_way : (way : Compass) → CompassStep rows way r c r' c' → way_vertex way (site_at rows r c) ≡ Some (number_along rows r' c')
+  cell_way : (way : Compass) → CompassStep rows way r c r' c' → way_vertex (site_at rows r c) way ≡ Some (number_along rows r' c')
   cell_way NorthWest step = to_north_west step
   cell_way NorthEast step = to_north_east step
   cell_way East step = at_right rows r c r' c' is_to_cell step.0 step.1
@@ -202,18 +183,18 @@ module _ (directions : List ℕ) (rows : Rows) (makes : MakesHexagon directions 
   pub leads_of_edge : (v d u : ℕ) → HexagonEdge directions rows v d u → IsLed (hexagon_leads directions) rows v d u
   unfolding hexagon_leads
   leads_of_edge =
-      edges.leads_of_edge compass are_points (CompassStep rows) (number_along rows) directions rows six makes.different (first_six directions) (is_first_six directions six) hexagon_vertices (λ site. refl)
+      edges.leads_of_edge compass (CompassStep rows) (number_along rows) directions rows six makes.different (first_six directions) (is_first_six directions six) way_vertex
       (λ r c is_cell. refl) (λ way r c u is_cell some. way_cell rows makes.lawful r c is_cell way u some) (λ way r c r' c' step is_to_cell. cell_way rows r c r' c' is_to_cell way step)
 
   module _ (width : ℕ) (board : Graph) (covers : All (λ d. d < width) directions) (laid_out : IsLaidOut (hexagon_leads directions) width rows board) where
     pub hexagon_board : IsGraphOf board (concat rows) (HexagonEdge directions rows)
     unfolding hexagon_leads
     hexagon_board =
-        edges.edges_board compass are_points (CompassStep rows) (number_along rows) directions rows six makes.different (first_six directions) (is_first_six directions six) hexagon_vertices (λ site. refl)
+        edges.edges_board compass (CompassStep rows) (number_along rows) directions rows six makes.different (first_six directions) (is_first_six directions six) way_vertex
         (λ r c is_cell. refl) (λ way r c u is_cell some. way_cell rows makes.lawful r c is_cell way u some) (λ way r c r' c' step is_to_cell. cell_way rows r c r' c' is_to_cell way step) width board laid_out covers
 
     pub hexagon_uses : UsesOnly directions board
     unfolding hexagon_leads
     hexagon_uses =
-        edges.edges_use compass are_points (CompassStep rows) (number_along rows) directions rows six makes.different (first_six directions) (is_first_six directions six) hexagon_vertices (λ site. refl)
+        edges.edges_use compass (CompassStep rows) (number_along rows) directions rows six makes.different (first_six directions) (is_first_six directions six) way_vertex
         (λ r c is_cell. refl) (λ way r c u is_cell some. way_cell rows makes.lawful r c is_cell way u some) (λ way r c r' c' step is_to_cell. cell_way rows r c r' c' is_to_cell way step) width board laid_out covers

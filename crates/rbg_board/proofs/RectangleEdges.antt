@@ -5,34 +5,17 @@ use Rattle.rbg_board.specs.Graph.{Graph, IsGraphOf, UsesOnly}
 use Rattle.rbg_board.specs.Cells.{Rows, cells_in, IsCell, number_along}
 use Rattle.rbg_board.specs.Rectangle.{RectangleSide, Up, Down, Left, Right, sides, SideStep, RectangleEdge, IsEven, MakesRectangle}
 use Rattle.rbg_board.specs.Sites.{site_at, vertex_above, vertex_below, IsLaidOut}
-use Rattle.rbg_board.specs.Shapes.{first_four, rectangle_vertices, rectangle_leads}
+use Rattle.rbg_board.specs.Shapes.{first_four, side_vertex, rectangle_leads}
 use Rattle.rbg_board.specs.declared.rows.Site.{Site}
 use Rattle.rbg_board.proofs.Numbering.{start_of, start-suc, row_of_cell}
 use Rattle.rbg_board.proofs.Layouts.{IsLed}
 use Rattle.rbg_board.proofs.Choices.{is_first_four}
 use Rattle.rbg_board.proofs.Neighbours.{below_some, above_some, at_above, at_below, at_left, at_right}
-use Rattle.rbg_board.proofs.Ways.{AreWays, IsStepped, step_left, step_right}
+use Rattle.rbg_board.proofs.Ways.{IsStepped, step_left, step_right}
 use Rattle.rbg_board.proofs.Ways as edges
 
-abbrev side_place : RectangleSide → ℕ
-side_place Up = 0
-side_place Down = 1
-side_place Left = 2
-side_place Right = 3
-
-pub side_stands : (side : RectangleSide) → slice_get sides (side_place side) ≡ Some side
-side_stands Up = refl
-side_stands _ = refl
-
-abbrev pub are_sides : AreWays sides
-are_sides = record { place = side_place; stands = side_stands; places = refl }
-
--- the vertex on a side of a site
-abbrev side_vertex : RectangleSide → Site → Option ℕ
-side_vertex side site = get_or (rectangle_vertices site) (side_place side) None
-
 -- a vertex on a side is that of the cell on the side
-side_cell : (rows : Rows) (side : RectangleSide) (r c u : ℕ) → side_vertex side (site_at rows r c) ≡ Some u → IsStepped rows (SideStep side r c) u
+side_cell : (rows : Rows) (side : RectangleSide) (r c u : ℕ) → side_vertex (site_at rows r c) side ≡ Some u → IsStepped rows (SideStep side r c) u
 side_cell rows Up r c u some =
     let found = above_some rows r c c u some in
     record { to_row = found.0; to_cell = c; step = (found.1, refl); is_to_cell = found.2; to_number = found.3 }
@@ -43,7 +26,7 @@ side_cell rows Left r c u some = step_left rows r c u some
 side_cell rows Right r c u some = step_right rows r c u some
 
 -- and the cell on a side is the vertex on the side
-cell_side : (rows : Rows) (side : RectangleSide) (r c r' c' : ℕ) → SideStep side r c r' c' → IsCell rows r' c' → side_vertex side (site_at rows r c) ≡ Some (number_along rows r' c')
+cell_side : (rows : Rows) (side : RectangleSide) (r c r' c' : ℕ) → SideStep side r c r' c' → IsCell rows r' c' → side_vertex (site_at rows r c) side ≡ Some (number_along rows r' c')
 cell_side rows Up r c r' c' step is_cell = ap (vertex_above (site_at rows r c)) (sym step.1) ∙ at_above rows r c r' c' is_cell step.0
 cell_side rows Down r c r' c' step is_cell = ap (vertex_below (site_at rows r c)) (sym step.1) ∙ at_below rows r c r' c' is_cell step.0
 cell_side rows Left r c r' c' step is_cell = at_left rows r c r' c' is_cell step.0 step.1
@@ -61,18 +44,18 @@ module _ (directions : List ℕ) (rows : Rows) (makes : MakesRectangle direction
   pub leads_of_edge : (v d u : ℕ) → RectangleEdge directions rows v d u → IsLed (rectangle_leads directions) rows v d u
   unfolding rectangle_leads
   leads_of_edge =
-      edges.leads_of_edge sides are_sides SideStep (λ r c. r * cells_in rows 0 + c) directions rows four makes.different (first_four directions) (is_first_four directions four) rectangle_vertices (λ site. refl)
+      edges.leads_of_edge sides SideStep (λ r c. r * cells_in rows 0 + c) directions rows four makes.different (first_four directions) (is_first_four directions four) side_vertex
       (λ r c is_cell. even_number rows r c makes.lawful is_cell) (λ side r c u is_cell some. side_cell rows side r c u some) (cell_side rows)
 
   module _ (width : ℕ) (board : Graph) (covers : All (λ d. d < width) directions) (laid_out : IsLaidOut (rectangle_leads directions) width rows board) where
     pub rectangle_board : IsGraphOf board (concat rows) (RectangleEdge directions rows)
     unfolding rectangle_leads
     rectangle_board =
-        edges.edges_board sides are_sides SideStep (λ r c. r * cells_in rows 0 + c) directions rows four makes.different (first_four directions) (is_first_four directions four) rectangle_vertices (λ site. refl)
+        edges.edges_board sides SideStep (λ r c. r * cells_in rows 0 + c) directions rows four makes.different (first_four directions) (is_first_four directions four) side_vertex
         (λ r c is_cell. even_number rows r c makes.lawful is_cell) (λ side r c u is_cell some. side_cell rows side r c u some) (cell_side rows) width board laid_out covers
 
     pub rectangle_uses : UsesOnly directions board
     unfolding rectangle_leads
     rectangle_uses =
-        edges.edges_use sides are_sides SideStep (λ r c. r * cells_in rows 0 + c) directions rows four makes.different (first_four directions) (is_first_four directions four) rectangle_vertices (λ site. refl)
+        edges.edges_use sides SideStep (λ r c. r * cells_in rows 0 + c) directions rows four makes.different (first_four directions) (is_first_four directions four) side_vertex
         (λ r c is_cell. even_number rows r c makes.lawful is_cell) (λ side r c u is_cell some. side_cell rows side r c u some) (cell_side rows) width board laid_out covers

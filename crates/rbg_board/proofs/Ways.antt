@@ -1,8 +1,8 @@
 -- The ways out of a cell, one for each of the directions that a board of rows is given: what rectangles and hexagons
 -- share.
 use Rattle.std.proofs.Common.{◌≡◌, ℕ, ◌+◌, ◌<◌, List, Option, Some, None, All, Contains, length, map, get_or, option_map, refl, sym, ap, ◌∙◌, subst, inl, inr, arith}
-use Rattle.std.specs.List.{concat, range_with_len, slice_get}
-use Rattle.std.proofs.lemmas.List.FromFn.{get_or-range_with_len}
+use Rattle.std.specs.List.{concat, slice_get}
+use Rattle.std.proofs.lemmas.List.{length-map}
 use Rattle.std.proofs.lemmas.Option.{get_or_from_slice_get, same_Some, slice_get_cases, slice_get-get_or, slice_get-map, slice_get_within}
 use Rattle.rbg_board.specs.Graph.{Graph, IsGraphOf, UsesOnly}
 use Rattle.rbg_board.specs.Cells.{Rows, IsCell, number_along, AreDifferent}
@@ -24,19 +24,9 @@ pub record IsStepped (rows : Rows) (Step : ℕ → ℕ → Type 0) (u : ℕ) : T
   pub is_to_cell : IsCell rows to_row to_cell
   pub to_number : u ≡ number_along rows to_row to_cell
 
--- Each way has its place in the list of the ways.
-pub record AreWays {Way : Type 0} (ways : List Way) : Type 0 where
-  pub place : Way → ℕ
-  pub stands : (way : Way) → slice_get ways (place way) ≡ Some way
-  pub places : map place ways ≡ range_with_len 0 (length ways)
-
--- a way stands at its place alone
-pub only_place : {Way : Type 0} (ways : List Way) (are : AreWays ways) (k : ℕ) (way : Way) → slice_get ways k ≡ Some way → k ≡ are.place way
-only_place ways are k way stands =
-    let within : k < length ways = slice_get_within ways k way stands in
-    let here : k ≡ get_or (range_with_len 0 (length ways)) k 0 = omega (arith, get_or-range_with_len 0 (length ways) k 0 within) in
-    here ∙ ap (λ ks. get_or ks k 0) (sym are.places)
-    ∙ get_or_from_slice_get (map are.place ways) k (are.place way) 0 (slice_get-map are.place ways k ∙ ap (option_map are.place) stands)
+-- the vertex of the way at a place
+way_at : {Way : Type 0} (ways : List Way) (vertex : Way → Option ℕ) (k : ℕ) (way : Way) → slice_get ways k ≡ Some way → get_or (map vertex ways) k None ≡ vertex way
+way_at ways vertex k way stands = get_or_from_slice_get (map vertex ways) k (vertex way) None (slice_get-map vertex ways k ∙ ap (option_map vertex) stands)
 
 -- the same entry of a list of different numbers has the same place
 pub same_entry : (xs : List ℕ) (i j x : ℕ) → AreDifferent xs → slice_get xs i ≡ Some x → slice_get xs j ≡ Some x → i ≡ j
@@ -45,16 +35,16 @@ same_entry xs i j x different at_i at_j =
 
 -- A board that leads from each cell by a choice among the vertices of its ways, one for each of the directions, written
 -- out. The vertex of a way is that of the cell at the end of a step that way.
-module _ {Way : Type 0} (ways : List Way) (are : AreWays ways) (Step : Way → ℕ → ℕ → ℕ → ℕ → Type 0) (number : ℕ → ℕ → ℕ) (directions : List ℕ) (rows : Rows) (all : length directions ≡ length ways)
-    (different : AreDifferent directions) (ks : List ℕ) (is : directions ≡ ks) (vertices : Site → List (Option ℕ)) (one_each : (site : Site) → length (vertices site) ≡ length ways)
+module _ {Way : Type 0} (ways : List Way) (Step : Way → ℕ → ℕ → ℕ → ℕ → Type 0) (number : ℕ → ℕ → ℕ) (directions : List ℕ) (rows : Rows) (all : length directions ≡ length ways)
+    (different : AreDifferent directions) (ks : List ℕ) (is : directions ≡ ks) (vertex : Site → Way → Option ℕ)
     (numbered : (r c : ℕ) → IsCell rows r c → number_along rows r c ≡ number r c)
-    (cell_of : (way : Way) (r c u : ℕ) → IsCell rows r c → get_or (vertices (site_at rows r c)) (are.place way) None ≡ Some u → IsStepped rows (Step way r c) u)
-    (vertex_of : (way : Way) (r c r' c' : ℕ) → Step way r c r' c' → IsCell rows r' c' → get_or (vertices (site_at rows r c)) (are.place way) None ≡ Some (number_along rows r' c')) where
+    (cell_of : (way : Way) (r c u : ℕ) → IsCell rows r c → vertex (site_at rows r c) way ≡ Some u → IsStepped rows (Step way r c) u)
+    (vertex_of : (way : Way) (r c r' c' : ℕ) → Step way r c r' c' → IsCell rows r' c' → vertex (site_at rows r c) way ≡ Some (number_along rows r' c')) where
   abbrev Edge : ℕ → ℕ → ℕ → Type 0
   Edge = RowsEdge ways Step number directions rows
 
   abbrev leads : Site → ℕ → Option ℕ
-  leads site d = choose ks (vertices site) d
+  leads site d = choose ks (map (vertex site) ways) d
 
   -- an edge leads where the code does
   pub leads_of_edge : (v d u : ℕ) → Edge v d u → IsLed leads rows v d u
@@ -68,9 +58,9 @@ module _ {Way : Type 0} (ways : List Way) (are : AreWays ways) (Step : Way → �
         cell = step.cell;
         is_cell = step.is_cell;
         number = step.from_number ∙ sym (numbered step.row step.cell step.is_cell);
-        led = ap (choose ks (vertices site)) direction
-            ∙ choose_at ks (vertices site) edge.place (subst AreDifferent is different) (omega (arith, within, ap length is)) (omega (arith, within, all, one_each site))
-            ∙ ap (λ k. get_or (vertices site) k None) (only_place ways are edge.place edge.way edge.is_way)
+        led = ap (choose ks (map (vertex site) ways)) direction
+            ∙ choose_at ks (map (vertex site) ways) edge.place (subst AreDifferent is different) (omega (arith, within, ap length is)) (omega (arith, within, all, length-map ways (vertex site)))
+            ∙ way_at ways (vertex site) edge.place edge.way edge.is_way
             ∙ vertex_of edge.way step.row step.cell step.to_row step.to_cell step.step step.is_to_cell
             ∙ ap Some (numbered step.to_row step.to_cell step.is_to_cell ∙ sym step.to_number);
       }
@@ -79,12 +69,12 @@ module _ {Way : Type 0} (ways : List Way) (are : AreWays ways) (Step : Way → �
   edge_of_leads : (r c d u : ℕ) → IsCell rows r c → leads (site_at rows r c) d ≡ Some u → Edge (number_along rows r c) d u
   edge_of_leads r c d u is_cell some =
       let site = site_at rows r c in
-      let chosen = choose_some ks (vertices site) d u some in
+      let chosen = choose_some ks (map (vertex site) ways) d u some in
       let k = chosen.place in
       let within : k < length directions = omega (arith, chosen.within, ap length is) in
       elim ((slice_get_cases ways k).1) [
         | inl (way, inside, stands, read) ↦
-            let to = cell_of way r c u is_cell (ap (λ j. get_or (vertices site) j None) (sym (only_place ways are k way stands)) ∙ chosen.vertex) in
+            let to = cell_of way r c u is_cell (sym (way_at ways (vertex site) k way stands) ∙ chosen.vertex) in
             record {
               place = k;
               way = way;
