@@ -2,3 +2,4 @@
 pub mod Giving
 pub mod Levels
 pub mod Kinds
+pub mod Generators
