@@ -3,14 +3,14 @@ use Rattle.std.proofs.Common.{◌≡◌, ℕ, ◌+◌, ◌*◌, ◌<◌, List, C
 use Rattle.std.proofs.lemmas.List.{get_or-map, get_or_default, length-map}
 use Rattle.std.proofs.lemmas.Option.{same_Some, slice_get_within, get_or_from_slice_get}
 use Rattle.rbg_board.specs.Cells.{Rows, cells_in, number_along, AreDifferent}
-use Rattle.rbg_board.specs.Rectangle.{RectangleSide, Up, Down, Left, Right, side_opposite, side_direction, SideStep}
-use Rattle.rbg_board.specs.Hexagon.{Compass, NorthWest, NorthEast, East, SouthEast, SouthWest, West, compass_opposite, compass_direction, CompassStep}
+use Rattle.rbg_board.specs.Rectangle.{RectangleSide, Up, Down, Left, Right, sides, side_opposite, SideStep}
+use Rattle.rbg_board.specs.Hexagon.{Compass, NorthWest, NorthEast, East, SouthEast, SouthWest, West, compass, compass_opposite, CompassStep}
 use Rattle.rbg_board.specs.Written.{Written, names_of, directions_in}
 use Rattle.rbg_board.specs.Shapes.{rectangle_leads, hexagon_leads}
 use Rattle.rbg_board.specs.Laws.{RectanglesLeadOneWay, HexagonsLeadOneWay, GraphsLeadOneWay, RectanglesLeadBack, HexagonsLeadBack}
 use Rattle.rbg_board.proofs.Choices.{same_place}
 use Rattle.rbg_board.proofs.Layouts.{led_one_way}
-use Rattle.rbg_board.proofs.Ways.{same_way, way_back}
+use Rattle.rbg_board.proofs.Ways.{edges_lead_back}
 use Rattle.rbg_board.proofs.RectangleEdges as rectangles
 use Rattle.rbg_board.proofs.HexagonEdges as hexagons
 
@@ -57,9 +57,7 @@ side_step_back Left r c r' c' step = (sym step.0, step.1)
 side_step_back Right r c r' c' step = (sym step.0, step.1)
 
 pub rectangles_lead_back : RectanglesLeadBack
-rectangles_lead_back directions rows side v u four different edge =
-    let is_side = same_way RectangleSide 4 side_direction rectangles.sides directions four edge.side side different (sym edge.direction) in
-    record { side = side_opposite side; direction = refl; beside = way_back side_opposite SideStep side_step_back rows (λ r c. r * cells_in rows 0 + c) edge.side side v u is_side edge.beside }
+rectangles_lead_back = edges_lead_back sides side_opposite (λ rows. SideStep) (λ rows r c. r * cells_in rows 0 + c) (λ rows. side_step_back)
 
 -- a step back is one in the opposite direction
 compass_step_back : (rows : Rows) (way : Compass) (r c r' c' : ℕ) → CompassStep rows way r c r' c' → CompassStep rows (compass_opposite way) r' c' r c
@@ -71,6 +69,4 @@ compass_step_back rows SouthWest r c r' c' step = step
 compass_step_back rows West r c r' c' step = (sym step.0, step.1)
 
 pub hexagons_lead_back : HexagonsLeadBack
-hexagons_lead_back directions rows way v u six different edge =
-    let is_way = same_way Compass 6 compass_direction hexagons.points directions six edge.way way different (sym edge.direction) in
-    record { way = compass_opposite way; direction = refl; next_cell = way_back compass_opposite (CompassStep rows) (compass_step_back rows) rows (number_along rows) edge.way way v u is_way edge.next_cell }
+hexagons_lead_back = edges_lead_back compass compass_opposite CompassStep number_along compass_step_back

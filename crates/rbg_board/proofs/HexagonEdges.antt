@@ -1,18 +1,19 @@
 -- That the code leads from each cell of a hexagon as the definition of its edges does.
 use Rattle.std.proofs.Common.{◌≡◌, ℕ, zero, suc, ◌+◌, ◌<◌, ◌≤◌, ◌⊎◌, List, Option, Some, None, All, nat_lt, length, get_or, refl, sym, ap, ◌∙◌, subst, inl, inr, arith}
-use Rattle.std.specs.List.{concat}
+use Rattle.std.specs.List.{concat, slice_get}
 use Rattle.std.proofs.lemmas.Bool.{cases_lt, lt-ltb, le-ltb, cond-true, cond-false}
 use Rattle.rbg_board.specs.Graph.{Graph, IsGraphOf, UsesOnly}
 use Rattle.rbg_board.specs.Cells.{Rows, cells_in, IsCell, number_along}
-use Rattle.rbg_board.specs.Hexagon.{Compass, NorthWest, NorthEast, East, SouthEast, SouthWest, West, compass_direction, Grows, Shrinks, SouthWestStep, SouthEastStep, CompassStep, HexagonEdge, GrowsThenShrinks, MakesHexagon}
+use Rattle.rbg_board.specs.Hexagon.{Compass, NorthWest, NorthEast, East, SouthEast, SouthWest, West, compass, Grows, Shrinks, SouthWestStep, SouthEastStep, CompassStep, HexagonEdge, GrowsThenShrinks, MakesHexagon}
 use Rattle.rbg_board.specs.Sites.{cells_above, site_at, vertex_above, vertex_below, IsLaidOut}
-use Rattle.rbg_board.specs.Shapes.{cell_before, at_cell, cell_left, cell_right, first_six, hexagon_vertices, hexagon_leads}
+use Rattle.rbg_board.specs.Shapes.{cell_before, at_cell, cell_left, cell_right, first_six, way_vertex, hexagon_leads}
 use Rattle.rbg_board.specs.declared.rows.Site.{Site}
 use Rattle.rbg_board.proofs.Numbering.{row_of_cell}
 use Rattle.rbg_board.proofs.Layouts.{IsLed}
 use Rattle.rbg_board.proofs.Choices.{is_first_six}
 use Rattle.rbg_board.proofs.Neighbours.{at_cell_some, cell_before_some, some_cell_before, below_some, above_some, at_above, at_below, at_left, at_right}
-use Rattle.rbg_board.proofs.Ways.{AreWays, IsStepped, way_of_direction, leads_that_way, ways_board, ways_use, step_left, step_right}
+use Rattle.rbg_board.proofs.Ways.{IsStepped, step_left, step_right}
+use Rattle.rbg_board.proofs.Ways as edges
 
 -- the cells to the left and to the right, in a longer and in a shorter row
 module _ (site : Site) (cells : ℕ) where
@@ -48,48 +49,6 @@ module _ (site : Site) (cells : ℕ) where
     | inr shorter ↦ inr (shorter, sym (ap vertex (right_shorter shorter)) ∙ some)
   ]
 
--- the place of a way's direction, and the way of a place
-abbrev way_place : Compass → ℕ
-way_place NorthWest = 0
-way_place NorthEast = 1
-way_place East = 2
-way_place SouthEast = 3
-way_place SouthWest = 4
-way_place West = 5
-
-abbrev way_at : ℕ → Compass
-way_at zero = NorthWest
-way_at (suc zero) = NorthEast
-way_at (suc (suc zero)) = East
-way_at (suc (suc (suc zero))) = SouthEast
-way_at (suc (suc (suc (suc zero)))) = SouthWest
-way_at (suc (suc (suc (suc (suc n))))) = West
-
-pub way_at_place : (way : Compass) → way_at (way_place way) ≡ way
-way_at_place way = elim way as (λ w. way_at (way_place w) ≡ w) [ NorthWest ↦ refl | NorthEast ↦ refl | East ↦ refl | SouthEast ↦ refl | SouthWest ↦ refl | West ↦ refl ]
-
-pub way_place_at : (k : ℕ) → k < 6 → way_place (way_at k) ≡ k
-way_place_at zero within = refl
-way_place_at (suc zero) within = refl
-way_place_at (suc (suc zero)) within = refl
-way_place_at (suc (suc (suc zero))) within = refl
-way_place_at (suc (suc (suc (suc zero)))) within = refl
-way_place_at (suc (suc (suc (suc (suc zero))))) within = refl
-way_place_at (suc (suc (suc (suc (suc (suc k)))))) within = absurd (omega arith)
-
-pub way_place_below : (way : Compass) → way_place way < 6
-way_place_below way = elim way as (λ w. way_place w < 6) [ NorthWest ↦ omega arith | NorthEast ↦ omega arith | East ↦ omega arith | SouthEast ↦ omega arith | SouthWest ↦ omega arith | West ↦ omega arith ]
-
-pub way_direction_at : (directions : List ℕ) (way : Compass) → compass_direction directions way ≡ get_or directions (way_place way) 0
-way_direction_at directions way = elim way as (λ w. compass_direction directions w ≡ get_or directions (way_place w) 0) [ NorthWest ↦ refl | NorthEast ↦ refl | East ↦ refl | SouthEast ↦ refl | SouthWest ↦ refl | West ↦ refl ]
-
-abbrev pub points : AreWays Compass 6 compass_direction
-points = record { place = way_place; at = way_at; at_place = way_at_place; place_at = way_place_at; below = way_place_below; direction_at = way_direction_at }
-
--- the vertex that way from a site
-abbrev way_vertex : Compass → Site → Option ℕ
-way_vertex way site = get_or (hexagon_vertices site) (way_place way) None
-
 -- the next cell that way
 abbrev IsWayCell : Rows → Compass → ℕ → ℕ → ℕ → Type 0
 IsWayCell rows way r c u = IsStepped rows (CompassStep rows way r c) u
@@ -119,13 +78,13 @@ module _ (rows : Rows) (lawful : GrowsThenShrinks rows) where
         let found = below_some rows r c to u some in
         record { to_row = r + 1; to_cell = to; step = (refl, step found.0); is_to_cell = found.0; to_number = found.1 }
 
-    south_west : (u : ℕ) → way_vertex SouthWest (site_at rows r c) ≡ Some u → IsWayCell rows SouthWest r c u
+    south_west : (u : ℕ) → way_vertex (site_at rows r c) SouthWest ≡ Some u → IsWayCell rows SouthWest r c u
     south_west u some = elim (left_some (site_at rows r c) (cells_in rows (r + 1)) (vertex_below (site_at rows r c)) u some) [
       | inl (longer, here) ↦ in_row_below _ c u here (λ there. inl (grows r c there longer, refl))
       | inr (shorter, (to, before, here)) ↦ in_row_below _ to u here (λ there. inr (shrinks r to there shorter, before))
     ]
 
-    south_east : (u : ℕ) → way_vertex SouthEast (site_at rows r c) ≡ Some u → IsWayCell rows SouthEast r c u
+    south_east : (u : ℕ) → way_vertex (site_at rows r c) SouthEast ≡ Some u → IsWayCell rows SouthEast r c u
     south_east u some = elim (right_some (site_at rows r c) (cells_in rows (r + 1)) (vertex_below (site_at rows r c)) u some) [
       | inl (longer, here) ↦ in_row_below _ (c + 1) u here (λ there. inl (grows r (c + 1) there longer, refl))
       | inr (shorter, here) ↦ in_row_below _ c u here (λ there. inr (shrinks r c there shorter, refl))
@@ -153,20 +112,20 @@ module _ (rows : Rows) (lawful : GrowsThenShrinks rows) where
         let (k, next, is_to_cell, number) = above_some rows r c to u some in
         record { to_row = k; to_cell = to; step = (next, step k next); is_to_cell = is_to_cell; to_number = number }
 
-    north_west : (u : ℕ) → way_vertex NorthWest (site_at rows r c) ≡ Some u → IsWayCell rows NorthWest r c u
+    north_west : (u : ℕ) → way_vertex (site_at rows r c) NorthWest ≡ Some u → IsWayCell rows NorthWest r c u
     north_west u some = elim (left_some (site_at rows r c) (cells_above rows r) (vertex_above (site_at rows r c)) u some) [
       | inl (longer, here) ↦ in_row_above _ c u here (λ k next. inr (shrinks_above k next longer, refl))
       | inr (shorter, (to, before, here)) ↦ in_row_above _ to u here (λ k next. inl (grows_above k next shorter, before))
     ]
 
-    north_east : (u : ℕ) → way_vertex NorthEast (site_at rows r c) ≡ Some u → IsWayCell rows NorthEast r c u
+    north_east : (u : ℕ) → way_vertex (site_at rows r c) NorthEast ≡ Some u → IsWayCell rows NorthEast r c u
     north_east u some = elim (right_some (site_at rows r c) (cells_above rows r) (vertex_above (site_at rows r c)) u some) [
       | inl (longer, here) ↦ in_row_above _ (c + 1) u here (λ k next. inr (shrinks_above k next longer, refl))
       | inr (shorter, here) ↦ in_row_above _ c u here (λ k next. inl (grows_above k next shorter, refl))
     ]
 
     -- a vertex that way is that of the next cell that way
-    way_cell : (way : Compass) (u : ℕ) → way_vertex way (site_at rows r c) ≡ Some u → IsWayCell rows way r c u
+    way_cell : (way : Compass) (u : ℕ) → way_vertex (site_at rows r c) way ≡ Some u → IsWayCell rows way r c u
     way_cell NorthWest u some = north_west u some
     way_cell NorthEast u some = north_east u some
     way_cell East u some = step_right rows r c u some
@@ -176,7 +135,7 @@ module _ (rows : Rows) (lawful : GrowsThenShrinks rows) where
 
 -- and the next cell that way has the vertex that way
 module _ (rows : Rows) (r c r' c' : ℕ) (is_to_cell : IsCell rows r' c') where
-  to_south_west : SouthWestStep rows r c r' c' → way_vertex SouthWest (site_at rows r c) ≡ Some (number_along rows r' c')
+  to_south_west : SouthWestStep rows r c r' c' → way_vertex (site_at rows r c) SouthWest ≡ Some (number_along rows r' c')
   to_south_west step =
       let vertex = vertex_below (site_at rows r c) in
       elim step.1 [
@@ -185,7 +144,7 @@ module _ (rows : Rows) (r c r' c' : ℕ) (is_to_cell : IsCell rows r' c') where
             ap (at_cell vertex) (left_shorter (site_at rows r c) (cells_in rows (r + 1)) (omega (arith, shrunk.0))) ∙ ap (at_cell vertex) (some_cell_before c c' shrunk.1) ∙ at_below rows r c r' c' is_to_cell step.0
       ]
 
-  to_south_east : SouthEastStep rows r c r' c' → way_vertex SouthEast (site_at rows r c) ≡ Some (number_along rows r' c')
+  to_south_east : SouthEastStep rows r c r' c' → way_vertex (site_at rows r c) SouthEast ≡ Some (number_along rows r' c')
   to_south_east step =
       let vertex = vertex_below (site_at rows r c) in
       elim step.1 [
@@ -200,19 +159,19 @@ module _ (rows : Rows) (r c r' c' : ℕ) (is_to_cell : IsCell rows r' c') where
   longer : r ≡ r' + 1 → Shrinks rows r' → cells_in rows r < cells_above rows r
   longer next shrunk = omega (arith, above_is rows r r' next, ap (cells_in rows) next, shrunk)
 
-  to_north_west : SouthEastStep rows r' c' r c → way_vertex NorthWest (site_at rows r c) ≡ Some (number_along rows r' c')
+  to_north_west : SouthEastStep rows r' c' r c → way_vertex (site_at rows r c) NorthWest ≡ Some (number_along rows r' c')
   to_north_west step = elim step.1 [
     | inl grown ↦ ap (at_cell (vertex_above (site_at rows r c))) (left_shorter (site_at rows r c) (cells_above rows r) (not_longer step.0 grown.0) ∙ some_cell_before c c' grown.1) ∙ at_above rows r c r' c' is_to_cell step.0
     | inr shrunk ↦ ap (at_cell (vertex_above (site_at rows r c))) (left_longer (site_at rows r c) (cells_above rows r) (longer step.0 shrunk.0) ∙ ap Some shrunk.1) ∙ at_above rows r c r' c' is_to_cell step.0
   ]
 
-  to_north_east : SouthWestStep rows r' c' r c → way_vertex NorthEast (site_at rows r c) ≡ Some (number_along rows r' c')
+  to_north_east : SouthWestStep rows r' c' r c → way_vertex (site_at rows r c) NorthEast ≡ Some (number_along rows r' c')
   to_north_east step = elim step.1 [
     | inl grown ↦ ap (vertex_above (site_at rows r c)) (right_shorter (site_at rows r c) (cells_above rows r) (not_longer step.0 grown.0) ∙ grown.1) ∙ at_above rows r c r' c' is_to_cell step.0
     | inr shrunk ↦ ap (vertex_above (site_at rows r c)) (right_longer (site_at rows r c) (cells_above rows r) (longer step.0 shrunk.0) ∙ sym shrunk.1) ∙ at_above rows r c r' c' is_to_cell step.0
   ]
 
-  cell_way : (way : Compass) → CompassStep rows way r c r' c' → way_vertex way (site_at rows r c) ≡ Some (number_along rows r' c')
+  cell_way : (way : Compass) → CompassStep rows way r c r' c' → way_vertex (site_at rows r c) way ≡ Some (number_along rows r' c')
   cell_way NorthWest step = to_north_west step
   cell_way NorthEast step = to_north_east step
   cell_way East step = at_right rows r c r' c' is_to_cell step.0 step.1
@@ -221,42 +180,21 @@ module _ (rows : Rows) (r c r' c' : ℕ) (is_to_cell : IsCell rows r' c') where
   cell_way West step = at_left rows r c r' c' is_to_cell step.0 step.1
 
 module _ (directions : List ℕ) (rows : Rows) (makes : MakesHexagon directions rows) (six : length directions ≡ 6) where
-  -- an edge leads where the code does
   pub leads_of_edge : (v d u : ℕ) → HexagonEdge directions rows v d u → IsLed (hexagon_leads directions) rows v d u
   unfolding hexagon_leads
-  leads_of_edge v d u edge =
-      let cell = edge.next_cell in
-      let site = site_at rows cell.row cell.cell in
-      record {
-        row = cell.row;
-        cell = cell.cell;
-        is_cell = cell.is_cell;
-        number = cell.from_number;
-        led = ap (hexagon_leads directions site) edge.direction
-            ∙ leads_that_way Compass 6 compass_direction points directions six (first_six directions) (is_first_six directions six) (hexagon_vertices site) refl makes.different edge.way
-            ∙ cell_way rows cell.row cell.cell cell.to_row cell.to_cell cell.is_to_cell edge.way cell.step
-            ∙ ap Some (sym cell.to_number);
-      }
-
-  -- and the code where an edge does
-  edge_of_leads : (r c d u : ℕ) → IsCell rows r c → hexagon_leads directions (site_at rows r c) d ≡ Some u → HexagonEdge directions rows (number_along rows r c) d u
-  unfolding hexagon_leads
-  edge_of_leads r c d u is_cell leads =
-      let way = way_of_direction Compass 6 compass_direction points directions six (first_six directions) (is_first_six directions six) (hexagon_vertices (site_at rows r c)) d u leads in
-      let to = way_cell rows makes.lawful r c is_cell way.way u way.vertex in
-      record {
-        way = way.way;
-        direction = way.is_direction;
-        next_cell = record { row = r; cell = c; to_row = to.to_row; to_cell = to.to_cell; step = to.step; is_cell = is_cell; is_to_cell = to.is_to_cell; from_number = refl; to_number = to.to_number };
-      }
+  leads_of_edge =
+      edges.leads_of_edge compass (CompassStep rows) (number_along rows) directions rows six makes.different (first_six directions) (is_first_six directions six) way_vertex
+      (λ r c is_cell. refl) (λ way r c u is_cell some. way_cell rows makes.lawful r c is_cell way u some) (λ way r c r' c' step is_to_cell. cell_way rows r c r' c' is_to_cell way step)
 
   module _ (width : ℕ) (board : Graph) (covers : All (λ d. d < width) directions) (laid_out : IsLaidOut (hexagon_leads directions) width rows board) where
     pub hexagon_board : IsGraphOf board (concat rows) (HexagonEdge directions rows)
+    unfolding hexagon_leads
     hexagon_board =
-        ways_board Compass 6 compass_direction points directions six (hexagon_leads directions) rows width board laid_out covers (HexagonEdge directions rows)
-        (λ v d u edge. (edge.way, edge.direction)) edge_of_leads leads_of_edge
+        edges.edges_board compass (CompassStep rows) (number_along rows) directions rows six makes.different (first_six directions) (is_first_six directions six) way_vertex
+        (λ r c is_cell. refl) (λ way r c u is_cell some. way_cell rows makes.lawful r c is_cell way u some) (λ way r c r' c' step is_to_cell. cell_way rows r c r' c' is_to_cell way step) width board laid_out covers
 
     pub hexagon_uses : UsesOnly directions board
+    unfolding hexagon_leads
     hexagon_uses =
-        ways_use Compass 6 compass_direction points directions six (hexagon_leads directions) rows width board laid_out covers (HexagonEdge directions rows)
-        (λ v d u edge. (edge.way, edge.direction)) edge_of_leads leads_of_edge
+        edges.edges_use compass (CompassStep rows) (number_along rows) directions rows six makes.different (first_six directions) (is_first_six directions six) way_vertex
+        (λ r c is_cell. refl) (λ way r c u is_cell some. way_cell rows makes.lawful r c is_cell way u some) (λ way r c r' c' step is_to_cell. cell_way rows r c r' c' is_to_cell way step) width board laid_out covers

@@ -1,82 +1,20 @@
 -- The ways out of a cell, one for each of the directions that a board of rows is given: what rectangles and hexagons
 -- share.
-use Rattle.std.proofs.Common.{◌≡◌, ℕ, ◌+◌, ◌<◌, List, Option, Some, None, All, Contains, length, get_or, refl, sym, ap, ◌∙◌, subst, arith}
-use Rattle.std.specs.List.{concat}
+use Rattle.std.proofs.Common.{◌≡◌, ℕ, ◌+◌, ◌<◌, List, Option, Some, None, All, Contains, length, map, get_or, option_map, refl, sym, ap, ◌∙◌, subst, inl, inr, arith}
+use Rattle.std.specs.List.{concat, slice_get}
+use Rattle.std.proofs.lemmas.List.{length-map}
+use Rattle.std.proofs.lemmas.Option.{get_or_from_slice_get, same_Some, slice_get_cases, slice_get-get_or, slice_get-map, slice_get_within}
 use Rattle.rbg_board.specs.Graph.{Graph, IsGraphOf, UsesOnly}
 use Rattle.rbg_board.specs.Cells.{Rows, IsCell, number_along, AreDifferent}
 use Rattle.rbg_board.specs.Sites.{site_at, vertex_here, IsLaidOut}
 use Rattle.rbg_board.specs.Shapes.{cell_before, at_cell, choose}
 use Rattle.rbg_board.specs.Steps.{IsStep}
+use Rattle.rbg_board.specs.RowEdges.{RowsEdge}
+use Rattle.rbg_board.specs.Laws.{RowsLeadBack}
 use Rattle.rbg_board.specs.declared.rows.Site.{Site}
 use Rattle.rbg_board.proofs.Choices.{contains_entry, choose_some, choose_at, same_place}
 use Rattle.rbg_board.proofs.Layouts.{IsLed, graph_of_layout}
 use Rattle.rbg_board.proofs.Neighbours.{at_cell_some, cell_before_some, here_some}
-
--- Each way has a place, and its direction stands at that place among the directions.
-pub record AreWays (Way : Type 0) (count : ℕ) (direction : List ℕ → Way → ℕ) : Type 0 where
-  pub place : Way → ℕ
-  pub at : ℕ → Way
-  pub at_place : (way : Way) → at (place way) ≡ way
-  pub place_at : (k : ℕ) → k < count → place (at k) ≡ k
-  pub below : (way : Way) → place way < count
-  pub direction_at : (directions : List ℕ) (way : Way) → direction directions way ≡ get_or directions (place way) 0
-
-module _ (Way : Type 0) (count : ℕ) (direction : List ℕ → Way → ℕ) (ways : AreWays Way count direction) (directions : List ℕ) (all : length directions ≡ count) where
-  -- the direction of a way is one of the directions
-  given : (way : Way) → Contains directions (direction directions way)
-  given way = subst (Contains directions) (sym (ways.direction_at directions way)) (contains_entry directions (ways.place way) (omega (arith, ways.below way)))
-
-  covered : (width : ℕ) (way : Way) → All (λ d. d < width) directions → direction directions way < width
-  covered width way covers = subst (λ d. d < width) (sym (ways.direction_at directions way)) (covers (ways.place way) 0 (omega (arith, ways.below way)))
-
-  -- where the directions differ, one direction is that of one way
-  pub same_way : (way way' : Way) → AreDifferent directions → direction directions way ≡ direction directions way' → way ≡ way'
-  same_way way way' different same =
-      let place : ways.place way ≡ ways.place way' =
-      same_place directions (ways.place way) (ways.place way') different (omega (arith, ways.below way)) (omega (arith, ways.below way')) (sym (ways.direction_at directions way) ∙ same ∙ ways.direction_at directions way') in
-      sym (ways.at_place way) ∙ ap ways.at place ∙ ways.at_place way'
-
-  -- a choice by the directions, written out, among one vertex for each way
-  module _ (ks : List ℕ) (are : directions ≡ ks) (vertices : List (Option ℕ)) where
-    -- a direction that leads somewhere is that of a way
-    pub record IsWayOf (d u : ℕ) : Type 0 where
-      pub way : Way
-      pub is_direction : d ≡ direction directions way
-      pub vertex : get_or vertices (ways.place way) None ≡ Some u
-
-    pub way_of_direction : (d u : ℕ) → choose ks vertices d ≡ Some u → IsWayOf d u
-    way_of_direction d u leads =
-        let chosen = choose_some ks vertices d u leads in
-        let place : ways.place (ways.at chosen.place) ≡ chosen.place = ways.place_at chosen.place (omega (arith, chosen.within, ap length are)) in
-        record {
-          way = ways.at chosen.place;
-          is_direction = chosen.direction ∙ ap (λ xs. get_or xs chosen.place 0) (sym are) ∙ ap (λ k. get_or directions k 0) (sym place) ∙ sym (ways.direction_at directions (ways.at chosen.place));
-          vertex = ap (λ k. get_or vertices k None) place ∙ chosen.vertex;
-        }
-
-    -- where the directions differ, the direction of a way leads there
-    pub leads_that_way : length vertices ≡ count → AreDifferent directions → (way : Way) → choose ks vertices (direction directions way) ≡ get_or vertices (ways.place way) None
-    leads_that_way one_each different way =
-        ap (choose ks vertices) (ways.direction_at directions way ∙ ap (λ xs. get_or xs (ways.place way) 0) are)
-        ∙ choose_at ks vertices (ways.place way) (subst AreDifferent are different) (omega (arith, ways.below way, ap length are)) (omega (arith, ways.below way))
-
-  -- a board that leads from each cell as the edges do, where each edge has the direction of a way
-  module _ (leads : Site → ℕ → Option ℕ) (rows : Rows) (width : ℕ) (board : Graph) (laid_out : IsLaidOut leads width rows board) (covers : All (λ d. d < width) directions) (Edge : ℕ → ℕ → ℕ → Type 0)
-      (way_of : (v d u : ℕ) → Edge v d u → (way : Way) × (d ≡ direction directions way))
-      (edge_of_leads : (r c d u : ℕ) → IsCell rows r c → leads (site_at rows r c) d ≡ Some u → Edge (number_along rows r c) d u)
-      (leads_of_edge : (v d u : ℕ) → Edge v d u → IsLed leads rows v d u) where
-    pub ways_board : IsGraphOf board (concat rows) Edge
-    ways_board = graph_of_layout leads width rows board laid_out Edge edge_of_leads leads_of_edge (λ v d u edge.
-        let way = way_of v d u edge in
-        subst (λ k. k < width) (sym way.1) (covered width way.0 covers))
-
-    -- only these directions lead anywhere
-    pub ways_use : UsesOnly directions board
-    ways_use = record {
-      is_given = λ v d u leads.
-          let way = way_of v d u ((ways_board.edges v d u).0 leads) in
-          subst (Contains directions) (sym way.1) (given way.0);
-    }
 
 -- the cell at the end of a step
 pub record IsStepped (rows : Rows) (Step : ℕ → ℕ → Type 0) (u : ℕ) : Type 0 where
@@ -85,6 +23,94 @@ pub record IsStepped (rows : Rows) (Step : ℕ → ℕ → Type 0) (u : ℕ) : T
   pub step : Step to_row to_cell
   pub is_to_cell : IsCell rows to_row to_cell
   pub to_number : u ≡ number_along rows to_row to_cell
+
+-- the vertex of the way at a place
+way_at : {Way : Type 0} (ways : List Way) (vertex : Way → Option ℕ) (k : ℕ) (way : Way) → slice_get ways k ≡ Some way → get_or (map vertex ways) k None ≡ vertex way
+way_at ways vertex k way stands = get_or_from_slice_get (map vertex ways) k (vertex way) None (slice_get-map vertex ways k ∙ ap (option_map vertex) stands)
+
+-- the same entry of a list of different numbers has the same place
+pub same_entry : (xs : List ℕ) (i j x : ℕ) → AreDifferent xs → slice_get xs i ≡ Some x → slice_get xs j ≡ Some x → i ≡ j
+same_entry xs i j x different at_i at_j =
+    same_place xs i j different (slice_get_within xs i x at_i) (slice_get_within xs j x at_j) (get_or_from_slice_get xs i x 0 at_i ∙ sym (get_or_from_slice_get xs j x 0 at_j))
+
+-- A board that leads from each cell by a choice among the vertices of its ways, one for each of the directions, written
+-- out. The vertex of a way is that of the cell at the end of a step that way.
+module _ {Way : Type 0} (ways : List Way) (Step : Way → ℕ → ℕ → ℕ → ℕ → Type 0) (number : ℕ → ℕ → ℕ) (directions : List ℕ) (rows : Rows) (all : length directions ≡ length ways)
+    (different : AreDifferent directions) (ks : List ℕ) (is : directions ≡ ks) (vertex : Site → Way → Option ℕ)
+    (numbered : (r c : ℕ) → IsCell rows r c → number_along rows r c ≡ number r c)
+    (cell_of : (way : Way) (r c u : ℕ) → IsCell rows r c → vertex (site_at rows r c) way ≡ Some u → IsStepped rows (Step way r c) u)
+    (vertex_of : (way : Way) (r c r' c' : ℕ) → Step way r c r' c' → IsCell rows r' c' → vertex (site_at rows r c) way ≡ Some (number_along rows r' c')) where
+  abbrev Edge : ℕ → ℕ → ℕ → Type 0
+  Edge = RowsEdge ways Step number directions rows
+
+  abbrev leads : Site → ℕ → Option ℕ
+  leads site d = choose ks (map (vertex site) ways) d
+
+  -- an edge leads where the code does
+  pub leads_of_edge : (v d u : ℕ) → Edge v d u → IsLed leads rows v d u
+  leads_of_edge v d u edge =
+      let step = edge.step in
+      let site = site_at rows step.row step.cell in
+      let within : edge.place < length directions = slice_get_within directions edge.place d edge.is_direction in
+      let direction : d ≡ get_or ks edge.place 0 = sym (get_or_from_slice_get directions edge.place d 0 edge.is_direction) ∙ ap (λ xs. get_or xs edge.place 0) is in
+      record {
+        row = step.row;
+        cell = step.cell;
+        is_cell = step.is_cell;
+        number = step.from_number ∙ sym (numbered step.row step.cell step.is_cell);
+        led = ap (choose ks (map (vertex site) ways)) direction
+            ∙ choose_at ks (map (vertex site) ways) edge.place (subst AreDifferent is different) (omega (arith, within, ap length is)) (omega (arith, within, all, length-map ways (vertex site)))
+            ∙ way_at ways (vertex site) edge.place edge.way edge.is_way
+            ∙ vertex_of edge.way step.row step.cell step.to_row step.to_cell step.step step.is_to_cell
+            ∙ ap Some (numbered step.to_row step.to_cell step.is_to_cell ∙ sym step.to_number);
+      }
+
+  -- and the code where an edge does
+  edge_of_leads : (r c d u : ℕ) → IsCell rows r c → leads (site_at rows r c) d ≡ Some u → Edge (number_along rows r c) d u
+  edge_of_leads r c d u is_cell some =
+      let site = site_at rows r c in
+      let chosen = choose_some ks (map (vertex site) ways) d u some in
+      let k = chosen.place in
+      let within : k < length directions = omega (arith, chosen.within, ap length is) in
+      elim ((slice_get_cases ways k).1) [
+        | inl (way, inside, stands, read) ↦
+            let to = cell_of way r c u is_cell (sym (way_at ways (vertex site) k way stands) ∙ chosen.vertex) in
+            record {
+              place = k;
+              way = way;
+              is_way = stands;
+              is_direction = slice_get-get_or directions k 0 within ∙ ap Some (ap (λ xs. get_or xs k 0) is ∙ sym chosen.direction);
+              step = record {
+                row = r;
+                cell = c;
+                to_row = to.to_row;
+                to_cell = to.to_cell;
+                step = to.step;
+                is_cell = is_cell;
+                is_to_cell = to.is_to_cell;
+                from_number = numbered r c is_cell;
+                to_number = to.to_number ∙ numbered to.to_row to.to_cell to.is_to_cell;
+              };
+            }
+        | inr (past, none) ↦ absurd (omega (arith, past, within, all))
+      ]
+
+  -- the direction of an edge is one of the directions
+  entry : (v d u : ℕ) (edge : Edge v d u) → get_or directions edge.place 0 ≡ d
+  entry v d u edge = get_or_from_slice_get directions edge.place d 0 edge.is_direction
+
+  module _ (width : ℕ) (board : Graph) (laid_out : IsLaidOut leads width rows board) (covers : All (λ d. d < width) directions) where
+    pub edges_board : IsGraphOf board (concat rows) Edge
+    edges_board = graph_of_layout leads width rows board laid_out Edge edge_of_leads leads_of_edge (λ v d u edge.
+        subst (λ k. k < width) (entry v d u edge) (covers edge.place 0 (slice_get_within directions edge.place d edge.is_direction)))
+
+    -- only these directions lead anywhere
+    pub edges_use : UsesOnly directions board
+    edges_use = record {
+      is_given = λ v d u leads.
+          let edge = (edges_board.edges v d u).0 leads in
+          subst (Contains directions) (entry v d u edge) (contains_entry directions edge.place (slice_get_within directions edge.place d edge.is_direction));
+    }
 
 -- the cells to the right and to the left in the same row
 pub step_right : (rows : Rows) (r c u : ℕ) → vertex_here (site_at rows r c) (c + 1) ≡ Some u → IsStepped rows (λ r' c'. (r' ≡ r) × (c' ≡ c + 1)) u
@@ -113,3 +139,11 @@ way_back opposite Step back rows number there way v u same step =
       from_number = step.to_number;
       to_number = step.from_number;
     })
+
+-- every edge has its way back
+pub edges_lead_back : {Way : Type 0} (ways : List Way) (opposite : Way → Way) (Step : Rows → Way → ℕ → ℕ → ℕ → ℕ → Type 0) (number : Rows → ℕ → ℕ → ℕ)
+    → ((rows : Rows) (way : Way) (r c r' c' : ℕ) → Step rows way r c r' c' → Step rows (opposite way) r' c' r c) → RowsLeadBack ways opposite (λ directions rows. RowsEdge ways (Step rows) (number rows) directions rows)
+edges_lead_back ways opposite Step number step_back directions rows way there back d b v u all different at_there at_back is_there is_back edge =
+    let place : edge.place ≡ there = same_entry directions edge.place there d different edge.is_direction is_there in
+    let same : edge.way ≡ way = same_Some edge.way way (sym edge.is_way ∙ ap (slice_get ways) place ∙ at_there) in
+    record { place = back; way = opposite way; is_way = at_back; is_direction = is_back; step = way_back opposite (Step rows) (step_back rows) rows (number rows) edge.way way v u same edge.step }

@@ -1,9 +1,9 @@
 -- Hexagons: rows of cells that first grow and then shrink by one cell each, numbered along the rows.
-use Rattle.std.specs.Prelude.{◌≡◌, ℕ, zero, suc, ◌+◌, ◌<◌, ◌≤◌, ◌⊎◌, List, length, slice_index}
+use Rattle.std.specs.Prelude.{◌≡◌, ℕ, zero, suc, ◌+◌, ◌<◌, ◌≤◌, ◌⊎◌, List, [], ◌∷◌, length}
 use Rattle.std.specs.List.{concat}
 use Rattle.rbg_board.specs.Graph.{Graph, IsGraphOf}
 use Rattle.rbg_board.specs.Cells.{Rows, cells_in, number_along}
-use Rattle.rbg_board.specs.Steps.{IsStep}
+use Rattle.rbg_board.specs.RowEdges.{RowsEdge}
 use Rattle.rbg_board.specs.declared.error.BoardError.{BoardError}
 use Rattle.rbg_board.specs.RowLaws.{MakesRows, RowsRefusal}
 
@@ -16,6 +16,9 @@ pub data Compass : Type 0 where
   SouthWest : Compass
   West : Compass
 
+abbrev pub compass : List Compass
+compass = NorthWest ∷ NorthEast ∷ East ∷ SouthEast ∷ SouthWest ∷ West ∷ []
+
 abbrev pub compass_opposite : Compass → Compass
 compass_opposite NorthWest = SouthEast
 compass_opposite NorthEast = SouthWest
@@ -23,15 +26,6 @@ compass_opposite East = West
 compass_opposite SouthEast = NorthWest
 compass_opposite SouthWest = NorthEast
 compass_opposite West = East
-
--- the direction that leads that way
-abbrev pub compass_direction : List ℕ → Compass → ℕ
-compass_direction directions NorthWest = slice_index directions 0
-compass_direction directions NorthEast = slice_index directions 1
-compass_direction directions East = slice_index directions 2
-compass_direction directions SouthEast = slice_index directions 3
-compass_direction directions SouthWest = slice_index directions 4
-compass_direction directions West = slice_index directions 5
 
 -- the row after r is longer by one cell
 abbrev pub Grows : Rows → ℕ → Type 0
@@ -58,15 +52,9 @@ CompassStep rows SouthEast r c r' c' = SouthEastStep rows r c r' c'
 CompassStep rows SouthWest r c r' c' = SouthWestStep rows r c r' c'
 CompassStep rows West r c r' c' = (r' ≡ r) × (c ≡ c' + 1)
 
--- the vertex u is that of the next cell, that way, from the cell of the vertex v
-abbrev pub IsNextCell : Rows → Compass → ℕ → ℕ → Type 0
-IsNextCell rows way = IsStep rows (CompassStep rows way) (number_along rows)
-
 -- the edges of a hexagon: the direction d leads from the vertex v to the vertex u
-pub record HexagonEdge (directions : List ℕ) (rows : Rows) (v d u : ℕ) : Type 0 where
-  pub way : Compass
-  pub direction : d ≡ compass_direction directions way
-  pub next_cell : IsNextCell rows way v u
+abbrev pub HexagonEdge : List ℕ → Rows → ℕ → ℕ → ℕ → Type 0
+HexagonEdge directions rows = RowsEdge compass (CompassStep rows) (number_along rows) directions rows
 
 -- the board of a hexagon: its first pieces along the rows, and its edges
 abbrev pub IsHexagon : List ℕ → Rows → Graph → Type 0

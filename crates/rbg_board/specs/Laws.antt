@@ -1,8 +1,8 @@
 -- Laws of the edges of boards.
-use Rattle.std.specs.Prelude.{◌≡◌, ℕ, List, length}
+use Rattle.std.specs.Prelude.{◌≡◌, ℕ, List, Some, length, slice_get}
 use Rattle.rbg_board.specs.Cells.{Rows, AreDifferent}
-use Rattle.rbg_board.specs.Rectangle.{RectangleSide, side_opposite, side_direction, RectangleEdge, MakesRectangle}
-use Rattle.rbg_board.specs.Hexagon.{Compass, compass_opposite, compass_direction, HexagonEdge, MakesHexagon}
+use Rattle.rbg_board.specs.Rectangle.{sides, side_opposite, RectangleEdge, MakesRectangle}
+use Rattle.rbg_board.specs.Hexagon.{compass, compass_opposite, HexagonEdge, MakesHexagon}
 use Rattle.rbg_board.specs.Written.{Written, WrittenEdge, MakesGraph}
 
 -- from a vertex a direction leads to one vertex at most
@@ -26,17 +26,21 @@ HexagonsLeadOneWay = RowsLeadOneWay 6 MakesHexagon HexagonEdge
 abbrev pub GraphsLeadOneWay : Type 0
 GraphsLeadOneWay = (vertices : List Written) → MakesGraph vertices → LeadsOneWay (WrittenEdge vertices)
 
--- every edge of a board of rows has its way back: the direction of the opposite way
-abbrev pub RowsLeadBack : (Way : Type 0) → ℕ → (List ℕ → Way → ℕ) → (Way → Way) → (List ℕ → Rows → ℕ → ℕ → ℕ → Type 0) → Type 0
-RowsLeadBack Way count direction opposite Edge =
-    (directions : List ℕ) (rows : Rows) (way : Way) (v u : ℕ)
-    → length directions ≡ count
+-- every edge of a board of rows has its way back: the direction at the place of the opposite way
+abbrev pub RowsLeadBack : {Way : Type 0} → List Way → (Way → Way) → (List ℕ → Rows → ℕ → ℕ → ℕ → Type 0) → Type 0
+RowsLeadBack {Way} ways opposite Edge =
+    (directions : List ℕ) (rows : Rows) (way : Way) (there back d b v u : ℕ)
+    → length directions ≡ length ways
     → AreDifferent directions
-    → Edge directions rows v (direction directions way) u
-    → Edge directions rows u (direction directions (opposite way)) v
+    → slice_get ways there ≡ Some way
+    → slice_get ways back ≡ Some (opposite way)
+    → slice_get directions there ≡ Some d
+    → slice_get directions back ≡ Some b
+    → Edge directions rows v d u
+    → Edge directions rows u b v
 
 abbrev pub RectanglesLeadBack : Type 0
-RectanglesLeadBack = RowsLeadBack RectangleSide 4 side_direction side_opposite RectangleEdge
+RectanglesLeadBack = RowsLeadBack sides side_opposite RectangleEdge
 
 abbrev pub HexagonsLeadBack : Type 0
-HexagonsLeadBack = RowsLeadBack Compass 6 compass_direction compass_opposite HexagonEdge
+HexagonsLeadBack = RowsLeadBack compass compass_opposite HexagonEdge

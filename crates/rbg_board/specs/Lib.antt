@@ -7,6 +7,7 @@ pub mod Steps
 pub mod Sites
 pub mod Shapes
 pub mod RowLaws
+pub mod RowEdges
 pub mod Rectangle
 pub mod Hexagon
 pub mod Written

@@ -1,9 +1,9 @@
 -- Rectangles: rows of cells, all of one length n. The cell c of the row r is the vertex r * n + c.
-use Rattle.std.specs.Prelude.{◌≡◌, ◌≢◌, ℕ, ◌+◌, ◌*◌, ◌<◌, List, length, slice_index}
+use Rattle.std.specs.Prelude.{◌≡◌, ◌≢◌, ℕ, ◌+◌, ◌*◌, ◌<◌, List, [], ◌∷◌, length}
 use Rattle.std.specs.List.{concat}
 use Rattle.rbg_board.specs.Graph.{Graph, IsGraphOf}
 use Rattle.rbg_board.specs.Cells.{Rows, cells_in, IsCell}
-use Rattle.rbg_board.specs.Steps.{IsStep}
+use Rattle.rbg_board.specs.RowEdges.{RowsEdge}
 use Rattle.rbg_board.specs.declared.error.BoardError.{BoardError}
 use Rattle.rbg_board.specs.RowLaws.{MakesRows, RowsRefusal}
 
@@ -14,18 +14,14 @@ pub data RectangleSide : Type 0 where
   Left : RectangleSide
   Right : RectangleSide
 
+abbrev pub sides : List RectangleSide
+sides = Up ∷ Down ∷ Left ∷ Right ∷ []
+
 abbrev pub side_opposite : RectangleSide → RectangleSide
 side_opposite Up = Down
 side_opposite Down = Up
 side_opposite Left = Right
 side_opposite Right = Left
-
--- the direction that leads out of that side
-abbrev pub side_direction : List ℕ → RectangleSide → ℕ
-side_direction directions Up = slice_index directions 0
-side_direction directions Down = slice_index directions 1
-side_direction directions Left = slice_index directions 2
-side_direction directions Right = slice_index directions 3
 
 -- one step out of that side, from the cell c of the row r to the cell c' of the row r'
 abbrev pub SideStep : RectangleSide → ℕ → ℕ → ℕ → ℕ → Type 0
@@ -34,15 +30,9 @@ SideStep Down r c r' c' = (r' ≡ r + 1) × (c' ≡ c)
 SideStep Left r c r' c' = (r' ≡ r) × (c ≡ c' + 1)
 SideStep Right r c r' c' = (r' ≡ r) × (c' ≡ c + 1)
 
--- the vertex u is that of the cell beside the cell of the vertex v, on that side
-abbrev pub IsBeside : Rows → RectangleSide → ℕ → ℕ → Type 0
-IsBeside rows side = IsStep rows (SideStep side) (λ r c. r * cells_in rows 0 + c)
-
 -- the edges of a rectangle: the direction d leads from the vertex v to the vertex u
-pub record RectangleEdge (directions : List ℕ) (rows : Rows) (v d u : ℕ) : Type 0 where
-  pub side : RectangleSide
-  pub direction : d ≡ side_direction directions side
-  pub beside : IsBeside rows side v u
+abbrev pub RectangleEdge : List ℕ → Rows → ℕ → ℕ → ℕ → Type 0
+RectangleEdge directions rows = RowsEdge sides SideStep (λ r c. r * cells_in rows 0 + c) directions rows
 
 -- the board of a rectangle: its first pieces along the rows, and its edges
 abbrev pub IsRectangle : List ℕ → Rows → Graph → Type 0

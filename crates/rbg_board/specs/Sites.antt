@@ -30,15 +30,19 @@ pub record IsSite (site : Site) (limit : ℕ) : Type 0 where
   pub row : IsRow site limit
   pub cell_here : site.cell < site.here
 
+-- the vertex of a cell, if it is there, in a row that begins at a vertex and has so many cells
+abbrev pub vertex_in : (start cells : ℕ) → ℕ → Option ℕ
+vertex_in start cells c = if nat_lt c cells then Some (start + c) else None
+
 -- the vertex of a cell of the row above, of the site's own row and of the row below, if the cell is there
 unfoldable pub vertex_above : Site → ℕ → Option ℕ
-vertex_above site c = if nat_lt c site.above then Some (site.start - site.above + c) else None
+vertex_above site c = vertex_in (site.start - site.above) site.above c
 
 unfoldable pub vertex_here : Site → ℕ → Option ℕ
-vertex_here site c = if nat_lt c site.here then Some (site.start + c) else None
+vertex_here site c = vertex_in site.start site.here c
 
 unfoldable pub vertex_below : Site → ℕ → Option ℕ
-vertex_below site c = if nat_lt c site.below then Some (site.start + site.here + c) else None
+vertex_below site c = vertex_in (site.start + site.here) site.below c
 
 -- where each direction below the width leads from a site
 abbrev pub ways_from : (Site → ℕ → Option ℕ) → ℕ → Site → List (Option ℕ)

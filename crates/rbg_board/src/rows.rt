@@ -4,7 +4,7 @@ ghost use Rattle.std.specs.List.{concat, flat_map};
 ghost use Rattle.rbg_board.specs.Graph.{HasWidth};
 ghost use Rattle.rbg_board.specs.Limits.{most_vertices};
 ghost use Rattle.rbg_board.specs.Cells.{rows_of, cells_in, HasTwice, AreDifferent};
-ghost use Rattle.rbg_board.specs.Sites.{IsRow, IsSite, IsLaidOut, vertex_above, vertex_here, vertex_below, ways_from, sites_along};
+ghost use Rattle.rbg_board.specs.Sites.{IsRow, IsSite, IsLaidOut, vertex_above, vertex_here, vertex_below, vertex_in, ways_from, sites_along};
 ghost use Rattle.rbg_board.specs.declared.rows.Site.{Site};
 
 use super::board::{Board, MAX_VERTICES};
@@ -34,11 +34,7 @@ impl Site {
         requires { IsSite self.now most_vertices }
         ensures { result ≡ vertex_above self.now cell }
     {
-        if cell < self.above {
-            Some((self.start - self.above + cell) as Vertex)
-        } else {
-            None
-        }
+        vertex_in(self.start - self.above, self.above, cell)
     }
 
     /// The vertex of a cell of the same row.
@@ -47,11 +43,7 @@ impl Site {
         requires { IsSite self.now most_vertices }
         ensures { result ≡ vertex_here self.now cell }
     {
-        if cell < self.here {
-            Some((self.start + cell) as Vertex)
-        } else {
-            None
-        }
+        vertex_in(self.start, self.here, cell)
     }
 
     /// The vertex of a cell of the row below.
@@ -60,11 +52,19 @@ impl Site {
         requires { IsSite self.now most_vertices }
         ensures { result ≡ vertex_below self.now cell }
     {
-        if cell < self.below {
-            Some((self.start + self.here + cell) as Vertex)
-        } else {
-            None
-        }
+        vertex_in(self.start + self.here, self.below, cell)
+    }
+}
+
+/// The vertex of a cell of a row that begins at a vertex and has so many cells.
+fn vertex_in(start: usize, cells: usize, cell: usize) -> Option<Vertex>
+    requires { start + cells ≤ most_vertices }
+    ensures { result ≡ vertex_in start cells cell }
+{
+    if cell < cells {
+        Some((start + cell) as Vertex)
+    } else {
+        None
     }
 }
 

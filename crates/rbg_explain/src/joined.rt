@@ -182,32 +182,12 @@ fn put_byte(text: &mut Vec<u8>, at: usize, new: u8) {
 
 /// Whether a text can be expanded, and this one isn't at an offset of it.
 fn is_other_at(alloc: Global, text: &[u8], at: usize, joined: &[u8]) -> Result<bool, AllocError> {
-    match cut(alloc, text)? {
-        Some(tokens) => is_other_among(alloc, &tokens, at, joined),
-        None => Ok(false),
-    }
-}
-
-/// Whether the tokens of a text can be expanded, and this text isn't at an offset of them.
-fn is_other_among(
-    alloc: Global,
-    tokens: &Tokens<'_>,
-    at: usize,
-    joined: &[u8],
-) -> Result<bool, AllocError> {
-    match expanded(alloc, tokens)? {
-        Some(source) => is_other_in(alloc, &source, at, joined),
-        None => Ok(false),
-    }
-}
-
-/// Whether this text isn't at an offset of the expanded sections.
-fn is_other_in(
-    alloc: Global,
-    source: &Source<'_>,
-    at: usize,
-    joined: &[u8],
-) -> Result<bool, AllocError> {
-    let texts = texts_at(alloc, source, at)?;
+    let Some(tokens) = cut(alloc, text)? else {
+        return Ok(false);
+    };
+    let Some(source) = expanded(alloc, &tokens)? else {
+        return Ok(false);
+    };
+    let texts = texts_at(alloc, &source, at)?;
     Ok(!texts.contains(&joined))
 }

@@ -5,7 +5,7 @@ use crate::sections::{cut, expanded, section_tokens};
 use rbg_game::Layout;
 use rbg_macro::SectionKind;
 use rbg_passages::{actions, push_action};
-use rbg_tokens::{Token, Tokens};
+use rbg_tokens::Token;
 use std::alloc::{AllocError, Global};
 
 /// Adds a line for each position of the rules: its number, the line and the column of its action, and the action.
@@ -13,17 +13,7 @@ pub fn push_positions(alloc: Global, output: &mut Vec<u8>, text: &[u8]) -> Resul
     let Some(tokens) = cut(alloc, text)? else {
         return Ok(());
     };
-    push_positions_of(alloc, output, text, &tokens)
-}
-
-/// Adds a line for each position of the rules in the tokens of a text.
-fn push_positions_of(
-    alloc: Global,
-    output: &mut Vec<u8>,
-    text: &[u8],
-    tokens: &Tokens<'_>,
-) -> Result<(), AllocError> {
-    let Some(source) = expanded(alloc, tokens)? else {
+    let Some(source) = expanded(alloc, &tokens)? else {
         return Ok(());
     };
     let rules = section_tokens(alloc, &source, SectionKind::Rules)?;

@@ -11,7 +11,7 @@ use rbg_game::{GameError, LoadError, Thing};
 use rbg_macro::{MAX_JOINED, MAX_KEPT, MAX_LEVEL, MAX_READ, MacroError};
 use rbg_syntax::{Expectation, SyntaxError};
 use rbg_tokens::{MAX_TEXT, Symbol, TextError, Token};
-use std::fmt::{self, Formatter};
+use std::fmt::{self, Formatter, Write};
 use std::str;
 
 /// A refusal in words. Its text is one line without a line feed.
@@ -27,13 +27,12 @@ pub struct Message<'a> {
 }
 
 impl fmt::Display for Message<'_> {
-    fn fmt<W: fmt::Write>(&self, f: &mut Formatter<W>) -> fmt::Result {
-        let found = Found(self.found());
+    fn fmt<W: Write>(&self, f: &mut Formatter<W>) -> fmt::Result {
         match &self.error {
-            LoadError::Text(error) => write_text(f, error, self.has_mark),
-            LoadError::Macro(error) => write_macro(f, error, self.spot, &found),
-            LoadError::Syntax(error) => write_syntax(f, error, self.spot, &found),
-            LoadError::Game(error) => write_game(f, error, self.spot, &found),
+            LoadError::Text(error) => self.write_text(f, error),
+            LoadError::Macro(error) => self.write_macro(f, error),
+            LoadError::Syntax(error) => self.write_syntax(f, error),
+            LoadError::Game(error) => self.write_game(f, error),
         }
     }
 }
@@ -47,6 +46,175 @@ impl<'a> Message<'a> {
             ..token
         })
     }
+
+    fn write_text<W: Write>(&self, f: &mut Formatter<W>, error: &TextError) -> fmt::Result {
+        let words = match error {
+            TextError::TooLong => return write!(f, "the text has more than {MAX_TEXT} bytes"),
+            TextError::ZeroByte => "expected no zero byte in the text",
+            TextError::BadByte { .. } if self.has_mark =>
+                "expected a token, found a byte order mark",
+            TextError::BadByte { .. } => "expected a token, found a byte that begins none",
+            TextError::Memory => "out of memory",
+        };
+        f.write_str(words)
+    }
+
+    fn write_macro<W: Write>(&self, f: &mut Formatter<W>, error: &MacroError) -> fmt::Result {
+        let found = Found(self.found());
+        match error {
+            MacroError::BadDefinition { .. } => self.write_head(f),
+            MacroError::Twice { .. } => write!(f, "a second macro has the name {found}"),
+            MacroError::ArgumentCount { .. } => self.write_call(f),
+            MacroError::Depth { .. } => {
+                write!(
+                    f,
+                    "the call of {found} is more than {MAX_LEVEL} levels deep"
+                )
+            }
+            MacroError::TooManyTokens => write!(
+                f,
+                "the macros expand to more than {MAX_KEPT} tokens, or more than {MAX_READ} are read"
+            ),
+            MacroError::BadJoin { .. } => write!(
+                f,
+                "expected two tokens beside `~` that make a name or a number of at most {MAX_JOINED} bytes"
+            ),
+            MacroError::Memory => write!(f, "out of memory"),
+        }
+    }
+
+    /// What is wrong with the arguments of a call.
+    fn write_call<W: Write>(&self, f: &mut Formatter<W>) -> fmt::Result {
+        let found = Found(self.found());
+        let wanted = self.spot.and_then(|spot| spot.parameters());
+        let form = self.spot.map(|spot| spot.call_form());
+        match (wanted, form) {
+            (Some(wanted), Some(CallForm::NoParenthesis)) => {
+                let wanted = ArgumentCount(wanted);
+                write!(
+                    f,
+                    "expected `(` and {wanted} behind the macro's name {found}"
+                )
+            }
+            (Some(_), Some(CallForm::Open)) => {
+                write!(f, "expected a `)` behind the arguments of {found}")
+            }
+            (Some(wanted), Some(CallForm::Arguments(count))) if count != wanted => {
+                let wanted = ArgumentCount(wanted);
+                write!(
+                    f,
+                    "expected {wanted} of {found}, separated by `;`, found {count}"
+                )
+            }
+            _ => write!(
+                f,
+                "expected a call of {found} with as many arguments as it has parameters"
+            ),
+        }
+    }
+
+    /// What is wrong with the head of a definition.
+    fn write_head<W: Write>(&self, f: &mut Formatter<W>) -> fmt::Result {
+        let Some(spot) = self.spot else {
+            return f.write_str("expected a definition");
+        };
+        if spot.starts_definition() {
+            return f.write_str("expected a whole head of a definition, found the end of the text");
+        }
+        self.write_mismatch(f, head_words(spot.definition()), "")
+    }
+
+    /// What was expected, and what was found in its place.
+    fn write_mismatch<W: Write>(
+        &self,
+        f: &mut Formatter<W>,
+        expected: &str,
+        behind: &str,
+    ) -> fmt::Result {
+        let found = Found(self.found());
+        write!(f, "expected {expected}, found {found}{behind}")
+    }
+
+    fn write_syntax<W: Write>(&self, f: &mut Formatter<W>, error: &SyntaxError) -> fmt::Result {
+        let found = Found(self.found());
+        match error {
+            SyntaxError::Expected { what, .. } => self.write_expected(f, *what),
+            SyntaxError::MissingSection { which } => write!(f, "expected a section `#{which}`"),
+            SyntaxError::SectionTwice { which } => write!(
+                f,
+                "a second section has the name `{which}`"
+            ),
+            SyntaxError::TooDeep { .. } => write!(f, "more than 128 brackets are open at {found}"),
+            SyntaxError::Memory => write!(f, "out of memory"),
+        }
+    }
+
+    fn write_expected<W: Write>(&self, f: &mut Formatter<W>, what: Expectation) -> fmt::Result {
+        let expected = expectation_words(what);
+        let comma = match self.spot {
+            Some(spot) => spot.comma_words(),
+            None => "",
+        };
+        match self.found() {
+            Some(token) if token.is(Symbol::Hash) => {
+                write!(f, "expected {expected}, found the end of the section")
+            }
+            _ => self.write_mismatch(f, expected, comma),
+        }
+    }
+
+    fn write_game<W: Write>(&self, f: &mut Formatter<W>, error: &GameError) -> fmt::Result {
+        let found = Found(self.found());
+        match error {
+            GameError::UnknownName { .. } => self.write_mismatch(f, needed_words(self.spot), ""),
+            GameError::SameName { .. } => self.write_mismatch(f, "a new name", " again"),
+            GameError::Bound { .. } => write!(
+                f,
+                "expected a bound of at most {MAX_BOUND}, or in arithmetic a number of at most {}, found {found}",
+                i64::MAX
+            ),
+            GameError::SwitchInPattern { .. } => {
+                write!(
+                    f,
+                    "expected an action that may be in a pattern, found the switch {found}"
+                )
+            }
+            GameError::PatternTooDeep { .. } => {
+                write!(
+                    f,
+                    "more than {MAX_NESTED_PATTERNS} patterns are one inside the other"
+                )
+            }
+            GameError::TooMany { what } => {
+                let most = most_of(*what);
+                write!(f, "expected at most {most} {what}")
+            }
+            GameError::Board { error } => self.write_board(f, error),
+            GameError::Memory => write!(f, "out of memory"),
+        }
+    }
+
+    fn write_board<W: Write>(&self, f: &mut Formatter<W>, error: &BoardError) -> fmt::Result {
+        let (expected, again) = match error {
+            BoardError::SameDirection => ("another direction", " again"),
+            BoardError::UnknownVertex => ("the name of a vertex", ""),
+            BoardError::SameVertex => ("a new name of a vertex", " again"),
+            BoardError::RowLength { row } => {
+                return write!(
+                    f,
+                    "row {row}, counted from 0, has a length that doesn't fit"
+                );
+            }
+            BoardError::TooManyVertices => {
+                return write!(f, "expected at most {MAX_VERTICES} vertices");
+            }
+            BoardError::NoCell => {
+                return f.write_str("expected a cell, found a board or a row without one");
+            }
+            BoardError::Memory => return f.write_str("out of memory"),
+        };
+        self.write_mismatch(f, expected, again)
+    }
 }
 
 /// A token's text between back quotes; of a long one the beginning.
@@ -57,7 +225,7 @@ pub struct Found<'a>(pub Option<Token<'a>>);
 const MOST_SHOWN: usize = 40;
 
 impl fmt::Display for Found<'_> {
-    fn fmt<W: fmt::Write>(&self, f: &mut Formatter<W>) -> fmt::Result {
+    fn fmt<W: Write>(&self, f: &mut Formatter<W>) -> fmt::Result {
         let Some(token) = self.0 else {
             return write!(f, "nothing");
         };
@@ -69,117 +237,16 @@ impl fmt::Display for Found<'_> {
     }
 }
 
-fn write_text<W: fmt::Write>(
-    f: &mut Formatter<W>,
-    error: &TextError,
-    has_mark: bool,
-) -> fmt::Result {
-    let words = match error {
-        TextError::TooLong => return write!(f, "the text has more than {MAX_TEXT} bytes"),
-        TextError::ZeroByte => "expected no zero byte in the text",
-        TextError::BadByte { .. } if has_mark => "expected a token, found a byte order mark",
-        TextError::BadByte { .. } => "expected a token, found a byte that begins none",
-        TextError::Memory => "out of memory",
-    };
-    f.write_str(words)
-}
-
-fn write_macro<W: fmt::Write>(
-    f: &mut Formatter<W>,
-    error: &MacroError,
-    spot: Option<Spot<'_>>,
-    found: &Found<'_>,
-) -> fmt::Result {
-    match error {
-        MacroError::BadDefinition { .. } => write_head(f, spot, found),
-        MacroError::Twice { .. } => write!(f, "a second macro has the name {found}"),
-        MacroError::ArgumentCount { .. } => write_call(f, spot, found),
-        MacroError::Depth { .. } => {
-            write!(
-                f,
-                "the call of {found} is more than {MAX_LEVEL} levels deep"
-            )
-        }
-        MacroError::TooManyTokens => write!(
-            f,
-            "the macros expand to more than {MAX_KEPT} tokens, or more than {MAX_READ} are read"
-        ),
-        MacroError::BadJoin { .. } => write!(
-            f,
-            "expected two tokens beside `~` that make a name or a number of at most {MAX_JOINED} bytes"
-        ),
-        MacroError::Memory => write!(f, "out of memory"),
-    }
-}
-
-/// What is wrong with the arguments of a call.
-fn write_call<W: fmt::Write>(
-    f: &mut Formatter<W>,
-    spot: Option<Spot<'_>>,
-    found: &Found<'_>,
-) -> fmt::Result {
-    let wanted = spot.and_then(|spot| spot.parameters());
-    let form = spot.map(|spot| spot.call_form());
-    match (wanted, form) {
-        (Some(wanted), Some(CallForm::NoParenthesis)) => {
-            let wanted = ArgumentCount(wanted);
-            write!(
-                f,
-                "expected `(` and {wanted} behind the macro's name {found}"
-            )
-        }
-        (Some(_), Some(CallForm::Open)) => {
-            write!(f, "expected a `)` behind the arguments of {found}")
-        }
-        (Some(wanted), Some(CallForm::Arguments(count))) if count != wanted => {
-            let wanted = ArgumentCount(wanted);
-            write!(
-                f,
-                "expected {wanted} of {found}, separated by `;`, found {count}"
-            )
-        }
-        _ => write!(
-            f,
-            "expected a call of {found} with as many arguments as it has parameters"
-        ),
-    }
-}
-
 /// So many arguments.
 #[derive(Clone, Copy)]
 struct ArgumentCount(usize);
 
 impl fmt::Display for ArgumentCount {
-    fn fmt<W: fmt::Write>(&self, f: &mut Formatter<W>) -> fmt::Result {
+    fn fmt<W: Write>(&self, f: &mut Formatter<W>) -> fmt::Result {
         let count = self.0;
         let ending = if count == 1 { "" } else { "s" };
         write!(f, "{count} argument{ending}")
     }
-}
-
-/// What is wrong with the head of a definition.
-fn write_head<W: fmt::Write>(
-    f: &mut Formatter<W>,
-    spot: Option<Spot<'_>>,
-    found: &Found<'_>,
-) -> fmt::Result {
-    let Some(spot) = spot else {
-        return f.write_str("expected a definition");
-    };
-    if spot.starts_definition() {
-        return f.write_str("expected a whole head of a definition, found the end of the text");
-    }
-    write_mismatch(f, head_words(spot.definition()), found, "")
-}
-
-/// What was expected, and what was found in its place.
-fn write_mismatch<W: fmt::Write>(
-    f: &mut Formatter<W>,
-    expected: &str,
-    found: &Found<'_>,
-    behind: &str,
-) -> fmt::Result {
-    write!(f, "expected {expected}, found {found}{behind}")
 }
 
 /// What fits behind the first tokens of a definition's head.
@@ -193,40 +260,6 @@ fn head_words(head: &[Token<'_>]) -> &'static str {
         }
         [.., last] if last.is(Symbol::CloseParenthesis) => "`=`",
         _ => "`;` or `)`",
-    }
-}
-
-fn write_syntax<W: fmt::Write>(
-    f: &mut Formatter<W>,
-    error: &SyntaxError,
-    spot: Option<Spot<'_>>,
-    found: &Found<'_>,
-) -> fmt::Result {
-    match error {
-        SyntaxError::Expected { what, .. } => write_expected(f, *what, spot, found),
-        SyntaxError::MissingSection { which } => write!(f, "expected a section `#{which}`"),
-        SyntaxError::SectionTwice { which } => write!(f, "a second section has the name `{which}`"),
-        SyntaxError::TooDeep { .. } => write!(f, "more than 128 brackets are open at {found}"),
-        SyntaxError::Memory => write!(f, "out of memory"),
-    }
-}
-
-fn write_expected<W: fmt::Write>(
-    f: &mut Formatter<W>,
-    what: Expectation,
-    spot: Option<Spot<'_>>,
-    found: &Found<'_>,
-) -> fmt::Result {
-    let expected = expectation_words(what);
-    let comma = match spot {
-        Some(spot) => spot.comma_words(),
-        None => "",
-    };
-    match found.0 {
-        Some(token) if token.is(Symbol::Hash) => {
-            write!(f, "expected {expected}, found the end of the section")
-        }
-        _ => write_mismatch(f, expected, found, comma),
     }
 }
 
@@ -244,41 +277,6 @@ fn expectation_words(what: Expectation) -> &'static str {
         Expectation::Relation => "one of `==`, `!=`, `<`, `<=`, `>` and `>=`",
         Expectation::Generator => "`rectangle`, `hexagon` or `graph`",
         Expectation::End => "the end of the section",
-    }
-}
-
-fn write_game<W: fmt::Write>(
-    f: &mut Formatter<W>,
-    error: &GameError,
-    spot: Option<Spot<'_>>,
-    found: &Found<'_>,
-) -> fmt::Result {
-    match error {
-        GameError::UnknownName { .. } => write_mismatch(f, needed_words(spot), found, ""),
-        GameError::SameName { .. } => write_mismatch(f, "a new name", found, " again"),
-        GameError::Bound { .. } => write!(
-            f,
-            "expected a bound of at most {MAX_BOUND}, or in arithmetic a number of at most {}, found {found}",
-            i64::MAX
-        ),
-        GameError::SwitchInPattern { .. } => {
-            write!(
-                f,
-                "expected an action that may be in a pattern, found the switch {found}"
-            )
-        }
-        GameError::PatternTooDeep { .. } => {
-            write!(
-                f,
-                "more than {MAX_NESTED_PATTERNS} patterns are one inside the other"
-            )
-        }
-        GameError::TooMany { what } => {
-            let most = most_of(*what);
-            write!(f, "expected at most {most} {what}")
-        }
-        GameError::Board { error } => write_board(f, error, found),
-        GameError::Memory => write!(f, "out of memory"),
     }
 }
 
@@ -305,30 +303,4 @@ fn most_of(thing: Thing) -> usize {
         Thing::Directions => MAX_DIRECTIONS,
         Thing::Positions => MAX_POSITIONS,
     }
-}
-
-fn write_board<W: fmt::Write>(
-    f: &mut Formatter<W>,
-    error: &BoardError,
-    found: &Found<'_>,
-) -> fmt::Result {
-    let (expected, again) = match error {
-        BoardError::SameDirection => ("another direction", " again"),
-        BoardError::UnknownVertex => ("the name of a vertex", ""),
-        BoardError::SameVertex => ("a new name of a vertex", " again"),
-        BoardError::RowLength { row } => {
-            return write!(
-                f,
-                "row {row}, counted from 0, has a length that doesn't fit"
-            );
-        }
-        BoardError::TooManyVertices => {
-            return write!(f, "expected at most {MAX_VERTICES} vertices");
-        }
-        BoardError::NoCell => {
-            return f.write_str("expected a cell, found a board or a row without one");
-        }
-        BoardError::Memory => return f.write_str("out of memory"),
-    };
-    write_mismatch(f, expected, found, again)
 }

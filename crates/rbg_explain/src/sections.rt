@@ -1,16 +1,13 @@
 //! The tokens of a description's sections, with the macros expanded.
 
-use rbg_macro::{MacroError, Section, SectionKind, Source, expand};
-use rbg_tokens::{TextError, Token, Tokens, tokens};
+use rbg_game::LoadError;
+use rbg_macro::{Section, SectionKind, Source, expand};
+use rbg_tokens::{Token, Tokens, tokens};
 use std::alloc::{AllocError, Global};
 
 /// The tokens of a text, or None where it can't be cut into tokens.
 pub(crate) fn cut(alloc: Global, text: &[u8]) -> Result<Option<Tokens<'_>>, AllocError> {
-    match tokens(alloc, text) {
-        Ok(tokens) => Ok(Some(tokens)),
-        Err(TextError::Memory) => Err(AllocError),
-        Err(_) => Ok(None),
-    }
+    given(tokens(alloc, text).map_err(LoadError::Text))
 }
 
 /// The expanded sections, or None where the macros are refused.
@@ -18,9 +15,14 @@ pub(crate) fn expanded<'t>(
     alloc: Global,
     tokens: &Tokens<'t>,
 ) -> Result<Option<Source<'t>>, AllocError> {
-    match expand(alloc, tokens) {
-        Ok(source) => Ok(Some(source)),
-        Err(MacroError::Memory) => Err(AllocError),
+    given(expand(alloc, tokens).map_err(LoadError::Macro))
+}
+
+/// What a layer gives, or None where it refuses.
+fn given<T: Drop>(outcome: Result<T, LoadError>) -> Result<Option<T>, AllocError> {
+    match outcome {
+        Ok(value) => Ok(Some(value)),
+        Err(error) if error.is_memory() => Err(AllocError),
         Err(_) => Ok(None),
     }
 }

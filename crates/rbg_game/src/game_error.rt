@@ -1,5 +1,5 @@
 //! Why a description is no game.
-ghost use Rattle.std.specs.Prelude.{◌≡◌};
+ghost use Rattle.std.specs.Prelude.{◌≡◌, ◌<◌, ◌≤◌, IfErr, OnErr, OnOk};
 ghost use Rattle.rbg_game.specs.declared.game_error.GameError.TheVariants as game_errors;
 ghost use Rattle.rbg_game.specs.GameErrors.{game_error_of};
 ghost use Rattle.rbg_game.specs.Names.{thing_name};
@@ -102,4 +102,16 @@ impl<T: Drop> From<AllocFailed<T>> for GameError {
     fn from(_error: AllocFailed<T>) -> GameError {
         GameError::Memory
     }
+}
+
+/// Refuses more things than a game may have.
+pub(crate) fn refuse_many(count: usize, most: usize, what: Thing) -> Result<(), GameError>
+    ensures few { OnOk result (count ≤ most) }
+    ensures many { OnErr result (most < count) }
+    ensures error { IfErr result (λ error. error ≡ GameError.TooMany what) }
+{
+    if count > most {
+        return Err(GameError::TooMany { what });
+    }
+    Ok(())
 }

@@ -142,6 +142,13 @@ pub within_judged : {A : Type 0} {P : List Lexeme → A → List Lexeme → Type
 unfolding within_at
 within_judged {A} {P} {read} o c j = bind (symbol_judged o) (λ at. closed_at c read at.1) (λ at u d. seen (λ ts x rest k. closed_as k (λ mid end e f. within (d ts) e f)) (closed_judged c j))
 
+-- what stands before a closing bracket, as what is made of it with the opening one
+pub made_judged : {A B : Type 0} {o c : Symbol} {P : List Lexeme → A → List Lexeme → Type 0} {read : List Lexeme → Reading A} {at : ℕ} (R : List Lexeme → B → List Lexeme → Type 0) (u : List Lexeme) (make : A → B)
+    → ((ts : List Lexeme) (x : A) (rest : List Lexeme) → Within o c P ts x rest → R ts (make x) rest) → ((tail : List Lexeme) → IsSymbol o (u ++ tail) at tail)
+    → Judges P read → Judges (Behind u R) (λ us. closed_at c read us >>= λ x. Ok (make x.0, x.1))
+made_judged {c = c} R u make is d j =
+    bind (closed_judged c j) (λ x. Ok (make x.0, x.1)) (λ x v e. given (λ tail. closed_as (e tail) (λ mid end k f. is (u ++ (v ++ tail)) x tail (within (d (v ++ tail)) k f))))
+
 pub with_comma_judged : {A : Type 0} {P : List Lexeme → A → List Lexeme → Type 0} {read : List Lexeme → Reading A} → Judges P read → Judges (WithComma P) (with_comma_at read)
 unfolding with_comma_at
 with_comma_judged {A} {P} {read} j = seen (λ ts x rest k. closed_as k (λ mid end e f. with_comma e f)) (closed_judged Comma j)

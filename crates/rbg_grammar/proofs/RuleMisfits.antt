@@ -17,7 +17,7 @@ use Rattle.rbg_tokens.specs.Kinds.{opens, is_name_kind, is_number_kind, is_symbo
 use Rattle.rbg_grammar.specs.RuleReading.{too_deep_at, pattern_at, is_operator, number_or_name_at, factor_at, further_operand_at, chain_at, operand_at, sum_over_at, primary_at, sum_at, comparison_at, assignment_at, assignments_at, in_choice, positive_at, negative_at, in_braces_at, in_brackets_at, bracket_atom_at, item_at, begins_atom, sequence_at, rules_over_at, atom_at, rules_at}
 use Rattle.rbg_grammar.proofs.Patterns.{IsPattern, pattern, positive_is, negative_is}
 use Rattle.rbg_grammar.proofs.Misfits.{Judged, Judges, Behind, seen, given, bind, choose, choose_at, same_reader}
-use Rattle.rbg_grammar.proofs.MisfitCombinators.{one_of_judged, symbol_judged, name_judged, number_judged, after_judged, closed_as, closed_at, closed_judged, within_judged, repeated_judged, separated_judged}
+use Rattle.rbg_grammar.proofs.MisfitCombinators.{one_of_judged, symbol_judged, name_judged, number_judged, after_judged, closed_as, closed_at, closed_judged, made_judged, within_judged, repeated_judged, separated_judged}
 use Rattle.rbg_grammar.proofs.PhraseLaws.{further_operand_takes_some, assignment_takes_some, item_takes_some, sequence_takes_some}
 use Rattle.rbg_grammar.proofs.SectionMisfits.{names_judged}
 
@@ -187,9 +187,7 @@ module _ (Rules : List Lexeme → SpeltRule → List Lexeme → Type 0) (rules' 
 
     on_part_judged : Judges (Behind u (IsBracketAtom Rules Sum)) (λ us. on_part (at, us))
     unfolding on_part
-    on_part_judged =
-        bind (closed_judged CloseBrace names_judged) (λ ns. Ok (act (SpeltAction.on ns.0), ns.1))
-        (λ ns v e. given (λ tail. closed_as (e tail) (λ mid end k f. stands_on (within (d (v ++ tail)) k f))))
+    on_part_judged = made_judged (IsBracketAtom Rules Sum) u (λ ns. act (SpeltAction.on ns)) (λ ts ns rest k. stands_on k) d names_judged
 
     braces_part_judged : Judges (Behind u (IsBracketAtom Rules Sum)) (λ us. braces_part (at, us))
     unfolding braces_part
@@ -224,9 +222,7 @@ module _ (Rules : List Lexeme → SpeltRule → List Lexeme → Type 0) (rules' 
 
     off_part_judged : Judges (Behind u (IsBracketAtom Rules Sum)) (λ us. off_part (at, us))
     unfolding off_part
-    off_part_judged =
-        bind (closed_judged CloseBracket name_judged) (λ n. Ok (act (SpeltAction.off n.0), n.1))
-        (λ n v e. given (λ tail. closed_as (e tail) (λ mid end k f. puts (within (d (v ++ tail)) k f))))
+    off_part_judged = made_judged (IsBracketAtom Rules Sum) u (λ n. act (SpeltAction.off n)) (λ ts n rest k. puts k) d name_judged
 
     brackets_part_judged : Judges (Behind u (IsBracketAtom Rules Sum)) (λ us. brackets_part (at, us))
     unfolding brackets_part

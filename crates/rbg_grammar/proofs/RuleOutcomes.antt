@@ -16,7 +16,7 @@ use Rattle.rbg_grammar.specs.RuleReading.{comparison_at, assignment_at, assignme
 use Rattle.rbg_grammar.proofs.Patterns.{IsPattern, pattern, positive_is, negative_is}
 use Rattle.rbg_grammar.proofs.Pieces.{Piece, Deep, Sample, Outcome, bind, seen_piece, seen_deep, pieces, first_deep, symbol_piece}
 use Rattle.rbg_grammar.proofs.Readers.{symbol_read, one_of_read}
-use Rattle.rbg_grammar.proofs.SharedOutcomes.{bind_same, map_outcome, seen_outcome, later, both_outcome, none_sample, symbol_never, name_never, name_piece, one_of_never, one_of_piece, no_bracket, name_outcome, names_outcome, repeated_outcome, after_outcome, separated_outcome, bracket_outcome}
+use Rattle.rbg_grammar.proofs.SharedOutcomes.{bind_same, map_outcome, seen_outcome, either_outcome, later, both_outcome, none_sample, symbol_never, name_never, name_piece, one_of_never, one_of_piece, no_bracket, name_outcome, names_outcome, repeated_outcome, after_outcome, separated_outcome, bracket_outcome}
 use Rattle.rbg_grammar.proofs.SumOutcomes.{a_token, name_sum, sum_outcome}
 use Rattle.rbg_grammar.proofs.Readers.{name_read}
 
@@ -298,19 +298,13 @@ module _ (n : ℕ) (reads : (ts : List Lexeme) → Outcome (IsAtom (suc n)) n ts
       bracket_atom_outcome (AreRules (suc n)) (rules_over_at (atom_at n)) (rules_over_at (atom_at (suc n))) n (rules_over_outcome (IsAtom (suc n)) n (atom_at n) (atom_at (suc n)) reads)
       (IsSum (suc n)) (sum_at n) (sum_at (suc n)) (sum_outcome n) (name_sum (suc n))
 
-  more_outcome : (ts : List Lexeme) → Outcome (IsAtom (suc (suc n))) (suc n) ts (atom_at (suc n) ts) (atom_at (suc (suc n)) ts)
-  unfolding atom_at
-  more_outcome ts = go (next_is opens ts)
-    where
-      go : (b : Bool) → Outcome (IsAtom (suc (suc n))) (suc n) ts (cond {A = Reading SpeltRule} b (bracket_atom_at (rules_over_at (atom_at n)) (sum_at n) ts) (open_atom_at ts))
-          (cond {A = Reading SpeltRule} b (bracket_atom_at (rules_over_at (atom_at (suc n))) (sum_at (suc n)) ts) (open_atom_at ts))
-      go true = seen_outcome (IsBracketAtom (AreRules (suc n)) (IsSum (suc n))) (IsAtom (suc (suc n))) (suc n) (λ ts x rest d. inr d) ts
-          (bracket_atom_at (rules_over_at (atom_at n)) (sum_at n) ts) (bracket_atom_at (rules_over_at (atom_at (suc n))) (sum_at (suc n)) ts) (inner_outcome ts)
-      go false = seen_outcome IsOpenAtom (IsAtom (suc (suc n))) (suc n) (λ ts x rest d. inl d) ts (open_atom_at ts) (open_atom_at ts) (open_atom_outcome (suc n) ts)
-
 atom_outcome : (n : ℕ) (ts : List Lexeme) → Outcome (IsAtom (suc n)) n ts (atom_at n ts) (atom_at (suc n) ts)
+unfolding atom_at
 atom_outcome zero ts = none_outcome ts
-atom_outcome (suc n) ts = more_outcome n (atom_outcome n) ts
+atom_outcome (suc n) ts =
+    either_outcome (IsBracketAtom (AreRules (suc n)) (IsSum (suc n))) IsOpenAtom (IsAtom (suc (suc n))) (suc n) (λ ts x rest d. inr d) (λ ts x rest d. inl d) ts (next_is opens ts)
+    (bracket_atom_at (rules_over_at (atom_at n)) (sum_at n) ts) (bracket_atom_at (rules_over_at (atom_at (suc n))) (sum_at (suc n)) ts) (open_atom_at ts) (open_atom_at ts)
+    (inner_outcome n (atom_outcome n) ts) (open_atom_outcome (suc n) ts)
 
 pub rules_outcome : (n : ℕ) (ts : List Lexeme) → Outcome (AreRules (suc n)) n ts (rules_at n ts) (rules_at (suc n) ts)
 unfolding rules_at

@@ -128,6 +128,17 @@ after_second (within opening d closing) test = second_test opening test ∙ afte
 after_second_here : {A : Type 0} {o c s : Symbol} {P : List Lexeme → A → List Lexeme → Type 0} {ts rest : List Lexeme} {x : A} → Within o c (After s P) ts x rest → next_is (is_symbol s) (drop 1 ts) ≡ true
 after_second_here {s = s} (within opening d closing) = second_test opening (is_symbol s) ∙ after_here d
 
+-- an opening bracket begins an atom
+opens_begins_kind : (k : TokenKind) → opens k ≡ true → begins_atom k ≡ true
+opens_begins_kind (kinds.Symbol OpenParenthesis) e = refl
+opens_begins_kind (kinds.Symbol OpenBracket) e = refl
+opens_begins_kind (kinds.Symbol OpenBrace) e = refl
+opens_begins_kind _ e = cc
+
+opens_begins : (ts : List Lexeme) → next_is opens ts ≡ true → next_is begins_atom ts ≡ true
+opens_begins [] e = cc
+opens_begins (t ∷ ts) e = opens_begins_kind t.kind e
+
 -- the atoms in brackets
 module _ (Rules : List Lexeme → SpeltRule → List Lexeme → Type 0) (rules' : List Lexeme → Reading SpeltRule) (rules_read : IsReadBy 1 Rules EndsRules rules')
     (Sum : List Lexeme → SpeltExpression → List Lexeme → Type 0) (sum : List Lexeme → Reading SpeltExpression) (reads : IsReadBy 1 Sum EndsSum sum) where
@@ -290,13 +301,7 @@ module _ (Rules : List Lexeme → SpeltRule → List Lexeme → Type 0) (rules' 
   bracket_atom_opens (fails d e f) = symbol_test d opens
 
   bracket_atom_begins : {ts rest : List Lexeme} {x : SpeltRule} → IsBracketAtom Rules Sum ts x rest → next_is begins_atom ts ≡ true
-  bracket_atom_begins (groups d) = within_test d begins_atom
-  bracket_atom_begins (stands_on d) = within_test d begins_atom
-  bracket_atom_begins (puts d) = within_test d begins_atom
-  bracket_atom_begins (compares d) = within_test d begins_atom
-  bracket_atom_begins (assigns d) = within_test d begins_atom
-  bracket_atom_begins (holds d e f) = symbol_test d begins_atom
-  bracket_atom_begins (fails d e f) = symbol_test d begins_atom
+  bracket_atom_begins {ts} d = opens_begins ts (bracket_atom_opens d)
 
 begins_atom-Star : (k : TokenKind) → begins_atom k ≡ true → is_symbol Star k ≡ false
 begins_atom-Star kinds.Name e = refl

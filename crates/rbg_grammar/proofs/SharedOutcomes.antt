@@ -35,6 +35,13 @@ seen_outcome {A} P R n see ts (Ok q) r' o = (o.0, seen_piece P R (λ (x : A). x)
 seen_outcome P R n see ts (Err (misfit place)) r' o = o
 seen_outcome {A} P R n see ts (Err (too_deep at)) r' o = seen_deep P R (λ (x : A). x) n at see ts o
 
+-- one phrase or another, by a test
+pub either_outcome : {A : Type 0} (P Q R : List Lexeme → A → List Lexeme → Type 0) (n : ℕ)
+    → ((ts : List Lexeme) (x : A) (rest : List Lexeme) → P ts x rest → R ts x rest) → ((ts : List Lexeme) (x : A) (rest : List Lexeme) → Q ts x rest → R ts x rest)
+    → (ts : List Lexeme) (test : Bool) (p p' q q' : Reading A) → Outcome P n ts p p' → Outcome Q n ts q q' → Outcome R n ts (cond test p q) (cond test p' q')
+either_outcome P Q R n one other ts true p p' q q' first second = seen_outcome P R n one ts p p' first
+either_outcome P Q R n one other ts false p p' q q' first second = seen_outcome Q R n other ts q q' second
+
 -- a second reading, after a phrase
 module _ {A B C : Type 0} (P : List Lexeme → A → List Lexeme → Type 0) (Q : List Lexeme → B → List Lexeme → Type 0) (R : List Lexeme → C → List Lexeme → Type 0) (f : A → B → C)
     (join : (ts : List Lexeme) (x : A) (mid : List Lexeme) (y : B) (rest : List Lexeme) → P ts x mid → Q mid y rest → R ts (f x y) rest) (n : ℕ) where

@@ -14,7 +14,7 @@ use Rattle.rbg_grammar.specs.Reading.{too_deep, Reading, ◌>>=◌, next_is, nam
 use Rattle.rbg_grammar.specs.RuleReading.{is_operator, number_or_name_at, factor_at, further_operand_at, chain_at, operand_at, sum_over_at, primary_at, sum_at}
 use Rattle.rbg_grammar.proofs.Pieces.{Piece, Deep, Outcome}
 use Rattle.rbg_grammar.proofs.Readers.{kind_of-is_symbol, one_of_read}
-use Rattle.rbg_grammar.proofs.SharedOutcomes.{bind_same, map_outcome, seen_outcome, later, both_outcome, none_sample, no_bracket, one_of_piece, one_of_never, name_outcome, number_outcome, repeated_outcome, after_outcome, bracket_outcome}
+use Rattle.rbg_grammar.proofs.SharedOutcomes.{bind_same, map_outcome, seen_outcome, either_outcome, later, both_outcome, none_sample, no_bracket, one_of_piece, one_of_never, name_outcome, number_outcome, repeated_outcome, after_outcome, bracket_outcome}
 
 operator_piece : (rank : Rank) (n : ℕ) {ts rest : List Lexeme} {o : Operator} → IsOperator rank ts o rest → Piece (IsOperator rank) n ts o rest
 operator_piece ranks.Sum = one_of_piece (operator_of ranks.Sum) (no_bracket (operator_of ranks.Sum) refl refl refl refl refl refl)
@@ -111,17 +111,6 @@ module _ (n : ℕ) (reads : (ts : List Lexeme) → Outcome (IsPrimary (suc n)) n
       (λ ts at first x last end rest d e f. within d e f) n (sum_over_at (primary_at n)) (sum_over_at (primary_at (suc n)))
       (sum_over_outcome (IsPrimary (suc n)) n (primary_at n) (primary_at (suc n)) reads)
 
-  more_outcome : (ts : List Lexeme) → Outcome (IsPrimary (suc (suc n))) (suc n) ts (primary_at (suc n) ts) (primary_at (suc (suc n)) ts)
-  unfolding primary_at
-  more_outcome ts = go (next_is (is_symbol OpenParenthesis) ts)
-    where
-      go : (b : Bool) → Outcome (IsPrimary (suc (suc n))) (suc n) ts
-          (cond {A = Reading SpeltExpression} b (within_at OpenParenthesis CloseParenthesis (sum_over_at (primary_at n)) ts) (number_or_name_at ts))
-          (cond {A = Reading SpeltExpression} b (within_at OpenParenthesis CloseParenthesis (sum_over_at (primary_at (suc n))) ts) (number_or_name_at ts))
-      go true = seen_outcome (Within OpenParenthesis CloseParenthesis (IsSum (suc n))) (IsPrimary (suc (suc n))) (suc n) (λ ts x rest d. inr d) ts
-          (within_at OpenParenthesis CloseParenthesis (sum_over_at (primary_at n)) ts) (within_at OpenParenthesis CloseParenthesis (sum_over_at (primary_at (suc n))) ts) (group_outcome ts)
-      go false = seen_outcome IsNumberOrName (IsPrimary (suc (suc n))) (suc n) (λ ts x rest d. inl d) ts (number_or_name_at ts) (number_or_name_at ts) (number_or_name_outcome (suc n) ts)
-
 none_outcome : (ts : List Lexeme) → Outcome (IsPrimary 1) 0 ts (primary_at 0 ts) (primary_at 1 ts)
 unfolding primary_at
 none_outcome [] = seen_outcome IsNumberOrName (IsPrimary 1) 0 (λ ts x rest d. inl d) [] (number_or_name_at []) (number_or_name_at []) (number_or_name_outcome 0 [])
@@ -134,8 +123,12 @@ none_outcome (t ∷ ts) = go (is_symbol OpenParenthesis t.kind) refl
     go false e = seen_outcome IsNumberOrName (IsPrimary 1) 0 (λ ts x rest d. inl d) (t ∷ ts) (number_or_name_at (t ∷ ts)) (number_or_name_at (t ∷ ts)) (number_or_name_outcome 0 (t ∷ ts))
 
 primary_outcome : (n : ℕ) (ts : List Lexeme) → Outcome (IsPrimary (suc n)) n ts (primary_at n ts) (primary_at (suc n) ts)
+unfolding primary_at
 primary_outcome zero ts = none_outcome ts
-primary_outcome (suc n) ts = more_outcome n (primary_outcome n) ts
+primary_outcome (suc n) ts =
+    either_outcome (Within OpenParenthesis CloseParenthesis (IsSum (suc n))) IsNumberOrName (IsPrimary (suc (suc n))) (suc n) (λ ts x rest d. inr d) (λ ts x rest d. inl d) ts
+    (next_is (is_symbol OpenParenthesis) ts) (within_at OpenParenthesis CloseParenthesis (sum_over_at (primary_at n)) ts) (within_at OpenParenthesis CloseParenthesis (sum_over_at (primary_at (suc n))) ts)
+    (number_or_name_at ts) (number_or_name_at ts) (group_outcome n (primary_outcome n) ts) (number_or_name_outcome (suc n) ts)
 
 pub sum_outcome : (n : ℕ) (ts : List Lexeme) → Outcome (IsSum (suc n)) n ts (sum_at n ts) (sum_at (suc n) ts)
 unfolding sum_at

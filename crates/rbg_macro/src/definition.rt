@@ -99,16 +99,16 @@ fn parameter<'t>(
     Ok(tokens[1])
 }
 
-/// The parameters after a `(`, up to the `)` after the last one.
+/// The parameters after a `(`, up to the `)` after the last one, put into an empty set of names.
 fn parameter_list<'t, 's>(
-    alloc: Global,
+    mut names: IndexSet<&'t [u8]>,
     tokens: &'s [Token<'t>],
     end: usize,
 ) -> Result<Parameters<'t, 's>, MacroError>
+    requires { names.keys ≡ [] }
     ensures { Gives (λ x. (texts_in x.0.keys, map lexeme_of x.1.now)) result
         (parameter_list end [] (map lexeme_of tokens.now)) }
 {
-    let mut names = IndexSet::new(alloc);
     let mut at = 0;
     loop {
         let next = parameter(&mut names, &tokens[at..], end)?;
@@ -134,13 +134,14 @@ fn behind_name<'t, 's>(
     let Some((token, behind)) = tokens.split_first() else {
         return Err(MacroError::BadDefinition { at: end });
     };
+    let names = IndexSet::new(alloc);
     if token.kind.is(Symbol::Equals) {
-        return Ok((IndexSet::new(alloc), behind));
+        return Ok((names, behind));
     }
     if !token.kind.is(Symbol::OpenParenthesis) {
         return Err(MacroError::BadDefinition { at: token.at });
     }
-    let (names, behind) = parameter_list(alloc, behind, end)?;
+    let (names, behind) = parameter_list(names, behind, end)?;
     let body = expect_equals(behind, end)?;
     Ok((names, body))
 }

@@ -125,22 +125,12 @@ switch_made names left a at player n is outermost number =
 pub counts_one : (s : SpeltAction) → is_spelt_pattern s ≡ false → actions_of s ≡ 1
 counts_one (SpeltAction.positive at r) plain = cc
 counts_one (SpeltAction.negative at r) plain = cc
-counts_one (SpeltAction.shift n) plain = refl
-counts_one (SpeltAction.on ns) plain = refl
-counts_one (SpeltAction.off n) plain = refl
-counts_one (SpeltAction.assign n e) plain = refl
-counts_one (SpeltAction.compare e r f) plain = refl
-counts_one (SpeltAction.switch at player) plain = refl
+counts_one _ plain = refl
 
 nothing_inside : (a : Action) → shows_pattern a ≡ false → positions_inside (action_of a skip) ≡ []
-nothing_inside (Shift d) plain = refl
-nothing_inside (On pieces) plain = refl
-nothing_inside (Off x) plain = refl
-nothing_inside (Assign v e) plain = refl
-nothing_inside (Compare e r f) plain = refl
-nothing_inside (Switch n) plain = refl
 nothing_inside Positive plain = cc
 nothing_inside Negative plain = cc
+nothing_inside _ plain = refl
 
 pub action_fault : (names : Names) (left before : ℕ) (s : SpeltAction) (e : NumberingError) → HasActionFault names left s e → HasFaultFrom names left before (SpeltRule.act s) e
 action_fault names left before s _ (of_use uses (not_there h)) = from_use this uses h

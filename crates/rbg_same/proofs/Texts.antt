@@ -1,8 +1,9 @@
 -- Texts and keys that are compared.
-use Rattle.std.proofs.Common.{◌≡◌, ℕ, Bool, true, false, not, List, IsTrue, refl, sym, ap, ◌∙◌}
+use Rattle.std.proofs.Common.{◌≡◌, ℕ, Bool, true, false, not, List, IsTrue, Decides, refl, sym, ap, ◌∙◌}
 use Rattle.std.specs.Prelude.{bytes_eq}
 use Rattle.std.proofs.lemmas.Slice.Eq.{bytes_eq-Decides}
 use Rattle.rbg_rules.specs.Expression.{Expression}
+use Rattle.rbg_same.specs.declared.mark.Mark.{Mark}
 use Rattle.rbg_same.specs.internal.Marks.{rules_key}
 use Rattle.rbg_same.proofs.Keys.{same_key}
 
@@ -15,8 +16,8 @@ pub same_text : (a b : List ℕ) → false ≡ not (bytes_eq a b) → a ≡ b
 same_text a b test = (bytes_eq-Decides a b).0 (not_false (bytes_eq a b) test)
 
 -- rules are the same exactly where their keys are
-pub alike : (x y : Expression) (a b : List ℕ) (t : Bool) → t ≡ bytes_eq a b → a ≡ rules_key x → b ≡ rules_key y → (IsTrue t → x ≡ y) × (x ≡ y → IsTrue t)
+pub alike : (x y : Expression) (a b : List Mark) (t : Bool) → Decides t (a ≡ b) → a ≡ rules_key x → b ≡ rules_key y → (IsTrue t → x ≡ y) × (x ≡ y → IsTrue t)
 alike x y a b t test a_is b_is = (
-  λ h. same_key x y (sym a_is ∙ ((bytes_eq-Decides a b).0 (sym test ∙ h) ∙ b_is)),
-  λ e. test ∙ (bytes_eq-Decides a b).1 (a_is ∙ (ap rules_key e ∙ sym b_is)),
+  λ h. same_key x y (sym a_is ∙ (test.0 h ∙ b_is)),
+  λ e. test.1 (a_is ∙ (ap rules_key e ∙ sym b_is)),
 )

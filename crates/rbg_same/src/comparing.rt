@@ -5,6 +5,7 @@ ghost use Rattle.rbg_same.specs.Same.{IsNarrow, game_with};
 ghost use Rattle.rbg_same.specs.internal.Marks.{rules_key};
 
 use crate::board::is_board_with;
+use crate::mark::Mark;
 use crate::names::same_names;
 use crate::rules::put_rule;
 use rbg_base::{Memory, Piece};
@@ -35,7 +36,7 @@ fn same_rules(alloc: Global, old: &Rules, new: &Rules) -> Result<bool, Memory>
     Ok(old.as_slice() == new.as_slice())
 }
 
-fn key_of(alloc: Global, rules: &Rules) -> Result<Vec<u64>, Memory>
+fn key_of(alloc: Global, rules: &Rules) -> Result<Vec<Mark>, Memory>
     ensures { IfOk result (λ key. key.items ≡ rules_key (rules_of rules.now)) }
 {
     let mut key = Vec::new(alloc);

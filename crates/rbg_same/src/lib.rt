@@ -3,7 +3,7 @@
 
 mod board;
 mod comparing;
-mod kind;
+mod mark;
 mod names;
 mod rules;
 mod writing;

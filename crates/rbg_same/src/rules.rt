@@ -1,11 +1,12 @@
 //! The key of the rules of a game.
-ghost use Rattle.std.specs.Prelude.{◌≡◌, ℕ, List, ◌++◌, IfNone, IfSome, OnOk, Some, None, fold, map};
-ghost use Rattle.rbg_rules.specs.Expression.{Expression, choice, fail, sequence};
+ghost use Rattle.std.specs.Prelude.{◌≡◌, ℕ, List, [], ◌∷◌, ◌++◌, IfNone, IfSome, OnOk, Some, None, fold, map};
+ghost use Rattle.rbg_rules.specs.Expression.{Expression, fail};
 ghost use Rattle.rbg_rules.specs.Translation.{act_of, action_at, expression_of, pattern_of};
-ghost use Rattle.rbg_same.specs.declared.kind.Kind.TheVariants.{Act as ActMark};
-ghost use Rattle.rbg_same.specs.internal.Marks.{mark, rules_key};
+ghost use Rattle.rbg_same.specs.declared.mark.Mark.{Mark};
+ghost use Rattle.rbg_same.specs.declared.mark.Mark.TheVariants.{Act as ActMark};
+ghost use Rattle.rbg_same.specs.internal.Marks.{Marks, rules_key};
 
-use crate::kind::{Kind, put};
+use crate::mark::{Mark, put};
 use crate::writing::put_action;
 use rbg_base::{Memory, Position};
 use rbg_rules::{Action, Rule};
@@ -13,7 +14,7 @@ use rbg_rules::{Action, Rule};
 /// Appends the key of rules.
 #[cycle(rules)]
 #[tactic(auto, using(rbg_rules::proofs::Bridge::translation))]
-pub(crate) fn put_rule(rule: &Rule, actions: &[Action], key: &mut Vec<u64>) -> Result<(), Memory>
+pub(crate) fn put_rule(rule: &Rule, actions: &[Action], key: &mut Vec<Mark>) -> Result<(), Memory>
     ensures { OnOk result (key.new.items
         ≡ key.old.items ++ rules_key (expression_of actions.now rule.now)) }
 {
@@ -24,82 +25,74 @@ pub(crate) fn put_rule(rule: &Rule, actions: &[Action], key: &mut Vec<u64>) -> R
                 put_rule(inside, actions, key)?;
                 put_pattern(kind, *position, key)
             }
-            None => put(Kind::Fail, 0, key),
+            None => put(Mark::Fail, key),
         },
         Rule::Then(parts) => {
-            put(Kind::Skip, 0, key)?;
-            put_sequence(parts, actions, key)
+            put(Mark::Skip, key)?;
+            put_parts(parts, Mark::Then, actions, key)
         }
         Rule::Or(parts) => {
-            put(Kind::Fail, 0, key)?;
-            put_choice(parts, actions, key)
+            put(Mark::Fail, key)?;
+            put_parts(parts, Mark::Or, actions, key)
         }
         Rule::Star(part) => {
             put_rule(part, actions, key)?;
-            put(Kind::Star, 0, key)
+            put(Mark::Star, key)
         }
     }
 }
 
-/// Goes on behind the key of what stands before the parts of a sequence.
+/// Goes on behind the key of what stands before the parts. The mark is that of what joins two of them.
 #[cycle(rules)]
-fn put_sequence(parts: &[Rule], actions: &[Action], key: &mut Vec<u64>) -> Result<(), Memory>
-    ensures { OnOk result ((before : List ℕ) (first : Expression)
+fn put_parts(
+    parts: &[Rule],
+    mark: Mark,
+    actions: &[Action],
+    key: &mut Vec<Mark>,
+) -> Result<(), Memory>
+    ensures { OnOk result ((before : List Mark) (first : Expression) (join : Expression
+        → Expression → Expression)
+        → Marks mark join
         → key.old.items ≡ before ++ rules_key first
         → key.new.items
-        ≡ before ++ rules_key (fold sequence first (map (expression_of actions.now) parts.now))) }
+        ≡ before ++ rules_key (fold join first (map (expression_of actions.now) parts.now))) }
 {
     for part in parts {
         put_rule(part, actions, key)?;
-        put(Kind::Then, 0, key)?;
-    }
-    Ok(())
-}
-
-/// Goes on behind the key of what stands before the parts of a sum.
-#[cycle(rules)]
-fn put_choice(parts: &[Rule], actions: &[Action], key: &mut Vec<u64>) -> Result<(), Memory>
-    ensures { OnOk result ((before : List ℕ) (first : Expression)
-        → key.old.items ≡ before ++ rules_key first
-        → key.new.items
-        ≡ before ++ rules_key (fold choice first (map (expression_of actions.now) parts.now))) }
-{
-    for part in parts {
-        put_rule(part, actions, key)?;
-        put(Kind::Or, 0, key)?;
+        put(mark, key)?;
     }
     Ok(())
 }
 
 /// Appends the key of the action at a position outside a pattern's.
-fn put_act(position: Position, actions: &[Action], key: &mut Vec<u64>) -> Result<(), Memory>
+fn put_act(position: Position, actions: &[Action], key: &mut Vec<Mark>) -> Result<(), Memory>
     ensures { OnOk result (key.new.items
         ≡ key.old.items ++ rules_key (act_of position (action_at actions.now position))) }
 {
     match find_action(position, actions) {
         Some(action) => put_known(position, action, key),
-        None => put(Kind::Fail, 0, key),
+        None => put(Mark::Fail, key),
     }
 }
 
-fn put_known(position: Position, action: &Action, key: &mut Vec<u64>) -> Result<(), Memory>
+fn put_known(position: Position, action: &Action, key: &mut Vec<Mark>) -> Result<(), Memory>
     ensures { OnOk result (key.new.items
         ≡ key.old.items ++ rules_key (act_of position (Some action.now))) }
 {
     if action.is_pattern() {
-        put(Kind::Fail, 0, key)
+        put(Mark::Fail, key)
     } else {
         put_action(action, key)?;
-        put(Kind::Act, u64::from(position), key)
+        put(Mark::Act(position), key)
     }
 }
 
 /// Appends what stands behind the key of a pattern's inside.
-fn put_pattern(kind: Kind, position: Position, key: &mut Vec<u64>) -> Result<(), Memory>
-    ensures { OnOk result (key.new.items ≡ key.old.items ++ mark kind 0 ++ mark ActMark position) }
+fn put_pattern(kind: Mark, position: Position, key: &mut Vec<Mark>) -> Result<(), Memory>
+    ensures { OnOk result (key.new.items ≡ key.old.items ++ (kind ∷ []) ++ (ActMark position ∷ [])) }
 {
-    put(kind, 0, key)?;
-    put(Kind::Act, u64::from(position), key)
+    put(kind, key)?;
+    put(Mark::Act(position), key)
 }
 
 /// The action at a position of the table, which begins at position 1.
@@ -115,10 +108,10 @@ fn find_action(position: Position, actions: &[Action]) -> Option<&Action>
 }
 
 /// The kind of the pattern at a position, if one stands there.
-fn pattern_at(position: Position, actions: &[Action]) -> Option<Kind>
+fn pattern_at(position: Position, actions: &[Action]) -> Option<Mark>
     ensures found { IfSome result (λ kind. (x : Expression)
         → rules_key (pattern_of position (action_at actions.now position) x)
-        ≡ rules_key x ++ mark kind 0 ++ mark ActMark position) }
+        ≡ rules_key x ++ (kind ∷ []) ++ (ActMark position ∷ [])) }
     ensures none { IfNone result ((x : Expression)
         → pattern_of position (action_at actions.now position) x ≡ fail) }
 {
@@ -129,16 +122,16 @@ fn pattern_at(position: Position, actions: &[Action]) -> Option<Kind>
 }
 
 /// The kind of a pattern, if the action is one.
-fn pattern_kind(action: &Action) -> Option<Kind>
+fn pattern_kind(action: &Action) -> Option<Mark>
     ensures found { IfSome result (λ kind. (position : ℕ) (x : Expression)
         → rules_key (pattern_of position (Some action.now) x)
-        ≡ rules_key x ++ mark kind 0 ++ mark ActMark position) }
+        ≡ rules_key x ++ (kind ∷ []) ++ (ActMark position ∷ [])) }
     ensures none { IfNone result ((position : ℕ) (x : Expression)
         → pattern_of position (Some action.now) x ≡ fail) }
 {
     match action {
-        Action::Positive => Some(Kind::Positive),
-        Action::Negative => Some(Kind::Negative),
+        Action::Positive => Some(Mark::Positive),
+        Action::Negative => Some(Mark::Negative),
         Action::Shift { .. } => None,
         Action::On { .. } => None,
         Action::Off { .. } => None,

@@ -6,10 +6,14 @@ use Rattle.rbg_tokens.specs.declared.token.Symbol.TheVariants.{Plus, OpenParenth
 use Rattle.rbg_tokens.specs.declared.token.TokenKind.{TokenKind}
 use Rattle.rbg_grammar.specs.declared.expression.Rank.{Rank}
 use Rattle.rbg_grammar.specs.Tree.{SpeltExpression, SpeltOperand, SpeltRule, first_of, in_chain, act, positive, negative, sequence_of}
-use Rattle.rbg_grammar.specs.Reading.{Fault, misfit, too_deep, Reading, ◌>>=◌, next_is, symbol_at, repeated_at, after_at, separated_at, within_at, further_at, in_sequence, open_atom_at}
+use Rattle.rbg_grammar.specs.Reading.{Fault, misfit, too_deep, Reading, TakesSome, ◌>>=◌, next_is, symbol_at, repeated_at, after_at, separated_at, within_at, further_at, in_sequence, open_atom_at}
 use Rattle.rbg_tokens.specs.Kinds.{opens, is_symbol}
 use Rattle.rbg_grammar.specs.RuleReading.{too_deep_at, chain_at, further_operand_at, in_choice, is_operator, number_or_name_at, primary_at, sum_at, atom_at, begins_atom, bracket_atom_at, item_at, sequence_at, rules_over_at, rules_at, pattern_at, positive_at, negative_at}
-use Rattle.rbg_grammar.proofs.Turns.{repeated_ends}
+use Rattle.rbg_grammar.proofs.PhraseLaws.{item_takes_some, sequence_takes_some}
+use Rattle.rbg_grammar.proofs.Turns.{after_some, repeated_ends}
+use Rattle.rbg_syntax.specs.declared.rules.Level.{Level}
+use Rattle.rbg_syntax.specs.declared.rules.Level.TheVariants.{Sum, Sequence}
+use Rattle.rbg_syntax.specs.internal.Levels.{further_part_at, goes_on, joined, list_at, part_at}
 
 further_stops : {X : Type 0} (x : X) (test : TokenKind → Bool) (read : List Lexeme → Reading X) (ts : List Lexeme) → next_is test ts ≡ false → further_at x test read ts ≡ Ok (x ∷ [], ts)
 unfolding further_at
@@ -39,13 +43,13 @@ abbrev put_before : {X : Type 0} → X → List X × List Lexeme → Reading (Li
 put_before x m = Ok (x ∷ m.0, m.1)
 
 module _ {A X : Type 0} (first : A → X) (test : TokenKind → Bool) (read : List Lexeme → Reading X) (of : List X → A) (join : A → List X → A) (same : (x : A) (xs : List X) → join x xs ≡ of (first x ∷ xs)) where
-  joined : (x : A) (r : Reading (List X)) → ◌≡◌ {A = Reading A} (r >>= λ m. Ok (join x m.0, m.1)) ((r >>= put_before (first x)) >>= λ es. Ok (of es.0, es.1))
-  joined x (Ok m) = ap (λ y. Ok (y, m.1)) (same x m.0)
-  joined x (Err f) = refl
+  in_list : (x : A) (r : Reading (List X)) → ◌≡◌ {A = Reading A} (r >>= λ m. Ok (join x m.0, m.1)) ((r >>= put_before (first x)) >>= λ es. Ok (of es.0, es.1))
+  in_list x (Ok m) = ap (λ y. Ok (y, m.1)) (same x m.0)
+  in_list x (Err f) = refl
 
   in_parts : (r : Reading A) → ◌≡◌ {A = Reading A} (r >>= λ e. repeated_at test read e.1 >>= λ m. Ok (join e.0 m.0, m.1)) (r >>= λ e. further_at (first e.0) test read e.1 >>= λ es. Ok (of es.0, es.1))
   unfolding further_at
-  in_parts (Ok e) = joined e.0 (repeated_at test read e.1)
+  in_parts (Ok e) = in_list e.0 (repeated_at test read e.1)
   in_parts (Err f) = refl
 
 pub chain_parts : (rank : Rank) (operand : List Lexeme → Reading SpeltExpression) (ts : List Lexeme)
@@ -85,29 +89,32 @@ module _ (rank : Rank) (operand : List Lexeme → Reading SpeltExpression) (ts :
       → further_at (first_of rank, x) (is_operator rank) (further_operand_at rank operand) rest ≡ Err f → chain_at rank operand ts ≡ Err f
   chain_more_fail = parts_more_fail (chain_at rank operand ts) (operand ts) (λ (x : SpeltExpression). (first_of rank, x)) (is_operator rank) (further_operand_at rank operand) in_chain (chain_parts rank operand ts) (λ x. refl)
 
-pub sequence_fail : (n : ℕ) (ts : List Lexeme) (f : Fault) → item_at (atom_at n) ts ≡ Err f → sequence_at (atom_at n) ts ≡ Err f
-sequence_fail n ts = parts_fail (sequence_at (atom_at n) ts) (item_at (atom_at n) ts) (λ (x : SpeltRule). x) begins_atom (item_at (atom_at n)) in_sequence (sequence_parts n ts) (λ x. refl)
+pub list_parts : (level : Level) (n : ℕ) (ts : List Lexeme)
+    → list_at level n ts ≡ (part_at level n ts >>= λ e. further_at e.0 (goes_on level) (further_part_at level n) e.1 >>= λ es. Ok (joined level es.0, es.1))
+list_parts Sum = rules_parts
+list_parts Sequence = sequence_parts
 
-pub sequence_alone : (n : ℕ) (ts : List Lexeme) (x : SpeltRule) (rest : List Lexeme) → item_at (atom_at n) ts ≡ Ok (x, rest) → next_is begins_atom rest ≡ false → sequence_at (atom_at n) ts ≡ Ok (x, rest)
-sequence_alone n ts = parts_alone (sequence_at (atom_at n) ts) (item_at (atom_at n) ts) (λ (x : SpeltRule). x) begins_atom (item_at (atom_at n)) in_sequence (sequence_parts n ts) (λ x. refl)
+joined_one : (level : Level) (x : SpeltRule) → joined level (x ∷ []) ≡ x
+joined_one Sum x = refl
+joined_one Sequence x = refl
 
-pub sequence_more : (n : ℕ) (ts : List Lexeme) (x : SpeltRule) (rest : List Lexeme) (es : List (SpeltRule)) (last : List Lexeme) → item_at (atom_at n) ts ≡ Ok (x, rest) → further_at x begins_atom (item_at (atom_at n)) rest ≡ Ok (es, last) → sequence_at (atom_at n) ts ≡ Ok (in_sequence es, last)
-sequence_more n ts = parts_more (sequence_at (atom_at n) ts) (item_at (atom_at n) ts) (λ (x : SpeltRule). x) begins_atom (item_at (atom_at n)) in_sequence (sequence_parts n ts) (λ x. refl)
+pub further_part_takes_some : (level : Level) (n : ℕ) → TakesSome (further_part_at level n)
+further_part_takes_some Sum n = after_some (sequence_at (atom_at n)) (sequence_takes_some n) Plus
+further_part_takes_some Sequence n = item_takes_some n
 
-pub sequence_more_fail : (n : ℕ) (ts : List Lexeme) (x : SpeltRule) (rest : List Lexeme) (f : Fault) → item_at (atom_at n) ts ≡ Ok (x, rest) → further_at x begins_atom (item_at (atom_at n)) rest ≡ Err f → sequence_at (atom_at n) ts ≡ Err f
-sequence_more_fail n ts = parts_more_fail (sequence_at (atom_at n) ts) (item_at (atom_at n) ts) (λ (x : SpeltRule). x) begins_atom (item_at (atom_at n)) in_sequence (sequence_parts n ts) (λ x. refl)
+module _ (level : Level) (n : ℕ) (ts : List Lexeme) where
+  pub list_fail : (f : Fault) → part_at level n ts ≡ Err f → list_at level n ts ≡ Err f
+  list_fail = parts_fail (list_at level n ts) (part_at level n ts) (λ (x : SpeltRule). x) (goes_on level) (further_part_at level n) (joined level) (list_parts level n ts) (joined_one level)
 
-pub rules_fail : (n : ℕ) (ts : List Lexeme) (f : Fault) → sequence_at (atom_at n) ts ≡ Err f → rules_at n ts ≡ Err f
-rules_fail n ts = parts_fail (rules_at n ts) (sequence_at (atom_at n) ts) (λ (x : SpeltRule). x) (is_symbol Plus) (after_at Plus (sequence_at (atom_at n))) in_choice (rules_parts n ts) (λ x. refl)
+  pub list_alone : (x : SpeltRule) (rest : List Lexeme) → part_at level n ts ≡ Ok (x, rest) → next_is (goes_on level) rest ≡ false → list_at level n ts ≡ Ok (x, rest)
+  list_alone = parts_alone (list_at level n ts) (part_at level n ts) (λ (x : SpeltRule). x) (goes_on level) (further_part_at level n) (joined level) (list_parts level n ts) (joined_one level)
 
-pub rules_alone : (n : ℕ) (ts : List Lexeme) (x : SpeltRule) (rest : List Lexeme) → sequence_at (atom_at n) ts ≡ Ok (x, rest) → next_is (is_symbol Plus) rest ≡ false → rules_at n ts ≡ Ok (x, rest)
-rules_alone n ts = parts_alone (rules_at n ts) (sequence_at (atom_at n) ts) (λ (x : SpeltRule). x) (is_symbol Plus) (after_at Plus (sequence_at (atom_at n))) in_choice (rules_parts n ts) (λ x. refl)
+  pub list_more : (x : SpeltRule) (rest : List Lexeme) (es : List SpeltRule) (last : List Lexeme) → part_at level n ts ≡ Ok (x, rest)
+      → further_at x (goes_on level) (further_part_at level n) rest ≡ Ok (es, last) → list_at level n ts ≡ Ok (joined level es, last)
+  list_more = parts_more (list_at level n ts) (part_at level n ts) (λ (x : SpeltRule). x) (goes_on level) (further_part_at level n) (joined level) (list_parts level n ts) (joined_one level)
 
-pub rules_more : (n : ℕ) (ts : List Lexeme) (x : SpeltRule) (rest : List Lexeme) (es : List (SpeltRule)) (last : List Lexeme) → sequence_at (atom_at n) ts ≡ Ok (x, rest) → further_at x (is_symbol Plus) (after_at Plus (sequence_at (atom_at n))) rest ≡ Ok (es, last) → rules_at n ts ≡ Ok (in_choice es, last)
-rules_more n ts = parts_more (rules_at n ts) (sequence_at (atom_at n) ts) (λ (x : SpeltRule). x) (is_symbol Plus) (after_at Plus (sequence_at (atom_at n))) in_choice (rules_parts n ts) (λ x. refl)
-
-pub rules_more_fail : (n : ℕ) (ts : List Lexeme) (x : SpeltRule) (rest : List Lexeme) (f : Fault) → sequence_at (atom_at n) ts ≡ Ok (x, rest) → further_at x (is_symbol Plus) (after_at Plus (sequence_at (atom_at n))) rest ≡ Err f → rules_at n ts ≡ Err f
-rules_more_fail n ts = parts_more_fail (rules_at n ts) (sequence_at (atom_at n) ts) (λ (x : SpeltRule). x) (is_symbol Plus) (after_at Plus (sequence_at (atom_at n))) in_choice (rules_parts n ts) (λ x. refl)
+  pub list_more_fail : (x : SpeltRule) (rest : List Lexeme) (f : Fault) → part_at level n ts ≡ Ok (x, rest) → further_at x (goes_on level) (further_part_at level n) rest ≡ Err f → list_at level n ts ≡ Err f
+  list_more_fail = parts_more_fail (list_at level n ts) (part_at level n ts) (λ (x : SpeltRule). x) (goes_on level) (further_part_at level n) (joined level) (list_parts level n ts) (joined_one level)
 
 -- a pattern, by its rules
 pub positive_pattern : (rules' : List Lexeme → Reading SpeltRule) (ts : List Lexeme) → positive_at rules' ts ≡ (pattern_at Question rules' ts >>= λ p. Ok (act (positive p.0.0 p.0.1), p.1))

@@ -10,6 +10,7 @@ ghost use Rattle.rbg_grammar.specs.Views.{expression_of, operand_of};
 
 use crate::error::{Expectation, Reading};
 use crate::parser::Parser;
+use crate::sequences::only;
 use rbg_grammar::{Expression, Operand, Operator, Rank};
 use rbg_tokens::{Symbol, TokenKind};
 use std::alloc::Global;
@@ -188,14 +189,11 @@ fn first_of(rank: Rank) -> Operator
 
 /// The operands of a sum or a product as one expression. One operand is that operand.
 #[tactic(auto, using(rbg_grammar::proofs::Trees::chains))]
-fn in_chain(mut operands: Vec<Operand<'_>>) -> Expression<'_>
+fn in_chain(operands: Vec<Operand<'_>>) -> Expression<'_>
     ensures { expression_of result ≡ in_chain (map operand_of operands.entry.items) }
 {
-    if operands.len() != 1 {
-        return Expression::Chain(operands);
-    }
-    match operands.pop() {
-        Some(only) => only.value,
-        None => unreachable!(),
+    match only(operands) {
+        Ok(operand) => operand.value,
+        Err(operands) => Expression::Chain(operands),
     }
 }

@@ -1,5 +1,5 @@
 //! The readers of boards.
-ghost use Rattle.std.specs.Prelude.{codes};
+ghost use Rattle.rbg_syntax.specs.internal.Generators.{contents_at};
 ghost use Rattle.rbg_syntax.specs.internal.Giving.{Gives};
 ghost use Rattle.rbg_grammar.specs.Reading.{board_at, direction_at, generated_at, graph_at, hexagon_at, next_word, rectangle_at};
 ghost use Rattle.rbg_grammar.specs.Views.{board_of, name_of};
@@ -10,6 +10,14 @@ use rbg_grammar::{Board, HexagonDirections, Name, RectangleDirections};
 use rbg_tokens::Symbol;
 use std::alloc::Global;
 
+/// What makes a board of its contents.
+#[derive(Clone, Copy)]
+pub(crate) enum Generator {
+    Rectangle,
+    Hexagon,
+    Graph,
+}
+
 impl<'a> Parser<'a> {
     /// A board, by the name of its generator.
     #[tactic(auto, unfolding(rbg_grammar::specs::Reading::board_at))]
@@ -17,65 +25,50 @@ impl<'a> Parser<'a> {
         ensures { Gives (λ b. (board_of b, self.new)) result (board_at self.old) }
     {
         if self.next_is_word(b"rectangle") {
-            return self.rectangle_board(alloc);
+            return self.generated(alloc, Generator::Rectangle, b"rectangle");
         }
         if self.next_is_word(b"hexagon") {
-            return self.hexagon_board(alloc);
+            return self.generated(alloc, Generator::Hexagon, b"hexagon");
         }
-        self.graph_board(alloc)
+        self.generated(alloc, Generator::Graph, b"graph")
     }
 
+    /// The board that a generator makes of what stands in the parentheses behind its name.
     #[tactic(auto, unfolding(rbg_grammar::specs::Reading::generated_at, rbg_grammar::specs::Reading::within_at))]
-    fn rectangle_board(&mut self, alloc: Global) -> Reading<Board<'a>>
-        ensures { Gives (λ b.
-            (board_of b, self.new)) result (generated_at (codes "rectangle") rectangle_at
-            self.old) }
+    fn generated(&mut self, alloc: Global, generator: Generator, name: &[u8]) -> Reading<Board<'a>>
+        ensures { Gives (λ b. (board_of b, self.new)) result
+            (generated_at name.now (contents_at generator) self.old) }
     {
-        self.word(b"rectangle", Expectation::Generator)?;
+        self.word(name, Expectation::Generator)?;
         self.symbol(Symbol::OpenParenthesis, Expectation::Opening)?;
-        let board = self.rectangle(alloc)?;
+        let board = self.contents(alloc, generator)?;
         self.symbol(Symbol::CloseParenthesis, Expectation::Closing)?;
         Ok(board)
     }
 
-    #[tactic(auto, unfolding(rbg_grammar::specs::Reading::generated_at, rbg_grammar::specs::Reading::within_at))]
-    fn hexagon_board(&mut self, alloc: Global) -> Reading<Board<'a>>
-        ensures { Gives (λ b.
-            (board_of b, self.new)) result (generated_at (codes "hexagon") hexagon_at self.old) }
+    fn contents(&mut self, alloc: Global, generator: Generator) -> Reading<Board<'a>>
+        ensures { Gives (λ b. (board_of b, self.new)) result (contents_at generator self.old) }
     {
-        self.word(b"hexagon", Expectation::Generator)?;
-        self.symbol(Symbol::OpenParenthesis, Expectation::Opening)?;
-        let board = self.hexagon(alloc)?;
-        self.symbol(Symbol::CloseParenthesis, Expectation::Closing)?;
-        Ok(board)
-    }
-
-    #[tactic(auto, unfolding(rbg_grammar::specs::Reading::generated_at, rbg_grammar::specs::Reading::within_at))]
-    fn graph_board(&mut self, alloc: Global) -> Reading<Board<'a>>
-        ensures { Gives (λ b.
-            (board_of b, self.new)) result (generated_at (codes "graph") graph_at self.old) }
-    {
-        self.word(b"graph", Expectation::Generator)?;
-        self.symbol(Symbol::OpenParenthesis, Expectation::Opening)?;
-        let board = self.graph(alloc)?;
-        self.symbol(Symbol::CloseParenthesis, Expectation::Closing)?;
-        Ok(board)
+        match generator {
+            Generator::Rectangle => self.rectangle(alloc),
+            Generator::Hexagon => self.hexagon(alloc),
+            Generator::Graph => self.graph(alloc),
+        }
     }
 
     #[tactic(auto, using(rbg_grammar::proofs::PhraseLaws::row_takes_some), unfolding(rbg_grammar::specs::Reading::rectangle_at, rbg_grammar::specs::Reading::rows_at))]
     fn rectangle(&mut self, alloc: Global) -> Reading<Board<'a>>
         ensures { Gives (λ b. (board_of b, self.new)) result (rectangle_at self.old) }
     {
-        let up = self.direction()?;
-        let down = self.direction()?;
-        let left = self.direction()?;
-        let right = self.direction()?;
-        let rows = self.repeated(alloc)?;
+        let names = [
+            self.direction()?,
+            self.direction()?,
+            self.direction()?,
+            self.direction()?,
+        ];
         Ok(Board::Rectangle {
-            directions: RectangleDirections {
-                names: [up, down, left, right],
-            },
-            rows,
+            directions: RectangleDirections { names },
+            rows: self.repeated(alloc)?,
         })
     }
 
@@ -83,18 +76,17 @@ impl<'a> Parser<'a> {
     fn hexagon(&mut self, alloc: Global) -> Reading<Board<'a>>
         ensures { Gives (λ b. (board_of b, self.new)) result (hexagon_at self.old) }
     {
-        let north_west = self.direction()?;
-        let north_east = self.direction()?;
-        let east = self.direction()?;
-        let south_east = self.direction()?;
-        let south_west = self.direction()?;
-        let west = self.direction()?;
-        let rows = self.repeated(alloc)?;
+        let names = [
+            self.direction()?,
+            self.direction()?,
+            self.direction()?,
+            self.direction()?,
+            self.direction()?,
+            self.direction()?,
+        ];
         Ok(Board::Hexagon {
-            directions: HexagonDirections {
-                names: [north_west, north_east, east, south_east, south_west, west],
-            },
-            rows,
+            directions: HexagonDirections { names },
+            rows: self.repeated(alloc)?,
         })
     }
 

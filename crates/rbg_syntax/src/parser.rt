@@ -4,7 +4,8 @@ ghost use Rattle.rbg_base.specs.Names.{is_name as is_a_name};
 ghost use Rattle.rbg_tokens.specs.Token.{Lexeme, lexeme_of};
 ghost use Rattle.rbg_tokens.specs.Kinds.{is_name_kind, is_number_kind, is_symbol};
 ghost use Rattle.rbg_syntax.specs.internal.Giving.{FailsWithin, Gives};
-ghost use Rattle.rbg_grammar.specs.Reading.{Takes, ended_at, front_at, next_is, next_word, name_at, number_at, place_of, symbol_at, word_at};
+ghost use Rattle.rbg_syntax.specs.internal.Kinds.{is_kind};
+ghost use Rattle.rbg_grammar.specs.Reading.{Takes, ended_at, front_at, next_is, next_word, name_at, number_at, place_of, symbol_at, token_at, word_at};
 ghost use Rattle.rbg_syntax.specs.declared.error.ReadError.TheVariants as errors;
 ghost use Rattle.rbg_grammar.specs.RuleReading.{too_deep_at};
 ghost use Rattle.rbg_grammar.specs.Views.{name_of, number_of};
@@ -192,19 +193,26 @@ impl<'a> Parser<'a> {
         }
     }
 
+    /// Passes a token of this kind.
+    fn token(&mut self, kind: TokenKind, what: Expectation) -> Reading<Token<'a>>
+        ensures token { Gives (λ t. (lexeme_of t, self.new)) result (token_at (is_kind kind)
+            self.old) }
+        ensures name { IfOk result (λ t. kind ≡ TokenKind.Name → IsTrue (is_a_name t.text.now)) }
+    {
+        let token = self.front(what)?;
+        if !is_kind(kind, token.kind) {
+            return Err(self.misfit(what));
+        }
+        self.advance();
+        Ok(token)
+    }
+
     /// Passes the symbol, and returns its offset.
     #[tactic(auto, unfolding(rbg_grammar::specs::Reading::symbol_at))]
     pub(crate) fn symbol(&mut self, symbol: Symbol, what: Expectation) -> Reading<usize>
         ensures { Gives (λ at. (at, self.new)) result (symbol_at symbol self.old) }
     {
-        let token = self.front(what)?;
-        if !token.is(symbol) {
-            return Err(ReadError::Misfit {
-                at: Some(token.at),
-                what,
-            });
-        }
-        self.advance();
+        let token = self.token(TokenKind::Symbol(symbol), what)?;
         Ok(token.at)
     }
 
@@ -213,14 +221,7 @@ impl<'a> Parser<'a> {
     pub(crate) fn name(&mut self) -> Reading<Name<'a>>
         ensures { Gives (λ n. (name_of n, self.new)) result (name_at self.old) }
     {
-        let token = self.front(Expectation::Name)?;
-        if token.kind != TokenKind::Name {
-            return Err(ReadError::Misfit {
-                at: Some(token.at),
-                what: Expectation::Name,
-            });
-        }
-        self.advance();
+        let token = self.token(TokenKind::Name, Expectation::Name)?;
         Ok(Name {
             text: token.text,
             at: token.at,
@@ -232,14 +233,13 @@ impl<'a> Parser<'a> {
     pub(crate) fn word(&mut self, text: &[u8], what: Expectation) -> Reading<usize>
         ensures { Gives (λ at. (at, self.new)) result (word_at text.now self.old) }
     {
-        let token = self.front(what)?;
-        if token.kind != TokenKind::Name || token.text != text {
+        let token = self.token(TokenKind::Name, what)?;
+        if token.text != text {
             return Err(ReadError::Misfit {
                 at: Some(token.at),
                 what,
             });
         }
-        self.advance();
         Ok(token.at)
     }
 
@@ -248,17 +248,21 @@ impl<'a> Parser<'a> {
     pub(crate) fn number(&mut self) -> Reading<Number>
         ensures { Gives (λ n. (number_of n, self.new)) result (number_at self.old) }
     {
-        let token = self.front(Expectation::Number)?;
-        if token.kind != TokenKind::Number {
-            return Err(ReadError::Misfit {
-                at: Some(token.at),
-                what: Expectation::Number,
-            });
-        }
-        self.advance();
+        let token = self.token(TokenKind::Number, Expectation::Number)?;
         Ok(Number {
             value: number_of_digits(token.text),
             at: token.at,
         })
+    }
+}
+
+/// Whether a kind is this one.
+fn is_kind(kind: TokenKind, own: TokenKind) -> bool
+    ensures { result ≡ is_kind kind own }
+{
+    match kind {
+        TokenKind::Name => own == TokenKind::Name,
+        TokenKind::Number => own == TokenKind::Number,
+        TokenKind::Symbol(symbol) => own.is(symbol),
     }
 }

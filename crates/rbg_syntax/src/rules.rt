@@ -1,19 +1,26 @@
 //! The readers of rules. Each takes how many further brackets may be open at once, so a call is never nested deeper
 //! than that.
 ghost use Rattle.std.specs.Prelude.{◌≡◌, map};
-ghost use Rattle.rbg_tokens.specs.declared.token.Symbol.TheVariants as symbols;
 ghost use Rattle.rbg_syntax.specs.internal.Giving.{GivesWithin};
-ghost use Rattle.rbg_grammar.specs.Reading.{after_at, further_at, next_is};
-ghost use Rattle.rbg_tokens.specs.Kinds.{opens, is_symbol};
-ghost use Rattle.rbg_grammar.specs.RuleReading.{atom_at, begins_atom, bracket_atom_at, in_braces_at, in_choice, item_at, pattern_at, rules_at, sequence_at, sum_at};
+ghost use Rattle.rbg_syntax.specs.internal.Levels.{further_part_at, goes_on, joined, list_at, part_at};
+ghost use Rattle.rbg_grammar.specs.Reading.{further_at, next_is};
+ghost use Rattle.rbg_tokens.specs.Kinds.{opens};
+ghost use Rattle.rbg_grammar.specs.RuleReading.{atom_at, begins_atom, bracket_atom_at, in_braces_at, in_choice, item_at, pattern_at, rules_at, sum_at};
 ghost use Rattle.rbg_grammar.specs.Views.{rule_of};
 
 use crate::error::{Expectation, Reading};
 use crate::parser::Parser;
-use crate::sequences::in_sequence;
+use crate::sequences::{in_sequence, only};
 use rbg_grammar::{Action, Rule};
 use rbg_tokens::{Symbol, TokenKind};
 use std::alloc::Global;
+
+/// What rules are made of: sums of sequences, and sequences of items.
+#[derive(Clone, Copy)]
+pub(crate) enum Level {
+    Sum,
+    Sequence,
+}
 
 impl<'a> Parser<'a> {
     /// Rules.
@@ -21,66 +28,78 @@ impl<'a> Parser<'a> {
     pub(crate) fn rules(&mut self, alloc: Global, brackets: u8) -> Reading<Rule<'a>>
         ensures { GivesWithin (λ r. (rule_of r, self.new)) result (rules_at brackets self.old) }
     {
-        let first = self.sequence(alloc, brackets)?;
-        if !self.next_is(Symbol::Plus) {
-            return Ok(first);
-        }
-        let parts = self.further_sequences(alloc, first, brackets)?;
-        Ok(in_choice(parts))
+        self.list(alloc, Level::Sum, brackets)
     }
 
-    /// The sequences after a first one, and that one before them.
+    /// Rules, or a sequence.
     #[cycle(rules)]
-    fn further_sequences(
+    fn list(&mut self, alloc: Global, level: Level, brackets: u8) -> Reading<Rule<'a>>
+        ensures { GivesWithin (λ r. (rule_of r, self.new)) result (list_at level brackets self.old) }
+    {
+        let first = self.part(alloc, level, brackets)?;
+        if !self.goes_on(level) {
+            return Ok(first);
+        }
+        let parts = self.further(alloc, first, level, brackets)?;
+        Ok(joined(level, parts))
+    }
+
+    /// The parts after a first one, and that one before them.
+    #[cycle(rules)]
+    fn further(
         &mut self,
         alloc: Global,
         first: Rule<'a>,
+        level: Level,
         brackets: u8,
     ) -> Reading<Vec<Rule<'a>>>
-        ensures { GivesWithin (λ v.
-            (map rule_of v.items, self.new)) result (further_at (rule_of first.entry)
-            (is_symbol symbols.Plus) (after_at symbols.Plus (sequence_at (atom_at brackets)))
+        ensures { GivesWithin (λ v. (map rule_of v.items, self.new)) result
+            (further_at (rule_of first.entry) (goes_on level) (further_part_at level brackets)
             self.old) }
     {
         let mut parts = Vec::new(alloc);
         parts.push(first)?;
-        while self.takes(Symbol::Plus) {
-            parts.push(self.sequence(alloc, brackets)?)?;
+        while self.goes_on(level) {
+            parts.push(self.further_part(alloc, level, brackets)?)?;
         }
         Ok(parts)
     }
 
-    /// A sequence.
-    #[cycle(rules)]
-    fn sequence(&mut self, alloc: Global, brackets: u8) -> Reading<Rule<'a>>
-        ensures { GivesWithin (λ r.
-            (rule_of r, self.new)) result (sequence_at (atom_at brackets) self.old) }
+    /// Whether a further part follows.
+    fn goes_on(&self, level: Level) -> bool
+        ensures { result ≡ next_is (goes_on level) self.now }
     {
-        let first = self.item(alloc, brackets)?;
-        if !self.next_begins_atom() {
-            return Ok(first);
+        match level {
+            Level::Sum => self.next_is(Symbol::Plus),
+            Level::Sequence => self.next_begins_atom(),
         }
-        let parts = self.further_items(alloc, first, brackets)?;
-        Ok(in_sequence(parts))
     }
 
-    /// The items after a first one, and that one before them.
+    /// A part after a first one: in a sum with its `+`.
     #[cycle(rules)]
-    fn further_items(
-        &mut self,
-        alloc: Global,
-        first: Rule<'a>,
-        brackets: u8,
-    ) -> Reading<Vec<Rule<'a>>>
-        ensures { GivesWithin (λ v. (map rule_of v.items, self.new)) result
-            (further_at (rule_of first.entry) begins_atom (item_at (atom_at brackets)) self.old) }
+    #[tactic(auto, unfolding(rbg_grammar::specs::Reading::after_at))]
+    fn further_part(&mut self, alloc: Global, level: Level, brackets: u8) -> Reading<Rule<'a>>
+        ensures { GivesWithin (λ r. (rule_of r, self.new)) result
+            (further_part_at level brackets self.old) }
     {
-        let mut parts = Vec::new(alloc);
-        parts.push(first)?;
-        while self.next_begins_atom() {
-            parts.push(self.item(alloc, brackets)?)?;
+        match level {
+            Level::Sum => {
+                self.symbol(Symbol::Plus, Expectation::End)?;
+                self.part(alloc, Level::Sum, brackets)
+            }
+            Level::Sequence => self.part(alloc, Level::Sequence, brackets),
         }
-        Ok(parts)
+    }
+
+    /// A part: a sequence in a sum, and an item in a sequence.
+    #[cycle(rules)]
+    fn part(&mut self, alloc: Global, level: Level, brackets: u8) -> Reading<Rule<'a>>
+        ensures { GivesWithin (λ r. (rule_of r, self.new)) result (part_at level brackets self.old) }
+    {
+        match level {
+            Level::Sum => self.list(alloc, Level::Sequence, brackets),
+            Level::Sequence => self.item(alloc, brackets),
+        }
     }
 
     /// An atom, and the `*` after it where there is one.
@@ -206,16 +225,23 @@ fn begins_atom(kind: TokenKind) -> bool
     )
 }
 
+/// The parts as one rule.
+fn joined(level: Level, parts: Vec<Rule<'_>>) -> Rule<'_>
+    ensures { rule_of result ≡ joined level (map rule_of parts.entry.items) }
+{
+    match level {
+        Level::Sum => in_choice(parts),
+        Level::Sequence => in_sequence(parts),
+    }
+}
+
 /// The parts of a sum of rules as one rule. One part is that part.
 #[tactic(auto, using(rbg_grammar::proofs::Trees::choices))]
-fn in_choice(mut parts: Vec<Rule<'_>>) -> Rule<'_>
+fn in_choice(parts: Vec<Rule<'_>>) -> Rule<'_>
     ensures { rule_of result ≡ in_choice (map rule_of parts.entry.items) }
 {
-    if parts.len() != 1 {
-        return Rule::Or(parts);
-    }
-    match parts.pop() {
-        Some(only) => only,
-        None => unreachable!(),
+    match only(parts) {
+        Ok(part) => part,
+        Err(parts) => Rule::Or(parts),
     }
 }

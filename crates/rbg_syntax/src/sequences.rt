@@ -1,20 +1,32 @@
-//! Sequences of rules.
-ghost use Rattle.std.specs.Prelude.{◌≡◌, map};
+//! Lists of parts as one phrase: one part alone is that part.
+ghost use Rattle.std.specs.Prelude.{◌≡◌, [], ◌∷◌, IfErr, IfOk, map, vec_len};
 ghost use Rattle.rbg_grammar.specs.Reading.{in_sequence};
 ghost use Rattle.rbg_grammar.specs.Views.{rule_of};
 
 use rbg_grammar::Rule;
 
-/// The parts of a sequence as one rule. One part is that part.
-#[tactic(auto, using(rbg_grammar::proofs::Trees::sequences))]
-pub(crate) fn in_sequence(mut parts: Vec<Rule<'_>>) -> Rule<'_>
-    ensures { rule_of result ≡ in_sequence (map rule_of parts.entry.items) }
+/// The only part, or the parts where there isn't one alone.
+pub(crate) fn only<T: Drop>(mut parts: Vec<T>) -> Result<T, Vec<T>>
+    ensures one { IfOk result (λ part. parts.items ≡ part ∷ []) }
+    ensures several { IfErr result (λ all. vec_len all ≡ 1 → ⊥) }
+    ensures all { IfErr result (λ all. all ≡ parts) }
 {
     if parts.len() != 1 {
-        return Rule::Then(parts);
+        return Err(parts);
     }
     match parts.pop() {
-        Some(only) => only,
+        Some(part) => Ok(part),
         None => unreachable!(),
+    }
+}
+
+/// The parts of a sequence as one rule. One part is that part.
+#[tactic(auto, using(rbg_grammar::proofs::Trees::sequences))]
+pub(crate) fn in_sequence(parts: Vec<Rule<'_>>) -> Rule<'_>
+    ensures { rule_of result ≡ in_sequence (map rule_of parts.entry.items) }
+{
+    match only(parts) {
+        Ok(part) => part,
+        Err(parts) => Rule::Then(parts),
     }
 }

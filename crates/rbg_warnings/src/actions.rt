@@ -2,92 +2,48 @@
 ghost use Rattle.std.specs.Prelude.{◌≡◌, slice_index};
 ghost use Rattle.rbg_rules.specs.Expression.{Expression};
 ghost use Rattle.rbg_rules.specs.Translation.{action_of, arithmetic_of};
-ghost use Rattle.rbg_warnings.specs.declared.thing.Thing.TheVariants.{Player as PlayerThing, Piece as PieceThing, Variable as VariableThing, Direction as DirectionThing};
 ghost use Rattle.rbg_warnings.specs.Warnings.{assigns_too_much as is_too_much, is_number_above, uses as is_used};
+ghost use Rattle.rbg_warnings.specs.internal.Kinds.{is_variable_in};
 
 use crate::arithmetic::{names_variable, number_of};
 use crate::thing::Thing;
-use rbg_base::{Direction, Piece, Player, Variable};
+use rbg_base::Variable;
 use rbg_rules::{Action, Arithmetic, Game};
 
 /// Whether an action uses a thing.
 pub(crate) fn uses(thing: Thing, action: &Action) -> bool
     ensures { (inside : Expression) → result ≡ is_used thing (action_of action.now inside) }
 {
-    match thing {
-        Thing::Player { player } => switches_to(player, action),
-        Thing::Piece { piece } => puts(piece, action),
-        Thing::Variable { variable } => names(variable, action),
-        Thing::Direction { direction } => goes(direction, action),
-    }
-}
-
-fn switches_to(player: Player, action: &Action) -> bool
-    ensures { (inside : Expression)
-        → result ≡ is_used (PlayerThing player) (action_of action.now inside) }
-{
     match action {
-        Action::Switch { player: next } => *next == player,
-        Action::Shift { .. } => false,
-        Action::On { .. } => false,
-        Action::Off { .. } => false,
-        Action::Assign { .. } => false,
-        Action::Compare { .. } => false,
-        Action::Positive => false,
-        Action::Negative => false,
-    }
-}
-
-fn puts(piece: Piece, action: &Action) -> bool
-    ensures { (inside : Expression)
-        → result ≡ is_used (PieceThing piece) (action_of action.now inside) }
-{
-    match action {
-        Action::Off { piece: put } => *put == piece,
-        Action::Shift { .. } => false,
-        Action::On { .. } => false,
-        Action::Assign { .. } => false,
-        Action::Compare { .. } => false,
-        Action::Switch { .. } => false,
-        Action::Positive => false,
-        Action::Negative => false,
-    }
-}
-
-fn goes(direction: Direction, action: &Action) -> bool
-    ensures { (inside : Expression)
-        → result ≡ is_used (DirectionThing direction) (action_of action.now inside) }
-{
-    match action {
-        Action::Shift { direction: way } => *way == direction,
-        Action::On { .. } => false,
-        Action::Off { .. } => false,
-        Action::Assign { .. } => false,
-        Action::Compare { .. } => false,
-        Action::Switch { .. } => false,
-        Action::Positive => false,
-        Action::Negative => false,
-    }
-}
-
-fn names(variable: Variable, action: &Action) -> bool
-    ensures { (inside : Expression)
-        → result ≡ is_used (VariableThing variable) (action_of action.now inside) }
-{
-    match action {
-        Action::Assign {
-            variable: changed,
-            value,
-        } => *changed == variable || names_variable(value, variable),
-        Action::Compare { left, right, .. } => {
-            names_variable(left, variable) || names_variable(right, variable)
+        Action::Shift { direction } => thing
+            == Thing::Direction {
+                direction: *direction,
+            },
+        Action::Off { piece } => thing == Thing::Piece { piece: *piece },
+        Action::Switch { player } => thing == Thing::Player { player: *player },
+        Action::Assign { variable, value } => {
+            thing
+                == Thing::Variable {
+                    variable: *variable,
+                }
+                || is_named(thing, value)
         }
-        Action::Shift { .. } => false,
+        Action::Compare { left, right, .. } => is_named(thing, left) || is_named(thing, right),
         Action::On { .. } => false,
-        Action::Off { .. } => false,
-        Action::Switch { .. } => false,
         Action::Positive => false,
         Action::Negative => false,
+    }
+}
+
+/// Whether a thing is a variable that arithmetic names.
+fn is_named(thing: Thing, arithmetic: &Arithmetic) -> bool
+    ensures { result ≡ is_variable_in thing (arithmetic_of arithmetic.now) }
+{
+    match thing {
+        Thing::Variable { variable } => names_variable(arithmetic, variable),
+        Thing::Player { .. } => false,
+        Thing::Piece { .. } => false,
+        Thing::Direction { .. } => false,
     }
 }
 

@@ -5,7 +5,7 @@ ghost use Rattle.rbg_warnings.specs.internal.Kinds.{thing_of};
 use rbg_base::{Direction, Piece, Player, Variable};
 
 /// A thing of a game that its rules may use.
-#[derive(Clone, Copy)]
+#[derive(Clone, Copy, PartialEq, Eq)]
 pub enum Thing {
     Player { player: Player },
     Piece { piece: Piece },

@@ -14,7 +14,7 @@ ghost use Rattle.rbg_game.specs.internal.Graphs.{AddsInOrder, edge_directions, I
 
 use crate::checking::boards::{NamedBoard, named};
 use crate::checking::directions::join;
-use crate::game_error::{GameError, Thing};
+use crate::game_error::{GameError, Thing, refuse_many};
 use rbg_board::{BoardError, Cell, MAX_VERTICES, graph};
 use rbg_grammar::{Edge, Vertex};
 use rbg_numbering::{NameTable, NumberingError};
@@ -154,11 +154,7 @@ pub(crate) fn make_graph(
 {
     let first = number_pieces(alloc, pieces, vertices)?;
     let directions = name_directions(alloc, vertices)?;
-    if directions.len() > MAX_DIRECTIONS {
-        return Err(GameError::TooMany {
-            what: Thing::Directions,
-        });
-    }
+    refuse_many(directions.len(), MAX_DIRECTIONS, Thing::Directions)?;
     if vertices.len() > MAX_VERTICES {
         return Err(GameError::Board {
             error: BoardError::TooManyVertices,

@@ -9,7 +9,7 @@ ghost use Rattle.rbg_numbering.specs.NameTables.{HasNameFault};
 ghost use Rattle.rbg_game.specs.internal.Holders.{HasHolderFault};
 ghost use Rattle.rbg_game.specs.internal.Things.{AddsBounds, AreThingsOf};
 
-use crate::game_error::{GameError, Thing};
+use crate::game_error::{GameError, Thing, refuse_many};
 use rbg_grammar::{Bounded, DescriptionParts, Name, Number};
 use rbg_numbering::{NameTable, NumberingError};
 use rbg_rules::limits::{MAX_BOUND, MAX_PIECES, MAX_PLAYERS, MAX_VARIABLES};
@@ -44,21 +44,9 @@ pub(crate) fn number_things(
     add_names(&mut pieces, &description.pieces)?;
     let mut players = NameTable::new(alloc);
     add_players(&mut players, &description.players)?;
-    if players.len() > MAX_PLAYERS {
-        return Err(GameError::TooMany {
-            what: Thing::Players,
-        });
-    }
-    if pieces.len() > MAX_PIECES {
-        return Err(GameError::TooMany {
-            what: Thing::Pieces,
-        });
-    }
-    if variables.len() > MAX_VARIABLES {
-        return Err(GameError::TooMany {
-            what: Thing::Variables,
-        });
-    }
+    refuse_many(players.len(), MAX_PLAYERS, Thing::Players)?;
+    refuse_many(pieces.len(), MAX_PIECES, Thing::Pieces)?;
+    refuse_many(variables.len(), MAX_VARIABLES, Thing::Variables)?;
     Ok(Things {
         players,
         variables,

@@ -20,11 +20,10 @@ abbrev mutual
   -- is open already.
   pub IsLawful : ℕ → Expression → Type 0
   IsLawful left (act p a) = IsLawfulAction left a
-  IsLawful left skip = Unit {0}
   IsLawful left (sequence x y) = IsLawful left x × IsLawful left y
-  IsLawful left fail = Unit {0}
   IsLawful left (choice x y) = IsLawful left x × IsLawful left y
   IsLawful left (star x) = IsLawful left x
+  IsLawful left _ = Unit {0}
 
   pub IsLawfulAction : ℕ → AbstractAction → Type 0
   IsLawfulAction left (switch n) = left ≡ most_nested_patterns

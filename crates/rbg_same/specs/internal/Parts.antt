@@ -2,6 +2,14 @@
 use Rattle.std.specs.Prelude.{◌≡◌, ℕ, List}
 use Rattle.rbg_board.specs.Graph.{Graph}
 use Rattle.rbg_rules.specs.State.{AbstractGame}
+use Rattle.rbg_same.specs.declared.names.Things.{Things}
+use Rattle.rbg_same.specs.declared.names.Things.TheVariants.{Pieces, Variables, Directions}
+
+-- the names of the things of a game
+abbrev pub names_of : Things → AbstractGame → List (List ℕ)
+names_of Pieces game = game.pieces
+names_of Variables game = game.variables
+names_of Directions game = game.directions
 
 -- The games have the same names and bounds.
 pub record SameNames (old new : AbstractGame) : Type 0 where

@@ -1,5 +1,5 @@
 -- The marks behind those of the parts.
-use Rattle.std.proofs.Common.{◌≡◌, ℕ, List, ◌++◌, map, take, sym, ap, ◌∙◌, append_assoc, arith}
+use Rattle.std.proofs.Common.{◌≡◌, List, [], ◌∷◌, ◌++◌, map, take, sym, ap, ◌∙◌, append_assoc, arith}
 use Rattle.std.proofs.lemmas.Result.{on_ok_weaker}
 use Rattle.std.specs.Prelude.{Box}
 use Rattle.std.specs.Global.{Global}
@@ -7,18 +7,19 @@ use Rattle.rbg_rules.specs.Translation.{arithmetic_of, changed, operation_of}
 use Rattle.rbg_rules.specs.declared.arithmetic.Arithmetic.{Arithmetic}
 use Rattle.rbg_rules.specs.declared.arithmetic.Arithmetic.TheVariants.{Negated as NegatedNode}
 use Rattle.rbg_rules.proofs.Bridge.{arithmetic_of-Negated}
-use Rattle.rbg_same.specs.declared.kind.Kind.TheVariants.{Negated}
-use Rattle.rbg_same.specs.internal.Marks.{arithmetic_key, mark}
+use Rattle.rbg_same.specs.declared.mark.Mark.{Mark}
+use Rattle.rbg_same.specs.declared.mark.Mark.TheVariants.{Negated}
+use Rattle.rbg_same.specs.internal.Marks.{arithmetic_key}
 use Rattle.rbg_same.proofs.Parts.{operations_more}
 use Rattle.rbg_same.proofs.writing.+arithmetic.Goals as goal
 
-negated_key : (a : Arithmetic) (inner : Box Arithmetic Global) (old middle new : List ℕ) → a ≡ NegatedNode inner →
-    (b : Arithmetic) → b ≡ inner.value → middle ≡ old ++ arithmetic_key (arithmetic_of b) → new ≡ middle ++ mark Negated 0 → new ≡ old ++ arithmetic_key (arithmetic_of a)
+negated_key : (a : Arithmetic) (inner : Box Arithmetic Global) (old middle new : List Mark) → a ≡ NegatedNode inner →
+    (b : Arithmetic) → b ≡ inner.value → middle ≡ old ++ arithmetic_key (arithmetic_of b) → new ≡ middle ++ (Negated ∷ []) → new ≡ old ++ arithmetic_key (arithmetic_of a)
 negated_key a inner old middle new is b same first second =
     second
-    ∙ (ap (λ xs. xs ++ mark Negated 0) first
-    ∙ (append_assoc old (arithmetic_key (arithmetic_of b)) (mark Negated 0)
-    ∙ (ap (λ (x : Arithmetic). old ++ (arithmetic_key (arithmetic_of x) ++ mark Negated 0)) same
+    ∙ (ap (λ xs. xs ++ (Negated ∷ [])) first
+    ∙ (append_assoc old (arithmetic_key (arithmetic_of b)) ((Negated ∷ []))
+    ∙ (ap (λ (x : Arithmetic). old ++ (arithmetic_key (arithmetic_of x) ++ (Negated ∷ []))) same
     ∙ (ap (λ e. old ++ arithmetic_key e) (sym (arithmetic_of-Negated inner))
     ∙ ap (λ (x : Arithmetic). old ++ arithmetic_key (arithmetic_of x)) (sym is)))))
 

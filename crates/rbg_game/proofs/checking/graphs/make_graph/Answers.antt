@@ -16,6 +16,8 @@ use Rattle.rbg_rules.specs.LawfulNames.{AreDifferentNames}
 use Rattle.rbg_game.specs.GameErrors.{game_error_of}
 use Rattle.rbg_game.specs.declared.checking.boards.NamedBoard.{NamedBoard}
 use Rattle.rbg_game.specs.declared.game_error.GameError.{GameError}
+use Rattle.rbg_game.specs.declared.game_error.GameError.TheVariants.{TooMany}
+use Rattle.rbg_game.specs.declared.game_error.Thing.TheVariants.{Directions}
 use Rattle.rbg_game.specs.internal.Boards.{MakesBoard}
 use Rattle.rbg_numbering.specs.Names.{IsNumberOf}
 use Rattle.rbg_base.proofs.Errors.{passed_on}
@@ -36,8 +38,11 @@ returns-in_err-directions-clause-fault c =
     let P : GameError → Type 0 = λ e. HasBoardFault c.args.pieces.now (graph (map vertex_of c.args.vertices.now)) e in
     passed_on c.from_residual-in_err-directions.result (game_error_of c.in_err-directions.field-0.0) P c.from_residual-in_err-directions.ensures.1 (subst (λ e. P (game_error_of e)) (sym c.in_err-directions.ensures.memory) board_memory)
 
-pub returns-then-len-gt-MAX_DIRECTIONS-clause-fault : goal.returns-then-len-gt-MAX_DIRECTIONS-clause-fault
-returns-then-len-gt-MAX_DIRECTIONS-clause-fault c = many_directions c.in_ok-directions.ensures.order (omega (arith, c.if-len-gt-MAX_DIRECTIONS.true, c.len.ensures.count))
+pub returns-in_err-refuse_many-clause-fault : goal.returns-in_err-refuse_many-clause-fault
+returns-in_err-refuse_many-clause-fault c =
+    let P : GameError → Type 0 = λ e. HasBoardFault c.args.pieces.now (graph (map vertex_of c.args.vertices.now)) e in
+    let fault : P (TooMany Directions) = many_directions c.in_ok-directions.ensures.order (omega (arith, c.in_err-refuse_many.ensures.many, c.len.ensures.count)) in
+    passed_on c.from_residual-in_err-refuse_many.result _ P c.from_residual-in_err-refuse_many.ensures.1 (subst P (sym c.in_err-refuse_many.ensures.error) fault)
 
 pub returns-then-vertices-gt-MAX_VERTICES-clause-fault : goal.returns-then-vertices-gt-MAX_VERTICES-clause-fault
 returns-then-vertices-gt-MAX_VERTICES-clause-fault c = no_graph (many_vertices (omega (arith, c.if-vertices-gt-MAX_VERTICES.true, length-map c.args.vertices.now vertex_of)))
@@ -76,7 +81,7 @@ returns-clause-board c =
     let is = subst (λ (cs : List Cell). IsWritten (written_of cs) b.board) c.deref-2.ensures.value (of_ok (IsWritten (written_of c.deref-2.result.now)) it.is c.graph.ensures.board) in
     let wide = subst (λ (cs : List Cell). HasWidth (width_of (directions_of (written_of cs))) b.board) c.deref-2.ensures.value (of_ok (HasWidth (width_of (directions_of (written_of c.deref-2.result.now)))) it.is c.graph.ensures.width) in
     rw it.directions
-    (graph_made c.args.pieces.now c.in_ok-directions.directions vertices (written_of c.in_ok-cells.cells.items) differ cells b.board c.in_ok-directions.ensures.order it.names (omega (arith, c.if-len-gt-MAX_DIRECTIONS.false, c.len.ensures.count)) it.vertices makes is wide))
+    (graph_made c.args.pieces.now c.in_ok-directions.directions vertices (written_of c.in_ok-cells.cells.items) differ cells b.board c.in_ok-directions.ensures.order it.names (omega (arith, c.in_ok-refuse_many.ensures.few, c.len.ensures.count)) it.vertices makes is wide))
     c.named.ensures.board
 
 pub returns-clause-fault : goal.returns-clause-fault

@@ -1,8 +1,8 @@
 -- One name more is the same.
 use Rattle.rbg_same.proofs.Items.{same_more}
 use Rattle.rbg_same.proofs.Texts.{same_text}
-use Rattle.rbg_same.proofs.names.same_pieces.Goals as goal
+use Rattle.rbg_same.proofs.names.same_things.Goals as goal
 
 pub loop-index-preserved : goal.loop-index-preserved
 loop-index-preserved c =
-    same_more _ _ _ _ _ c.loop-index.invariant c.piece_name.ensures c.piece_name-in-loop-index.ensures (same_text _ _ c.if-ne.ensures)
+    same_more _ _ _ _ _ c.loop-index.invariant c.name_of.ensures c.name_of-in-loop-index.ensures (same_text _ _ c.if-ne.ensures)
