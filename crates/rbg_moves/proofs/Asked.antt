@@ -51,10 +51,6 @@ pub finds_none : {X : Type 0} {game : AbstractGame} {place : AbstractPlace} {pai
 finds_none (Ok x) P is why = absurd is
 finds_none (Err e) P is why = record { found = tt; sized = tt; finished = tt; given_up = why; fits = tt }
 
-pub front_none : {game : AbstractGame} {place : AbstractPlace} {front : List (ℕ × ℕ)} (r : Result Bool Over) (P : Over → Type 0) → IsErrAnd r P → GivesUp game find_move place r → FindsFront game place r front
-front_none (Ok x) P is why = absurd is
-front_none (Err e) P is why = record { found = tt; sized = tt; finished = tt; given_up = why; fits = tt }
-
 -- Where the pairs of a move are there, there is one.
 pub tells_front : {game : AbstractGame} {place : AbstractPlace} {front : List (ℕ × ℕ)} (r : Result Bool Over) → FindsFront game place r front → TellsMove game place r
 tells_front {front = front} (Ok some) finds = record { some = λ e. (front, finds.found e); finished = finds.finished; given_up = finds.given_up; fits = finds.fits }

@@ -1,7 +1,7 @@
 -- Which openings are forced of the questions about moves, and that they were taken up.
 use Rattle.std.proofs.Common.{◌≡◌, ◌≢◌, ℕ, zero, suc, ◌-◌, ◌<◌, ◌≤◌, List, [], ◌∷◌, ◌++◌, length, Bool, true, false, refl, sym, ap, subst, inl, inr, arith}
 use Rattle.std.specs.Prelude.{All, Contains, Some}
-use Rattle.std.proofs.lemmas.List.Elements.{All-head, All-contains}
+use Rattle.std.proofs.lemmas.List.Elements.{All-head, All-contains, All-weaker}
 use Rattle.rbg_rules.specs.Positions.{IsNumbered, IsSwitchAt}
 use Rattle.rbg_rules.specs.Words.{Start, after}
 use Rattle.rbg_rules.specs.State.{AbstractGame, AbstractState}
@@ -56,6 +56,17 @@ counts_uncut game cut question s f a b left most counts = record {
   all = λ o forced. counts.all o (uncut game cut question s f o forced);
   fits = counts.fits;
   few = λ o forced. counts.few o (uncut game cut question s f o forced);
+}
+
+pub fits_uncut : {game : AbstractGame} {question : Question} {place : AbstractPlace} → FitsLimits game false question place → (cut : Bool) → FitsLimits game cut question place
+fits_uncut {game} {question} {place} fits cut = record {
+  few = λ many has. fits.few many (record {
+    openings = has.openings;
+    different = has.different;
+    forced = All-weaker (Forced game cut question place.state (stand_of place.last)) (Forced game false question place.state (stand_of place.last)) (uncut game cut question place.state (stand_of place.last)) has.openings has.forced;
+    count = has.count;
+  });
+  not_deep = λ deep. fits.not_deep (record { before = deep.before; row = deep.row; later = deep.later; forced = uncut game cut question place.state (stand_of place.last) _ deep.forced; count = deep.count });
 }
 
 -- What is forced where the answer is cut was counted, whether it is cut or not.

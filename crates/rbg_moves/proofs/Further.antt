@@ -32,7 +32,8 @@ use Rattle.rbg_search.proofs.Turns.{turned, turn_under, turn_at, turn_front, tur
 use Rattle.rbg_moves.specs.internal.Asking.{question_of, IsGivenUp}
 use Rattle.rbg_moves.specs.internal.Gathering.{AddsMove, Gathers, IsLegalBy, IsSwitchOr, ListsSwitches, LeavesOthers, IsWalked}
 use Rattle.rbg_moves.specs.internal.Stepping.{at_vertex, place_behind, Behind, IsValidAt}
-use Rattle.rbg_moves.proofs.Steps.{next_applies, next_there, valid_next, modifier_position}
+use Rattle.rbg_search.proofs.Openings.{next_applies}
+use Rattle.rbg_moves.proofs.Steps.{next_there, valid_next, modifier_position}
 use Rattle.rbg_moves.proofs.Gathering.{gathers_any, gathers_behind}
 use Rattle.rbg_moves.proofs.Listing.{lists_none, lists_more, lists_cut, lists_any, lists_all, switches_cut, others_begin, others_more, others_cut, others_end}
 use Rattle.rbg_moves.proofs.Forcing.{TakenSoFar, so_far_one, so_far_switches, early_forced, all_forced_at, walk_passes}
@@ -54,6 +55,11 @@ answered_as {now = now} {s} {l} {result = result} = asked_as (λ x g. IsAnswered
 pub has_come : {lent old now : Searching} {s l : History} {f f' : Start} {result : Result Bool Over} {pairs : List (ℕ × ℕ)} {ends : Bool} → lent ≡ old → f' ≡ f → IsAnswered lent now s l reach f' result → result ≡ Ok ends → HasReached lent now s l f' pairs ends → HasCome old now s l f result pairs ends
 has_come {now = now} {s} {l} {result = result} {pairs} {ends} same start asked was found =
     asked_as (λ x g. HasCome x now s l g result pairs ends) same start (record { asked = asked; was = was; found = found })
+
+-- .. and it is this modifier alone, where one stands.
+pub has_come_here : {lent old now : Searching} {s l : History} {f f' : Start} {result : Result Bool Over} {v p : ℕ} {ends : Bool} → lent ≡ old → f' ≡ f → IsAnswered lent now s l reach f' result → result ≡ Ok ends → v ≡ s.state.vertex → HasReached lent now s l f' ((s.state.vertex, p) ∷ []) ends → HasCome old now s l f result ((v, p) ∷ []) ends
+has_come_here {lent} {now = now} {s} {l} {f' = f'} {p = p} {ends} same start asked was here found =
+    has_come same start asked was (subst (λ (w : ℕ). HasReached lent now s l f' ((w, p) ∷ []) ends) (sym here) found)
 
 -- The switches of what comes next were added.
 pub switches_as : {game game' : AbstractGame} {pairs front front' : List (ℕ × ℕ)} {max : ℕ} {had has : List (List (ℕ × ℕ))} {first : List (ℕ × ℕ)} {cut cut' : Bool} → game ≡ game' → front ≡ front' → cut ≡ cut' → ListsSwitches game pairs pairs front max had has first cut → ListsSwitches game' pairs pairs front' max had has first cut'

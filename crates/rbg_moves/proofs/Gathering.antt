@@ -1,10 +1,11 @@
 -- Lists of moves that are gathered part by part.
-use Rattle.std.proofs.Common.{◌≡◌, ◌≢◌, ℕ, suc, ◌+◌, ◌<◌, ◌≤◌, ◌⊎◌, List, [], ◌∷◌, ◌++◌, length, get_or, map, Bool, true, false, refl, sym, ap, ◌∙◌, subst, inl, inr, arith, append_assoc, length-append}
+use Rattle.std.proofs.Common.{◌≡◌, ◌≢◌, ℕ, ◌+◌, ◌<◌, ◌≤◌, ◌⊎◌, List, [], ◌∷◌, ◌++◌, length, get_or, map, Bool, true, false, refl, sym, ap, ◌∙◌, subst, inl, inr, arith, append_assoc, length-append}
 use Rattle.std.specs.Prelude.{All, AllPairs, Contains, ◌↔◌}
 use Rattle.std.proofs.lemmas.List.{append-nil, map-append, length-map, get_or-map}
-use Rattle.std.proofs.lemmas.List.Elements.{All-nil, All-cons, All-head, All-tail, All-append, All-map, All-weaker, All-contains, Contains-append_left, Contains-append_right, Contains-append_cases}
+use Rattle.std.proofs.lemmas.List.Elements.{All-nil, All-cons, All-append, All-map, All-weaker, All-contains, Contains-append_left, Contains-append_right, Contains-append_cases}
 use Rattle.std.proofs.lemmas.List.Kept.{AllPairs-cons}
 use Rattle.rbg_base.specs.Move.{IsMoveLength}
+use Rattle.rbg_search.proofs.Counts.{all_pairs_append, all_pairs_head, all_pairs_tail}
 use Rattle.rbg_moves.specs.internal.Gathering.{Gathers, IsBehind}
 
 true_not_false : true ≡ false → ⊥
@@ -12,26 +13,6 @@ true_not_false e = cc
 
 all_pairs_nil : {X : Type 0} (R : X → X → Type 0) → AllPairs R []
 all_pairs_nil R i j d before under = absurd (omega (arith, under))
-
-all_pairs_tail : {X : Type 0} (R : X → X → Type 0) (x : X) (xs : List X) → AllPairs R (x ∷ xs) → AllPairs R xs
-all_pairs_tail R x xs pairs i j d before under =
-    let before' : suc i < suc j = omega (arith, before) in
-    let under' : suc j < length (x ∷ xs) = omega (arith, under) in
-    pairs (suc i) (suc j) d before' under'
-
-all_pairs_head : {X : Type 0} (R : X → X → Type 0) (x : X) (xs : List X) → AllPairs R (x ∷ xs) → All (R x) xs
-all_pairs_head R x xs pairs k d under =
-    let before : 0 < suc k = omega arith in
-    let under' : suc k < length (x ∷ xs) = omega (arith, under) in
-    pairs 0 (suc k) d before under'
-
--- Two lists of which R holds, and each of the first with each of the second.
-pub all_pairs_append : {X : Type 0} (R : X → X → Type 0) (xs ys : List X) → AllPairs R xs → AllPairs R ys → All (λ x. All (R x) ys) xs → AllPairs R (xs ++ ys)
-all_pairs_append R [] ys first second across = second
-all_pairs_append R (x ∷ xs) ys first second across =
-    AllPairs-cons R x (xs ++ ys)
-    (All-append (R x) xs ys (all_pairs_head R x xs first) (All-head (λ y. All (R y) ys) x xs across))
-    (all_pairs_append R xs ys (all_pairs_tail R x xs first) second (All-tail (λ y. All (R y) ys) x xs across))
 
 -- A function that keeps what differs apart keeps a list of different elements.
 pub different_map : {X Y : Type 0} (f : X → Y) → ((a b : X) → f a ≡ f b → a ≡ b) → (xs : List X) → AllPairs (λ a b. a ≢ b) xs → AllPairs (λ a b. a ≢ b) (map f xs)
@@ -65,18 +46,34 @@ gathers_none P front max old first few none = record {
   more = λ e. absurd (true_not_false (sym e));
 }
 
--- Where there was room for all, it doesn't matter which the first one is.
-pub gathers_any : (P : List (ℕ × ℕ) → Type 0) (front : List (ℕ × ℕ)) (max : ℕ) (old new : List (List (ℕ × ℕ))) (first other : List (ℕ × ℕ)) → Gathers P front max old new first false → Gathers P front max old new other false
-gathers_any P front max old new first other is = record {
+-- The same lists are wanted in other words. Where it is cut, what is wanted before may be a part of what is wanted now;
+-- where there was room for all, it doesn't matter which the first one is.
+gathers_told : (P Q : List (ℕ × ℕ) → Type 0) (front : List (ℕ × ℕ)) (max : ℕ) (old new : List (List (ℕ × ℕ))) (first other : List (ℕ × ℕ)) (cut : Bool) → (cut ≡ true → other ≡ first) → ((ps : List (ℕ × ℕ)) → P ps → Q ps) → (cut ≡ false → (ps : List (ℕ × ℕ)) → Q ps → P ps) → Gathers P front max old new first cut → Gathers Q front max old new other cut
+gathers_told P Q front max old new first other cut same to from is = record {
   found = is.found;
   grown = is.grown;
-  wanted = is.wanted;
+  wanted = All-weaker P Q to is.found is.wanted;
   different = is.different;
   few = is.few;
-  whole = is.whole;
+  whole = λ e ps h. is.whole e ps (from e ps h);
   full = is.full;
-  more = λ e. absurd (true_not_false (sym e));
+  more = λ e. let one = is.more e in record {
+    pairs = one.pairs;
+    wanted = to one.pairs one.wanted;
+    missing = one.missing;
+    told = λ none. same e ∙ one.told none;
+    sized = λ none. subst (λ (qs : List (ℕ × ℕ)). IsMoveLength (length qs)) (sym (same e)) (one.sized none);
+  };
 }
+
+pub gathers_any : (P : List (ℕ × ℕ) → Type 0) (front : List (ℕ × ℕ)) (max : ℕ) (old new : List (List (ℕ × ℕ))) (first other : List (ℕ × ℕ)) → Gathers P front max old new first false → Gathers P front max old new other false
+gathers_any P front max old new first other = gathers_told P P front max old new first other false (λ e. absurd (true_not_false (sym e))) (λ _ h. h) (λ _ _ h. h)
+
+pub gathers_as : (P Q : List (ℕ × ℕ) → Type 0) (front : List (ℕ × ℕ)) (max : ℕ) (old new : List (List (ℕ × ℕ))) (first : List (ℕ × ℕ)) (cut : Bool) → ((ps : List (ℕ × ℕ)) → P ps ↔ Q ps) → Gathers P front max old new first cut → Gathers Q front max old new first cut
+gathers_as P Q front max old new first cut same = gathers_told P Q front max old new first first cut (λ _. refl) (λ ps. (same ps).0) (λ _ ps. (same ps).1)
+
+pub gathers_more : (P Q : List (ℕ × ℕ) → Type 0) (front : List (ℕ × ℕ)) (max : ℕ) (old new : List (List (ℕ × ℕ))) (first : List (ℕ × ℕ)) → ((ps : List (ℕ × ℕ)) → P ps → Q ps) → Gathers P front max old new first true → Gathers Q front max old new first true
+gathers_more P Q front max old new first more = gathers_told P Q front max old new first first true (λ _. refl) more (λ e. absurd (true_not_false e))
 
 -- One list is wanted, and there is room for it.
 pub gathers_one : (P : List (ℕ × ℕ) → Type 0) (front : List (ℕ × ℕ)) (max : ℕ) (old : List (List (ℕ × ℕ))) (first one : List (ℕ × ℕ)) → length old < max → P one → ((ps : List (ℕ × ℕ)) → P ps → ps ≡ one) → Gathers P front max old (old ++ (front ++ one) ∷ []) first false
@@ -166,32 +163,6 @@ gathers_behind Q front q max old new first cut behind = record {
     told = λ none. other.told none ∙ append_assoc front (q ∷ []) other.pairs;
     sized = other.sized;
   };
-}
-
--- The same is wanted in other words.
-pub gathers_as : (P Q : List (ℕ × ℕ) → Type 0) (front : List (ℕ × ℕ)) (max : ℕ) (old new : List (List (ℕ × ℕ))) (first : List (ℕ × ℕ)) (cut : Bool) → ((ps : List (ℕ × ℕ)) → P ps ↔ Q ps) → Gathers P front max old new first cut → Gathers Q front max old new first cut
-gathers_as P Q front max old new first cut same part = record {
-  found = part.found;
-  grown = part.grown;
-  wanted = All-weaker P Q (λ ps h. (same ps).0 h) part.found part.wanted;
-  different = part.different;
-  few = part.few;
-  whole = λ e ps h. part.whole e ps ((same ps).1 h);
-  full = part.full;
-  more = λ e. let other = part.more e in record { pairs = other.pairs; wanted = (same other.pairs).0 other.wanted; missing = other.missing; told = other.told; sized = other.sized };
-}
-
--- What is cut may be a part of what is wanted.
-pub gathers_more : (P Q : List (ℕ × ℕ) → Type 0) (front : List (ℕ × ℕ)) (max : ℕ) (old new : List (List (ℕ × ℕ))) (first : List (ℕ × ℕ)) → ((ps : List (ℕ × ℕ)) → P ps → Q ps) → Gathers P front max old new first true → Gathers Q front max old new first true
-gathers_more P Q front max old new first more part = record {
-  found = part.found;
-  grown = part.grown;
-  wanted = All-weaker P Q more part.found part.wanted;
-  different = part.different;
-  few = part.few;
-  whole = λ e. absurd (true_not_false e);
-  full = part.full;
-  more = λ e. let other = part.more e in record { pairs = other.pairs; wanted = more other.pairs other.wanted; missing = other.missing; told = other.told; sized = other.sized };
 }
 
 -- Where there is room for none and nothing is cut, nothing is wanted.

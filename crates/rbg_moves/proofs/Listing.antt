@@ -18,7 +18,8 @@ use Rattle.rbg_search.proofs.Turns.{turned, turn_under, turn_at, turn_front}
 use Rattle.rbg_moves.specs.internal.Gathering.{Gathers, IsBehind, IsLegalBy, IsSwitchAmong, IsSwitchOr, ListsSwitches}
 use Rattle.rbg_moves.proofs.Gathering.{gathers_none, gathers_any, gathers_one, gathers_full, gathers_both, gathers_as, gathers_more}
 use Rattle.rbg_moves.specs.internal.Stepping.{at_vertex, place_behind}
-use Rattle.rbg_moves.proofs.Steps.{Onward, ended, going, legal_cut, legal_end, legal_on, legal_some, next_applies}
+use Rattle.rbg_search.proofs.Openings.{next_applies}
+use Rattle.rbg_moves.proofs.Steps.{Onward, ended, going, legal_cut, legal_end, legal_on, legal_some}
 
 no_pair : (q : ℕ × ℕ) → ¬ Contains [] q
 no_pair q (k, under, _) = omega (arith, under)

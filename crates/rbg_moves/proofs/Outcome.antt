@@ -1,17 +1,20 @@
 -- What a walk has found in the end.
-use Rattle.std.proofs.Common.{◌≡◌, ◌≢◌, ℕ, zero, suc, ◌-◌, ◌<◌, ◌≤◌, List, [], ◌++◌, length, Bool, true, false, refl, sym, ap, ◌∙◌, subst, arith}
-use Rattle.std.specs.Prelude.{All, AllPairs, Contains}
+use Rattle.std.proofs.Common.{◌≡◌, ◌≢◌, ℕ, zero, suc, ◌<◌, ◌≤◌, List, [], length, Bool, true, false, refl, sym, ◌∙◌, subst, arith}
+use Rattle.std.specs.Prelude.{All, AllPairs, Contains, IsErrAnd, Result, Ok, Err}
 use Rattle.std.specs.List.Sorted.{IsPermutation}
 use Rattle.std.proofs.lemmas.List.{map-id}
 use Rattle.std.proofs.lemmas.List.Sorted.{IsPermutation-sym, All-permutation, Contains-permutation, length_permutation}
 use Rattle.rbg_rules.specs.State.{AbstractGame}
-use Rattle.rbg_base.specs.Move.{most_pairs, IsMoveLength}
-use Rattle.rbg_rules.specs.Moves.{AbstractPlace, Finished, IsLegal, stand_of}
-use Rattle.rbg_rules.specs.Questions.{Question, find_move, list_moves}
-use Rattle.rbg_search.specs.Searching.{Searching}
+use Rattle.rbg_rules.specs.Moves.{AbstractPlace, IsLegal}
+use Rattle.rbg_rules.specs.Questions.{Question, list_moves}
+use Rattle.rbg_search.specs.Searching.{Tally}
+use Rattle.rbg_search.specs.declared.over.Over.{Over}
+use Rattle.rbg_moves.specs.Answers.{GivesUp}
 use Rattle.rbg_moves.specs.Listing.{IsMoveBefore, IsListed, IsGathered}
-use Rattle.rbg_moves.specs.internal.Asking.{CountsAnswer, question_of, is_cut}
-use Rattle.rbg_moves.specs.internal.Gathering.{Gathers, IsWalked}
+use Rattle.rbg_moves.specs.internal.Asking.{question_of, is_cut}
+use Rattle.rbg_moves.specs.internal.Fronts.{FindsFront, IsWalkedFrom}
+use Rattle.rbg_moves.specs.internal.Gathering.{Gathers}
+use Rattle.rbg_moves.proofs.Forcing.{fits_uncut}
 use Rattle.rbg_moves.proofs.Gathering.{none_wanted}
 use Rattle.rbg_moves.proofs.Order.{still_different}
 
@@ -56,12 +59,6 @@ listed game place max moves sorted cut all moved order = record {
     size : length sorted ≡ length moves
     size = length_permutation moves sorted moved
 
--- What was gathered where there was nothing before.
-pub gathered_at : (game : AbstractGame) (place : AbstractPlace) (front : List (ℕ × ℕ)) (max : ℕ) (old new : List (List (ℕ × ℕ))) (first : List (ℕ × ℕ)) (cut : Bool) → front ≡ [] → old ≡ [] → Gathers (IsLegal game place) front max old new first cut → Gathers (IsLegal game place) [] max [] new first cut
-gathered_at game place front max old new first cut no_front none all =
-    subst (λ (xs : List (List (ℕ × ℕ))). Gathers (IsLegal game place) [] max xs new first cut) none
-    (subst (λ (ps : List (ℕ × ℕ)). Gathers (IsLegal game place) ps max old new first cut) no_front all)
-
 -- ---- what was asked of a walk
 
 -- A walk that has room for some moves lists them.
@@ -70,28 +67,30 @@ as_listing P zero ended some is = absurd (omega (arith, some))
 as_listing P (suc n) false some is = is
 as_listing P (suc n) true some is = is
 
--- One that has room for none looks for some move: where it ended early this is the first, and else there is none.
-pub record LooksFor (asked later : Searching) (place : AbstractPlace) (first : List (ℕ × ℕ)) (left : ℕ) (ended : Bool) : Type 0 where
-  pub counts : CountsAnswer asked later false find_move place.state (stand_of place.last) left
-  pub legal : ended ≡ true → IsLegal asked.game place first
-  pub sized : ended ≡ true → IsMoveLength (length first)
-  pub finished : ended ≡ false → Finished asked.game place
-
 true_not_false : true ≡ false → ⊥
 true_not_false e = cc
 
-pub looks_for : {asked later : Searching} {place : AbstractPlace} {front : List (ℕ × ℕ)} {had has : List (List (ℕ × ℕ))} {first : List (ℕ × ℕ)} (ended : Bool) → front ≡ [] → IsWalked asked later place front 0 had has first ended → LooksFor asked later place first (most_pairs - length front) ended
-looks_for {asked} {place = place} true none walked =
+-- One that has room for none looks for some move: where it ended early this is the first, and else there is none.
+pub front_walked : {game : AbstractGame} {place : AbstractPlace} {had has : List (List (ℕ × ℕ))} {first : List (ℕ × ℕ)} {old new : Tally} (r : Result Bool Over) → IsWalkedFrom game place 0 had has first old new r → FindsFront game place r first
+front_walked {game} {place} (Ok true) walked =
     let other = walked.gathers.more refl in
     record {
-      counts = walked.counts;
-      legal = λ _. subst (IsLegal asked.game place) (sym (other.told refl ∙ ap (λ (ps : List (ℕ × ℕ)). ps ++ other.pairs) none)) other.wanted;
+      found = λ _. subst (IsLegal game place) (sym (other.told refl)) other.wanted;
       sized = λ _. other.sized refl;
       finished = λ e. absurd (true_not_false e);
+      given_up = walked.given_up;
+      fits = fits_uncut walked.fits;
     }
-looks_for {asked} {place = place} {front} {had} {has} {first} false none walked = record {
-  counts = walked.counts;
-  legal = λ e. absurd (true_not_false (sym e));
+front_walked {game} {place} {had} {has} {first} (Ok false) walked = record {
+  found = λ e. absurd (true_not_false (sym e));
   sized = λ e. absurd (true_not_false (sym e));
-  finished = λ _. record { no_move = λ ps to legal. none_wanted (IsLegal asked.game place) front had has first walked.gathers ps (to, legal) };
+  finished = λ _. record { no_move = λ ps to legal. none_wanted (IsLegal game place) [] had has first walked.gathers ps (to, legal) };
+  given_up = walked.given_up;
+  fits = fits_uncut walked.fits;
 }
+front_walked (Err e) walked = record { found = tt; sized = tt; finished = tt; given_up = walked.given_up; fits = tt }
+
+-- It was given up.
+pub walked_none : {game : AbstractGame} {place : AbstractPlace} {max : ℕ} {had has : List (List (ℕ × ℕ))} {first : List (ℕ × ℕ)} {old new : Tally} (r : Result Bool Over) (P : Over → Type 0) → IsErrAnd r P → GivesUp game (question_of max) place r → new ≡ old → IsWalkedFrom game place max had has first old new r
+walked_none (Ok x) P is why same = absurd is
+walked_none (Err e) P is why same = record { gathers = tt; given_up = why; fits = tt; tallies = record { answered = tt; unanswered = same } }

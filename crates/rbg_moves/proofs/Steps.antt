@@ -1,20 +1,17 @@
 -- How a list of pairs is legal by its first pair.
 use Rattle.std.proofs.Common.{◌≡◌, ℕ, ◌<◌, length, List, [], ◌∷◌, ◌++◌, Bool, true, false, refl, sym, ap, ◌∙◌, subst, append_assoc}
-use Rattle.std.specs.Prelude.{All, Option, Some, None}
-use Rattle.std.proofs.lemmas.List.Elements.{All-nil, All-head, All-tail, All-cons, All-append}
-use Rattle.rbg_rules.specs.Expression.{AbstractAction, shift, on, off, assignment, comparison, switch, positive, negative}
-use Rattle.rbg_rules.specs.Positions.{IsNumbered, IsModifierAt, IsSwitchAt, HasNoModifier, HasNoSwitch, is_modifier, is_pattern, IsPatternAt}
+use Rattle.std.specs.Prelude.{Option, Some, None}
+use Rattle.std.proofs.lemmas.List.Elements.{All-head, All-tail, All-cons, All-append}
+use Rattle.rbg_rules.specs.Expression.{switch}
+use Rattle.rbg_rules.specs.Positions.{IsNumbered, IsModifierAt, IsSwitchAt, HasNoSwitch, is_modifier}
 use Rattle.rbg_rules.specs.Words.{Start, after, Follows}
 use Rattle.rbg_rules.specs.State.{AbstractGame, AbstractState, IsStateOf}
-use Rattle.rbg_rules.specs.Actions.{rest, step, Applies, Run}
+use Rattle.rbg_rules.specs.Actions.{Applies, Run}
 use Rattle.rbg_rules.specs.Moves.{RunPairs, stay, modify, pass, AbstractPlace, stand_of, Legal}
-use Rattle.rbg_rules.specs.Places.{IsPlaceOf, IsLastOf}
-use Rattle.rbg_rules.specs.Laws.{IsStart}
+use Rattle.rbg_rules.specs.Places.{IsPlaceOf}
 use Rattle.rbg_rules.specs.Games.{IsGame}
 use Rattle.rbg_rules.specs.Questions.{try_move}
-use Rattle.rbg_rules.proofs.StateLemmas.{state_law}
 use Rattle.rbg_rules.proofs.MoveLemmas.{Applies_one}
-use Rattle.rbg_rules.proofs.TableLemmas.{plain_stands, numbered_action}
 use Rattle.rbg_rules.proofs.PlaceLemmas.{RunPairs_join}
 use Rattle.rbg_rules.proofs.LocalityLemmas.{locality_law}
 use Rattle.rbg_pairs.specs.Flat.{IsNext}
@@ -22,53 +19,28 @@ use Rattle.rbg_moves.specs.internal.Stepping.{at_vertex, place_behind, IsStep, I
 use Rattle.rbg_search.specs.Passing.{GoesOn, trying}
 use Rattle.rbg_pairs.specs.Start.{IsPositionOf}
 use Rattle.rbg_pairs.proofs.Starts.{action_position}
-use Rattle.rbg_pairs.proofs.Closures.{quiet_action, quiet_place, ends_at}
+use Rattle.rbg_pairs.proofs.Closures.{quiet_place}
+use Rattle.rbg_search.proofs.Behinds.{run_stays}
+use Rattle.rbg_search.proofs.Openings.{CutRun, all_right, cut_next, cut_run, next_applies, next_here, quiet_pairs, quiet_switches}
 
 -- A switch is a modifier.
 pub switch_modifies : (game : AbstractGame) (p : ℕ) → IsSwitchAt game.rules p → IsModifierAt game.rules p
 switch_modifies game p switches = record { action = switch switches.player; stands = switches.stands; modifies = refl }
 
--- A modifier has a position of the rules, and is no pattern.
+-- A modifier has a position of the rules.
 pub modifier_position : (game : AbstractGame) → IsNumbered game.rules → (p : ℕ) → IsModifierAt game.rules p → IsPositionOf game.rules p
 modifier_position game numbered p modifier = action_position game.rules numbered p modifier.action modifier.stands
 
-no_pattern : (a : AbstractAction) → is_modifier a ≡ true → is_pattern a ≡ false
-no_pattern (shift d) modifies = refl
-no_pattern (on xs) modifies = refl
-no_pattern (off x) modifies = refl
-no_pattern (assignment v e) modifies = refl
-no_pattern (comparison e r f) modifies = refl
-no_pattern (switch n) modifies = refl
-no_pattern (positive x) modifies = cc
-no_pattern (negative x) modifies = cc
-
-pub modifier_plain : (game : AbstractGame) → IsNumbered game.rules → (p : ℕ) → IsModifierAt game.rules p → ¬ IsPatternAt game.rules p
-modifier_plain game numbered p modifier = plain_stands game.rules numbered p modifier.action (no_pattern modifier.action modifier.modifies) modifier.stands
-
--- One may stand where a place stands, and behind a modifier.
-pub place_start : (game : AbstractGame) → IsNumbered game.rules → (place : AbstractPlace) → IsPlaceOf game place → IsStart game.rules (stand_of place.last)
-place_start game numbered place is = by_last place.last is.last
-  where
-    by_last : (last : Option ℕ) → IsLastOf game.rules last → IsStart game.rules (stand_of last)
-    by_last None within = (game.rules, refl)
-    by_last (Some p) within = numbered_action game.rules numbered p within.0 within.1
-
-no_switch : (game : AbstractGame) (w : List ℕ) → HasNoModifier game.rules w → HasNoSwitch game.rules w
-no_switch game [] none = All-nil (λ (p : ℕ). ¬ IsSwitchAt game.rules p)
-no_switch game (p ∷ w) none =
-    All-cons (λ (q : ℕ). ¬ IsSwitchAt game.rules q) p w
-    (λ switches. All-head (λ (q : ℕ). ¬ IsModifierAt game.rules q) p w none (switch_modifies game p switches))
-    (no_switch game w (All-tail (λ (q : ℕ). ¬ IsModifierAt game.rules q) p w none))
-
--- A run without a modifier leaves no pair.
-quiet_pairs : (game : AbstractGame) (w : List ℕ) {s t : AbstractState} → HasNoModifier game.rules w → Run game w s t → RunPairs game w s t []
-quiet_pairs game w none rest = stay
-quiet_pairs game w none (step {p = p} {w = m} applied run) =
-    pass applied (quiet_action game p applied (All-head (λ (q : ℕ). ¬ IsModifierAt game.rules q) p m none))
-    (quiet_pairs game m (All-tail (λ (q : ℕ). ¬ IsModifierAt game.rules q) p m none) run)
-
 true_not_false : true ≡ false → ⊥
 true_not_false e = cc
+
+-- Whether a switch stands there, as it was told of the same game.
+pub plain_by : (game game' : AbstractGame) (p : ℕ) (r : Bool) → game' ≡ game → (IsSwitchAt game'.rules p → r ≡ true) → r ≡ false → ¬ IsSwitchAt game.rules p
+plain_by game game' p r same told other switches =
+    true_not_false (sym (told (subst (λ (h : AbstractGame). IsSwitchAt h.rules p) (sym same) switches)) ∙ other)
+
+pub switch_by : (game game' : AbstractGame) (p : ℕ) → game' ≡ game → IsSwitchAt game'.rules p → IsSwitchAt game.rules p
+switch_by game game' p same = subst (λ (h : AbstractGame). IsSwitchAt h.rules p) same
 
 -- A modifier leaves its pair.
 one_pair : (game : AbstractGame) → IsNumbered game.rules → (p : ℕ) (s t : AbstractState) → IsModifierAt game.rules p → Applies game p s t → RunPairs game (p ∷ []) s t ((s.vertex, p) ∷ [])
@@ -78,18 +50,11 @@ one_pair game numbered p s t modifier applied = by_kind (is_modifier applied.act
     by_kind true modifies = modify applied modifies stay
     by_kind false quiet = absurd (quiet_place game numbered p applied quiet modifier)
 
--- A modifier that comes next is applied with the pair's vertex as the current one, where nothing else is new.
-pub next_here : (game : AbstractGame) → IsNumbered game.rules → (s : AbstractState) (f : Start) (v p : ℕ) (next : IsNext game s f v p) → next.here ≡ at_vertex s v
-next_here game numbered s f v p next = ends_at game numbered s next.here next.before next.no_modifier next.runs ∙ ap (λ (x : ℕ). at_vertex s x) next.vertex
-
-pub next_applies : (game : AbstractGame) → IsNumbered game.rules → (s : AbstractState) (f : Start) (v p : ℕ) (next : IsNext game s f v p) → Applies game p (at_vertex s v) next.later
-next_applies game numbered s f v p next = subst (λ (u : AbstractState). Applies game p u next.later) (next_here game numbered s f v p next) next.applies
-
 -- A modifier that comes next makes a run with its pair.
 next_runs : (game : AbstractGame) → IsNumbered game.rules → (s : AbstractState) (f : Start) (v p : ℕ) (next : IsNext game s f v p) (later : AbstractState) → Applies game p (at_vertex s v) later → RunPairs game (next.before ++ p ∷ []) s later ((v, p) ∷ [])
 next_runs game numbered s f v p next later applied =
     let here : Run game next.before s (at_vertex s v) = subst (λ (u : AbstractState). Run game next.before s u) (next_here game numbered s f v p next) next.runs in
-    RunPairs_join (quiet_pairs game next.before next.no_modifier here) (one_pair game numbered p (at_vertex s v) later next.modifies applied)
+    RunPairs_join (quiet_pairs game next.before s (at_vertex s v) next.no_modifier here) (one_pair game numbered p (at_vertex s v) later next.modifies applied)
 
 -- A switch that comes next is a legal move.
 pub legal_end : (game : AbstractGame) → IsNumbered game.rules → (place : AbstractPlace) (v p : ℕ) (later : AbstractState) → IsNext game place.state (stand_of place.last) v p → IsSwitchAt game.rules p → Applies game p (at_vertex place.state v) later → Legal game place ((v, p) ∷ []) (place_behind later p)
@@ -99,7 +64,7 @@ legal_end game numbered place v p later next switches applied = record {
   follows = next.follows;
   runs = next_runs game numbered place.state (stand_of place.last) v p next later applied;
   switches = switches;
-  none_before = no_switch game next.before next.no_modifier;
+  none_before = quiet_switches game.rules next.before next.no_modifier;
   stands = refl;
 }
 
@@ -115,52 +80,8 @@ legal_on game numbered place v p later qs to next plain applied legal =
       follows = subst (λ (m : List ℕ). Follows game.rules (stand_of place.last) m) (sym joined) ((locality_law game.rules numbered (stand_of place.last) next.before p (legal.before ++ legal.last ∷ [])).0.1 (next.follows, legal.follows));
       runs = subst (λ (m : List ℕ). RunPairs game m place.state to.state ((v, p) ∷ qs)) (joined' ∙ sym joined) runs;
       switches = legal.switches;
-      none_before = All-append (λ (q : ℕ). ¬ IsSwitchAt game.rules q) next.before (p ∷ legal.before) (no_switch game next.before next.no_modifier) (All-cons (λ (q : ℕ). ¬ IsSwitchAt game.rules q) p legal.before plain legal.none_before);
+      none_before = All-append (λ (q : ℕ). ¬ IsSwitchAt game.rules q) next.before (p ∷ legal.before) (quiet_switches game.rules next.before next.no_modifier) (All-cons (λ (q : ℕ). ¬ IsSwitchAt game.rules q) p legal.before plain legal.none_before);
       stands = legal.stands;
-    }
-
--- A run with pairs goes, without a modifier, to the modifier of the first one, and from there on.
-record CutRun (game : AbstractGame) (w : List ℕ) (s t : AbstractState) (v p : ℕ) (qs : List (ℕ × ℕ)) : Type 0 where
-  before : List ℕ
-  remainder : List ℕ
-  here : AbstractState
-  later : AbstractState
-  word : w ≡ before ++ p ∷ remainder
-  no_modifier : HasNoModifier game.rules before
-  runs : Run game before s here
-  vertex : here.vertex ≡ v
-  modifies : IsModifierAt game.rules p
-  applies : Applies game p here later
-  onward : RunPairs game remainder later t qs
-
-cut_run : (game : AbstractGame) → IsNumbered game.rules → {w : List ℕ} {s t : AbstractState} {v p : ℕ} {qs : List (ℕ × ℕ)} → RunPairs game w s t ((v, p) ∷ qs) → CutRun game w s t v p qs
-cut_run game numbered (modify {w = w} {s = s} {middle = middle} applied modifies run) = record {
-  before = [];
-  remainder = w;
-  here = s;
-  later = middle;
-  word = refl;
-  no_modifier = All-nil (λ (q : ℕ). ¬ IsModifierAt game.rules q);
-  runs = rest;
-  vertex = refl;
-  modifies = record { action = applied.action; stands = applied.stands; modifies = modifies };
-  applies = applied;
-  onward = run;
-}
-cut_run game numbered (pass {p = p} applied quiet run) =
-    let cut = cut_run game numbered run in
-    record {
-      before = p ∷ cut.before;
-      remainder = cut.remainder;
-      here = cut.here;
-      later = cut.later;
-      word = ap (λ (m : List ℕ). p ∷ m) cut.word;
-      no_modifier = All-cons (λ (q : ℕ). ¬ IsModifierAt game.rules q) p cut.before (quiet_place game numbered p applied quiet) cut.no_modifier;
-      runs = step applied cut.runs;
-      vertex = cut.vertex;
-      modifies = cut.modifies;
-      applies = cut.applies;
-      onward = cut.onward;
     }
 
 -- Where a list ends: with the element that stands in it, or behind that.
@@ -185,10 +106,6 @@ end_of (a ∷ u) p w (b ∷ before) last e =
     further heads (here empty same end) = here empty (cc) end
     further heads (behind m end same) = behind m end (cc)
 
-all_right : (P : ℕ → Type 0) (u v : List ℕ) → All P (u ++ v) → All P v
-all_right P [] v all = all
-all_right P (a ∷ u) v all = all_right P u v (All-tail P a (u ++ v) all)
-
 -- What stands behind the first pair of a legal list: nothing, where the pair is of the switch; else what is legal there.
 pub data Onward (game : AbstractGame) (later : AbstractState) (p : ℕ) (qs : List (ℕ × ℕ)) (to : AbstractPlace) : Type 0 where
   ended : IsSwitchAt game.rules p → qs ≡ [] → to ≡ place_behind later p → Onward game later p qs to
@@ -210,25 +127,14 @@ same_place state last = λ i. record { state = state i; last = last i }
 pub legal_cut : (game : AbstractGame) → IsNumbered game.rules → (place : AbstractPlace) (v p : ℕ) (qs : List (ℕ × ℕ)) (to : AbstractPlace) → Legal game place ((v, p) ∷ qs) to → CutLegal game place v p qs to
 legal_cut game numbered place v p qs to legal =
     let cut = cut_run game numbered legal.runs in
-    let follows : Follows game.rules f (cut.before ++ p ∷ cut.remainder) = subst (λ (m : List ℕ). Follows game.rules f m) cut.word legal.follows in
-    let parts = (locality_law game.rules numbered f cut.before p cut.remainder).0.0 follows in
-    let next : IsNext game place.state f v p = record {
-      before = cut.before;
-      here = cut.here;
-      later = cut.later;
-      no_modifier = cut.no_modifier;
-      runs = cut.runs;
-      vertex = cut.vertex;
-      follows = parts.0;
-      modifies = cut.modifies;
-      applies = cut.applies;
-    } in
-    record { next = next; later = cut.later; applies = next_applies game numbered place.state f v p next; onward = by_end cut parts.1 (end_of cut.before p cut.remainder legal.before legal.last cut.word) }
+    let follows : Follows game.rules f (cut.before ++ p ∷ cut.rest_of) = subst (λ (m : List ℕ). Follows game.rules f m) cut.joined legal.follows in
+    let parts = (locality_law game.rules numbered f cut.before p cut.rest_of).0.0 follows in
+    record { next = cut_next game numbered cut parts.0; later = cut.later; applies = cut.applied; onward = by_end cut parts.1 (end_of cut.before p cut.rest_of legal.before legal.last cut.joined) }
   where
     f : Start
     f = stand_of place.last
 
-    by_end : (cut : CutRun game (legal.before ++ legal.last ∷ []) place.state to.state v p qs) → Follows game.rules (after p) cut.remainder → EndOf cut.before p cut.remainder legal.before legal.last → Onward game cut.later p qs to
+    by_end : (cut : CutRun game (legal.before ++ legal.last ∷ []) place.state to.state v p qs) → Follows game.rules (after p) cut.rest_of → EndOf cut.before p cut.rest_of legal.before legal.last → Onward game cut.later p qs to
     by_end cut follows (here empty same end) =
         let run = no_pairs (subst (λ (m : List ℕ). RunPairs game m cut.later to.state qs) empty cut.onward) in
         ended (subst (λ (q : ℕ). IsSwitchAt game.rules q) end legal.switches) run.0 (same_place run.1 (legal.stands ∙ ap Some end))
@@ -264,13 +170,9 @@ place_after game numbered later p modifier fits =
     record { state = fits; last = (position.from_one, position.there) }
 
 -- What comes next in a semi-state of the game stands at a vertex of the board.
-run_fits : (game : AbstractGame) → IsGame game → {w : List ℕ} {s t : AbstractState} → Run game w s t → IsStateOf game s → IsStateOf game t
-run_fits game lawful rest fits = fits
-run_fits game lawful (step {p = p} {s = s} {middle = middle} applied run) fits = run_fits game lawful run ((state_law game lawful).1 p s middle fits applied)
-
 pub next_there : (game : AbstractGame) → IsGame game → (s : AbstractState) (f : Start) (v p : ℕ) → IsStateOf game s → IsNext game s f v p → v < length game.board.first
 next_there game lawful s f v p fits next =
-    let here = run_fits game lawful next.runs fits in
+    let here = run_stays game lawful next.runs fits in
     subst (λ (n : ℕ). v < n) here.vertices (subst (λ (n : ℕ). n < length next.here.pieces) next.vertex here.vertex)
 
 -- Only what the step leads to is behind it.

@@ -1,40 +1,44 @@
 //! What the questions at a place have in common.
-ghost use Rattle.std.specs.Prelude.{◌≡◌, ◌≤◌, ◌↔◌, length, IfSome, IsTrue};
+ghost use Rattle.std.specs.Prelude.{◌≡◌, ◌≤◌, ◌↔◌, length, IsTrue};
 ghost use Rattle.rbg_base.specs.Move.{IsMoveLength};
 ghost use Rattle.rbg_rules.specs.Games.{IsGame};
 ghost use Rattle.rbg_rules.specs.Positions.{IsSwitchAt};
 ghost use Rattle.rbg_rules.specs.Moves.{stand_of};
-ghost use Rattle.rbg_flat.specs.Paths.{ArePathsOf};
 ghost use Rattle.rbg_pairs.specs.Start.{start_of, IsPositionOf};
 ghost use Rattle.rbg_moves.specs.internal.Asking.{begun_in};
 ghost use Rattle.rbg_flat.specs.internal.Shown.{shows_switch};
 
 use rbg_auto::{Expr, Steps};
 use rbg_base::{Move, Pair, Position};
-use rbg_flat::Paths;
+use rbg_pairs::GameSteps;
 use rbg_rules::limits::{MAX_MODIFIERS, MAX_OPENINGS};
 use rbg_rules::{Action, Game};
 use rbg_search::{Budget, Buffers, Origin, Search};
 use std::alloc::Global;
 
-/// A search that may take up as many openings as a question may have. Where the game has paths, it goes by sets.
+/// The game with the steps of its rules, by which searches go. They go by pairs.
+pub(crate) fn rules_of<'a, S: Steps>(game: &'a Game, steps: &'a S) -> GameSteps<'a, S>
+    requires { S.of_rules steps.now game.now.rules }
+    ensures { result ≡ game.now }
+{
+    game_is_accepted(game);
+    GameSteps::new(game, steps, None)
+}
+
+/// A search that may take up as many openings as a question may have.
 #[inline(always)]
 pub(crate) fn search_in<'a, S: Steps>(
     alloc: Global,
-    game: &'a Game,
-    steps: &'a S,
-    paths: Option<&'a Paths>,
+    rules: GameSteps<'a, S>,
     buffers: &'a mut Buffers,
 ) -> Search<'a, S>
-    requires steps { S.of_rules steps.now game.now.rules }
-    requires paths { IfSome paths (λ told. ArePathsOf game.now told.now) }
-    ensures begun { result ≡ begun_in game.now }
+    ensures begun { result ≡ begun_in rules.entry }
 {
     let budget = Budget {
         openings: MAX_OPENINGS as u32,
         modifiers: MAX_MODIFIERS as u16,
     };
-    Search::with_paths(alloc, game, steps, paths, budget, buffers)
+    Search::by_rules(alloc, rules, budget, buffers)
 }
 
 /// For proofs alone: the game is an accepted one. It does nothing.

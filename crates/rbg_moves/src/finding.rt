@@ -1,21 +1,20 @@
 //! Some legal move, where there is one.
-ghost use Rattle.std.specs.Prelude.{◌≡◌, length, IfOk, IfSome, IfNone, OnOk, Err, Bool};
+ghost use Rattle.std.specs.Prelude.{◌≡◌, ◌≤◌, length, IfOk, IfSome, IfNone, OnOk, Err, Bool};
 ghost use Rattle.rbg_base.specs.Move.{IsMoveLength};
 ghost use Rattle.rbg_rules.specs.Moves.{Finished};
 ghost use Rattle.rbg_rules.specs.Questions.{find_move};
 ghost use Rattle.rbg_rules.specs.Places.{IsPlaceOf};
-ghost use Rattle.rbg_flat.specs.Paths.{ArePathsOf};
 ghost use Rattle.rbg_moves.specs.Answers.{FindsMove};
 ghost use Rattle.rbg_moves.specs.Tallying.{Tallies};
-ghost use Rattle.rbg_moves.specs.internal.Fronts.{FindsFront};
+ghost use Rattle.rbg_moves.specs.internal.Fronts.{FindsFront, IsWalkedFrom};
 
-use crate::asking::{budget_is_kept, game_is_accepted, move_of, search_in};
+use crate::asking::{budget_is_kept, move_of, rules_of, search_in};
 use crate::place::Place;
 use crate::walking::{Found, walk};
 use crate::workspace::Workspace;
 use rbg_auto::Steps;
 use rbg_base::{Move, MoveList, Pair};
-use rbg_flat::Paths;
+use rbg_pairs::GameSteps;
 use rbg_rules::Game;
 use rbg_search::Over;
 use std::alloc::Global;
@@ -37,7 +36,8 @@ pub fn find_move<S: Steps>(
 {
     let mut workspace = Workspace::new(alloc);
     let mut lent = place.try_clone()?;
-    let Some(pairs) = find_pairs(alloc, game, steps, None, &mut lent, &mut workspace)? else {
+    let rules = rules_of(game, steps);
+    let Some(pairs) = find_pairs(alloc, rules, &mut lent, &mut workspace)? else {
         return Ok(None);
     };
     Ok(Some(move_of(pairs.as_slice())))
@@ -47,21 +47,17 @@ pub fn find_move<S: Steps>(
 /// question is asked as by `find_front`.
 pub(crate) fn find_pairs<S: Steps>(
     alloc: Global,
-    game: &Game,
-    steps: &S,
-    paths: Option<&Paths>,
+    rules: GameSteps<'_, S>,
     place: &mut Place,
     workspace: &mut Workspace,
 ) -> Result<Option<Vec<Pair>>, Over>
-    requires steps { S.of_rules steps.now game.now.rules }
-    requires paths { IfSome paths (λ told. ArePathsOf game.now told.now) }
-    requires place { IsPlaceOf game.now place.old }
-    ensures finds { FindsMove game.now place.old result (λ pairs. pairs.items) }
+    requires { IsPlaceOf rules place.old }
+    ensures finds { FindsMove rules.entry place.old result (λ pairs. pairs.items) }
     ensures kept { place.new ≡ place.old }
-    ensures tallies { Tallies game.now find_move place.old workspace.old.searches
-        workspace.new.searches result }
+    ensures tallies { Tallies rules.entry find_move place.old workspace.old.tally
+        workspace.new.tally result }
 {
-    let found = find_front(alloc, game, steps, paths, place, workspace)?;
+    let found = find_front(alloc, rules, place, workspace)?;
     if !found {
         return Ok(None);
     }
@@ -69,42 +65,55 @@ pub(crate) fn find_pairs<S: Steps>(
     Ok(Some(pairs))
 }
 
-/// Whether there is a legal move. The pairs of one are left in the front of the workspace. The question is asked on the
-/// place's own semi-state, which is given back, also where there is no answer. Where there is none, buffers of the
-/// workspace are lost.
+/// Whether there is a legal move. The pairs of one are left in the front of the workspace.
 pub(crate) fn find_front<S: Steps>(
     alloc: Global,
-    game: &Game,
-    steps: &S,
-    paths: Option<&Paths>,
+    rules: GameSteps<'_, S>,
     place: &mut Place,
     workspace: &mut Workspace,
 ) -> Result<bool, Over>
-    requires steps { S.of_rules steps.now game.now.rules }
-    requires paths { IfSome paths (λ told. ArePathsOf game.now told.now) }
-    requires place { IsPlaceOf game.now place.old }
-    ensures finds { FindsFront game.now place.old result workspace.new.front.items }
+    requires { IsPlaceOf rules place.old }
+    ensures finds { FindsFront rules.entry place.old result workspace.new.front.items }
     ensures kept { place.new ≡ place.old }
-    ensures tallies { Tallies game.now find_move place.old workspace.old.searches
-        workspace.new.searches result }
+    ensures tallies { Tallies rules.entry find_move place.old workspace.old.tally
+        workspace.new.tally result }
 {
-    game_is_accepted(game);
-    workspace.front.clear();
-    let mark = place.state.mark();
-    let mut search = search_in(alloc, game, steps, paths, &mut workspace.buffers);
     let moves = MoveList::new(alloc);
     let max = 0;
     let mut found = Found { moves, max };
+    walk_from(alloc, rules, place, &mut found, workspace)
+}
+
+/// Walks from a place, and tells whether the walk ended early: then the pairs of a move are left in the front of the
+/// workspace. The question is asked on the place's own semi-state, which is given back, also where there is no answer.
+/// Where there is none, buffers of the workspace are lost.
+pub(crate) fn walk_from<S: Steps>(
+    alloc: Global,
+    rules: GameSteps<'_, S>,
+    place: &mut Place,
+    found: &mut Found,
+    workspace: &mut Workspace,
+) -> Result<bool, Over>
+    requires place { IsPlaceOf rules place.old }
+    requires few { length found.old.moves ≤ found.old.max }
+    ensures kept { place.new ≡ place.old }
+    ensures walks { IsWalkedFrom rules.entry place.old found.old.max found.old.moves found.new.moves
+        workspace.new.front.items workspace.old.tally workspace.new.tally result }
+{
+    let _game = rules.game();
+    workspace.front.clear();
+    let mark = place.state.mark();
+    let mut search = search_in(alloc, rules, &mut workspace.buffers);
     let ended = walk(
         &mut search,
         &mut place.state,
         &mut workspace.front,
-        &mut found,
+        found,
         place.after,
     );
     place.state.undo_to(mark);
     let ended = ended?;
     budget_is_kept(&search);
-    search.leave(&mut workspace.searches);
+    search.leave(&mut workspace.tally);
     Ok(ended)
 }

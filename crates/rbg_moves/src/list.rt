@@ -1,20 +1,20 @@
 //! The legal moves of a place.
-ghost use Rattle.std.specs.Prelude.{◌≡◌, ◌≢◌, ◌<◌, AllPairs, IfOk, OnOk, IfSome};
+ghost use Rattle.std.specs.Prelude.{◌≡◌, ◌≢◌, ◌<◌, AllPairs, IfOk, OnOk};
 ghost use Rattle.std.specs.List.Sorted.{IsPermutation};
 ghost use Rattle.rbg_rules.specs.Questions.{list_moves as listing_moves};
 ghost use Rattle.rbg_rules.specs.Places.{IsPlaceOf};
-ghost use Rattle.rbg_flat.specs.Paths.{ArePathsOf};
 ghost use Rattle.rbg_moves.specs.Answers.{ListsMoves};
 ghost use Rattle.rbg_moves.specs.Listing.{IsGathered, IsListed, IsMoveBefore};
 ghost use Rattle.rbg_moves.specs.Tallying.{Tallies};
 
-use crate::asking::{budget_is_kept, game_is_accepted, move_of, search_in};
+use crate::asking::{move_of, rules_of};
+use crate::finding::walk_from;
 use crate::place::Place;
-use crate::walking::{Found, walk};
+use crate::walking::Found;
 use crate::workspace::Workspace;
 use rbg_auto::Steps;
 use rbg_base::{Memory, Move, MoveList};
-use rbg_flat::Paths;
+use rbg_pairs::GameSteps;
 use rbg_rules::Game;
 use rbg_search::Over;
 use std::alloc::Global;
@@ -52,29 +52,25 @@ pub fn list_moves<S: Steps>(
         (λ listed. IsListed game.now place.now max listed.moves.items listed.cut)
         (λ listed. listed.cut) }
 {
-    list_sorted(alloc, game, steps, None, place, max)
+    list_sorted(alloc, rules_of(game, steps), place, max)
 }
 
-/// As `list_moves`, by the paths of the game where it has some.
+/// As `list_moves`, by rules that may have paths.
 pub(crate) fn list_sorted<S: Steps>(
     alloc: Global,
-    game: &Game,
-    steps: &S,
-    paths: Option<&Paths>,
+    rules: GameSteps<'_, S>,
     place: &Place,
     max: usize,
 ) -> Result<Listed, Over>
-    requires steps { S.of_rules steps.now game.now.rules }
-    requires paths { IfSome paths (λ told. ArePathsOf game.now told.now) }
-    requires place { IsPlaceOf game.now place.now }
+    requires place { IsPlaceOf rules place.now }
     requires some { 0 < max }
-    ensures { ListsMoves game.now place.now result
-        (λ listed. IsListed game.now place.now max listed.moves.items listed.cut)
+    ensures { ListsMoves rules.entry place.now result
+        (λ listed. IsListed rules.entry place.now max listed.moves.items listed.cut)
         (λ listed. listed.cut) }
 {
     let mut workspace = Workspace::new(alloc);
     let mut lent = place.try_clone()?;
-    let gathered = gather_moves(alloc, game, steps, paths, &mut lent, max, &mut workspace)?;
+    let gathered = gather_moves(alloc, rules, &mut lent, max, &mut workspace)?;
     let mut moves = moves_of(alloc, &gathered.moves)?;
     sort(&mut moves);
     let cut = gathered.cut;
@@ -83,45 +79,26 @@ pub(crate) fn list_sorted<S: Steps>(
 
 /// The legal moves, at most `max` of them, in the order in which they are found: first those of one switch, then those
 /// behind each other modifier, both by vertex and then by position. They stand in a list that `Workspace::keep_moves`
-/// takes back. The question is asked on the place's own semi-state, which is given back, also where there is no answer.
-/// Where there is none, buffers of the workspace are lost.
+/// takes back. The question is asked as by `walk_from`.
 pub(crate) fn gather_moves<S: Steps>(
     alloc: Global,
-    game: &Game,
-    steps: &S,
-    paths: Option<&Paths>,
+    rules: GameSteps<'_, S>,
     place: &mut Place,
     max: usize,
     workspace: &mut Workspace,
 ) -> Result<Gathered, Over>
-    requires steps { S.of_rules steps.now game.now.rules }
-    requires paths { IfSome paths (λ told. ArePathsOf game.now told.now) }
-    requires place { IsPlaceOf game.now place.old }
+    requires place { IsPlaceOf rules place.old }
     requires some { 0 < max }
-    ensures lists { ListsMoves game.now place.old result
-        (λ gathered. IsGathered game.now place.old max gathered.moves gathered.cut)
+    ensures lists { ListsMoves rules.entry place.old result
+        (λ gathered. IsGathered rules.entry place.old max gathered.moves gathered.cut)
         (λ gathered. gathered.cut) }
     ensures kept { place.new ≡ place.old }
-    ensures tallies { Tallies game.now listing_moves place.old workspace.old.searches
-        workspace.new.searches result }
+    ensures tallies { Tallies rules.entry listing_moves place.old workspace.old.tally
+        workspace.new.tally result }
 {
-    game_is_accepted(game);
     let moves = workspace.take_moves();
     let mut found = Found { moves, max };
-    workspace.front.clear();
-    let mark = place.state.mark();
-    let mut search = search_in(alloc, game, steps, paths, &mut workspace.buffers);
-    let cut = walk(
-        &mut search,
-        &mut place.state,
-        &mut workspace.front,
-        &mut found,
-        place.after,
-    );
-    place.state.undo_to(mark);
-    let cut = cut?;
-    budget_is_kept(&search);
-    search.leave(&mut workspace.searches);
+    let cut = walk_from(alloc, rules, place, &mut found, workspace)?;
     let moves = found.moves;
     Ok(Gathered { moves, cut })
 }

@@ -23,6 +23,7 @@ use arrayvec::ArrayVec;
 use rbg_auto::{Compact, Steps, compact};
 use rbg_base::{Memory, Move, Pair};
 use rbg_flat::Paths;
+use rbg_pairs::GameSteps;
 use rbg_rules::Game;
 use rbg_rules::limits::MAX_PLAYERS;
 use rbg_search::Over;
@@ -97,6 +98,14 @@ impl PlayedGame {
         })
     }
 
+    /// The game with the steps of its rules, by which searches go.
+    #[inline(always)]
+    fn rules(&self) -> GameSteps<'_, Compact>
+        ensures { result ≡ self.now }
+    {
+        GameSteps::new(&self.game, &self.automaton, told(&self.paths))
+    }
+
     /// The game itself.
     pub fn as_game(&self) -> &Game
         ensures game { result.now ≡ self.now }
@@ -139,7 +148,7 @@ impl PlayedGame {
 
     /// A new workspace for questions, whose counts are 0.
     pub fn workspace(&self) -> Workspace
-        ensures { result.searches ≡ record { openings = 0; pairs = 0 } }
+        ensures { result.tally ≡ record { openings = 0; pairs = 0 } }
     {
         Workspace::new(self.alloc)
     }
@@ -155,17 +164,10 @@ impl PlayedGame {
         requires place { IsPlaceOf self.now place.old }
         ensures finds { FindsMove self.now place.old result (λ pairs. pairs.items) }
         ensures kept { place.new ≡ place.old }
-        ensures tallies { Tallies self.now find_move place.old workspace.old.searches
-            workspace.new.searches result }
+        ensures tallies { Tallies self.now find_move place.old workspace.old.tally
+            workspace.new.tally result }
     {
-        find_pairs(
-            self.alloc,
-            &self.game,
-            &self.automaton,
-            told(&self.paths),
-            place,
-            workspace,
-        )
+        find_pairs(self.alloc, self.rules(), place, workspace)
     }
 
     /// Whether there is a legal move at a place. The question is asked as by `find_move`.
@@ -173,8 +175,8 @@ impl PlayedGame {
         requires place { IsPlaceOf self.now place.old }
         ensures tells { TellsMove self.now place.old result }
         ensures kept { place.new ≡ place.old }
-        ensures tallies { Tallies self.now find_move place.old workspace.old.searches
-            workspace.new.searches result }
+        ensures tallies { Tallies self.now find_move place.old workspace.old.tally
+            workspace.new.tally result }
     {
         self.find_front(place, workspace)
     }
@@ -188,17 +190,10 @@ impl PlayedGame {
         requires place { IsPlaceOf self.now place.old }
         ensures finds { FindsFront self.now place.old result workspace.new.front.items }
         ensures kept { place.new ≡ place.old }
-        ensures tallies { Tallies self.now find_move place.old workspace.old.searches
-            workspace.new.searches result }
+        ensures tallies { Tallies self.now find_move place.old workspace.old.tally
+            workspace.new.tally result }
     {
-        find_front(
-            self.alloc,
-            &self.game,
-            &self.automaton,
-            told(&self.paths),
-            place,
-            workspace,
-        )
+        find_front(self.alloc, self.rules(), place, workspace)
     }
 
     /// The place after the move of these pairs, or None if it is not legal. See the free `try_move`.
@@ -210,18 +205,10 @@ impl PlayedGame {
     ) -> Result<Option<Place>, Over>
         requires place { IsPlaceOf self.now place.now }
         ensures tries { TriesMove self.now place.now pairs.now result }
-        ensures tallies { Tallies self.now (try_move pairs.now) place.now workspace.old.searches
-            workspace.new.searches result }
+        ensures tallies { Tallies self.now (try_move pairs.now) place.now workspace.old.tally
+            workspace.new.tally result }
     {
-        try_pairs(
-            self.alloc,
-            &self.game,
-            &self.automaton,
-            told(&self.paths),
-            place,
-            pairs,
-            workspace,
-        )
+        try_pairs(self.alloc, self.rules(), place, pairs, workspace)
     }
 
     /// The legal moves at a place, or `max` of them where there are more. See the free `list_moves`.
@@ -232,14 +219,7 @@ impl PlayedGame {
             (λ listed. IsListed self.now place.now max listed.moves.items listed.cut)
             (λ listed. listed.cut) }
     {
-        list_sorted(
-            self.alloc,
-            &self.game,
-            &self.automaton,
-            told(&self.paths),
-            place,
-            max,
-        )
+        list_sorted(self.alloc, self.rules(), place, max)
     }
 
     /// As `list_moves`, with the buffers of a workspace. The moves stand in the order in which they were found, in a
@@ -257,18 +237,10 @@ impl PlayedGame {
             (λ gathered. IsGathered self.now place.old max gathered.moves gathered.cut)
             (λ gathered. gathered.cut) }
         ensures kept { place.new ≡ place.old }
-        ensures tallies { Tallies self.now listing_moves place.old workspace.old.searches
-            workspace.new.searches result }
+        ensures tallies { Tallies self.now listing_moves place.old workspace.old.tally
+            workspace.new.tally result }
     {
-        gather_moves(
-            self.alloc,
-            &self.game,
-            &self.automaton,
-            told(&self.paths),
-            place,
-            max,
-            workspace,
-        )
+        gather_moves(self.alloc, self.rules(), place, max, workspace)
     }
 
     /// Makes the move of these pairs, which is legal, in place. Nothing is searched. Where memory is refused, the place

@@ -3,18 +3,17 @@ ghost use Rattle.std.specs.Prelude.{◌≡◌, IfOk, IfSome, IfNone, OnOk, OnErr
 ghost use Rattle.rbg_rules.specs.Moves.{AbstractPlace, Legal};
 ghost use Rattle.rbg_rules.specs.Places.{IsPlaceOf};
 ghost use Rattle.rbg_rules.specs.Questions.{try_move};
-ghost use Rattle.rbg_flat.specs.Paths.{ArePathsOf};
 ghost use Rattle.rbg_moves.specs.Answers.{TriesMove};
 ghost use Rattle.rbg_moves.specs.Tallying.{Tallies};
 ghost use Rattle.rbg_moves.specs.internal.Stepping.{place_behind, IsFollowed};
 
-use crate::asking::{budget_is_kept, game_is_accepted, is_switch, search_in};
+use crate::asking::{budget_is_kept, is_switch, rules_of, search_in};
 use crate::place::Place;
 use crate::stepping::take;
 use crate::workspace::Workspace;
 use rbg_auto::Steps;
 use rbg_base::{Move, Pair, Position};
-use rbg_flat::Paths;
+use rbg_pairs::GameSteps;
 use rbg_rules::Game;
 use rbg_search::{Over, Search};
 use rbg_state::SemiState;
@@ -36,33 +35,29 @@ pub fn try_move<S: Steps>(
     ensures { TriesMove game.now place.now pairs.now result }
 {
     let mut workspace = Workspace::new(alloc);
-    try_pairs(alloc, game, steps, None, place, pairs, &mut workspace)
+    try_pairs(alloc, rules_of(game, steps), place, pairs, &mut workspace)
 }
 
-/// As `try_move`, with the paths of the game where it has some, and with the buffers of a workspace, which also counts
-/// what is taken up. Where there is no answer, its buffers are lost.
+/// As `try_move`, by rules that may have paths, and with the buffers of a workspace, which also counts what is taken up.
+/// Where there is no answer, its buffers are lost.
 pub(crate) fn try_pairs<S: Steps>(
     alloc: Global,
-    game: &Game,
-    steps: &S,
-    paths: Option<&Paths>,
+    rules: GameSteps<'_, S>,
     place: &Place,
     pairs: &Move,
     workspace: &mut Workspace,
 ) -> Result<Option<Place>, Over>
-    requires steps { S.of_rules steps.now game.now.rules }
-    requires paths { IfSome paths (λ told. ArePathsOf game.now told.now) }
-    requires place { IsPlaceOf game.now place.now }
-    ensures tries { TriesMove game.now place.now pairs.now result }
-    ensures tallies { Tallies game.now (try_move pairs.now) place.now workspace.old.searches
-        workspace.new.searches result }
+    requires { IsPlaceOf rules place.now }
+    ensures tries { TriesMove rules.entry place.now pairs.now result }
+    ensures tallies { Tallies rules.entry (try_move pairs.now) place.now workspace.old.tally
+        workspace.new.tally result }
 {
-    game_is_accepted(game);
+    let _game = rules.game();
     let mut to = workspace.copy_of(place)?;
-    let mut search = search_in(alloc, game, steps, paths, &mut workspace.buffers);
+    let mut search = search_in(alloc, rules, &mut workspace.buffers);
     let end = follow(&mut search, &mut to.state, to.after, pairs.as_slice())?;
     budget_is_kept(&search);
-    search.leave(&mut workspace.searches);
+    search.leave(&mut workspace.tally);
     match end {
         Some(last) => {
             to.after = Some(last);

@@ -8,8 +8,6 @@ ghost use Rattle.rbg_rules.specs.Places.{IsPlaceOf};
 ghost use Rattle.rbg_rules.specs.Positions.{IsSwitchAt};
 ghost use Rattle.rbg_rules.specs.State.{IsStateOf};
 ghost use Rattle.rbg_rules.specs.Words.{after};
-ghost use Rattle.rbg_auto.specs.Steps.{AreAllThatFollow};
-ghost use Rattle.rbg_pairs.specs.Part.{IsTrialAt};
 ghost use Rattle.rbg_pairs.specs.Start.{IsPositionOf};
 ghost use Rattle.rbg_state.specs.History.{IsAfter};
 ghost use Rattle.rbg_moves.specs.internal.Asking.{question_of, IsGivenUp};
@@ -23,7 +21,7 @@ use rbg_base::{MAX_PAIRS, MoveList, Pair, Position};
 use rbg_flat::Modifiers;
 use rbg_rules::Game;
 use rbg_search::{Over, Search};
-use rbg_state::{SemiState, Trial};
+use rbg_state::SemiState;
 
 /// The moves that a walk has found. It ends with the first move for which there is no room in the list: the pairs of that
 /// move are then left in the front.
@@ -55,7 +53,7 @@ impl Found {
             → LeavesOthers game.now.rules pairs.old pairs.new) }
         ensures over { (over : Over) → result ≡ Err over → over ≡ Over.Memory }
     {
-        while let Some(pair) = take_switch(game, pairs) {
+        while let Some(pair) = pairs.take_switch(game) {
             if self.add(front, pair)? {
                 return Ok(true);
             }
@@ -81,18 +79,6 @@ impl Found {
         self.moves.push(front, pair)?;
         Ok(false)
     }
-}
-
-/// Takes the first of the modifiers, by vertex and then by position, that is a switch; none where there are none.
-fn take_switch(game: &Game, pairs: &mut Modifiers) -> Option<Pair>
-    requires lawful { IsGame game.now }
-    requires within { All (λ pair. IsPositionOf game.now.rules pair.1) pairs.old }
-    ensures permutation { IfSome result (λ pair. IsPermutation pairs.old (pair ∷ pairs.new)) }
-    ensures switches { IfSome result (λ pair. IsSwitchAt game.now.rules pair.1) }
-    ensures kept { IfNone result (pairs.new ≡ pairs.old) }
-    ensures none { IfNone result (All (λ pair. ¬ IsSwitchAt game.now.rules pair.1) pairs.old) }
-{
-    pairs.take_switch(game)
 }
 
 /// Finds the moves that go on from here, and adds each of them behind the front: first those of one switch, then those
@@ -124,85 +110,22 @@ pub(crate) fn walk<S: Steps>(
         state.old.state (stand_of after) (most_pairs - length front.old.items)
         (result ≡ Err Over.Deep) (result ≡ Err Over.Wide) }
 {
-    if let Some(position) = search.only(state, origin_after(after)) {
-        return walk_only(search, state, front, found, after, position);
-    }
-    walk_each(search, state, front, found, after)
-}
-
-/// As `walk`, where one modifier alone comes next: it needs no list.
-#[cycle(walk)]
-#[inline(always)]
-fn walk_only<S: Steps>(
-    search: &mut Search<'_, S>,
-    state: &mut SemiState,
-    front: &mut Vec<Pair>,
-    found: &mut Found,
-    after: Option<Position>,
-    position: Position,
-) -> Result<bool, Over>
-    requires only { AreAllThatFollow search.old.game.rules (stand_of after) (position ∷ []) }
-    requires modifies { IsTrialAt search.old.game state.old.state state.old.state.vertex position
-        Trial.Modifies }
-    requires place { IsPlaceOf search.old.game (record { state = state.old.state; last = after }) }
-    requires short { length front.old.items < most_pairs }
-    requires few { length found.old.moves ≤ found.old.max }
-    ensures search { search.new ≡ record search.old { opened = search.new.opened; taken = search.new.taken } }
-    ensures state { IfOk result (λ ended. ended ≡ false
-        → (state.new ≡ record state.old { room = state.new.room })) }
-    ensures room { IfOk result (λ ended. ended ≡ false → state.old.room ≤ state.new.room) }
-    ensures after { IsAfter state.old state.new }
-    ensures front { IfOk result (λ ended. ended ≡ false → front.new.items ≡ front.old.items) }
-    ensures max { found.new.max ≡ found.old.max }
-    ensures walked { IfOk result (IsWalked search.old search.new
-        (record { state = state.old.state; last = after }) front.old.items
-        found.old.max found.old.moves found.new.moves front.new.items) }
-    ensures given_up { IsGivenUp search.old (question_of found.old.max)
-        state.old.state (stand_of after) (most_pairs - length front.old.items)
-        (result ≡ Err Over.Deep) (result ≡ Err Over.Wide) }
-{
     let game = search.game();
-    let vertex = state.vertex();
-    search.reach_only(state, origin_after(after), position)?;
-    let pair = Pair { vertex, position };
-    if is_switch(game, position) {
-        let full = found.add(front, pair)?;
-        return Ok(full);
+    let origin = origin_after(after);
+    // one modifier alone needs no list
+    if let Some(position) = search.only(state, origin) {
+        let vertex = state.vertex();
+        search.reach_only(state, origin, position)?;
+        let pair = Pair { vertex, position };
+        if is_switch(game, position) {
+            let full = found.add(front, pair)?;
+            return Ok(full);
+        }
+        let early = walk_behind(search, state, front, found, pair)?;
+        return Ok(early);
     }
-    let ended = walk_behind(search, state, front, found, pair)?;
-    Ok(ended)
-}
-
-/// As `walk`, in the general way.
-#[cycle(walk)]
-#[inline(always)]
-fn walk_each<S: Steps>(
-    search: &mut Search<'_, S>,
-    state: &mut SemiState,
-    front: &mut Vec<Pair>,
-    found: &mut Found,
-    after: Option<Position>,
-) -> Result<bool, Over>
-    requires place { IsPlaceOf search.old.game (record { state = state.old.state; last = after }) }
-    requires short { length front.old.items < most_pairs }
-    requires few { length found.old.moves ≤ found.old.max }
-    ensures search { search.new ≡ record search.old { opened = search.new.opened; taken = search.new.taken } }
-    ensures state { IfOk result (λ ended. ended ≡ false
-        → (state.new ≡ record state.old { room = state.new.room })) }
-    ensures room { IfOk result (λ ended. ended ≡ false → state.old.room ≤ state.new.room) }
-    ensures after { IsAfter state.old state.new }
-    ensures front { IfOk result (λ ended. ended ≡ false → front.new.items ≡ front.old.items) }
-    ensures max { found.new.max ≡ found.old.max }
-    ensures walked { IfOk result (IsWalked search.old search.new
-        (record { state = state.old.state; last = after }) front.old.items
-        found.old.max found.old.moves found.new.moves front.new.items) }
-    ensures given_up { IsGivenUp search.old (question_of found.old.max)
-        state.old.state (stand_of after) (most_pairs - length front.old.items)
-        (result ≡ Err Over.Deep) (result ≡ Err Over.Wide) }
-{
-    let game = search.game();
     let mut pairs = search.take_list();
-    search.reach_flat(state, origin_after(after), &mut pairs)?;
+    search.reach_flat(state, origin, &mut pairs)?;
     if found.add_switches(game, &mut pairs, front)? {
         search.keep_list(pairs);
         return Ok(true);

@@ -11,7 +11,7 @@ use std::alloc::Global;
 pub struct Workspace {
     pub(crate) buffers: Buffers,
     /// What the questions took up in all.
-    pub(crate) searches: Tally,
+    pub(crate) tally: Tally,
     /// The modifiers that a question has applied, each with its vertex; and where it looked for one move, the pairs of that
     /// move.
     pub(crate) front: Vec<Pair>,
@@ -26,7 +26,7 @@ impl Drop for Workspace {
     fn drop(self) {
         let Workspace {
             buffers: _,
-            searches: _,
+            tally: _,
             front: _,
             states: _,
             lists: _,
@@ -37,11 +37,11 @@ impl Drop for Workspace {
 impl Workspace {
     /// A workspace that no question has used.
     pub fn new(alloc: Global) -> Workspace
-        ensures { result.searches ≡ record { openings = 0; pairs = 0 } }
+        ensures { result.tally ≡ record { openings = 0; pairs = 0 } }
     {
         Workspace {
             buffers: Buffers::new(alloc),
-            searches: Tally::new(),
+            tally: Tally::new(),
             front: Vec::new(alloc),
             states: Vec::new(alloc),
             lists: Vec::new(alloc),
@@ -50,21 +50,21 @@ impl Workspace {
 
     /// How many openings the questions took up.
     pub fn openings(&self) -> u64
-        ensures { result ≡ self.now.searches.openings }
+        ensures { result ≡ self.now.tally.openings }
     {
-        self.searches.openings()
+        self.tally.openings()
     }
 
     /// How many pairs of a position and a vertex the questions tried, shifts left out.
     pub fn pairs(&self) -> u64
-        ensures { result ≡ self.now.searches.pairs }
+        ensures { result ≡ self.now.tally.pairs }
     {
-        self.searches.pairs()
+        self.tally.pairs()
     }
 
     /// Keeps the buffers of a place that is no longer needed.
     pub fn keep(&mut self, place: Place)
-        ensures tally { self.new.searches ≡ self.old.searches }
+        ensures tally { self.new.tally ≡ self.old.tally }
     {
         // where there is no memory, it is let go
         let _kept = self.states.push(place.state);
@@ -73,7 +73,7 @@ impl Workspace {
     /// Some place, whose buffers are of use for another one: one that was kept, where there is one. It may be a place of
     /// no game.
     pub fn spare(&mut self) -> Place
-        ensures tally { self.new.searches ≡ self.old.searches }
+        ensures tally { self.new.tally ≡ self.old.tally }
     {
         let state = match self.states.pop() {
             Some(state) => state,
@@ -85,7 +85,7 @@ impl Workspace {
     /// A copy of a place, with no change to take back, in the buffers of one that was kept, where there is one.
     pub fn copy_of(&mut self, place: &Place) -> Result<Place, Memory>
         ensures copy { IfOk result (λ copy. copy ≡ place.now) }
-        ensures tally { self.new.searches ≡ self.old.searches }
+        ensures tally { self.new.tally ≡ self.old.tally }
     {
         let Some(state) = self.states.pop() else {
             return place.try_clone();
@@ -97,14 +97,14 @@ impl Workspace {
 
     /// Keeps a list of pairs that is no longer needed.
     pub fn keep_pairs(&mut self, pairs: Vec<Pair>)
-        ensures tally { self.new.searches ≡ self.old.searches }
+        ensures tally { self.new.tally ≡ self.old.tally }
     {
         self.front = pairs;
     }
 
     /// Keeps a list of moves that is no longer needed.
     pub fn keep_moves(&mut self, moves: MoveList)
-        ensures tally { self.new.searches ≡ self.old.searches }
+        ensures tally { self.new.tally ≡ self.old.tally }
     {
         // where there is no memory, it is let go
         let _kept = self.lists.push(moves);
@@ -113,7 +113,7 @@ impl Workspace {
     /// A list of no moves.
     pub(crate) fn take_moves(&mut self) -> MoveList
         ensures none { result ≡ [] }
-        ensures tally { self.new.searches ≡ self.old.searches }
+        ensures tally { self.new.tally ≡ self.old.tally }
     {
         match self.lists.pop() {
             Some(moves) => emptied(moves),

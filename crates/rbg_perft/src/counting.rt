@@ -173,27 +173,12 @@ fn count_none(
         Extent::Moves => Ok(GOING),
         Extent::Ends => {
             game.settle(place, workspace)?;
-            let here = count_here(game, place, workspace)?;
-            Ok(here)
+            if game.has_move(place, workspace)? {
+                Ok(GOING)
+            } else {
+                Ok(ENDED)
+            }
         }
-    }
-}
-
-/// Counts the one sequence of no moves from a place to which the keeper's moves have led.
-fn count_here(
-    game: &PlayedGame,
-    place: &mut Place,
-    workspace: &mut Workspace,
-) -> Result<Counts, CountError>
-    requires place { IsPlaceOf game.now place.old }
-    ensures one { IfOk result (λ counts. counts.sequences ≡ 1) }
-    ensures ended { IfOk result (λ counts. TellsFinished game.now place.old counts.ended) }
-    ensures refused { IfErr result (IsNotCountedFrom game.now 0 Ends place.old) }
-{
-    if game.has_move(place, workspace)? {
-        Ok(GOING)
-    } else {
-        Ok(ENDED)
     }
 }
 

@@ -1,10 +1,10 @@
 -- A flat part that is one modifier alone.
-use Rattle.std.proofs.Common.{◌≡◌, ℕ, zero, suc, ◌*◌, ◌<◌, ◌≤◌, List, [], ◌∷◌, Bool, true, false, refl, sym, subst, inl, inr, arith}
+use Rattle.std.proofs.Common.{ℕ, zero, suc, ◌*◌, ◌<◌, ◌≤◌, List, [], ◌∷◌, Bool, refl, sym, subst, inl, inr, arith}
 use Rattle.std.proofs.lemmas.Nat.{rows as products}
 use Rattle.std.specs.Prelude.{Contains, Decides}
 use Rattle.std.proofs.lemmas.List.Elements.{Contains-push, Contains-push_cases}
-use Rattle.rbg_rules.specs.Expression.{AbstractAction, shift, on, off, assignment, comparison, switch, positive, negative, Expression}
-use Rattle.rbg_rules.specs.Positions.{IsNumbered, IsModifierAt, IsPatternAt, is_modifier, is_pattern}
+use Rattle.rbg_rules.specs.Expression.{Expression}
+use Rattle.rbg_rules.specs.Positions.{IsNumbered, IsPatternAt}
 use Rattle.rbg_rules.specs.Words.{Start, Ends}
 use Rattle.rbg_rules.specs.State.{AbstractGame, AbstractState}
 use Rattle.rbg_leaps.specs.Leaps.{IsShiftAt}
@@ -15,9 +15,9 @@ use Rattle.rbg_pairs.specs.Closure.{Reached}
 use Rattle.rbg_pairs.specs.Meeting.{MeetsAll}
 use Rattle.rbg_pairs.specs.Part.{IsTrialAt, IsPart}
 use Rattle.rbg_state.specs.declared.state.trials.Trial.TheVariants.{Modifies}
-use Rattle.rbg_pairs.proofs.Glances.{no_pattern}
 use Rattle.rbg_flat.specs.Found.{HasCandidates}
 use Rattle.rbg_pairs.proofs.Plains.{plain_none, plain_more}
+use Rattle.rbg_search.proofs.Asking.{no_modifier}
 use Rattle.rbg_search.proofs.Takings.{no_modifier_shift, part_pairs}
 use Rattle.rbg_pairs.proofs.Starts.{follower_position}
 use Rattle.rbg_pairs.proofs.Meetings.{meets_none, meets_one}
@@ -25,20 +25,6 @@ use Rattle.rbg_pairs.proofs.Parts.{begin_part, modifier_part, all_met, whole_par
 
 pub none_there : (q : ℕ × ℕ) → ¬ Contains [] q
 none_there q (k, under, is) = absurd (omega (arith, under))
-
-plain_modifier : (a : AbstractAction) → is_modifier a ≡ true → is_pattern a ≡ false
-plain_modifier (shift d) is = refl
-plain_modifier (on xs) is = refl
-plain_modifier (off x) is = refl
-plain_modifier (assignment v e) is = refl
-plain_modifier (comparison e r f) is = refl
-plain_modifier (switch n) is = refl
-plain_modifier (positive x) is = absurd cc
-plain_modifier (negative x) is = absurd cc
-
--- A modifier is no pattern.
-no_modifier_pattern : (rules : Expression) → IsNumbered rules → (p : ℕ) → IsModifierAt rules p → ¬ IsPatternAt rules p
-no_modifier_pattern rules numbered p m = no_pattern rules numbered p m.action m.stands (plain_modifier m.action m.modifies)
 
 -- The one position that may come next stands in the rules.
 pub only_position : (rules : Expression) → IsNumbered rules → (f : Start) (p : ℕ) → AreAllThatFollow rules f (p ∷ []) → IsPositionOf rules p
@@ -82,5 +68,5 @@ module _ (game : AbstractGame) (numbered : IsNumbered game.rules) (s : AbstractS
   pub alone_quiet : (w q : ℕ) → Contains {X = ℕ × ℕ} ((s.vertex, p) ∷ []) (w, q) → IsPatternAt game.rules q → Contains {X = ℕ × ℕ} [] (w, q)
   alone_quiet w q there pattern = elim (Contains-push_cases [] (s.vertex, p) (w, q) there) [
     | inl none ↦ none
-    | inr same ↦ absurd (no_modifier_pattern game.rules numbered p modifies.0 (subst (λ (x : ℕ × ℕ). IsPatternAt game.rules x.1) (sym same) pattern))
+    | inr same ↦ absurd (no_modifier game.rules numbered p (subst (λ (x : ℕ × ℕ). IsPatternAt game.rules x.1) (sym same) pattern) modifies.0)
   ]

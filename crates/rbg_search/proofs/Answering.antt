@@ -26,24 +26,17 @@ module _ (game : AbstractGame) (numbered : IsNumbered game.rules) (p : ℕ) (pat
   plain : {B : Type 0} (a : AbstractAction) → is_pattern a ≡ false → HasAction game.rules p a → B
   plain a is stands = absurd (plain_stands game.rules numbered p a is stands pattern)
 
-  pub negative_valid : (i : Action) → Stands game.rules p i → shows_negative i ≡ true → IsTrue (not runs) ↔ Applies game p s s
-  negative_valid Negative (x, stands) e = none_true runs (SomeWordRuns game s (beginning (inside p))) (Applies game p s s) decides ((answer_law game numbered p x s).1 stands)
-  negative_valid Positive stands e = absurd (false_not_true e)
-  negative_valid (Shift d) stands e = absurd (false_not_true e)
-  negative_valid (On pieces) stands e = absurd (false_not_true e)
-  negative_valid (Off x) stands e = absurd (false_not_true e)
-  negative_valid (Assign v x) stands e = absurd (false_not_true e)
-  negative_valid (Compare x r y) stands e = absurd (false_not_true e)
-  negative_valid (Switch n) stands e = absurd (false_not_true e)
-
-  pub positive_valid : (i : Action) → Stands game.rules p i → shows_negative i ≡ false → IsTrue runs ↔ Applies game p s s
-  positive_valid Negative stands e = absurd (false_not_true (sym e))
-  positive_valid Positive (x, stands) e =
+  pub pattern_valid : (i : Action) → Stands game.rules p i → (shows_negative i ≡ true → IsTrue (not runs) ↔ Applies game p s s) × (shows_negative i ≡ false → IsTrue runs ↔ Applies game p s s)
+  pattern_valid Negative (x, stands) = (
+    (λ _. none_true runs (SomeWordRuns game s (beginning (inside p))) (Applies game p s s) decides ((answer_law game numbered p x s).1 stands)),
+    (λ e. absurd (false_not_true (sym e))),
+  )
+  pattern_valid Positive (x, stands) =
       let law = (answer_law game numbered p x s).0 stands in
-      ((λ is. law.1 (decides.0 is)), (λ applies. decides.1 (law.0 applies)))
-  positive_valid (Shift d) stands e = plain (shift d) refl stands
-  positive_valid (On pieces) stands e = plain _ refl stands
-  positive_valid (Off x) stands e = plain (off x) refl stands
-  positive_valid (Assign v x) stands e = plain _ refl stands
-  positive_valid (Compare x r y) stands e = plain _ refl stands
-  positive_valid (Switch n) stands e = plain (switch n) refl stands
+      ((λ e. absurd (false_not_true e)), (λ _. ((λ is. law.1 (decides.0 is)), (λ applies. decides.1 (law.0 applies)))))
+  pattern_valid (Shift d) stands = plain (shift d) refl stands
+  pattern_valid (On pieces) stands = plain _ refl stands
+  pattern_valid (Off x) stands = plain (off x) refl stands
+  pattern_valid (Assign v x) stands = plain _ refl stands
+  pattern_valid (Compare x r y) stands = plain _ refl stands
+  pattern_valid (Switch n) stands = plain (switch n) refl stands

@@ -1,11 +1,11 @@
 -- What is said of a question that was asked, and handed on to who asked.
 use Rattle.std.proofs.Common.{◌≡◌, ℕ, ◌<◌, ◌≤◌, List, Bool, false, refl, sym, subst, arith}
-use Rattle.std.specs.Prelude.{Result, Ok, Err, IfOk, IsOk, IsErrAnd}
+use Rattle.std.specs.Prelude.{Result, Ok, Err, IsOk, IsErrAnd}
 use Rattle.rbg_rules.specs.State.{AbstractState}
 use Rattle.rbg_rules.specs.Words.{Start}
 use Rattle.rbg_rules.specs.Questions.{Question, reach, pattern}
 use Rattle.rbg_state.specs.History.{History}
-use Rattle.rbg_search.specs.Answered.{IsAnswered, HasReached}
+use Rattle.rbg_search.specs.Answered.{IsAnswered}
 use Rattle.rbg_search.specs.Forced.{CountsForced}
 use Rattle.rbg_search.specs.Searching.{Searching}
 use Rattle.rbg_search.specs.Taken.{CountsPairs}
@@ -66,9 +66,9 @@ asked_there {h = h} {k = k} {t = t} {f = f} {n = n} {r = r} is s' l' here n' sam
 -- The question goes on behind the modifiers that were found.
 pub asked_behind : {X : Type 0} {h k k' : Searching} {s l l' : History} {f : Start} {nested left : ℕ} {pairs : List (ℕ × ℕ)} {ends : Bool} {first : Result Bool Over} {r : Result X Over} → IsAsked h k s l reach s.state f h.modifiers first → first ≡ Ok ends → HasFound h k s l f nested pairs ends → StandsInPattern h.game.rules f → ends ≡ false → IsAskedBehind k k' l l' pairs left r → IsAsked h k' s l' pattern s.state f left r
 asked_behind {h = h} {k = k} {k' = k'} {s = s} {l = l} {l' = l'} {f = f} {left = left} {pairs = pairs} {ends = ends} {first = first} {r = r} is was found inside not_here behind = record {
-  kept = kept_twice h k k' is.kept behind.kept;
-  given_back = room_twice s l l' is.given_back behind.given_back;
-  room = omega (arith, is.room, behind.room);
+  kept = kept_twice h k k' is.kept behind.stays.kept;
+  given_back = room_twice s l l' is.given_back behind.stays.given_back;
+  room = omega (arith, is.room, behind.stays.room);
   counts = behind_step h k s l f pairs pairs ends k'.opened left _ _ is.kept is.given_back refl found.lawful inside found.reaches.reached not_here is.counts.counted behind.counts;
   taken =
       behind_takes h k s l f pairs pairs ends k'.opened k'.taken (IsOk r) is.kept is.given_back refl found.lawful inside found.reaches.reached not_here

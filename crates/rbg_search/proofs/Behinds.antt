@@ -1,11 +1,11 @@
 -- What a flat part says of words, with what runs behind its modifiers.
-use Rattle.std.proofs.Common.{◌≡◌, ℕ, ◌<◌, ◌⊎◌, List, length, Bool, true, false, sym, ap, ◌∙◌, subst, inl, inr}
+use Rattle.std.proofs.Common.{◌≡◌, ℕ, ◌<◌, ◌⊎◌, List, length, Bool, true, false, sym, ◌∙◌, subst, inl, inr}
 use Rattle.std.specs.Prelude.{All, Contains}
 use Rattle.std.proofs.lemmas.List.Elements.{All-weaker, All-contains_itself}
 use Rattle.rbg_rules.specs.Positions.{IsNumbered}
 use Rattle.rbg_rules.specs.Words.{Start}
 use Rattle.rbg_rules.specs.State.{AbstractGame, AbstractState, IsStateOf}
-use Rattle.rbg_rules.specs.Actions.{rest, step, Applies, Run}
+use Rattle.rbg_rules.specs.Actions.{rest, step, Run}
 use Rattle.rbg_rules.specs.Questions.{SomeWordRuns}
 use Rattle.rbg_rules.specs.Games.{IsGame}
 use Rattle.rbg_rules.proofs.StateLemmas.{state_law}
@@ -13,12 +13,13 @@ use Rattle.rbg_pairs.specs.Flat.{IsNext, IsFlatPart}
 use Rattle.rbg_pairs.specs.Closure.{at_vertex, EndsFlat, RunsBehind}
 use Rattle.rbg_pairs.specs.Nesting.{NestsFrom}
 use Rattle.rbg_search.specs.internal.Behind.{IsReady, SomeRunsBehind}
-use Rattle.rbg_pairs.proofs.Closures.{next_found, found_next, some_word_runs, end_runs, behind_runs, may_end_flat, flat_may_end, ends_at}
+use Rattle.rbg_pairs.proofs.Closures.{next_found, found_next, some_word_runs, end_runs, behind_runs, may_end_flat, flat_may_end}
 use Rattle.rbg_pairs.proofs.Starts.{action_position}
+use Rattle.rbg_search.proofs.Openings.{next_applies, next_here}
 use Rattle.rbg_pairs.proofs.Nesting.{nests_onward}
 
 -- A run stays in the game.
-run_stays : (game : AbstractGame) → IsGame game → {w : List ℕ} {s t : AbstractState} → Run game w s t → IsStateOf game s → IsStateOf game t
+pub run_stays : (game : AbstractGame) → IsGame game → {w : List ℕ} {s t : AbstractState} → Run game w s t → IsStateOf game s → IsStateOf game t
 run_stays game lawful rest fits = fits
 run_stays game lawful (step {p = p} {s = s} {middle = middle} applied run) fits = run_stays game lawful run ((state_law game lawful).1 p s middle fits applied)
 
@@ -26,14 +27,14 @@ run_stays game lawful (step {p = p} {s = s} {middle = middle} applied run) fits 
 ready : (game : AbstractGame) → IsGame game → (s : AbstractState) → IsStateOf game s → (f : Start) (limit : ℕ) → NestsFrom game.rules limit f → (v p : ℕ) → IsNext game s f v p → IsReady game s limit (v, p)
 ready game lawful s fits f limit nests v p next =
     let there = run_stays game lawful next.runs fits in
-    let here : next.here ≡ at_vertex s v = ends_at game lawful.numbered s next.here next.before next.no_modifier next.runs ∙ ap (λ (x : ℕ). at_vertex s x) next.vertex in
+    let here : next.here ≡ at_vertex s v = next_here game lawful.numbered s f v p next in
     let under : v < length s.pieces = subst (λ (t : AbstractState). t.vertex < length t.pieces) here there.vertex in
     record {
       later = next.later;
       vertex = under;
       position = action_position game.rules lawful.numbered p next.modifies.action next.modifies.stands;
       modifies = next.modifies;
-      applies = subst (λ (t : AbstractState). Applies game p t next.later) here next.applies;
+      applies = next_applies game lawful.numbered s f v p next;
       nests = nests_onward game.rules lawful.numbered limit f nests next.before p next.follows;
     }
 

@@ -2,12 +2,12 @@
 use Rattle.std.proofs.Common.{◌≡◌, ◌≢◌, ℕ, suc, ◌+◌, ◌<◌, List, [], ◌∷◌, ◌++◌, length, get_or, take, Option, Some, None, refl, sym, ap, ◌∙◌, subst, arith}
 use Rattle.std.specs.Prelude.{All, AllPairs, Contains}
 use Rattle.std.proofs.lemmas.List.{length-take-le, get_or-take, take_more}
-use Rattle.std.proofs.lemmas.List.Elements.{All-nil, All-cons, All-weaker, All-contains, All-take}
+use Rattle.std.proofs.lemmas.List.Elements.{All-contains, All-take}
 use Rattle.rbg_rules.specs.Expression.{Expression, switch}
-use Rattle.rbg_rules.specs.Positions.{IsNumbered, HasNoModifier, IsModifierAt, IsSwitchAt}
+use Rattle.rbg_rules.specs.Positions.{IsNumbered, IsModifierAt, IsSwitchAt}
 use Rattle.rbg_rules.specs.Words.{Start, after}
 use Rattle.rbg_rules.specs.State.{AbstractGame, AbstractState}
-use Rattle.rbg_rules.specs.Moves.{RunPairs, stay, pass, stand_of}
+use Rattle.rbg_rules.specs.Moves.{stand_of}
 use Rattle.rbg_rules.specs.Places.{IsLastOf}
 use Rattle.rbg_rules.specs.Games.{HasNoEmptySum}
 use Rattle.rbg_rules.specs.Questions.{Question, try_move, find_move, list_moves, reach, pattern, Item, modifier_at, items_of, GoesTo, AnswersBehind, Opening, IsDeep, IsWide}
@@ -18,10 +18,9 @@ use Rattle.rbg_rules.proofs.TrimLemmas.{empty_opening_law}
 use Rattle.rbg_flat.specs.Candidates.{MayEnd}
 use Rattle.rbg_pairs.specs.Flat.{IsNext, IsFlatPart}
 use Rattle.rbg_search.specs.Counting.{CountsOpenings, IsOverBudget}
-use Rattle.rbg_search.specs.Passing.{GoesOn, CountsUpTo, BeginsAmong, HasRow, IsTooDeep, from_here, somewhere}
-use Rattle.rbg_pairs.proofs.Closures.{quiet_place}
-use Rattle.rbg_search.proofs.Openings.{switch_modifies, lifted, reach_opens}
-use Rattle.rbg_search.proofs.Counts.{begin_joined, more_joined, has_counted, begins_more, all_pairs_take}
+use Rattle.rbg_search.specs.Passing.{GoesOn, CountsUpTo, HasRow, IsTooDeep, from_here, somewhere}
+use Rattle.rbg_search.proofs.Openings.{switch_modifies, none_left, lifted, reach_opens}
+use Rattle.rbg_search.proofs.Counts.{begin_joined, more_joined, counts_such, over_such, weaker, begins_more, all_pairs_take}
 
 -- ---- where one stands
 
@@ -65,10 +64,6 @@ fresh xs k x different under is (i, within, there) =
     different i k x less under (sym (get_or-take k xs i x less) ∙ there ∙ sym is)
 
 module _ (game : AbstractGame) (numbered : IsNumbered game.rules) where
-  none_left : {w : List ℕ} {s t : AbstractState} → RunPairs game w s t [] → HasNoModifier game.rules w
-  none_left stay = All-nil (λ (k : ℕ). ¬ IsModifierAt game.rules k)
-  none_left (pass {p} {w} applied quiet run) = All-cons (λ (k : ℕ). ¬ IsModifierAt game.rules k) p w (quiet_place game numbered p applied quiet) (none_left run)
-
   -- Where no switch comes next there is no answer yet: `find_move` passes by `finding`.
   pub no_switch_found : {s : AbstractState} {f : Start} {pairs : List (ℕ × ℕ)} {ends : _} → IsFlatPart game s f pairs ends → All (λ q. ¬ IsSwitchAt game.rules q.1) pairs → ¬ AnswersBehind game find_move s f []
   no_switch_found {s} {f} {pairs} part none (m, t, q, on, follows, switches) =
@@ -76,7 +71,7 @@ module _ (game : AbstractGame) (numbered : IsNumbered game.rules) where
         before = m;
         here = t;
         later = record t { player = switches.player };
-        no_modifier = none_left on.runs;
+        no_modifier = none_left game numbered on.runs;
         runs = RunPairs-Runs on.runs;
         vertex = refl;
         follows = follows;
@@ -87,7 +82,7 @@ module _ (game : AbstractGame) (numbered : IsNumbered game.rules) where
 
   -- Where no word may end there is no answer yet: `pattern` passes by `asking`.
   pub no_end_found : {s : AbstractState} {f : Start} → ¬ MayEnd game s f → ¬ AnswersBehind game pattern s f []
-  no_end_found no_end (m, t, on, ends) = no_end (record { before = m; here = t; no_modifier = none_left on.runs; runs = RunPairs-Runs on.runs; ends = ends })
+  no_end_found no_end (m, t, on, ends) = no_end (record { before = m; here = t; no_modifier = none_left game numbered on.runs; runs = RunPairs-Runs on.runs; ends = ends })
 
   -- An opening behind the modifier is one with the modifier in front.
   pub lifted_behind : {question question' : Question} {s later : AbstractState} {f : Start} {v p : ℕ} → GoesOn game question s f v p question' later → (o : List Item) → Opening game question' later (after p) o → Opening game question s f (modifier_at v p ∷ o)
@@ -105,13 +100,7 @@ module _ (game : AbstractGame) (numbered : IsNumbered game.rules) where
 
   -- A modifier behind which nothing is counted is done.
   pub counts_weaker : {question : Question} {s : AbstractState} {f : Start} {done : List (ℕ × ℕ)} {a b : ℕ} → CountsUpTo game question s f done a b → (more : List (ℕ × ℕ)) → CountsUpTo game question s f (done ++ more) a b
-  counts_weaker {done = done} counts more = record {
-    openings = counts.openings;
-    different = counts.different;
-    opened = counts.opened;
-    begin = All-weaker (BeginsAmong done) (BeginsAmong (done ++ more)) (λ o begins. begins_more done more o begins) counts.openings counts.begin;
-    sum = counts.sum;
-  }
+  counts_weaker {done = done} counts more = weaker counts (done ++ more) (begins_more done more)
 
   -- The same where the modifiers that are done are the first ones of a list.
   pub counts_taken : {question question' : Question} {s later : AbstractState} {f : Start} {v p a b c : ℕ} (xs : List (ℕ × ℕ)) (k : ℕ) → CountsUpTo game question s f (take k xs) a b → AllPairs (λ x y. x ≢ y) xs → k < length xs → get_or xs k (v, p) ≡ (v, p) → GoesOn game question s f v p question' later → CountsOpenings game question' later (after p) b c → CountsUpTo game question s f (take (k + 1) xs) a c
@@ -121,7 +110,7 @@ module _ (game : AbstractGame) (numbered : IsNumbered game.rules) where
 
   -- In the end they are openings of the question.
   pub counts_end : {question : Question} {s : AbstractState} {f : Start} {done : List (ℕ × ℕ)} {a b : ℕ} → CountsUpTo game question s f done a b → CountsOpenings game question s f a b
-  counts_end {question} {s} {f} {done} {a} {b} counts = record { added = length counts.openings; sum = counts.sum; openings = has_counted game question s f done a b counts }
+  counts_end counts = counts_such counts
 
   -- The count of `reach` alone.
   pub counts_reached : {question : Question} {s : AbstractState} {f : Start} {a b : ℕ} → GoesTo game question s f [] → CountsOpenings game reach s f a b → CountsOpenings game question s f a b
@@ -132,13 +121,11 @@ module _ (game : AbstractGame) (numbered : IsNumbered game.rules) where
   -- .. among those of `reach`, and among those behind a modifier.
   pub over_begin : {question : Question} {s : AbstractState} {f : Start} {a most : ℕ} → GoesTo game question s f [] → IsOverBudget game reach s f a most → IsOverBudget game question s f a most
   over_begin {question} {s} {f} {a} goes over =
-      let joined = begin_joined game question s f a over.added goes over.openings in
-      record { added = length joined.openings; more = omega (arith, over.more, joined.sum); openings = has_counted game question s f [] a (a + over.added) joined }
+      over_such (begin_joined game question s f a over.added goes over.openings) _ over.more
 
   pub over_more : {question question' : Question} {s later : AbstractState} {f : Start} {v p : ℕ} {done : List (ℕ × ℕ)} {a b most : ℕ} → CountsUpTo game question s f done a b → ¬ Contains done (v, p) → GoesOn game question s f v p question' later → IsOverBudget game question' later (after p) b most → IsOverBudget game question s f a most
   over_more {question} {question'} {s} {later} {f} {v} {p} {done} {a} {b} counts once on over =
-      let joined = more_joined game numbered s later f v p on.next on.applies on.plain question question' on.passes done a b over.added counts once over.openings in
-      record { added = length joined.openings; more = omega (arith, over.more, joined.sum); openings = has_counted game question s f (done ++ (v, p) ∷ []) a (b + over.added) joined }
+      over_such (more_joined game numbered s later f v p on.next on.applies on.plain question question' on.passes done a b over.added counts once over.openings) _ over.more
 
   pub over_taken : {question question' : Question} {s later : AbstractState} {f : Start} {v p a b most : ℕ} (xs : List (ℕ × ℕ)) (k : ℕ) → CountsUpTo game question s f (take k xs) a b → AllPairs (λ x y. x ≢ y) xs → k < length xs → get_or xs k (v, p) ≡ (v, p) → GoesOn game question s f v p question' later → IsOverBudget game question' later (after p) b most → IsOverBudget game question s f a most
   over_taken {v = v} {p = p} xs k counts different under is on over = over_more counts (fresh xs k (v, p) different under is) on over

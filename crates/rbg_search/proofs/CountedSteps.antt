@@ -23,7 +23,7 @@ use Rattle.rbg_search.specs.declared.over.Over.{Over}
 use Rattle.rbg_search.specs.declared.over.Over.TheVariants.{Memory}
 use Rattle.rbg_search.proofs.CallerLemmas.{pattern_begins}
 use Rattle.rbg_search.proofs.Openings.{reach_opens}
-use Rattle.rbg_search.proofs.Counts.{begin_joined, has_counted}
+use Rattle.rbg_search.proofs.Counts.{begin_joined, counts_such, over_such}
 use Rattle.rbg_search.proofs.Countings.{asked_more}
 use Rattle.rbg_search.proofs.Counted.{same_error, asked_counted, found_behind, found_inside, behind_more, behind_counted, behind_deep, search_before, onward_search}
 
@@ -84,13 +84,11 @@ asks_reached game s f a b left most openings D W counts = record {
   where
     asks_counted : CountsOpenings game reach s f a b → CountsOpenings game pattern s f a b
     asks_counted has =
-        let joined = begin_joined game pattern s f a has.added (pattern_begins game s f) has.openings in
-        record { added = length joined.openings; sum = has.sum ∙ joined.sum; openings = has_counted game pattern s f [] a (a + has.added) joined }
+        let all = counts_such (begin_joined game pattern s f a has.added (pattern_begins game s f) has.openings) in
+        record { added = all.added; sum = has.sum ∙ all.sum; openings = all.openings }
 
     asks_wide : IsOverBudget game reach s f a openings → IsOverBudget game pattern s f a openings
-    asks_wide over =
-        let joined = begin_joined game pattern s f a over.added (pattern_begins game s f) over.openings in
-        record { added = length joined.openings; more = omega (arith, over.more, joined.sum); openings = has_counted game pattern s f [] a (a + over.added) joined }
+    asks_wide over = over_such (begin_joined game pattern s f a over.added (pattern_begins game s f) over.openings) openings over.more
 
 -- The search went on behind the modifiers that were found.
 pub behind_step : (h k : Searching) (s l : History) (f : Start) (pairs pairs' : List (ℕ × ℕ)) (ends : Bool) (b left : ℕ) (D W : Type 0) → k ≡ record h { opened = k.opened; taken = k.taken } → l ≡ record s { room = l.room } → pairs' ≡ pairs → IsGame h.game → StandsInPattern h.game.rules f → IsFlatPart h.game s.state f pairs ends → ends ≡ false → CountsOpenings h.game reach s.state f h.opened k.opened → ((e : Start) (a : ℕ) → GoesBehind k.game l.state e pairs' → CountsOpenings k.game reach l.state e a k.opened → IsCounted k.game pattern l.state e a b left k.openings k.modifiers D W) → IsCounted h.game pattern s.state f h.opened b left h.openings h.modifiers D W

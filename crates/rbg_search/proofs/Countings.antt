@@ -1,8 +1,7 @@
 -- What a flat part counts: its own opening, and those of its patterns' questions.
-use Rattle.std.proofs.Common.{◌≡◌, ◌≢◌, ℕ, zero, suc, ◌+◌, ◌≤◌, List, [], ◌∷◌, ◌++◌, length, map, refl, sym, subst, arith}
-use Rattle.std.specs.Prelude.{All, Contains}
-use Rattle.std.proofs.lemmas.List.{length-append, length-map}
-use Rattle.std.proofs.lemmas.List.Elements.{All-nil, All-cons, All-append, All-weaker, All-map, All-contains, Contains-append_left, Contains-push}
+use Rattle.std.proofs.Common.{◌≡◌, ◌≢◌, ℕ, zero, suc, ◌+◌, ◌≤◌, List, [], ◌∷◌, ◌++◌, refl, sym, subst, arith}
+use Rattle.std.specs.Prelude.{Contains}
+use Rattle.std.proofs.lemmas.List.Elements.{All-nil, All-cons, All-contains, Contains-append_left, Contains-push}
 use Rattle.std.proofs.lemmas.List.Kept.{AllPairs-cons}
 use Rattle.rbg_rules.specs.Positions.{IsNumbered, IsPatternAt, inside}
 use Rattle.rbg_rules.specs.Words.{Start, beginning, after}
@@ -18,7 +17,7 @@ use Rattle.rbg_search.specs.Passing.{asking, GoesOn, IsTooDeep, from_here}
 use Rattle.rbg_pairs.specs.Closure.{at_vertex, Reached}
 use Rattle.rbg_search.specs.internal.Asked.{StandsInPattern, BeginsAsked, CountsAsked, GoesBehind}
 use Rattle.rbg_search.proofs.Openings.{in_pattern}
-use Rattle.rbg_search.proofs.Counts.{all_pairs_append, differ_behind}
+use Rattle.rbg_search.proofs.Counts.{counts_such, joined, over_such, weaker}
 use Rattle.rbg_search.proofs.CallerLemmas.{no_end_found, row_none, row_one}
 use Rattle.rbg_search.proofs.Patterns.{inside_onward, inside_plain}
 
@@ -56,46 +55,20 @@ module _ (game : AbstractGame) where
   }
 
   pub asked_weaker : (s : AbstractState) (f : Start) (done done' : List (ℕ × ℕ)) (old new : ℕ) → ((x : ℕ × ℕ) → Contains done x → Contains done' x) → CountsAsked game s f done old new → CountsAsked game s f done' old new
-  asked_weaker s f done done' old new more counts = record {
-    openings = counts.openings;
-    different = counts.different;
-    opened = counts.opened;
-    begin = All-weaker (BeginsAsked done) (BeginsAsked done') (λ o begins. asked_more_pairs done done' more o begins) counts.openings counts.begin;
-    sum = counts.sum;
-  }
-
-  pub asked_has : (s : AbstractState) (f : Start) (done : List (ℕ × ℕ)) (old new : ℕ) (counts : CountsAsked game s f done old new) → HasOpenings game reach s f (length counts.openings)
-  asked_has s f done old new counts = record { openings = counts.openings; different = counts.different; opened = counts.opened; count = refl }
+  asked_weaker s f done done' old new more counts = weaker counts done' (asked_more_pairs done done' more)
 
   -- In the end they are openings of `reach`.
   pub asked_end : (s : AbstractState) (f : Start) (done : List (ℕ × ℕ)) (old new : ℕ) → CountsAsked game s f done old new → CountsOpenings game reach s f old new
-  asked_end s f done old new counts = record { added = length counts.openings; sum = counts.sum; openings = asked_has s f done old new counts }
+  asked_end s f done old new counts = counts_such counts
 
   -- One more pattern is asked.
   pub asked_joined : (numbered : IsNumbered game.rules) (s : AbstractState) (f : Start) (v p : ℕ) → Reached game s f v p → IsPatternAt game.rules p → (done : List (ℕ × ℕ)) (a b n : ℕ) → CountsAsked game s f done a b → ¬ Contains done (v, p) → HasOpenings game pattern (at_vertex s v) (beginning (inside p)) n → CountsAsked game s f (done ++ (v, p) ∷ []) a (b + n)
   asked_joined numbered s f v p reached is done a b n counts once has =
-      let front : List Item → List Item = λ o. pattern_at v p ∷ o in
-      let new : List (List Item) = map front has.openings in record {
-        openings = counts.openings ++ new;
-        different = all_pairs_append (λ o o'. o ≢ o') counts.openings new counts.different (differ_behind (pattern_at v p) has.openings has.different)
-            (All-weaker (BeginsAsked done) (λ o. All (λ o'. o ≢ o') new)
-            (λ o begins. All-map (λ o'. o ≢ o') front has.openings (λ k d within. λ e. once (subst (BeginsAsked done) e begins)))
-            counts.openings counts.begin);
-        opened = All-append (Opening game reach s f) counts.openings new counts.opened
-            (All-map (Opening game reach s f) front has.openings
-            (All-weaker (Opening game pattern (at_vertex s v) (beginning (inside p))) (λ o. Opening game reach s f (front o))
-            (λ o opening. in_pattern game numbered reach s f v p refl reached is o opening) has.openings has.opened));
-        begin = All-append (BeginsAsked (done ++ (v, p) ∷ [])) counts.openings new
-            (All-weaker (BeginsAsked done) (BeginsAsked (done ++ (v, p) ∷ [])) (λ o begins. asked_more_pairs done (done ++ (v, p) ∷ []) (λ x h. Contains-append_left done ((v, p) ∷ []) x h) o begins) counts.openings counts.begin)
-            (All-map (BeginsAsked (done ++ (v, p) ∷ [])) front has.openings (λ k d within. Contains-push done (v, p)));
-        sum = joined_sum counts.openings has.openings counts.sum has.count;
-      }
-    where
-      joined_sum : (os os' : List (List Item)) → b ≡ a + length os → length os' ≡ n → b + n ≡ a + length (os ++ map (λ o. pattern_at v p ∷ o) os')
-      joined_sum os os' first second =
-          let both = length-append os (map (λ (o : List Item). pattern_at v p ∷ o) os') in
-          let mapped = length-map os' (λ (o : List Item). pattern_at v p ∷ o) in
-          omega (arith, first, second, both, mapped)
+      joined BeginsAsked done (done ++ (v, p) ∷ []) (pattern_at v p)
+      (in_pattern game numbered reach s f v p refl reached is)
+      (λ o there. once there)
+      (asked_more_pairs done (done ++ (v, p) ∷ []) (λ x there. Contains-append_left done ((v, p) ∷ []) x there))
+      (λ o. Contains-push done (v, p)) a b n counts has
 
   pub asked_more : (numbered : IsNumbered game.rules) (s : AbstractState) (f : Start) (v p : ℕ) → Reached game s f v p → IsPatternAt game.rules p → (done : List (ℕ × ℕ)) (a b c : ℕ) → CountsAsked game s f done a b → ¬ Contains done (v, p) → CountsOpenings game pattern (at_vertex s v) (beginning (inside p)) b c → CountsAsked game s f (done ++ (v, p) ∷ []) a c
   asked_more numbered s f v p reached is done a b c counts once more =
@@ -103,8 +76,7 @@ module _ (game : AbstractGame) where
 
   pub over_asked : (numbered : IsNumbered game.rules) (s : AbstractState) (f : Start) (v p : ℕ) → Reached game s f v p → IsPatternAt game.rules p → (done : List (ℕ × ℕ)) (a b most : ℕ) → CountsAsked game s f done a b → ¬ Contains done (v, p) → IsOverBudget game pattern (at_vertex s v) (beginning (inside p)) b most → IsOverBudget game reach s f a most
   over_asked numbered s f v p reached is done a b most counts once over =
-      let joined = asked_joined numbered s f v p reached is done a b over.added counts once over.openings in
-      record { added = length joined.openings; more = omega (arith, over.more, joined.sum); openings = asked_has s f (done ++ (v, p) ∷ []) a (b + over.added) joined }
+      over_such (asked_joined numbered s f v p reached is done a b over.added counts once over.openings) most over.more
 
   pub deep_asked : (numbered : IsNumbered game.rules) (s : AbstractState) (f : Start) (v p : ℕ) → Reached game s f v p → IsPatternAt game.rules p → (most : ℕ) → IsDeep game pattern (at_vertex s v) (beginning (inside p)) most → IsDeep game reach s f most
   deep_asked numbered s f v p reached is most deep = record {

@@ -10,7 +10,8 @@ use Rattle.rbg_rules.specs.State.{AbstractGame, AbstractState}
 use Rattle.rbg_rules.specs.Actions.{Applies}
 use Rattle.rbg_rules.specs.Questions.{Question, reach, Item, modifier_at, pattern_at, items_of, GoesTo, Opening, at, behind, HasOpenings}
 use Rattle.rbg_pairs.specs.Flat.{IsNext}
-use Rattle.rbg_search.specs.Passing.{Passes, BeginsAmong, CountsUpTo}
+use Rattle.rbg_search.specs.Counting.{CountsOpenings, IsOverBudget}
+use Rattle.rbg_search.specs.Passing.{Passes, BeginsAmong, CountsSuch, CountsUpTo}
 use Rattle.rbg_pairs.specs.Closure.{at_vertex}
 use Rattle.rbg_search.proofs.Openings.{lifted, reach_opens}
 
@@ -62,6 +63,54 @@ reach_begins game s f done o (at on none) = subst (λ (qs : List (ℕ × ℕ)). 
 reach_begins game s f done o (behind {t = t} {p = p} {more = more} on none follows is opening) =
     subst (λ (qs : List (ℕ × ℕ)). BeginsAmong done (items_of qs ++ pattern_at t.vertex p ∷ more)) (sym none) tt
 
+-- Openings that are counted, and those of another question with an item in front.
+module _ {game : AbstractGame} {question question' : Question} {s s' : AbstractState} {f f' : Start} (Begins : List (ℕ × ℕ) → List Item → Type 0) (done done' : List (ℕ × ℕ)) (x : Item) (lift : (o : List Item) → Opening game question' s' f' o → Opening game question s f (x ∷ o)) (once : (o : List Item) → ¬ Begins done (x ∷ o)) (still : (o : List Item) → Begins done o → Begins done' o) (first : (o : List Item) → Begins done' (x ∷ o)) where
+  pub joined : (a b n : ℕ) → CountsSuch Begins game question s f done a b → HasOpenings game question' s' f' n → CountsSuch Begins game question s f done' a (b + n)
+  joined a b n counts has =
+      let front : List Item → List Item = λ o. x ∷ o in
+      let new : List (List Item) = map front has.openings in record {
+        openings = counts.openings ++ new;
+        different = all_pairs_append (λ o o'. o ≢ o') counts.openings new counts.different (differ_behind x has.openings has.different)
+            (All-weaker (Begins done) (λ o. All (λ o'. o ≢ o') new)
+            (λ o begins. All-map (λ o'. o ≢ o') front has.openings (λ k d within. λ e. once (get_or has.openings k d) (subst (Begins done) e begins)))
+            counts.openings counts.begin);
+        opened = All-append (Opening game question s f) counts.openings new counts.opened
+            (All-map (Opening game question s f) front has.openings
+            (All-weaker (Opening game question' s' f') (λ o. Opening game question s f (front o)) lift has.openings has.opened));
+        begin = All-append (Begins done') counts.openings new
+            (All-weaker (Begins done) (Begins done') still counts.openings counts.begin)
+            (All-map (Begins done') front has.openings (λ k d within. first (get_or has.openings k d)));
+        sum = joined_sum counts.openings has.openings counts.sum has.count;
+      }
+    where
+      joined_sum : (os os' : List (List Item)) → b ≡ a + length os → length os' ≡ n → b + n ≡ a + length (os ++ map (λ o. x ∷ o) os')
+      joined_sum os os' first second =
+          let both = length-append os (map (λ (o : List Item). x ∷ o) os') in
+          let mapped = length-map os' (λ (o : List Item). x ∷ o) in
+          omega (arith, first, second, both, mapped)
+
+-- What is counted, with less said of how it begins, and as openings of the question.
+module _ {Begins : List (ℕ × ℕ) → List Item → Type 0} {game : AbstractGame} {question : Question} {s : AbstractState} {f : Start} {done : List (ℕ × ℕ)} {a b : ℕ} (counts : CountsSuch Begins game question s f done a b) where
+  pub weaker : (done' : List (ℕ × ℕ)) → ((o : List Item) → Begins done o → Begins done' o) → CountsSuch Begins game question s f done' a b
+  weaker done' still = record {
+    openings = counts.openings;
+    different = counts.different;
+    opened = counts.opened;
+    begin = All-weaker (Begins done) (Begins done') still counts.openings counts.begin;
+    sum = counts.sum;
+  }
+
+  pub has_counted : HasOpenings game question s f (length counts.openings)
+  has_counted = record { openings = counts.openings; different = counts.different; opened = counts.opened; count = refl }
+
+  -- In the end they are openings of the question.
+  pub counts_such : CountsOpenings game question s f a b
+  counts_such = record { added = length counts.openings; sum = counts.sum; openings = has_counted }
+
+  -- They may be more than are allowed.
+  pub over_such : (most : ℕ) → most < b → IsOverBudget game question s f a most
+  over_such most over = record { added = length counts.openings; more = omega (arith, over, counts.sum); openings = has_counted }
+
 module _ (game : AbstractGame) where
   pub begin_joined : (question : Question) (s : AbstractState) (f : Start) (a n : ℕ) → GoesTo game question s f [] → HasOpenings game reach s f n → CountsUpTo game question s f [] a (a + n)
   begin_joined question s f a n goes has = record {
@@ -72,30 +121,8 @@ module _ (game : AbstractGame) where
     sum = ap (λ (x : ℕ). a + x) (sym has.count);
   }
 
-  pub has_counted : (question : Question) (s : AbstractState) (f : Start) (done : List (ℕ × ℕ)) (a b : ℕ) (counts : CountsUpTo game question s f done a b) → HasOpenings game question s f (length counts.openings)
-  has_counted question s f done a b counts = record { openings = counts.openings; different = counts.different; opened = counts.opened; count = refl }
-
   pub more_joined : (numbered : IsNumbered game.rules) (s later : AbstractState) (f : Start) (v p : ℕ) → IsNext game s f v p → Applies game p (at_vertex s v) later → ¬ IsSwitchAt game.rules p → (question question' : Question) → Passes game s f v p question question' → (done : List (ℕ × ℕ)) (a b n : ℕ) → CountsUpTo game question s f done a b → ¬ Contains done (v, p) → HasOpenings game question' later (after p) n → CountsUpTo game question s f (done ++ (v, p) ∷ []) a (b + n)
   more_joined numbered s later f v p next applies plain question question' passes done a b n counts once has =
-      let front : List Item → List Item = λ o. modifier_at v p ∷ o in
-      let new : List (List Item) = map front has.openings in record {
-        openings = counts.openings ++ new;
-        different = all_pairs_append (λ o o'. o ≢ o') counts.openings new counts.different (differ_behind (modifier_at v p) has.openings has.different)
-            (All-weaker (BeginsAmong done) (λ o. All (λ o'. o ≢ o') new)
-            (λ o begins. All-map (λ o'. o ≢ o') front has.openings (λ k d within. λ e. once (subst (BeginsAmong done) e begins)))
-            counts.openings counts.begin);
-        opened = All-append (Opening game question s f) counts.openings new counts.opened
-            (All-map (Opening game question s f) front has.openings
-            (All-weaker (Opening game question' later (after p)) (λ o. Opening game question s f (front o))
-            (λ o opening. lifted game numbered s later f v p next applies plain question question' passes o opening) has.openings has.opened));
-        begin = All-append (BeginsAmong (done ++ (v, p) ∷ [])) counts.openings new
-            (All-weaker (BeginsAmong done) (BeginsAmong (done ++ (v, p) ∷ [])) (λ o begins. begins_more done ((v, p) ∷ []) o begins) counts.openings counts.begin)
-            (All-map (BeginsAmong (done ++ (v, p) ∷ [])) front has.openings (λ k d within. Contains-push done (v, p)));
-        sum = joined_sum counts.openings has.openings counts.sum has.count;
-      }
-    where
-      joined_sum : (os os' : List (List Item)) → b ≡ a + length os → length os' ≡ n → b + n ≡ a + length (os ++ map (λ o. modifier_at v p ∷ o) os')
-      joined_sum os os' first second =
-          let both = length-append os (map (λ (o : List Item). modifier_at v p ∷ o) os') in
-          let mapped = length-map os' (λ (o : List Item). modifier_at v p ∷ o) in
-          omega (arith, first, second, both, mapped)
+      joined BeginsAmong done (done ++ (v, p) ∷ []) (modifier_at v p)
+      (lifted game numbered s later f v p next applies plain question question' passes)
+      (λ o there. once there) (begins_more done ((v, p) ∷ [])) (λ o. Contains-push done (v, p)) a b n counts has

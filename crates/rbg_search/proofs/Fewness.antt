@@ -4,8 +4,10 @@ use Rattle.std.proofs.lemmas.Nat.{mul-le}
 use Rattle.rbg_rules.specs.State.{AbstractGame}
 use Rattle.rbg_rules.specs.Positions.{positions_of}
 use Rattle.rbg_rules.specs.Games.{IsWithinLimits}
+use Rattle.rbg_search.specs.Searching.{Searching}
 use Rattle.rbg_search.specs.Taken.{most_pairs_of}
 use Rattle.rbg_search.specs.internal.Spent.{IsSpent, IsSpentButOne}
+use Rattle.rbg_search.proofs.Kept.{onward_rules}
 
 -- The sum of all pairs is a number of 64 bits.
 pub sum_fits : (game : AbstractGame) (opened taken more : ℕ) → IsWithinLimits game → IsSpentButOne game opened taken → opened < 2 ^ 32 → more ≤ most_pairs_of game → taken + more < 2 ^ 64
@@ -18,10 +20,10 @@ sum_fits game opened taken more limits spent small few =
     let sum = spent.few in
     omega (arith, sum, all, few, least, small)
 
--- One more was opened.
-pub one_opened : (game : AbstractGame) (opened taken more : ℕ) → IsSpent game opened taken → more ≡ opened + 1 → IsSpentButOne game more taken
-one_opened game opened taken more spent one =
-    let product : ℕ = most_pairs_of game in
-    let times : (opened + 1) * product ≡ opened * product + product = grind arith in
-    let same : more * product ≡ (opened + 1) * product = ap (λ (n : ℕ). n * product) one in
-    record { few = omega (arith, spent.few, times, same) }
+-- One more was opened, and none was counted.
+pub one_opened : (h k : Searching) → k ≡ record h { opened = k.opened; taken = k.taken } → k.taken ≡ h.taken → IsSpent h.game h.opened h.taken → k.opened ≡ h.opened + 1 → IsSpentButOne k.game k.opened k.taken
+one_opened h k kept none spent one =
+    let product : ℕ = most_pairs_of h.game in
+    let times : (h.opened + 1) * product ≡ h.opened * product + product = grind arith in
+    let same : k.opened * product ≡ (h.opened + 1) * product = ap (λ (n : ℕ). n * product) one in
+    onward_rules (λ x. IsSpentButOne x k.opened k.taken) h k kept (record { few = omega (arith, spent.few, times, same, none) })

@@ -1,24 +1,23 @@
 -- Which openings are forced, and how those of a question are put together from the parts that a search takes up.
-use Rattle.std.proofs.Common.{◌≡◌, ◌≢◌, ℕ, ◌+◌, ◌-◌, ◌<◌, ◌≤◌, List, [], ◌∷◌, ◌++◌, length, get_or, map, take, Bool, true, refl, sym, ap, ◌∙◌, subst, inl, inr, arith, append_assoc}
-use Rattle.std.specs.Prelude.{All, Contains}
+use Rattle.std.proofs.Common.{◌≡◌, ◌≢◌, ℕ, ◌+◌, ◌-◌, ◌<◌, ◌≤◌, List, [], ◌∷◌, ◌++◌, length, get_or, map, take, Bool, refl, sym, subst, inl, inr, arith}
+use Rattle.std.specs.Prelude.{Contains}
 use Rattle.std.proofs.lemmas.List.{length-append, length-map, take_more}
-use Rattle.std.proofs.lemmas.List.Elements.{All-nil, All-cons, All-head, All-tail, All-weaker, Contains-append_left, Contains-append_right, Contains-push_cases}
+use Rattle.std.proofs.lemmas.List.Elements.{All-weaker, Contains-append_left, Contains-append_right, Contains-push_cases}
 use Rattle.rbg_base.proofs.CallerLemmas.{Contains-map}
-use Rattle.rbg_rules.specs.Positions.{IsNumbered, IsModifierAt, IsSwitchAt, IsPatternAt, HasNoModifier, HasNoSwitch, is_modifier, inside}
-use Rattle.rbg_rules.specs.Words.{Start, beginning, after, Follows}
+use Rattle.rbg_rules.specs.Positions.{IsNumbered, IsSwitchAt, IsPatternAt, inside}
+use Rattle.rbg_rules.specs.Words.{Start, beginning, after}
 use Rattle.rbg_rules.specs.State.{AbstractGame, AbstractState}
-use Rattle.rbg_rules.specs.Actions.{rest, step, Applies, Run}
-use Rattle.rbg_rules.specs.Moves.{RunPairs, stay, modify, pass}
-use Rattle.rbg_rules.specs.Questions.{Question, reach, pattern, Item, modifier_at, pattern_at, items_of, RunsOn, SomeWordRuns, GoesTo, IsForcedTo, Forced, at, behind, HasForced, IsForcedDeep}
+use Rattle.rbg_rules.specs.Actions.{Applies}
+use Rattle.rbg_rules.specs.Questions.{Question, reach, pattern, Item, modifier_at, pattern_at, items_of, SomeWordRuns, GoesTo, IsForcedTo, Forced, at, behind, HasForced, IsForcedDeep}
+use Rattle.rbg_rules.proofs.PlaceLemmas.{RunPairs-Runs}
 use Rattle.rbg_rules.proofs.MoveLemmas.{Applies_one}
-use Rattle.rbg_rules.proofs.LocalityLemmas.{locality_law}
 use Rattle.rbg_pairs.specs.Flat.{IsNext, IsFlatPart}
 use Rattle.rbg_search.specs.Forced.{HasFewInRow, CountsForced, TakesBehind}
 use Rattle.rbg_pairs.specs.Closure.{at_vertex, Reached}
 use Rattle.rbg_search.specs.internal.Taking.{AsksForced}
 use Rattle.rbg_flat.proofs.Lists.{no_longer}
-use Rattle.rbg_pairs.proofs.Closures.{quiet_place, reached, ends_at, next_found, behind_runs}
-use Rattle.rbg_search.proofs.Openings.{behind_runs_on}
+use Rattle.rbg_pairs.proofs.Closures.{reached, ends_at, next_found, behind_runs}
+use Rattle.rbg_search.proofs.Openings.{cut_follows, goes_through, none_left}
 
 -- ---- what a list that holds all says of the count, and of rows
 
@@ -60,95 +59,17 @@ not_nothing : (q : ℕ × ℕ) (qs : List (ℕ × ℕ)) → (q ∷ qs) ≢ []
 not_nothing q qs e = cc
 
 module _ (game : AbstractGame) (numbered : IsNumbered game.rules) where
-  none_left : {w : List ℕ} {s t : AbstractState} → RunPairs game w s t [] → HasNoModifier game.rules w × Run game w s t
-  none_left stay = (All-nil (λ (k : ℕ). ¬ IsModifierAt game.rules k), rest)
-  none_left (pass {p} {w} applied quiet run) =
-      let more = none_left run in
-      (All-cons (λ (k : ℕ). ¬ IsModifierAt game.rules k) p w (quiet_place game numbered p applied quiet) more.0, step applied more.1)
-
   pub forced_here : (cut : Bool) (s : AbstractState) (f : Start) (o : List Item) → Forced game cut reach s f o → IsForcedHere game cut s f o
   forced_here cut s f o (at {ps = []} on none tt) = nothing
   forced_here cut s f o (at {ps = q ∷ qs} on none tt) = absurd (not_nothing q qs none)
   forced_here cut s f o (behind {m = m} {t = t} {ps = []} {p = p} {more = more} on none tt follows is inner) =
-      let quiet = none_left on.runs in
-      let here : t ≡ at_vertex s t.vertex = ends_at game numbered s t m quiet.0 quiet.1 in
-      asked (reached game numbered s t f m p quiet.0 quiet.1 follows) is (subst (λ (u : AbstractState). Forced game cut pattern u (beginning (inside p)) more) here inner)
+      let quiet = none_left game numbered on.runs in
+      let runs = RunPairs-Runs on.runs in
+      let here : t ≡ at_vertex s t.vertex = ends_at game numbered s t m quiet runs in
+      asked (reached game numbered s t f m p quiet runs follows) is (subst (λ (u : AbstractState). Forced game cut pattern u (beginning (inside p)) more) here inner)
   forced_here cut s f o (behind {ps = q ∷ qs} on none tt follows is inner) = absurd (not_nothing q qs none)
 
-  -- ---- the forced openings of a question, by their first modifier
-
-  -- A run with pairs up to its first modifier, and behind it.
-  pub record FirstModifier (w : List ℕ) (s t : AbstractState) (v p : ℕ) (ps : List (ℕ × ℕ)) : Type 0 where
-    pub first_part : List ℕ
-    pub rest_of : List ℕ
-    pub here : AbstractState
-    pub later : AbstractState
-    pub joined : w ≡ first_part ++ p ∷ rest_of
-    pub quiet : HasNoModifier game.rules first_part
-    pub runs : Run game first_part s here
-    pub vertex : here.vertex ≡ v
-    pub applied : Applies game p here later
-    pub modifies : is_modifier applied.action ≡ true
-
-  first_modifier : {w : List ℕ} {s t : AbstractState} {v p : ℕ} {ps : List (ℕ × ℕ)} → RunPairs game w s t ((v, p) ∷ ps) → FirstModifier w s t v p ps
-  first_modifier (modify {w = w} {s = s} {middle = middle} applied modifies run) =
-      record { first_part = []; rest_of = w; here = s; later = middle; joined = refl; quiet = All-nil (λ (k : ℕ). ¬ IsModifierAt game.rules k); runs = rest; vertex = refl; applied = applied; modifies = modifies }
-  first_modifier (pass {p = q} {w = w} applied quiet run) =
-      let cut = first_modifier run in
-      record {
-        first_part = q ∷ cut.first_part;
-        rest_of = cut.rest_of;
-        here = cut.here;
-        later = cut.later;
-        joined = ap (λ (xs : List ℕ). q ∷ xs) cut.joined;
-        quiet = All-cons (λ (k : ℕ). ¬ IsModifierAt game.rules k) q cut.first_part (quiet_place game numbered q applied quiet) cut.quiet;
-        runs = step applied cut.runs;
-        vertex = cut.vertex;
-        applied = cut.applied;
-        modifies = cut.modifies;
-      }
-
-  all_right : {X : Type 0} (P : X → Type 0) (xs ys : List X) → All P (xs ++ ys) → All P ys
-  all_right P [] ys all = all
-  all_right P (x ∷ xs) ys all = all_right P xs ys (All-tail P x (xs ++ ys) all)
-
-  -- Behind its first modifier a run goes on.
-  pub record GoesThrough (s : AbstractState) (f : Start) (m : List ℕ) (t : AbstractState) (v p : ℕ) (ps : List (ℕ × ℕ)) : Type 0 where
-    pub next : IsNext game s f v p
-    pub applies : Applies game p (at_vertex s v) next.later
-    pub plain : ¬ IsSwitchAt game.rules p
-    pub first_part : List ℕ
-    pub rest_of : List ℕ
-    pub joined : m ≡ first_part ++ p ∷ rest_of
-    pub on : RunsOn game next.later (after p) rest_of t ps
-
-  pub goes_through : (s : AbstractState) (f : Start) (m : List ℕ) (t : AbstractState) (v p : ℕ) (ps : List (ℕ × ℕ)) → RunsOn game s f m t ((v, p) ∷ ps) → GoesThrough s f m t v p ps
-  goes_through s f m t v p ps on =
-      let cut = first_modifier on.runs in
-      let here : cut.here ≡ at_vertex s v = ends_at game numbered s cut.here cut.first_part cut.quiet cut.runs ∙ ap (λ (x : ℕ). at_vertex s x) cut.vertex in
-      let applies : Applies game p (at_vertex s v) cut.later = subst (λ (u : AbstractState). Applies game p u cut.later) here cut.applied in
-      let follows : Follows game.rules f (cut.first_part ++ p ∷ cut.rest_of) = subst (Follows game.rules f) cut.joined on.follows in
-      let no_switch : HasNoSwitch game.rules (cut.first_part ++ p ∷ cut.rest_of) = subst (HasNoSwitch game.rules) cut.joined on.no_switch in
-      let (behind_it, more) = behind_runs_on game numbered s cut.later t f v p m ps applies on in
-      record {
-        next = record {
-          before = cut.first_part;
-          here = cut.here;
-          later = cut.later;
-          no_modifier = cut.quiet;
-          runs = cut.runs;
-          vertex = cut.vertex;
-          follows = ((locality_law game.rules numbered f cut.first_part p cut.rest_of).0.0 follows).0;
-          modifies = record { action = cut.applied.action; stands = cut.applied.stands; modifies = cut.modifies };
-          applies = cut.applied;
-        };
-        applies = applies;
-        plain = All-head (λ k. ¬ IsSwitchAt game.rules k) p cut.rest_of (all_right (λ k. ¬ IsSwitchAt game.rules k) cut.first_part (p ∷ cut.rest_of) no_switch);
-        first_part = behind_it.before;
-        rest_of = behind_it.rest_of;
-        joined = behind_it.joined;
-        on = more;
-      }
+-- ---- the forced openings of a question, by their first modifier
 
 -- What is forced with no modifier taken; or behind a modifier to which the question may go, what is forced where it
 -- goes on as the second one.
@@ -173,17 +94,15 @@ module _ (game : AbstractGame) (numbered : IsNumbered game.rules) where
   pub forced_by : (cut : Bool) (question question' : Question) (s : AbstractState) (f : Start) → ForcesOn game cut question question' s f → (o : List Item) → Forced game cut question s f o → IsForcedBy game cut question question' s f o
   forced_by cut question question' s f onward o (at {ps = []} on goes forced) = here (at on refl tt)
   forced_by cut question question' s f onward o (at {m = m} {t = t} {ps = (v, p) ∷ ps} on goes forced) =
-      let cut_run = goes_through game numbered s f m t v p ps on in
-      let there = onward v p cut_run.next.later ps cut_run.next cut_run.applies cut_run.plain goes forced in
-      further cut_run.next.later cut_run.next cut_run.applies cut_run.plain ps goes (at cut_run.on there.0 there.1)
+      let through = goes_through game numbered s f m t v p ps on in
+      let there = onward v p through.cut.later ps through.next through.cut.applied through.plain goes forced in
+      further through.cut.later through.next through.cut.applied through.plain ps goes (at through.on there.0 there.1)
   forced_by cut question question' s f onward o (behind {ps = []} on goes forced follows is inner) = here (behind on refl tt follows is inner)
   forced_by cut question question' s f onward o (behind {m = m} {t = t} {ps = (v, p) ∷ ps} {p = q} on goes forced follows is inner) =
-      let cut_run = goes_through game numbered s f m t v p ps on in
-      let there = onward v p cut_run.next.later ps cut_run.next cut_run.applies cut_run.plain goes forced in
-      let whole : m ++ q ∷ [] ≡ cut_run.first_part ++ p ∷ (cut_run.rest_of ++ q ∷ []) = ap (λ (x : List ℕ). x ++ q ∷ []) cut_run.joined ∙ append_assoc cut_run.first_part (p ∷ cut_run.rest_of) (q ∷ []) in
-      let follows' : Follows game.rules f (cut_run.first_part ++ p ∷ (cut_run.rest_of ++ q ∷ [])) = subst (Follows game.rules f) whole follows in
-      further cut_run.next.later cut_run.next cut_run.applies cut_run.plain ps goes
-      (behind cut_run.on there.0 there.1 ((locality_law game.rules numbered f cut_run.first_part p (cut_run.rest_of ++ q ∷ [])).0.0 follows').1 is inner)
+      let through = goes_through game numbered s f m t v p ps on in
+      let there = onward v p through.cut.later ps through.next through.cut.applied through.plain goes forced in
+      further through.cut.later through.next through.cut.applied through.plain ps goes
+      (behind through.on there.0 there.1 (cut_follows game numbered f through.cut (q ∷ []) follows) is inner)
 
   -- ---- while the patterns of a flat part are asked
 

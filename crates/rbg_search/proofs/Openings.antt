@@ -1,7 +1,7 @@
 -- Openings behind a modifier, or in a pattern, as openings of the question in which those stand.
 use Rattle.std.proofs.Common.{◌≡◌, ℕ, List, [], ◌∷◌, ◌++◌, Bool, true, false, refl, sym, ap, ◌∙◌, subst, append_assoc}
 use Rattle.std.specs.Prelude.{All}
-use Rattle.std.proofs.lemmas.List.Elements.{All-cons, All-head, All-tail, All-append, All-weaker}
+use Rattle.std.proofs.lemmas.List.Elements.{All-nil, All-cons, All-head, All-tail, All-append, All-weaker}
 use Rattle.rbg_rules.specs.Expression.{switch, Expression}
 use Rattle.rbg_rules.specs.Positions.{IsNumbered, IsModifierAt, IsSwitchAt, IsPatternAt, HasNoModifier, HasNoSwitch, is_modifier, inside}
 use Rattle.rbg_rules.specs.Words.{WordOf, Start, beginning, after, Follows, Ends}
@@ -9,15 +9,14 @@ use Rattle.rbg_rules.specs.State.{AbstractGame, AbstractState}
 use Rattle.rbg_rules.specs.Actions.{rest, step, Applies, Run}
 use Rattle.rbg_rules.specs.Moves.{RunPairs, stay, modify, pass}
 use Rattle.rbg_rules.specs.Questions.{Question, find_move, reach, pattern, Item, modifier_at, pattern_at, RunsOn, GoesTo, AnswersBehind, IsProperPrefix, Opening, at, behind}
-use Rattle.rbg_rules.specs.Laws.{SameButVertex}
-use Rattle.rbg_rules.proofs.PlaceLemmas.{SameButVertex_refl, SameButVertex_trans, same_state, quiet_acts, RunPairs_join}
+use Rattle.rbg_rules.proofs.PlaceLemmas.{RunPairs_join}
 use Rattle.rbg_rules.proofs.PositionLemmas.{one_stands}
 use Rattle.rbg_rules.proofs.MoveLemmas.{Applies_one}
 use Rattle.rbg_rules.proofs.LocalityLemmas.{locality_law}
 use Rattle.rbg_pairs.specs.Flat.{IsNext}
 use Rattle.rbg_search.specs.Passing.{Passes, trying, finding, listing, asking}
 use Rattle.rbg_pairs.specs.Closure.{at_vertex, Reached}
-use Rattle.rbg_pairs.proofs.Closures.{by_words, next_found}
+use Rattle.rbg_pairs.proofs.Closures.{by_words, ends_at, next_found, quiet_place}
 
 -- A switch is a modifier.
 pub switch_modifies : (rules : Expression) (p : ℕ) → IsSwitchAt rules p → IsModifierAt rules p
@@ -44,36 +43,20 @@ pub follows_less : (rules : Expression) (f : Start) (m : List ℕ) (p : ℕ) →
 follows_less rules (beginning level) m p (z, word) = (p ∷ z, word_is (append_assoc m (p ∷ []) z) word)
 follows_less rules (after i) m p (level, u, z, word) = (level, u, p ∷ z, word_is (ap (λ (y : List ℕ). u ++ i ∷ y) (append_assoc m (p ∷ []) z)) word)
 
--- A run with pairs up to its first modifier, and behind it.
-pub record SplitRun (game : AbstractGame) (w : List ℕ) (s t : AbstractState) (v p : ℕ) (ps : List (ℕ × ℕ)) : Type 0 where
+-- A run with pairs goes, without a modifier, to the vertex of the first pair, and on from there by its modifier.
+pub record CutRun (game : AbstractGame) (w : List ℕ) (s t : AbstractState) (v p : ℕ) (ps : List (ℕ × ℕ)) : Type 0 where
   pub before : List ℕ
   pub rest_of : List ℕ
-  pub here : AbstractState
-  pub next : AbstractState
+  pub later : AbstractState
   pub joined : w ≡ before ++ p ∷ rest_of
-  pub same : SameButVertex s here
-  pub vertex : here.vertex ≡ v
-  pub applied : Applies game p here next
-  pub run : RunPairs game rest_of next t ps
+  pub no_modifier : HasNoModifier game.rules before
+  pub runs : Run game before s (at_vertex s v)
+  pub applied : Applies game p (at_vertex s v) later
+  pub modifies : IsModifierAt game.rules p
+  pub onward : RunPairs game rest_of later t ps
 
-pub split_run : {game : AbstractGame} {w : List ℕ} {s t : AbstractState} {v p : ℕ} {ps : List (ℕ × ℕ)} → RunPairs game w s t ((v, p) ∷ ps) → SplitRun game w s t v p ps
-split_run (modify {w} {s} {middle} applied modifies run) =
-    record { before = []; rest_of = w; here = s; next = middle; joined = refl; same = SameButVertex_refl s; vertex = refl; applied = applied; run = run }
-split_run {game} (pass {p = q} {s} {middle} applied quiet run) =
-    let cut = split_run run in
-    record {
-      before = q ∷ cut.before;
-      rest_of = cut.rest_of;
-      here = cut.here;
-      next = cut.next;
-      joined = ap (λ (xs : List ℕ). q ∷ xs) cut.joined;
-      same = SameButVertex_trans (quiet_acts game applied.action s middle quiet applied.acts) cut.same;
-      vertex = cut.vertex;
-      applied = cut.applied;
-      run = cut.run;
-    }
-
-all_right : {X : Type 0} (P : X → Type 0) (xs ys : List X) → All P (xs ++ ys) → All P ys
+-- What holds of a whole list holds of its end.
+pub all_right : {X : Type 0} (P : X → Type 0) (xs ys : List X) → All P (xs ++ ys) → All P ys
 all_right P [] ys all = all
 all_right P (x ∷ xs) ys all = all_right P xs ys (All-tail P x (xs ++ ys) all)
 
@@ -81,6 +64,67 @@ heads : (a b : ℕ × ℕ) (xs ys : List (ℕ × ℕ)) → a ∷ xs ≡ b ∷ ys
 heads a b xs ys e = (cc, cc)
 
 module _ (game : AbstractGame) (numbered : IsNumbered game.rules) where
+  -- A run that leaves no pair has no modifier.
+  pub none_left : {w : List ℕ} {s t : AbstractState} → RunPairs game w s t [] → HasNoModifier game.rules w
+  none_left stay = All-nil (λ (k : ℕ). ¬ IsModifierAt game.rules k)
+  none_left (pass {p} {w} applied quiet run) = All-cons (λ (k : ℕ). ¬ IsModifierAt game.rules k) p w (quiet_place game numbered p applied quiet) (none_left run)
+
+  pub cut_run : {w : List ℕ} {s t : AbstractState} {v p : ℕ} {ps : List (ℕ × ℕ)} → RunPairs game w s t ((v, p) ∷ ps) → CutRun game w s t v p ps
+  cut_run (modify {w = w} {s = s} {middle = middle} applied modifies run) = record {
+    before = [];
+    rest_of = w;
+    later = middle;
+    joined = refl;
+    no_modifier = All-nil (λ (k : ℕ). ¬ IsModifierAt game.rules k);
+    runs = rest;
+    applied = applied;
+    modifies = record { action = applied.action; stands = applied.stands; modifies = modifies };
+    onward = run;
+  }
+  cut_run {s = s} {v = v} {p = p} (pass {p = q} {middle = middle} applied quiet run) =
+      let cut = cut_run run in
+      let first : ¬ IsModifierAt game.rules q = quiet_place game numbered q applied quiet in
+      let there : at_vertex middle v ≡ at_vertex s v =
+      ap (λ (u : AbstractState). at_vertex u v) (ends_at game numbered s middle (q ∷ []) (All-cons (λ (k : ℕ). ¬ IsModifierAt game.rules k) q [] first (All-nil (λ (k : ℕ). ¬ IsModifierAt game.rules k))) (step applied rest)) in
+      record {
+        before = q ∷ cut.before;
+        rest_of = cut.rest_of;
+        later = cut.later;
+        joined = ap (λ (xs : List ℕ). q ∷ xs) cut.joined;
+        no_modifier = All-cons (λ (k : ℕ). ¬ IsModifierAt game.rules k) q cut.before first cut.no_modifier;
+        runs = step applied (subst (λ (u : AbstractState). Run game cut.before middle u) there cut.runs);
+        applied = subst (λ (u : AbstractState). Applies game p u cut.later) there cut.applied;
+        modifies = cut.modifies;
+        onward = cut.onward;
+      }
+
+  -- Its first modifier comes next.
+  pub cut_next : {w : List ℕ} {s t : AbstractState} {f : Start} {v p : ℕ} {ps : List (ℕ × ℕ)} (cut : CutRun game w s t v p ps) → Follows game.rules f (cut.before ++ p ∷ []) → IsNext game s f v p
+  cut_next {s = s} {v = v} cut follows = record {
+    before = cut.before;
+    here = at_vertex s v;
+    later = cut.later;
+    no_modifier = cut.no_modifier;
+    runs = cut.runs;
+    vertex = refl;
+    follows = follows;
+    modifies = cut.modifies;
+    applies = cut.applied;
+  }
+
+  -- What follows the run follows what is behind that.
+  pub cut_follows : {w : List ℕ} {s t : AbstractState} (f : Start) {v p : ℕ} {ps : List (ℕ × ℕ)} (cut : CutRun game w s t v p ps) (more : List ℕ) → Follows game.rules f (w ++ more) → Follows game.rules (after p) (cut.rest_of ++ more)
+  cut_follows {w} f {p = p} cut more follows =
+      let whole : w ++ more ≡ cut.before ++ p ∷ (cut.rest_of ++ more) = ap (λ (x : List ℕ). x ++ more) cut.joined ∙ append_assoc cut.before (p ∷ cut.rest_of) more in
+      ((locality_law game.rules numbered f cut.before p (cut.rest_of ++ more)).0.0 (subst (Follows game.rules f) whole follows)).1
+
+  -- A modifier that comes next is applied with the pair's vertex as the current one, where nothing else is new.
+  pub next_here : (s : AbstractState) (f : Start) (v p : ℕ) (next : IsNext game s f v p) → next.here ≡ at_vertex s v
+  next_here s f v p next = ends_at game numbered s next.here next.before next.no_modifier next.runs ∙ ap (λ (x : ℕ). at_vertex s x) next.vertex
+
+  pub next_applies : (s : AbstractState) (f : Start) (v p : ℕ) (next : IsNext game s f v p) → Applies game p (at_vertex s v) next.later
+  next_applies s f v p next = subst (λ (u : AbstractState). Applies game p u next.later) (next_here s f v p next) next.applies
+
   -- A run behind the modifier is one from before it, with its pair.
   pub lifted_run : (s later : AbstractState) (f : Start) (v p : ℕ) → IsNext game s f v p → Applies game p (at_vertex s v) later → ¬ IsSwitchAt game.rules p → (m : List ℕ) (t : AbstractState) (ps : List (ℕ × ℕ)) → RunsOn game later (after p) m t ps → (w : List ℕ) × RunsOn game s f (w ++ p ∷ m) t ((v, p) ∷ ps) × Follows game.rules f (w ++ p ∷ [])
   lifted_run s later f v p next applies plain m t ps on =
@@ -97,41 +141,41 @@ module _ (game : AbstractGame) (numbered : IsNumbered game.rules) where
         words.follows,
       )
 
-  -- A run that begins with the pair, behind it.
-  pub record BehindRun (later : AbstractState) (m : List ℕ) (t : AbstractState) (p : ℕ) (ps : List (ℕ × ℕ)) : Type 0 where
-    pub before : List ℕ
-    pub rest_of : List ℕ
-    pub joined : m ≡ before ++ p ∷ rest_of
-    pub runs : RunPairs game rest_of later t ps
+  -- Behind its first modifier a run goes on.
+  pub record GoesThrough (s : AbstractState) (f : Start) (m : List ℕ) (t : AbstractState) (v p : ℕ) (ps : List (ℕ × ℕ)) : Type 0 where
+    pub cut : CutRun game m s t v p ps
+    pub next : IsNext game s f v p
+    pub plain : ¬ IsSwitchAt game.rules p
+    pub on : RunsOn game cut.later (after p) cut.rest_of t ps
 
-  pub behind_run : (s later t : AbstractState) (v p : ℕ) (m : List ℕ) (ps : List (ℕ × ℕ)) → Applies game p (at_vertex s v) later → RunPairs game m s t ((v, p) ∷ ps) → BehindRun later m t p ps
-  behind_run s later t v p m ps applies run =
-      let cut = split_run run in
-      let here : at_vertex s v ≡ cut.here = same_state (record { player = cut.same.player; pieces = cut.same.pieces; values = cut.same.values }) (sym cut.vertex) in
-      let next : cut.next ≡ later = Applies_one game numbered p cut.applied (subst (λ (u : AbstractState). Applies game p u later) here applies) in
-      record { before = cut.before; rest_of = cut.rest_of; joined = cut.joined; runs = subst (λ (u : AbstractState). RunPairs game cut.rest_of u t ps) next cut.run }
-
-  pub behind_runs_on : (s later t : AbstractState) (f : Start) (v p : ℕ) (m : List ℕ) (ps : List (ℕ × ℕ)) → Applies game p (at_vertex s v) later → RunsOn game s f m t ((v, p) ∷ ps) → (cut : BehindRun later m t p ps) × RunsOn game later (after p) cut.rest_of t ps
-  behind_runs_on s later t f v p m ps applies on =
-      let cut = behind_run s later t v p m ps applies on.runs in
+  pub goes_through : (s : AbstractState) (f : Start) (m : List ℕ) (t : AbstractState) (v p : ℕ) (ps : List (ℕ × ℕ)) → RunsOn game s f m t ((v, p) ∷ ps) → GoesThrough s f m t v p ps
+  goes_through s f m t v p ps on =
+      let cut : CutRun game m s t v p ps = cut_run on.runs in
+      let follows : Follows game.rules f (cut.before ++ p ∷ cut.rest_of) = subst (Follows game.rules f) cut.joined on.follows in
+      let parts = (locality_law game.rules numbered f cut.before p cut.rest_of).0.0 follows in
       let no_switch : HasNoSwitch game.rules (cut.before ++ p ∷ cut.rest_of) = subst (HasNoSwitch game.rules) cut.joined on.no_switch in
-      let follows : Follows game.rules f (cut.before ++ p ∷ cut.rest_of) = subst (Follows game.rules f) cut.joined on.follows in (
-        cut,
-        record {
-          no_switch = All-tail (λ k. ¬ IsSwitchAt game.rules k) p cut.rest_of (all_right (λ k. ¬ IsSwitchAt game.rules k) cut.before (p ∷ cut.rest_of) no_switch);
-          follows = ((locality_law game.rules numbered f cut.before p cut.rest_of).0.0 follows).1;
-          runs = cut.runs;
-        },
-      )
+      let behind_it : HasNoSwitch game.rules (p ∷ cut.rest_of) = all_right (λ k. ¬ IsSwitchAt game.rules k) cut.before (p ∷ cut.rest_of) no_switch in
+      record {
+        cut = cut;
+        next = cut_next cut parts.0;
+        plain = All-head (λ k. ¬ IsSwitchAt game.rules k) p cut.rest_of behind_it;
+        on = record {
+          no_switch = All-tail (λ k. ¬ IsSwitchAt game.rules k) p cut.rest_of behind_it;
+          follows = parts.1;
+          runs = cut.onward;
+        };
+      }
+
+  pub behind_runs_on : (s later t : AbstractState) (f : Start) (v p : ℕ) (m : List ℕ) (ps : List (ℕ × ℕ)) → Applies game p (at_vertex s v) later → RunsOn game s f m t ((v, p) ∷ ps) → (cut : CutRun game m s t v p ps) × RunsOn game later (after p) cut.rest_of t ps
+  behind_runs_on s later t f v p m ps applies on =
+      let goes = goes_through s f m t v p ps on in
+      (goes.cut, subst (λ (u : AbstractState). RunsOn game u (after p) goes.cut.rest_of t ps) (Applies_one game numbered p goes.cut.applied applies) goes.on)
 
   -- An answer behind the modifier is one behind its pair.
   find_behind : (s later : AbstractState) (f : Start) (v p : ℕ) (ps : List (ℕ × ℕ)) → Applies game p (at_vertex s v) later → AnswersBehind game find_move s f ((v, p) ∷ ps) → AnswersBehind game find_move later (after p) ps
   find_behind s later f v p ps applies (m, t, q, on, follows, switches) =
       let (cut, more) = behind_runs_on s later t f v p m ps applies on in
-      let joined : m ++ q ∷ [] ≡ cut.before ++ p ∷ (cut.rest_of ++ q ∷ []) = ap (λ (x : List ℕ). x ++ q ∷ []) cut.joined ∙ append_assoc cut.before (p ∷ cut.rest_of) (q ∷ []) in
-      let there : Follows game.rules f (cut.before ++ p ∷ (cut.rest_of ++ q ∷ [])) = subst (Follows game.rules f) joined follows in
-      let last : Follows game.rules (after p) (cut.rest_of ++ q ∷ []) = ((locality_law game.rules numbered f cut.before p (cut.rest_of ++ q ∷ [])).0.0 there).1 in
-      (cut.rest_of, t, q, more, last, switches)
+      (cut.rest_of, t, q, more, cut_follows f cut (q ∷ []) follows, switches)
 
   ask_behind : (s later : AbstractState) (f : Start) (v p : ℕ) (ps : List (ℕ × ℕ)) → Applies game p (at_vertex s v) later → AnswersBehind game pattern s f ((v, p) ∷ ps) → AnswersBehind game pattern later (after p) ps
   ask_behind s later f v p ps applies (m, t, on, ends) =

@@ -1,5 +1,5 @@
 -- A scan along a straight line, step by step.
-use Rattle.std.proofs.Common.{◌≡◌, ◌≢◌, ℕ, suc, ◌<◌, List, [], ◌∷◌, ◌++◌, length, ◌==◌, Bool, true, ◌||◌, refl, sym, subst, append-nil, arith}
+use Rattle.std.proofs.Common.{◌≡◌, ◌≢◌, ℕ, suc, ◌<◌, ◌≤◌, List, [], ◌∷◌, ◌++◌, length, ◌==◌, Bool, true, ◌||◌, refl, sym, subst, append-nil, arith}
 use Rattle.std.specs.Prelude.{All, AllPairs, Contains, Decides}
 use Rattle.std.proofs.lemmas.List.Elements.{All-nil, All-cons, All-head, All-push, All-weaker, All-contains, Contains-push}
 use Rattle.std.proofs.lemmas.List.Quantifiers.{all_pairs_push}
@@ -8,11 +8,11 @@ use Rattle.rbg_rules.specs.Positions.{IsNumbered, IsPatternAt}
 use Rattle.rbg_rules.specs.Words.{Start, after, Ends}
 use Rattle.rbg_rules.specs.State.{AbstractGame, AbstractState}
 use Rattle.rbg_auto.specs.Steps.{AreAllThatFollow}
-use Rattle.rbg_flat.specs.Found.{HasCandidates}
 use Rattle.rbg_pairs.specs.Meeting.{MeetsAll}
 use Rattle.rbg_pairs.specs.Part.{IsTrialAt, IsPart}
 use Rattle.rbg_pairs.specs.Plain.{HasPlain}
-use Rattle.rbg_search.specs.internal.Straight.{IsScanned, IsScanning}
+use Rattle.rbg_search.specs.Taken.{most_pairs_of}
+use Rattle.rbg_search.specs.internal.Straight.{IsScanned, IsScanning, IsTold}
 use Rattle.rbg_state.specs.declared.state.trials.Trial.{Trial}
 use Rattle.rbg_state.specs.declared.state.trials.Trial.TheVariants.{Invalid, Modifies, LeadsTo}
 use Rattle.rbg_pairs.specs.Closure.{at_vertex}
@@ -41,15 +41,18 @@ is_empty_list (p ∷ ps) e = absurd (none (length ps) e)
     none n e = grind (arith, nat_tests)
 
 -- What becomes of an action at a vertex is the same wherever the semi-state's own vertex is.
-pub trial_there : (game : AbstractGame) (s : AbstractState) (u v p : ℕ) (o : Trial) → IsTrialAt game s v p o → IsTrialAt game (at_vertex s u) v p o
-trial_there game s u v p Invalid fails = fails
-trial_there game s u v p Modifies valid = valid
-trial_there game s u v p (LeadsTo w) (leads, only) = (
-  record { quiet = leads.quiet; applies = leads.applies },
-  (λ x other. only x (record { quiet = other.quiet; applies = other.applies })),
-)
+pub trial_there : (game : AbstractGame) (s : AbstractState) (u v p : ℕ) (o o' : Trial) → o ≡ o' → IsTrialAt game s v p o → IsTrialAt game (at_vertex s u) v p o'
+trial_there game s u v p o o' is trial = moved o' (subst (IsTrialAt game s v p) is trial)
+  where
+    moved : (x : Trial) → IsTrialAt game s v p x → IsTrialAt game (at_vertex s u) v p x
+    moved Invalid fails = fails
+    moved Modifies valid = valid
+    moved (LeadsTo w) (leads, only) = (
+      record { quiet = leads.quiet; applies = leads.applies },
+      (λ x other. only x (record { quiet = other.quiet; applies = other.applies })),
+    )
 
-module _ (game : AbstractGame) (s : AbstractState) (f : Start) where
+module _ {game : AbstractGame} {s : AbstractState} {f : Start} where
   pub begin_scan : (ps : List ℕ) (p : ℕ) (ends : Bool) → ps ≡ p ∷ [] → AreAllThatFollow game.rules f ps → Decides ends (Ends game.rules f []) → IsScanning game s f s.vertex p ends 0
   begin_scan ps p ends one follow decides = record {
     done = [];
@@ -60,7 +63,7 @@ module _ (game : AbstractGame) (s : AbstractState) (f : Start) where
     quiet = All-nil (λ q. ¬ IsPatternAt game.rules q.1);
   }
 
-  module _ (v p : ℕ) (ends : Bool) (many : ℕ) (scanning : IsScanning game s f v p ends many) (plain : ¬ IsPatternAt game.rules p) where
+  module _ {v p : ℕ} {ends : Bool} {many : ℕ} (scanning : IsScanning game s f v p ends many) (plain : ¬ IsPatternAt game.rules p) where
     quiet_on : All (λ q. ¬ IsPatternAt game.rules q.1) (scanning.done ++ (v, p) ∷ [])
     quiet_on = All-push (λ q. ¬ IsPatternAt game.rules q.1) scanning.done (v, p) scanning.quiet plain
 
@@ -84,15 +87,12 @@ module _ (game : AbstractGame) (s : AbstractState) (f : Start) where
       quiet = λ w q reached. All-contains (λ x. ¬ IsPatternAt game.rules x.1) (scanning.done ++ (v, p) ∷ []) (w, q) quiet_on (all_met game s f numbered (scanning.done ++ (v, p) ∷ []) [] ends' part w q reached);
     }
 
-    all_taken : IsNumbered game.rules → (ends' : Bool) (all : ℕ) → IsPart game s f (scanning.done ++ (v, p) ∷ []) (scanning.done ++ (v, p) ∷ []) [] ends' → HasPlain game.rules (scanning.done ++ (v, p) ∷ []) all → HasCandidates game s f all
-    all_taken numbered ends' all part has = part_pairs game numbered s f (scanning.done ++ (v, p) ∷ []) [] ends' all part has
+    told : IsNumbered game.rules → (ends' : Bool) (all : ℕ) → IsPart game s f (scanning.done ++ (v, p) ∷ []) (scanning.done ++ (v, p) ∷ []) [] ends' → HasPlain game.rules (scanning.done ++ (v, p) ∷ []) all → all ≤ most_pairs_of game → IsTold game s f ends' all
+    told numbered ends' all part has few = record { scanned = scanned numbered ends' part; few = few; taken = part_pairs game numbered s f (scanning.done ++ (v, p) ∷ []) [] ends' all part has }
 
     -- The last action isn't valid.
-    pub taken_up_to : IsNumbered game.rules → (all : ℕ) → HasPlain game.rules (scanning.done ++ (v, p) ∷ []) all → IsTrialAt game s v p Invalid → HasCandidates game s f all
-    taken_up_to numbered all has invalid = all_taken numbered ends all (invalid_part game s f (scanning.done ++ (v, p) ∷ []) scanning.done [] ends v p scanning.part invalid) has
-
-    pub scanned_up_to : IsNumbered game.rules → IsTrialAt game s v p Invalid → IsScanned game s f ends
-    scanned_up_to numbered invalid = scanned numbered ends (invalid_part game s f (scanning.done ++ (v, p) ∷ []) scanning.done [] ends v p scanning.part invalid)
+    pub told_up_to : IsNumbered game.rules → (all : ℕ) → HasPlain game.rules (scanning.done ++ (v, p) ∷ []) all → all ≤ most_pairs_of game → IsTrialAt game s v p Invalid → IsTold game s f ends all
+    told_up_to numbered all has few invalid = told numbered ends all (invalid_part game s f (scanning.done ++ (v, p) ∷ []) scanning.done [] ends v p scanning.part invalid) has few
 
     -- .. or nothing follows it.
     through : (u : ℕ) (ps : List ℕ) (last : Bool) → IsTrialAt game s v p (LeadsTo u) → ps ≡ [] → AreAllThatFollow game.rules (after p) ps → Decides last (Ends game.rules (after p) []) → IsPart game s f (scanning.done ++ (v, p) ∷ []) (scanning.done ++ (v, p) ∷ []) [] (ends || last)
@@ -108,11 +108,8 @@ module _ (game : AbstractGame) (s : AbstractState) (f : Start) where
           all = All-nil (λ (r : ℕ). Contains (scanning.done ++ (v, p) ∷ []) (u, r));
         }
 
-    pub scanned_through : IsNumbered game.rules → (u : ℕ) (ps : List ℕ) (last : Bool) → IsTrialAt game s v p (LeadsTo u) → ps ≡ [] → AreAllThatFollow game.rules (after p) ps → Decides last (Ends game.rules (after p) []) → IsScanned game s f (ends || last)
-    scanned_through numbered u ps last leads none follow decides = scanned numbered (ends || last) (through u ps last leads none follow decides)
-
-    pub taken_through : IsNumbered game.rules → (all : ℕ) → HasPlain game.rules (scanning.done ++ (v, p) ∷ []) all → (u : ℕ) (ps : List ℕ) (last : Bool) → IsTrialAt game s v p (LeadsTo u) → ps ≡ [] → AreAllThatFollow game.rules (after p) ps → Decides last (Ends game.rules (after p) []) → HasCandidates game s f all
-    taken_through numbered all has u ps last leads none follow decides = all_taken numbered (ends || last) all (through u ps last leads none follow decides) has
+    pub told_through : IsNumbered game.rules → (all : ℕ) → HasPlain game.rules (scanning.done ++ (v, p) ∷ []) all → all ≤ most_pairs_of game → (u : ℕ) (ps : List ℕ) (last : Bool) → IsTrialAt game s v p (LeadsTo u) → ps ≡ [] → AreAllThatFollow game.rules (after p) ps → Decides last (Ends game.rules (after p) []) → IsTold game s f (ends || last) all
+    told_through numbered all has few u ps last leads none follow decides = told numbered (ends || last) all (through u ps last leads none follow decides) has few
 
     -- One more action follows.
     pub scanned_on : (all : ℕ) → HasPlain game.rules (scanning.done ++ (v, p) ∷ []) all → (u q : ℕ) (ps : List ℕ) (last : Bool) → IsTrialAt game s v p (LeadsTo u) → ps ≡ q ∷ [] → AreAllThatFollow game.rules (after p) ps → Decides last (Ends game.rules (after p) []) → p < q → IsScanning game s f u q (ends || last) all

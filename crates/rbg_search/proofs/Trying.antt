@@ -15,7 +15,7 @@ use Rattle.rbg_search.specs.Searching.{Searching}
 use Rattle.rbg_search.specs.Taken.{CountsPairs}
 use Rattle.rbg_search.specs.internal.Asked.{GoesBehind, IsCounted, IsAsked}
 use Rattle.rbg_search.specs.internal.Behind.{IsReady, RunsBehindPair}
-use Rattle.rbg_search.specs.internal.Trying.{IsAskedBehind, TriesBehind}
+use Rattle.rbg_search.specs.internal.Trying.{IsAskedBehind, Stays, TriesBehind}
 use Rattle.rbg_search.specs.declared.over.Over.{Over}
 use Rattle.rbg_search.specs.declared.over.Over.TheVariants.{Deep, Wide}
 use Rattle.rbg_search.proofs.Asking.{room_twice}
@@ -29,9 +29,7 @@ use Rattle.rbg_search.proofs.Turns.{turned, turn_moves, turn_there, turn_behind,
 -- None is done.
 pub tries_none : (h : Searching) (s : History) (pairs : List (ℕ × ℕ)) (more : ℕ) → TriesBehind h h s s pairs [] more
 tries_none h s pairs more = record {
-  kept = refl;
-  given_back = refl;
-  room = omega arith;
+  stays = record { kept = refl; given_back = refl; room = omega arith };
   none = λ k d within. absurd (omega (arith, within));
   counted = λ f a goes counts. behind_begin h.game goes.lawful.numbered s.state f a h.opened counts;
   grows = omega arith;
@@ -46,9 +44,7 @@ module _ {h k : Searching} {s l : History} {pairs done : List (ℕ × ℕ)} {mor
   -- All are done.
   pub tries_end : (answer : Bool) → (let r : Result Bool Over = Ok answer in IsAskedBehind h k s l pairs more r)
   tries_end answer = record {
-    kept = is.kept;
-    given_back = is.given_back;
-    room = is.room;
+    stays = is.stays;
     counts = λ f a goes counts. behind_only h.game goes.lawful.numbered s.state f done a k.opened more h.openings h.modifiers _ _ (is.counted f a goes counts) (ok_not_err answer Deep) (ok_not_err answer Wide);
     taken = λ f goes. takes_as h.game pattern s.state f h.opened k.opened h.taken k.taken (Unit {0}) _ (is.taken f goes) (λ _. tt);
   }
@@ -70,9 +66,7 @@ module _ {h k : Searching} {s l : History} {pairs done : List (ℕ × ℕ)} {mor
     -- There are too many modifiers before it.
     pub tries_deep : more ≤ 1 → (let r : Result Bool Over = Err Deep in IsAskedBehind h k s l pairs more r)
     tries_deep few = record {
-      kept = is.kept;
-      given_back = is.given_back;
-      room = is.room;
+      stays = is.stays;
       counts = λ f a goes counts. turn_too_many h k s l done left q f pairs a k.opened more later _ _ moves goes applies few (is.counted f a goes counts) (λ w. deep_not_wide (same_error {X = Bool} Deep Wide w));
       taken = λ f goes. takes_as h.game pattern s.state f h.opened k.opened h.taken k.taken (Unit {0}) _ (is.taken f goes) (λ _. tt);
     }
@@ -80,23 +74,28 @@ module _ {h k : Searching} {s l : History} {pairs done : List (ℕ × ℕ)} {mor
     -- The question is asked behind it.
     module _ (some : 1 < more) {k' : Searching} {l' : History} {callee : Result Bool Over} (asked : (t : AbstractState) → Applies k.game q.1 (at_vertex l.state q.0) t → IsAsked k k' l l' pattern t (after q.1) (more - 1) callee) where
       here : IsAsked k k' l l' pattern later (after q.1) (more - 1) callee
-      here = asked later (onward_search (λ y z. Applies y.game q.1 (at_vertex z q.0) later) h k s l is.kept is.given_back applies)
+      here = asked later (onward_search (λ y z. Applies y.game q.1 (at_vertex z q.0) later) h k s l is.stays.kept is.stays.given_back applies)
+
+      stays : Stays h k' s l'
+      stays = record {
+        kept = kept_twice h k k' is.stays.kept here.kept;
+        given_back = room_twice s l l' is.stays.given_back here.given_back;
+        room = omega (arith, is.stays.room, here.room);
+      }
 
       step : (f : Start) (a : ℕ) → GoesBehind h.game s.state f pairs → CountsOpenings h.game reach s.state f a h.opened → BehindStep h s.state f (done ++ q ∷ []) a k'.opened more (callee ≡ Err Deep) (callee ≡ Err Wide)
       step f a goes counts =
-          turn_behind h k s l done left q f pairs a k'.opened more later _ _ is.kept is.given_back moves goes applies (omega (arith, some)) (is.counted f a goes counts)
+          turn_behind h k s l done left q f pairs a k'.opened more later _ _ is.stays.kept is.stays.given_back moves goes applies (omega (arith, some)) (is.counted f a goes counts)
           (λ t n leads same. subst (λ (m : ℕ). IsCounted k.game pattern t (after q.1) k.opened k'.opened m k.openings k.modifiers (callee ≡ Err Deep) (callee ≡ Err Wide)) (one_less more n same) (asked t leads).counts)
 
       pairs_then : (A : Type 0) → (A → IsOk callee) → (f : Start) → GoesBehind h.game s.state f pairs → CountsPairs h.game pattern s.state f h.opened k'.opened h.taken k'.taken A
       pairs_then A weaker f goes =
-          turn_takes h k s l done left q f pairs k'.opened k'.taken later A is.kept is.given_back moves goes applies (is.taken f goes)
+          turn_takes h k s l done left q f pairs k'.opened k'.taken later A is.stays.kept is.stays.given_back moves goes applies (is.taken f goes)
           (λ t leads. takes_as k.game pattern t (after q.1) k.opened k'.opened k.taken k'.taken (IsOk callee) A (asked t leads).taken weaker)
 
       pub tries_failed : (r : Result Bool Over) (e : Over) → callee ≡ Err e → IsErrAnd r (λ y. y ≡ e) → IsAskedBehind h k' s l' pairs more r
       tries_failed r e was gives = record {
-        kept = kept_twice h k k' is.kept here.kept;
-        given_back = room_twice s l l' is.given_back here.given_back;
-        room = omega (arith, is.room, here.room);
+        stays = stays;
         counts = λ f a goes counts. counted_as h.game pattern s.state f a k'.opened more h.openings h.modifiers _ _ _ _ (given_up callee r e Deep was gives) (given_up callee r e Wide was gives) (step f a goes counts).gave_up;
         taken = pairs_then (IsOk r) (λ ok. absurd (not_ok r e gives ok));
       }
@@ -105,9 +104,7 @@ module _ {h k : Searching} {s l : History} {pairs done : List (ℕ × ℕ)} {mor
         -- A word runs behind it.
         pub tries_yes : (answer : Bool) → (let r : Result Bool Over = Ok answer in IsAskedBehind h k' s l' pairs more r)
         tries_yes answer = record {
-          kept = kept_twice h k k' is.kept here.kept;
-          given_back = room_twice s l l' is.given_back here.given_back;
-          room = omega (arith, is.room, here.room);
+          stays = stays;
           counts = λ f a goes counts. behind_only h.game goes.lawful.numbered s.state f (done ++ q ∷ []) a k'.opened more h.openings h.modifiers _ _ (step f a goes counts).counts (ok_not_err answer Deep) (ok_not_err answer Wide);
           taken = pairs_then _ (λ _. is_answer callee runs was);
         }
@@ -115,18 +112,16 @@ module _ {h k : Searching} {s l : History} {pairs done : List (ℕ × ℕ)} {mor
         module _ (forced : (cut : Bool) (t : AbstractState) → Applies k.game q.1 (at_vertex l.state q.0) t → CountsForced k.game cut pattern t (after q.1) k.opened k'.opened (more - 1) k.modifiers) where
           pub tries_grow : h.opened ≤ k'.opened
           tries_grow =
-              let turn = turn_forced h k s l done left q h.opened k'.opened more later is.kept is.given_back applies some forced in
+              let turn = turn_forced h k s l done left q h.opened k'.opened more later is.stays.kept is.stays.given_back applies some forced in
               omega (arith, is.grows, turn.grows)
 
           -- None does.
           pub tries_more : IsTrue runs ↔ RunsBehindPair k.game l.state q.0 q.1 → runs ≡ false → TriesBehind h k' s l' pairs (done ++ q ∷ []) more
           tries_more decides fails =
-              let turn = turn_forced h k s l done left q h.opened k'.opened more later is.kept is.given_back applies some forced in
-              let decides_here : IsTrue runs ↔ RunsBehindPair h.game s.state q.0 q.1 = search_before (λ y z. IsTrue runs ↔ RunsBehindPair y.game z q.0 q.1) h k s l is.kept is.given_back decides in
+              let turn = turn_forced h k s l done left q h.opened k'.opened more later is.stays.kept is.stays.given_back applies some forced in
+              let decides_here : IsTrue runs ↔ RunsBehindPair h.game s.state q.0 q.1 = search_before (λ y z. IsTrue runs ↔ RunsBehindPair y.game z q.0 q.1) h k s l is.stays.kept is.stays.given_back decides in
               record {
-                kept = kept_twice h k k' is.kept here.kept;
-                given_back = room_twice s l l' is.given_back here.given_back;
-                room = omega (arith, is.room, here.room);
+                stays = stays;
                 none = turn_none h.game s.state done q runs is.none decides_here fails;
                 counted = λ f a goes counts. (step f a goes counts).counts;
                 grows = omega (arith, is.grows, turn.grows);

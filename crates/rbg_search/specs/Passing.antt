@@ -33,16 +33,23 @@ BeginsAmong done [] = Unit {0}
 BeginsAmong done (modifier_at v p ∷ more) = Contains done (v, p)
 BeginsAmong done (pattern_at v p ∷ more) = Unit {0}
 
--- The count grew from old to new by different openings of the question, none behind a modifier that isn't done.
-pub record CountsUpTo
-    (game : AbstractGame) (question : Question) (s : AbstractState) (f : Start) (done : List (ℕ × ℕ)) (old new : ℕ)
+-- The count grew from old to new by different openings of the question, each of which begins so by the pairs that are
+-- done.
+pub record CountsSuch
+    (Begins : List (ℕ × ℕ) → List Item → Type 0) (game : AbstractGame) (question : Question) (s : AbstractState)
+    (f : Start) (done : List (ℕ × ℕ)) (old new : ℕ)
     : Type 0
   where
     pub openings : List (List Item)
     pub different : AllPairs (λ o o'. o ≢ o') openings
     pub opened : All (Opening game question s f) openings
-    pub begin : All (BeginsAmong done) openings
+    pub begin : All (Begins done) openings
     pub sum : new ≡ old + length openings
+
+-- .. none behind a modifier that isn't done.
+abbrev pub CountsUpTo :
+    AbstractGame → Question → AbstractState → Start → (done : List (ℕ × ℕ)) → (old new : ℕ) → Type 0
+CountsUpTo game question s f done old new = CountsSuch BeginsAmong game question s f done old new
 
 -- An opening begins with this number of modifiers in a row.
 pub record HasRow

@@ -50,14 +50,5 @@ pub(crate) fn is_valid(game: &Game, position: Position, runs: bool) -> bool
 fn is_negative(action: &Action) -> bool
     ensures { result ≡ shows_negative action.now }
 {
-    match action {
-        Action::Negative => true,
-        Action::Shift { .. }
-        | Action::On { .. }
-        | Action::Off { .. }
-        | Action::Assign { .. }
-        | Action::Compare { .. }
-        | Action::Switch { .. }
-        | Action::Positive => false,
-    }
+    matches!(action, Action::Negative)
 }

@@ -11,7 +11,7 @@ ghost use Rattle.rbg_pairs.specs.Closure.{at_vertex};
 ghost use Rattle.rbg_search.specs.Forced.{CountsForced};
 ghost use Rattle.rbg_search.specs.Taken.{CountsPairs, most_pairs_of};
 ghost use Rattle.rbg_search.specs.internal.Asked.{IsCounted};
-ghost use Rattle.rbg_search.specs.internal.Straight.{IsScanned};
+ghost use Rattle.rbg_search.specs.internal.Straight.{IsScanned, IsTold};
 
 use crate::over::Over;
 use crate::search::Search;
@@ -41,11 +41,8 @@ pub(crate) fn scan_inside<S: Steps>(
 ) -> Option<PatternScan>
     requires fits { IsStateOf rules.now state.now.state }
     requires there { vertex < length rules.now.board.first }
-    ensures scanned { IfSome result (λ scan. IsScanned rules.now (at_vertex state.now.state vertex)
-        (beginning (inside pattern)) scan.ends) }
-    ensures few { IfSome result (λ scan. scan.pairs ≤ most_pairs_of rules.now) }
-    ensures taken { IfSome result (λ scan. HasCandidates rules.now (at_vertex state.now.state vertex)
-        (beginning (inside pattern)) scan.pairs) }
+    ensures { IfSome result (λ scan. IsTold rules.now (at_vertex state.now.state vertex)
+        (beginning (inside pattern)) scan.ends scan.pairs) }
 {
     let begin = Origin::Begin(Expr::Inside(pattern));
     let mut position = only(rules.following(begin))?;
@@ -73,32 +70,6 @@ pub(crate) fn scan_inside<S: Steps>(
             }
         }
     }
-}
-
-/// Where nothing goes on from the beginning of the inside of a pattern, as its leaps tell: what a scan would find. None
-/// elsewhere, and in a game without leaps.
-#[inline(always)]
-pub(crate) fn dead_end<S: Steps>(
-    rules: &GameSteps<'_, S>,
-    state: &SemiState,
-    vertex: Vertex,
-    pattern: Position,
-) -> Option<PatternScan>
-    requires fits { IsStateOf rules.now state.now.state }
-    requires vertex { vertex < length rules.now.board.first }
-    requires there { IsPatternAt rules.now.rules pattern }
-    ensures scanned { IfSome result (λ scan. IsScanned rules.now (at_vertex state.now.state vertex)
-        (beginning (inside pattern)) scan.ends) }
-    ensures few { IfSome result (λ scan. scan.pairs ≤ most_pairs_of rules.now) }
-    ensures taken { IfSome result (λ scan. HasCandidates rules.now (at_vertex state.now.state vertex)
-        (beginning (inside pattern)) scan.pairs) }
-{
-    let paths = rules.paths()?;
-    let dead = paths.dead_end(rules.game(), state, pattern, vertex)?;
-    Some(PatternScan {
-        ends: dead.ends,
-        pairs: dead.many,
-    })
 }
 
 impl<'a, S: Steps> Search<'a, S> {

@@ -8,7 +8,6 @@ ghost use Rattle.rbg_rules.specs.Questions.{SomeWordRuns, reach, pattern};
 ghost use Rattle.rbg_rules.specs.Games.{IsGame};
 ghost use Rattle.rbg_rules.specs.Laws.{IsStart};
 ghost use Rattle.rbg_search.specs.Forced.{CountsForced};
-ghost use Rattle.rbg_flat.specs.Found.{HasCandidates};
 ghost use Rattle.rbg_flat.specs.Paths.{ArePathsOf};
 ghost use Rattle.rbg_search.specs.Taken.{most_pairs_of};
 ghost use Rattle.rbg_search.specs.internal.Taking.{RanBehind};
@@ -25,13 +24,13 @@ ghost use Rattle.rbg_pairs.specs.Nesting.{NestsFrom};
 ghost use Rattle.rbg_auto.specs.Steps.{AreAllThatFollow};
 ghost use Rattle.rbg_pairs.specs.Part.{HasMarksOf, IsTrialAt};
 ghost use Rattle.rbg_search.specs.internal.Spent.{IsSpent, IsSpentButOne};
-ghost use Rattle.rbg_search.specs.internal.Straight.{IsScanned};
+ghost use Rattle.rbg_search.specs.internal.Straight.{IsTold};
 
 use crate::answer::is_valid;
 use crate::buffers::Buffers;
 use crate::order::sort;
 use crate::over::Over;
-use crate::scan::{PatternScan, dead_end, scan_inside};
+use crate::scan::{PatternScan, scan_inside};
 use crate::single::only_modifier;
 use crate::standing::stand;
 use crate::tally::Tally;
@@ -114,32 +113,29 @@ impl<'a, S: Steps> Search<'a, S> {
         ensures opened { result.opened ≡ 0 }
         ensures taken { result.taken ≡ 0 }
     {
-        Search::with_paths(alloc, game, steps, None, budget, buffers)
+        let _positions = game.positions();
+        let rules = GameSteps::new(game, steps, None);
+        Search::by_rules(alloc, rules, budget, buffers)
     }
 
-    /// As `new`, with the paths of the game where it has some: then flat parts are found by sets.
+    /// As `new`, by rules that may have the paths of the game: then flat parts are found by sets.
     #[inline(always)]
-    pub fn with_paths(
+    pub fn by_rules(
         alloc: Global,
-        game: &'a Game,
-        steps: &'a S,
-        paths: Option<&'a Paths>,
+        rules: GameSteps<'a, S>,
         budget: Budget,
         buffers: &'a mut Buffers,
     ) -> Search<'a, S>
-        requires steps { S.of_rules steps.now game.now.rules }
-        requires paths { IfSome paths (λ told. ArePathsOf game.now told.now) }
-        ensures game { result.game ≡ game.now }
+        ensures game { result.game ≡ rules.entry }
         ensures openings { result.openings ≡ budget.openings }
         ensures modifiers { result.modifiers ≡ max budget.modifiers 1 }
         ensures opened { result.opened ≡ 0 }
         ensures taken { result.taken ≡ 0 }
     {
-        let _positions = game.positions();
-        buffers.flats.fit(game);
+        buffers.flats.fit(rules.game());
         Search {
             alloc,
-            rules: GameSteps::new(game, steps, paths),
+            rules,
             budget: Budget {
                 openings: budget.openings,
                 modifiers: budget.modifiers.max(1),
@@ -387,24 +383,24 @@ impl<'a, S: Steps> Search<'a, S> {
         is_valid(self.rules.game(), position, runs)
     }
 
-    /// Scans along the inside of a pattern at a vertex, where that is a straight line, or where nothing goes on from its
-    /// beginning.
+    /// Scans along the inside of a pattern at a vertex, where that is a straight line. Where nothing goes on from its
+    /// beginning, its leaps tell what a scan would find.
     fn scan(&self, state: &SemiState, vertex: Vertex, position: Position) -> Option<PatternScan>
         requires fits { IsStateOf self.now.game state.now.state }
         requires vertex { vertex < length state.now.state.pieces }
         requires there { IsPatternAt self.now.game.rules position }
-        ensures scanned { IfSome result (λ scan.
-            IsScanned self.now.game (at_vertex state.now.state vertex)
-            (beginning (inside position)) scan.ends) }
-        ensures few { IfSome result (λ scan. scan.pairs ≤ most_pairs_of self.now.game) }
-        ensures taken { IfSome result (λ scan.
-            HasCandidates self.now.game (at_vertex state.now.state vertex)
-            (beginning (inside position)) scan.pairs) }
+        ensures { IfSome result (λ scan. IsTold self.now.game (at_vertex state.now.state vertex)
+            (beginning (inside position)) scan.ends scan.pairs) }
     {
-        match scan_inside(&self.rules, state, vertex, position) {
-            Some(scan) => Some(scan),
-            None => dead_end(&self.rules, state, vertex, position),
+        if let Some(scan) = scan_inside(&self.rules, state, vertex, position) {
+            return Some(scan);
         }
+        let paths = self.rules.paths()?;
+        let dead = paths.dead_end(self.rules.game(), state, position, vertex)?;
+        Some(PatternScan {
+            ends: dead.ends,
+            pairs: dead.many,
+        })
     }
 
     /// What is reached, in a list that is lent, and whether a word may end with no modifier more. Patterns nest at most

@@ -1,16 +1,16 @@
 -- What is counted while the patterns of a flat part are asked, and behind its modifiers.
-use Rattle.std.specs.Prelude.{◌≡◌, ◌≢◌, ℕ, ◌+◌, ◌≤◌, List, [], ◌∷◌, length, All, AllPairs, Contains, Result, Err, IsOk}
+use Rattle.std.specs.Prelude.{◌≡◌, ◌≢◌, ℕ, ◌≤◌, List, [], ◌∷◌, All, AllPairs, Contains, Result, Err, IsOk}
 use Rattle.rbg_rules.specs.Expression.{Expression}
 use Rattle.rbg_rules.specs.Positions.{IsLevel, inside}
 use Rattle.rbg_rules.specs.Words.{Start}
 use Rattle.rbg_rules.specs.State.{AbstractGame, AbstractState}
 use Rattle.rbg_rules.specs.Games.{IsGame}
-use Rattle.rbg_rules.specs.Questions.{Question, reach, Item, modifier_at, pattern_at, Opening}
+use Rattle.rbg_rules.specs.Questions.{Question, reach, Item, modifier_at, pattern_at}
 use Rattle.rbg_state.specs.History.{History}
 use Rattle.rbg_flat.specs.Candidates.{MayEnd}
 use Rattle.rbg_pairs.specs.Flat.{IsNext}
 use Rattle.rbg_search.specs.Counting.{CountsOpenings, IsOverBudget}
-use Rattle.rbg_search.specs.Passing.{IsTooDeep}
+use Rattle.rbg_search.specs.Passing.{CountsSuch, IsTooDeep}
 use Rattle.rbg_search.specs.Searching.{Searching}
 use Rattle.rbg_search.specs.Taken.{CountsPairs}
 use Rattle.rbg_search.specs.declared.over.Over.{Over}
@@ -31,15 +31,8 @@ BeginsAsked done (modifier_at v p ∷ more) = Unit {0}
 BeginsAsked done (pattern_at v p ∷ more) = Contains done (v, p)
 
 -- The count grew from old to new by different openings of `reach`, none in a pattern that isn't done.
-pub record CountsAsked
-    (game : AbstractGame) (s : AbstractState) (f : Start) (done : List (ℕ × ℕ)) (old new : ℕ)
-    : Type 0
-  where
-    pub openings : List (List Item)
-    pub different : AllPairs (λ o o'. o ≢ o') openings
-    pub opened : All (Opening game reach s f) openings
-    pub begin : All (BeginsAsked done) openings
-    pub sum : new ≡ old + length openings
+abbrev pub CountsAsked : AbstractGame → AbstractState → Start → (done : List (ℕ × ℕ)) → (old new : ℕ) → Type 0
+CountsAsked game s f done old new = CountsSuch BeginsAsked game reach s f done old new
 
 -- The pairs are modifiers that come next in a pattern of a lawful game, each once, and no word may end before them.
 pub record GoesBehind (game : AbstractGame) (s : AbstractState) (f : Start) (pairs : List (ℕ × ℕ)) : Type 0 where

@@ -1,17 +1,25 @@
 -- A straight line of actions that is scanned along.
-use Rattle.std.specs.Prelude.{◌≢◌, ℕ, ◌<◌, List, [], ◌∷◌, ◌++◌, All, AllPairs, Bool}
+use Rattle.std.specs.Prelude.{◌≢◌, ℕ, ◌<◌, ◌≤◌, List, [], ◌∷◌, ◌++◌, All, AllPairs, Bool}
 use Rattle.rbg_rules.specs.Positions.{IsPatternAt}
 use Rattle.rbg_rules.specs.Words.{Start}
 use Rattle.rbg_rules.specs.State.{AbstractGame, AbstractState}
+use Rattle.rbg_flat.specs.Found.{HasCandidates}
 use Rattle.rbg_pairs.specs.Flat.{IsFlatPart}
 use Rattle.rbg_pairs.specs.Closure.{Reached}
 use Rattle.rbg_pairs.specs.Part.{IsPart}
 use Rattle.rbg_pairs.specs.Plain.{HasPlain}
+use Rattle.rbg_search.specs.Taken.{most_pairs_of}
 
 -- The flat part is whole: it has no modifier, no pattern may come in it, and `ends` tells whether a word may end.
 pub record IsScanned (game : AbstractGame) (s : AbstractState) (f : Start) (ends : Bool) : Type 0 where
   pub part : IsFlatPart game s f [] ends
   pub quiet : (v p : ℕ) → Reached game s f v p → ¬ IsPatternAt game.rules p
+
+-- .. and it has so many candidates, no more than a flat part has.
+pub record IsTold (game : AbstractGame) (s : AbstractState) (f : Start) (ends : Bool) (many : ℕ) : Type 0 where
+  pub scanned : IsScanned game s f ends
+  pub few : many ≤ most_pairs_of game
+  pub taken : HasCandidates game s f many
 
 -- So many pairs were tried so far that are no shifts, none at a pattern or a valid modifier, each at a position before p;
 -- and position p at vertex v is all that is left.

@@ -14,15 +14,19 @@ use Rattle.rbg_search.specs.internal.Behind.{RunsBehindPair}
 use Rattle.rbg_search.specs.declared.over.Over.{Over}
 use Rattle.rbg_search.specs.declared.over.Over.TheVariants.{Deep, Wide}
 
+-- A search was h and is k, and the semi-state was s and is l: only the counts are new, and there is as much room at least.
+pub record Stays (h k : Searching) (s l : History) : Type 0 where
+  pub kept : k ≡ record h { opened = k.opened; taken = k.taken }
+  pub given_back : l ≡ record s { room = l.room }
+  pub room : s.room ≤ l.room
+
 -- A pattern's question went on behind the pairs. The search was h and is k, the semi-state was s and is l; the flat part
 -- from f, in which the pairs were found, was counted from a on.
 pub record IsAskedBehind {X : Type 0}
     (h k : Searching) (s l : History) (pairs : List (ℕ × ℕ)) (left : ℕ) (result : Result X Over)
     : Type 0
   where
-    pub kept : k ≡ record h { opened = k.opened; taken = k.taken }
-    pub given_back : l ≡ record s { room = l.room }
-    pub room : s.room ≤ l.room
+    pub stays : Stays h k s l
     pub counts :
         (f : Start) (a : ℕ) → GoesBehind h.game s.state f pairs → CountsOpenings h.game reach s.state f a h.opened →
         IsCounted h.game pattern s.state f a k.opened left h.openings h.modifiers (result ≡ Err Deep)
@@ -36,9 +40,7 @@ pub record TriesBehind
     (h k : Searching) (s l : History) (pairs done : List (ℕ × ℕ)) (left : ℕ)
     : Type 0
   where
-    pub kept : k ≡ record h { opened = k.opened; taken = k.taken }
-    pub given_back : l ≡ record s { room = l.room }
-    pub room : s.room ≤ l.room
+    pub stays : Stays h k s l
     pub none : All (λ q. ¬ RunsBehindPair h.game s.state q.0 q.1) done
     pub counted :
         (f : Start) (a : ℕ) → GoesBehind h.game s.state f pairs → CountsOpenings h.game reach s.state f a h.opened →

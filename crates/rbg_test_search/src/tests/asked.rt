@@ -6,6 +6,7 @@ use crate::tests::meaning::Rules;
 use rbg_auto::Steps;
 use rbg_flat::Paths;
 use rbg_moves::PlayedGame;
+use rbg_pairs::GameSteps;
 use rbg_rules::Game;
 use rbg_search::{Budget, Buffers, Search};
 use std::alloc::Global;
@@ -30,8 +31,8 @@ impl<'a, S: Steps> Asked<'a, S> {
         requires paths { IfSome self.now.paths (λ told. ArePathsOf self.now.game.now told.now) }
         ensures { result.game ≡ self.now.game.now }
     {
-        Search::with_paths(
-            self.alloc, self.game, self.steps, self.paths, budget, buffers,
-        )
+        let _positions = self.game.positions();
+        let rules = GameSteps::new(self.game, self.steps, self.paths);
+        Search::by_rules(self.alloc, rules, budget, buffers)
     }
 }

@@ -1,10 +1,10 @@
 //! What searches reach and which patterns hold, beside the slow answers.
-ghost use Rattle.std.specs.Prelude.{◌<◌, ◌≤◌, length, IfSome};
+ghost use Rattle.std.specs.Prelude.{◌<◌, ◌≤◌, length};
 ghost use Rattle.rbg_flat.specs.Paths.{ArePathsOf};
 ghost use Rattle.rbg_rules.specs.Laws.{IsStart};
-ghost use Rattle.rbg_rules.specs.Places.{IsPlaceOf};
 ghost use Rattle.rbg_rules.specs.Positions.{positions_of, IsPatternAt};
 ghost use Rattle.rbg_pairs.specs.Start.{start_of};
+ghost use Rattle.rbg_test_search.specs.Asking.{IsSearchedAt};
 
 use crate::tests::asked::Asked;
 use crate::tests::meaning::{Known, Next};
@@ -51,25 +51,6 @@ fn in_pattern(game: &Game, position: Position) -> Origin
     Origin::Begin(Expr::Inside(position))
 }
 
-/// What is reached from a place.
-fn reach<S: Steps>(
-    asked: &Asked<'_, S>,
-    place: &Place,
-    origin: Origin,
-    buffers: &mut Buffers,
-) -> Result<Result<FlatPart, Over>, Odd>
-    requires steps { S.of_rules asked.now.steps.now asked.now.game.now.rules }
-    requires paths { IfSome asked.now.paths (λ told. ArePathsOf asked.now.game.now told.now) }
-    requires place { IsPlaceOf asked.now.game.now place.now }
-    requires stands { IsStart asked.now.game.now.rules (start_of origin) }
-{
-    let mut state = place.state.try_clone()?;
-    let mut search = asked.search(BUDGET, buffers);
-    let reached = search.reach(&mut state, origin);
-    expect(state == place.state, Odd::Reach)?;
-    Ok(reached)
-}
-
 /// Compares what is reached with the slow answer.
 fn expect_reached(reached: Result<FlatPart, Over>, next: &Next) -> Result<(), Odd> {
     let Ok(reached) = reached else {
@@ -96,14 +77,15 @@ fn compare_start<S: Steps>(
     buffers: &mut Buffers,
     tally: &mut Tally,
 ) -> Result<(), Odd>
-    requires steps { S.of_rules asked.now.steps.now asked.now.game.now.rules }
-    requires paths { IfSome asked.now.paths (λ told. ArePathsOf asked.now.game.now told.now) }
-    requires place { IsPlaceOf asked.now.game.now place.now }
+    requires asked { IsSearchedAt S.of_rules asked.now.steps.now asked.now.game.now
+        (λ told. ArePathsOf asked.now.game.now told.now) asked.now.paths place.now }
     requires stands { IsStart asked.now.game.now.rules (start_of origin) }
 {
     let next = asked.rules.next(asked.alloc, world, words)?;
     tally.count_next(&next);
-    let reached = reach(asked, place, origin, buffers)?;
+    let mut state = place.state.try_clone()?;
+    let reached = asked.search(BUDGET, buffers).reach(&mut state, origin);
+    expect(state == place.state, Odd::Reach)?;
     expect_reached(reached, &next)
 }
 
@@ -114,9 +96,8 @@ fn pattern<S: Steps>(
     position: Position,
     buffers: &mut Buffers,
 ) -> Result<Result<bool, Over>, Odd>
-    requires steps { S.of_rules asked.now.steps.now asked.now.game.now.rules }
-    requires paths { IfSome asked.now.paths (λ told. ArePathsOf asked.now.game.now told.now) }
-    requires place { IsPlaceOf asked.now.game.now place.now }
+    requires asked { IsSearchedAt S.of_rules asked.now.steps.now asked.now.game.now
+        (λ told. ArePathsOf asked.now.game.now told.now) asked.now.paths place.now }
     requires there { IsPatternAt asked.now.game.now.rules position }
 {
     let mut state = place.state.try_clone()?;
@@ -153,9 +134,8 @@ fn compare_position<S: Steps>(
     buffers: &mut Buffers,
     tally: &mut Tally,
 ) -> Result<(), Odd>
-    requires steps { S.of_rules asked.now.steps.now asked.now.game.now.rules }
-    requires paths { IfSome asked.now.paths (λ told. ArePathsOf asked.now.game.now told.now) }
-    requires place { IsPlaceOf asked.now.game.now place.now }
+    requires asked { IsSearchedAt S.of_rules asked.now.steps.now asked.now.game.now
+        (λ told. ArePathsOf asked.now.game.now told.now) asked.now.paths place.now }
     requires from_one { 0 < position }
     requires there { position ≤ length (positions_of asked.now.game.now.rules) }
 {
@@ -183,9 +163,8 @@ pub(crate) fn compare_reach<S: Steps>(
     world: &World,
     tally: &mut Tally,
 ) -> Result<(), Odd>
-    requires steps { S.of_rules asked.now.steps.now asked.now.game.now.rules }
-    requires paths { IfSome asked.now.paths (λ told. ArePathsOf asked.now.game.now told.now) }
-    requires place { IsPlaceOf asked.now.game.now place.now }
+    requires asked { IsSearchedAt S.of_rules asked.now.steps.now asked.now.game.now
+        (λ told. ArePathsOf asked.now.game.now told.now) asked.now.paths place.now }
 {
     let mut buffers = Buffers::new(asked.alloc);
     let origin = at_beginning(asked.game);

@@ -1,6 +1,5 @@
 //! Why a game isn't compared to its end, and how much was compared.
 use crate::tests::meaning::{Moves, Next};
-use crate::tests::words::WordsError;
 use rbg_base::Memory;
 use std::alloc::AllocFailed;
 
@@ -32,15 +31,6 @@ impl From<Memory> for Odd {
 impl<T: Drop> From<AllocFailed<T>> for Odd {
     fn from(_error: AllocFailed<T>) -> Odd {
         Odd::Memory
-    }
-}
-
-impl From<WordsError> for Odd {
-    fn from(error: WordsError) -> Odd {
-        match error {
-            WordsError::TooMany => Odd::TooMany,
-            WordsError::Memory => Odd::Memory,
-        }
     }
 }
 

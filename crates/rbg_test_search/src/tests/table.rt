@@ -1,6 +1,7 @@
 //! The actions of rules by position, and the words that go on from each.
+use crate::tests::odd::Odd;
 use crate::tests::tree::{Action, Tree};
-use crate::tests::words::{Word, WordsError, rests_anywhere, words};
+use crate::tests::words::{Word, rests_anywhere, words};
 use rbg_base::Position;
 use std::alloc::Global;
 
@@ -30,7 +31,7 @@ pub(crate) struct Table {
 }
 
 impl Table {
-    pub(crate) fn new(alloc: Global, rules: &Tree) -> Result<Table, WordsError> {
+    pub(crate) fn new(alloc: Global, rules: &Tree) -> Result<Table, Odd> {
         let words = words(alloc, rules)?;
         let mut entries = Vec::new(alloc);
         lay(alloc, rules, rules, &mut entries)?;
@@ -64,12 +65,7 @@ impl Table {
 }
 
 /// Appends the positions of a part of the rules in order of text.
-fn lay(
-    alloc: Global,
-    rules: &Tree,
-    part: &Tree,
-    entries: &mut Vec<Entry>,
-) -> Result<(), WordsError> {
+fn lay(alloc: Global, rules: &Tree, part: &Tree, entries: &mut Vec<Entry>) -> Result<(), Odd> {
     match part {
         Tree::Act { position, action } => {
             let rests = rests_anywhere(alloc, rules, *position)?;

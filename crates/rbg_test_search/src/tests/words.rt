@@ -1,9 +1,10 @@
 //! Words of rules, each cut behind its sixth letter. A letter is the position of an action.
 ghost use Rattle.std.specs.Prelude.{◌≤◌, ◌<◌};
 
+use crate::tests::odd::Odd;
 use crate::tests::tree::Tree;
 use rbg_base::Position;
-use std::alloc::{AllocError, AllocFailed, Global};
+use std::alloc::Global;
 
 /// The most letters of a word that are looked at.
 pub(crate) const LETTERS: usize = 6;
@@ -18,25 +19,6 @@ pub(crate) struct Word {
     letters: [Position; LETTERS],
     /// Whether these are only the first letters.
     longer: bool,
-}
-
-/// Why the words of rules aren't known.
-#[derive(Clone, Copy, Debug, PartialEq, Eq, Drop)]
-pub(crate) enum WordsError {
-    TooMany,
-    Memory,
-}
-
-impl From<AllocError> for WordsError {
-    fn from(_error: AllocError) -> WordsError {
-        WordsError::Memory
-    }
-}
-
-impl<T: Drop> From<AllocFailed<T>> for WordsError {
-    fn from(_error: AllocFailed<T>) -> WordsError {
-        WordsError::Memory
-    }
 }
 
 impl Word {
@@ -94,19 +76,19 @@ impl Word {
 }
 
 /// Adds a word to a list that doesn't have it.
-fn add(words: &mut Vec<Word>, word: Word) -> Result<(), WordsError> {
+fn add(words: &mut Vec<Word>, word: Word) -> Result<(), Odd> {
     if words.contains(&word) {
         return Ok(());
     }
     if words.len() >= MOST_WORDS {
-        return Err(WordsError::TooMany);
+        return Err(Odd::TooMany);
     }
     words.push(word)?;
     Ok(())
 }
 
 /// Adds words to a list that doesn't have them.
-fn add_all(words: &mut Vec<Word>, more: &[Word]) -> Result<(), WordsError> {
+fn add_all(words: &mut Vec<Word>, more: &[Word]) -> Result<(), Odd> {
     for word in more {
         add(words, *word)?;
     }
@@ -114,7 +96,7 @@ fn add_all(words: &mut Vec<Word>, more: &[Word]) -> Result<(), WordsError> {
 }
 
 /// Each word of the first list with each word of the second after it.
-fn join(alloc: Global, firsts: &[Word], seconds: &[Word]) -> Result<Vec<Word>, WordsError> {
+fn join(alloc: Global, firsts: &[Word], seconds: &[Word]) -> Result<Vec<Word>, Odd> {
     let mut joined = Vec::new(alloc);
     for first in firsts {
         for second in seconds {
@@ -125,14 +107,14 @@ fn join(alloc: Global, firsts: &[Word], seconds: &[Word]) -> Result<Vec<Word>, W
 }
 
 /// The list of one word.
-fn only(alloc: Global, word: Word) -> Result<Vec<Word>, WordsError> {
+fn only(alloc: Global, word: Word) -> Result<Vec<Word>, Odd> {
     let mut words = Vec::new(alloc);
     words.push(word)?;
     Ok(words)
 }
 
 /// Any number of words joined: none, or one and then more. Seven of them that aren't empty are longer than six letters.
-fn repeat(alloc: Global, words: &[Word]) -> Result<Vec<Word>, WordsError> {
+fn repeat(alloc: Global, words: &[Word]) -> Result<Vec<Word>, Odd> {
     let mut one_or_none = only(alloc, Word::EMPTY)?;
     add_all(&mut one_or_none, words)?;
     let mut repeated = only(alloc, Word::EMPTY)?;
@@ -144,7 +126,7 @@ fn repeat(alloc: Global, words: &[Word]) -> Result<Vec<Word>, WordsError> {
 
 /// The words of the rules: an action has the word of its one position, a sequence joins a word of each part, a sum has
 /// the words of its parts, and a star joins any number of words.
-pub(crate) fn words(alloc: Global, tree: &Tree) -> Result<Vec<Word>, WordsError> {
+pub(crate) fn words(alloc: Global, tree: &Tree) -> Result<Vec<Word>, Odd> {
     match tree {
         Tree::Act { position, .. } => only(alloc, Word::of(*position)),
         Tree::Pattern { position, .. } => only(alloc, Word::of(*position)),
@@ -172,7 +154,7 @@ pub(crate) fn words(alloc: Global, tree: &Tree) -> Result<Vec<Word>, WordsError>
 }
 
 /// What follows a position up to the end of a word, for each word of the rules that has it outside patterns.
-fn rests(alloc: Global, tree: &Tree, after: Position) -> Result<Vec<Word>, WordsError> {
+fn rests(alloc: Global, tree: &Tree, after: Position) -> Result<Vec<Word>, Odd> {
     match tree {
         Tree::Act { position, .. } => rests_of_one(alloc, *position, after),
         Tree::Pattern { position, .. } => rests_of_one(alloc, *position, after),
@@ -204,7 +186,7 @@ fn rests(alloc: Global, tree: &Tree, after: Position) -> Result<Vec<Word>, Words
 }
 
 /// What follows a position in the word of one letter.
-fn rests_of_one(alloc: Global, letter: Position, after: Position) -> Result<Vec<Word>, WordsError> {
+fn rests_of_one(alloc: Global, letter: Position, after: Position) -> Result<Vec<Word>, Odd> {
     if letter == after {
         only(alloc, Word::EMPTY)
     } else {
@@ -213,7 +195,7 @@ fn rests_of_one(alloc: Global, letter: Position, after: Position) -> Result<Vec<
 }
 
 /// The same in the insides of the patterns of the rules.
-fn rests_in_patterns(alloc: Global, tree: &Tree, after: Position) -> Result<Vec<Word>, WordsError> {
+fn rests_in_patterns(alloc: Global, tree: &Tree, after: Position) -> Result<Vec<Word>, Odd> {
     match tree {
         Tree::Act { .. } => Ok(Vec::new(alloc)),
         Tree::Pattern { inside, .. } => {
@@ -248,7 +230,7 @@ pub(crate) fn rests_anywhere(
     alloc: Global,
     rules: &Tree,
     after: Position,
-) -> Result<Vec<Word>, WordsError> {
+) -> Result<Vec<Word>, Odd> {
     let mut all = rests(alloc, rules, after)?;
     let deeper = rests_in_patterns(alloc, rules, after)?;
     add_all(&mut all, &deeper)?;

@@ -23,7 +23,7 @@ pub returns-clause-finds : goal.returns-clause-finds
 returns-clause-finds x c =
     let taken : c.find_front.new.workspace.front.items ≡ c.replace-pairs.result.items = sym (ap (λ qs. qs.items) c.replace-pairs.ensures.value) in
     record {
-      found = subst (λ (qs : List (ℕ × ℕ)). IsLegal c.args.game.now c.args.place.now qs) taken (c.in_ok-found.ensures.finds.found c.if-not-found.false);
+      found = subst (λ (qs : List (ℕ × ℕ)). IsLegal c.args.rules c.args.place.now qs) taken (c.in_ok-found.ensures.finds.found c.if-not-found.false);
       sized = subst (λ (qs : List (ℕ × ℕ)). IsMoveLength (length qs)) taken (c.in_ok-found.ensures.finds.sized c.if-not-found.false);
       finished = tt;
       given_up = gives_answer _ _ _ _;

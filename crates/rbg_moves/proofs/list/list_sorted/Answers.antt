@@ -21,7 +21,7 @@ returns-in_err-lent g c =
 pub returns-in_err-gathered : goal.returns-in_err-gathered
 returns-in_err-gathered g c =
     lists_none c.from_residual-in_err-gathered.result _ c.from_residual-in_err-gathered.ensures.1
-    (subst (λ (p : AbstractPlace). GivesUp c.args.game.now list_moves p c.from_residual-in_err-gathered.result) c.in_ok-lent.ensures
+    (subst (λ (p : AbstractPlace). GivesUp c.args.rules list_moves p c.from_residual-in_err-gathered.result) c.in_ok-lent.ensures
     (gives_on c.gather_moves.result c.from_residual-in_err-gathered.result c.in_err-gathered.field-0.0 c.in_err-gathered.was c.from_residual-in_err-gathered.ensures.1 c.gather_moves.ensures.lists.given_up))
 
 pub returns-in_err-moves : goal.returns-in_err-moves
@@ -30,7 +30,7 @@ returns-in_err-moves g c =
 
 pub returns : goal.returns
 returns g c =
-    let game = c.args.game.now in
+    let game = c.args.rules in
     let place = c.args.place.now in
     let cut = c.in_ok-gathered.gathered.cut in
     record {

@@ -1,6 +1,7 @@
 use Rattle.std.proofs.Common.{ℕ, sym, subst}
 use Rattle.rbg_rules.specs.Positions.{IsModifierAt}
-use Rattle.rbg_moves.proofs.Steps.{modifier_position, modifier_plain}
+use Rattle.rbg_search.proofs.Asking.{no_modifier}
+use Rattle.rbg_moves.proofs.Steps.{modifier_position}
 use Rattle.rbg_moves.proofs.stepping.apply_at.Goals as goal
 
 pub apply-applied-requires-clause-from_one : goal.apply-applied-requires-clause-from_one
@@ -19,4 +20,4 @@ pub apply-applied-requires-clause-no_pattern : goal.apply-applied-requires-claus
 apply-applied-requires-clause-no_pattern c =
     let game = c.args.game.now in
     let modifier : IsModifierAt game.rules c.pair.inside.position = subst (λ (q : ℕ × ℕ). IsModifierAt game.rules q.1) (sym c.pair.view_is) c.requires.valid.modifies in
-    modifier_plain game c.requires.lawful.numbered c.pair.inside.position modifier
+    λ pattern. no_modifier game.rules c.requires.lawful.numbered c.pair.inside.position pattern modifier

@@ -15,7 +15,8 @@ use Rattle.rbg_search.specs.declared.over.Over.{Over}
 use Rattle.rbg_state.specs.History.{History}
 use Rattle.rbg_moves.specs.internal.Stepping.{at_vertex, IsValidAt}
 use Rattle.rbg_moves.proofs.Further.{has_come, come_paired}
-use Rattle.rbg_moves.proofs.Steps.{place_start, place_after, valid_next, modifier_position}
+use Rattle.rbg_search.proofs.CallerLemmas.{place_start}
+use Rattle.rbg_moves.proofs.Steps.{place_after, valid_next, modifier_position}
 use Rattle.rbg_moves.proofs.stepping.take.Goals as goal
 
 valid_as : (game game' : AbstractGame) (s s' : AbstractState) (v p : ℕ) → game' ≡ game → s' ≡ s → IsValidAt game s v p → IsValidAt game' s' v p
@@ -32,7 +33,7 @@ true_not_false e = cc
 pub reach_into-requires-clause-stands : goal.reach_into-requires-clause-stands
 reach_into-requires-clause-stands g c =
     let game = c.args.search.now.game in
-    let stands = subst (IsStart game.rules) (sym c.origin_after.ensures) (place_start game c.game-game.ensures.lawful.numbered (record { state = c.args.state.now.state; last = c.args.after }) c.requires.place) in
+    let stands = subst (IsStart game.rules) (sym c.origin_after.ensures) (place_start game.rules c.game-game.ensures.lawful.numbered c.args.after c.requires.place.last) in
     subst (λ (x : Searching). IsStart x.game.rules (start_of c.origin_after.result)) (sym c.take_list-pairs.ensures) stands
 
 pub apply_at-requires-clause-valid : goal.apply_at-requires-clause-valid

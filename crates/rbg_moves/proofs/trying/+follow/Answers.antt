@@ -9,7 +9,7 @@ use Rattle.rbg_rules.specs.Moves.{AbstractPlace, stand_of}
 use Rattle.rbg_moves.specs.internal.Stepping.{IsStep}
 use Rattle.rbg_moves.proofs.Following.{followed_as, follows_none, follows_in_vain, follows_first, follows_on}
 use Rattle.rbg_moves.proofs.Forcing.{last_forced}
-use Rattle.rbg_moves.proofs.Steps.{none_at, none_after, step_ends}
+use Rattle.rbg_moves.proofs.Steps.{none_at, none_after, step_ends, plain_by, switch_by}
 use Rattle.rbg_moves.proofs.trying.+follow.Goals as goal
 
 empty_when : (xs : List (ℕ × ℕ)) → length xs ≡ 0 → xs ≡ []
@@ -24,13 +24,6 @@ empty_of xs e = empty_when xs ((Decides-eqb (length xs) 0).0 (sym e))
 
 not_empty : (xs : List (ℕ × ℕ)) → false ≡ (length xs == 0) → ¬ (xs ≡ [])
 not_empty xs e same = true_not_false (sym ((Decides-eqb (length xs) 0).1 (ap length same)) ∙ sym e)
-
-plain_by : (game game' : AbstractGame) (p : ℕ) (r : Bool) → game' ≡ game → (IsSwitchAt game'.rules p → r ≡ true) → r ≡ false → ¬ IsSwitchAt game.rules p
-plain_by game game' p r same told other switches =
-    true_not_false (sym (told (subst (λ (h : AbstractGame). IsSwitchAt h.rules p) (sym same) switches)) ∙ other)
-
-switch_by : (game game' : AbstractGame) (p : ℕ) → game' ≡ game → IsSwitchAt game'.rules p → IsSwitchAt game.rules p
-switch_by game game' p same = subst (λ (h : AbstractGame). IsSwitchAt h.rules p) same
 
 -- The first of the pairs, as it is read.
 first_is : (pairs qs : List (ℕ × ℕ)) (q : ℕ × ℕ) (v p : ℕ) → pairs ≡ q ∷ qs → (v, p) ≡ q → pairs ≡ (v, p) ∷ qs

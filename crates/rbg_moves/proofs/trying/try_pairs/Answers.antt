@@ -30,13 +30,13 @@ pub returns-in_err-end-clause-tries : goal.returns-in_err-end-clause-tries
 returns-in_err-end-clause-tries x c =
     let there = c.to.view_is ∙ c.in_ok-to.ensures.copy in
     tries_none c.from_residual-in_err-end.result _ c.from_residual-in_err-end.ensures.1
-    (subst (λ (qs : List (ℕ × ℕ)). GivesUp c.args.game.now (try_move qs) c.args.place.now c.from_residual-in_err-end.result) c.as_slice.ensures.pairs
-    (asked_in_vain c.search_in-search.ensures.begun there (try_move c.as_slice.result.now) c.game_is_accepted.ensures.numbered [] c.follow.result c.from_residual-in_err-end.result c.in_err-end.field-0.0 refl c.in_err-end.was c.from_residual-in_err-end.ensures.1
+    (subst (λ (qs : List (ℕ × ℕ)). GivesUp c.args.rules (try_move qs) c.args.place.now c.from_residual-in_err-end.result) c.as_slice.ensures.pairs
+    (asked_in_vain c.search_in-search.ensures.begun there (try_move c.as_slice.result.now) c.game-game.ensures.lawful.numbered [] c.follow.result c.from_residual-in_err-end.result c.in_err-end.field-0.0 refl c.in_err-end.was c.from_residual-in_err-end.ensures.1
     (record { deep = λ d. somewhere (c.follow.ensures.followed.deep d); wide = c.follow.ensures.followed.wide })))
 
 pub returns-in-Some-clause-tries : goal.returns-in-Some-clause-tries
 returns-in-Some-clause-tries x c =
-    let game = c.args.game.now in
+    let game = c.args.rules in
     let place = c.args.place.now in
     let new = c.follow.new.state.state in
     let ps : List (ℕ × ℕ) = c.as_slice.result.now in
@@ -45,7 +45,7 @@ returns-in-Some-clause-tries x c =
     let within = at_place c.search_in-search.ensures.begun there (λ h p. IfSome c.in_ok-end.end (λ last. IsPlaceOf h.game (place_behind new last))) c.in_ok-end.ensures.in_game in
     record {
       legal = legal;
-      only = λ other also. one_place_law game c.game_is_accepted.ensures.numbered place c.args.pairs.now other (place_behind new c.in-Some.last) also legal;
+      only = λ other also. one_place_law game c.game-game.ensures.lawful.numbered place c.args.pairs.now other (place_behind new c.in-Some.last) also legal;
       in_game = subst (λ (o : Option ℕ). IfSome o (λ last. IsPlaceOf game (place_behind new last))) c.in-Some.is within;
       illegal = tt;
       given_up = gives_answer _ _ _ _;
@@ -57,19 +57,16 @@ returns-in-Some-clause-tries x c =
 
 pub returns-in-None-clause-tries : goal.returns-in-None-clause-tries
 returns-in-None-clause-tries x c =
-    let game = c.args.game.now in
-    let place = c.args.place.now in
-    let new = c.follow.new.state.state in
-    let ps : List (ℕ × ℕ) = c.as_slice.result.now in
-    let there = c.to.view_is ∙ c.in_ok-to.ensures.copy in
-    let illegal = tried_as game place c.args.pairs.now ps new c.in_ok-end.end None c.as_slice.ensures.pairs c.in-None.is (at_place c.search_in-search.ensures.begun there (λ h p. IsTried h.game p ps new c.in_ok-end.end) c.in_ok-end.ensures.followed.tried) in
+    let illegal =
+    tried_as c.args.rules c.args.place.now c.args.pairs.now c.as_slice.result.now c.follow.new.state.state c.in_ok-end.end None c.as_slice.ensures.pairs c.in-None.is
+    (at_place c.search_in-search.ensures.begun (c.to.view_is ∙ c.in_ok-to.ensures.copy) (λ h p. IsTried h.game p c.as_slice.result.now c.follow.new.state.state c.in_ok-end.end) c.in_ok-end.ensures.followed.tried) in
     record {
       legal = tt;
       only = tt;
       in_game = tt;
       illegal = illegal;
       given_up = gives_answer _ _ _ _;
-      fits = λ cut. illegal_fits game cut place c.args.pairs.now illegal;
+      fits = λ cut. illegal_fits c.args.rules cut c.args.place.now c.args.pairs.now illegal;
     }
 
 -- ---- what was counted
@@ -80,13 +77,13 @@ returns-in-Some-clause-tallies x c =
     let there = c.to.view_is ∙ c.in_ok-to.ensures.copy in
     let forced = subst (λ o. IfSome o (λ _. CountsForced c.search_in-search.result.game false (try_move ps) c.to.inside.state.state (stand_of c.to.inside.after) c.search_in-search.result.opened c.follow.new.search.opened (length ps) c.search_in-search.result.modifiers)) c.in-Some.is c.in_ok-end.ensures.followed.forced in
     tallies_one _
-    (subst (λ (qs : List (ℕ × ℕ)). IsTallied c.args.game.now (try_move qs) c.args.place.now c.args.workspace.now.searches c.leave.new.tally) c.as_slice.ensures.pairs
-    (asked_tallies c.search_in-search.ensures.begun there (try_move ps) c.follow.new.search false (length ps) c.args.workspace.now.searches c.copy_of.new.self.searches c.leave.new.tally c.copy_of.ensures.tally c.follow.ensures.kept
+    (subst (λ (qs : List (ℕ × ℕ)). IsTallied c.args.rules (try_move qs) c.args.place.now c.args.workspace.now.tally c.leave.new.tally) c.as_slice.ensures.pairs
+    (asked_tallies c.search_in-search.ensures.begun there (try_move ps) c.follow.new.search false (length ps) c.args.workspace.now.tally c.copy_of.new.self.tally c.leave.new.tally c.copy_of.ensures.tally c.follow.ensures.kept
     (record { counted = c.in_ok-end.ensures.followed.counted; paired = c.in_ok-end.ensures.followed.paired; forced = forced }) c.leave.ensures.openings c.leave.ensures.pairs))
 
 pub returns-in-None-clause-tallies : goal.returns-in-None-clause-tallies
 returns-in-None-clause-tallies x c =
-    let game = c.args.game.now in
+    let game = c.args.rules in
     let asked = c.search_in-search.result in
     let ps : List (ℕ × ℕ) = c.as_slice.result.now in
     let here : AbstractPlace = record { state = c.to.inside.state.state; last = c.to.inside.after } in
@@ -94,8 +91,8 @@ returns-in-None-clause-tallies x c =
     let begun = c.search_in-search.ensures.begun in
     let illegal = tried_as asked.game here ps ps c.follow.new.state.state c.in_ok-end.end None refl c.in-None.is c.in_ok-end.ensures.followed.tried in
     tallies_one _
-    (subst (λ (qs : List (ℕ × ℕ)). IsTallied game (try_move qs) c.args.place.now c.args.workspace.now.searches c.leave.new.tally) c.as_slice.ensures.pairs
-    (subst (λ (p : AbstractPlace). IsTallied game (try_move ps) p c.args.workspace.now.searches c.leave.new.tally) there
-    (tallied game (try_move ps) here asked c.follow.new.search c.args.workspace.now.searches c.copy_of.new.self.searches c.leave.new.tally (ap (λ (h : Searching). h.game) begun) (ap (λ (h : Searching). h.opened) begun) (ap (λ (h : Searching). h.taken) begun) c.copy_of.ensures.tally c.follow.ensures.kept c.in_ok-end.ensures.followed.counted
+    (subst (λ (qs : List (ℕ × ℕ)). IsTallied game (try_move qs) c.args.place.now c.args.workspace.now.tally c.leave.new.tally) c.as_slice.ensures.pairs
+    (subst (λ (p : AbstractPlace). IsTallied game (try_move ps) p c.args.workspace.now.tally c.leave.new.tally) there
+    (tallied game (try_move ps) here asked c.follow.new.search c.args.workspace.now.tally c.copy_of.new.self.tally c.leave.new.tally (ap (λ (h : Searching). h.game) begun) (ap (λ (h : Searching). h.opened) begun) (ap (λ (h : Searching). h.taken) begun) c.copy_of.ensures.tally c.follow.ensures.kept c.in_ok-end.ensures.followed.counted
     (illegal_counts asked.game true here ps asked.opened c.follow.new.search.opened illegal (omega (arith, c.in_ok-end.ensures.followed.counted.sum)))
     c.in_ok-end.ensures.followed.paired c.leave.ensures.openings c.leave.ensures.pairs)))

@@ -5,8 +5,6 @@ use Rattle.std.proofs.lemmas.Result.{err_from_is_err_and}
 use Rattle.rbg_base.specs.Move.{most_pairs}
 use Rattle.rbg_rules.specs.State.{AbstractGame, IsStateOf}
 use Rattle.rbg_rules.specs.Laws.{IsStart}
-use Rattle.rbg_rules.specs.Words.{Start}
-use Rattle.rbg_auto.specs.Steps.{AreAllThatFollow}
 use Rattle.rbg_rules.specs.Moves.{AbstractPlace, stand_of}
 use Rattle.rbg_state.specs.History.{History, IsAfter}
 use Rattle.rbg_state.proofs.Histories.{after_nothing, after_both}
@@ -20,36 +18,36 @@ use Rattle.rbg_search.proofs.Orders.{flat_permuted}
 use Rattle.rbg_search.proofs.Turns.{turn_fewer}
 use Rattle.rbg_moves.specs.internal.Gathering.{IsWalked, LeavesOthers}
 use Rattle.rbg_moves.specs.internal.Stepping.{place_behind}
-use Rattle.rbg_moves.proofs.Steps.{place_start, modifier_position}
-use Rattle.rbg_moves.proofs.Further.{answered_as, has_come, switches_as, none_come, walk_begun, walk_ended, walk_whole, walked_any, walk_switch, one_turn, turn_done, walk_turn, others_plain, turn_whole, turn_fits, turn_valid, turn_on, turn_ended, turn_given_up, too_many, made, made_given_up}
-use Rattle.rbg_moves.proofs.Results.{on_err, err_of}
+use Rattle.rbg_search.proofs.CallerLemmas.{place_start}
+use Rattle.rbg_moves.proofs.Steps.{modifier_position, plain_by, switch_by}
+use Rattle.rbg_moves.proofs.Further.{answered_as, has_come, has_come_here, switches_as, none_come, walk_begun, walk_ended, walk_whole, walked_any, walk_switch, one_turn, turn_done, walk_turn, others_plain, turn_whole, turn_fits, turn_valid, turn_on, turn_ended, turn_given_up, too_many, made, made_given_up}
 use Rattle.rbg_moves.proofs.walking.+walk.Goals as goal
 
-pub walk_each-reach_flat-requires-clause-stands : goal.walk_each-reach_flat-requires-clause-stands
-walk_each-reach_flat-requires-clause-stands g t c =
+pub walk-reach_flat-requires-clause-stands : goal.walk-reach_flat-requires-clause-stands
+walk-reach_flat-requires-clause-stands g t c =
     let game = c.args.search.now.game in
     let place : AbstractPlace = record { state = c.args.state.now.state; last = c.args.after } in
-    let stands = subst (IsStart game.rules) (sym c.origin_after.ensures) (place_start game c.game-game.ensures.lawful.numbered place c.requires.place) in
-    subst (λ (x : Searching). IsStart x.game.rules (start_of c.origin_after.result)) (sym c.take_list-pairs.ensures) stands
+    let stands = subst (IsStart game.rules) (sym c.origin_after-origin.ensures) (place_start game.rules c.game-game.ensures.lawful.numbered c.args.after c.requires.place.last) in
+    subst (λ (x : Searching). IsStart x.game.rules (start_of c.origin_after-origin.result)) (sym c.take_list-pairs.ensures) stands
 
-pub walk_each-returns-in_err-reach_flat-clause-given_up : goal.walk_each-returns-in_err-reach_flat-clause-given_up
-walk_each-returns-in_err-reach_flat-clause-given_up g t c =
-    let p = err_from_is_err_and c.from_residual.result c.from_residual.ensures.1 in
-    rw (p.1, p.2) (none_come c.args.found.now.max (most_pairs - length c.args.front.now.items) c.game-game.ensures.lawful.numbered (answered_as c.take_list-pairs.ensures c.origin_after.ensures c.in_err-reach_flat.ensures.answered))
+pub walk-returns-in_err-reach_flat-clause-given_up : goal.walk-returns-in_err-reach_flat-clause-given_up
+walk-returns-in_err-reach_flat-clause-given_up g t c =
+    let p = err_from_is_err_and c.from_residual-in_err-reach_flat.result c.from_residual-in_err-reach_flat.ensures.1 in
+    rw (p.1, p.2) (none_come c.args.found.now.max (most_pairs - length c.args.front.now.items) c.game-game.ensures.lawful.numbered (answered_as c.take_list-pairs.ensures c.origin_after-origin.ensures c.in_err-reach_flat.ensures.answered))
 
-pub walk_each-returns-then-branch-clause-walked : goal.walk_each-returns-then-branch-clause-walked
-walk_each-returns-then-branch-clause-walked g t c =
+pub walk-returns-then-branch-clause-walked : goal.walk-returns-then-branch-clause-walked
+walk-returns-then-branch-clause-walked g t c =
     let place : AbstractPlace = record { state = c.args.state.now.state; last = c.args.after } in
-    let come = has_come c.take_list-pairs.ensures c.origin_after.ensures c.reach_flat.ensures.answered c.in_ok-reach_flat.was c.in_ok-reach_flat.ensures.found in
+    let come = has_come c.take_list-pairs.ensures c.origin_after-origin.ensures c.reach_flat.ensures.answered c.in_ok-reach_flat.was c.in_ok-reach_flat.ensures.found in
     subst (λ (x : Searching). IsWalked c.args.search.now x place c.args.front.now.items c.args.found.now.max c.args.found.now.moves c.add_switches.new.self.moves c.add_switches.new.front.items true) (sym c.keep_list.ensures)
     (walk_ended c.args.after c.game-game.ensures.lawful.numbered come c.requires.short (switches_as c.game-game.ensures.game refl c.if-branch.true c.in_ok-add_switches.ensures.lists))
 
-pub walk_each-loop-pair-init : goal.walk_each-loop-pair-init
-walk_each-loop-pair-init g t c =
+pub walk-loop-pair-init : goal.walk-loop-pair-init
+walk-loop-pair-init g t c =
     let old = c.args.search.now in
     let pairs : List (ℕ × ℕ) = c.reach_flat.new.pairs in
     let ends = c.in_ok-reach_flat.field-0 in
-    let come = has_come c.take_list-pairs.ensures c.origin_after.ensures c.reach_flat.ensures.answered c.in_ok-reach_flat.was c.in_ok-reach_flat.ensures.found in
+    let come = has_come c.take_list-pairs.ensures c.origin_after-origin.ensures c.reach_flat.ensures.answered c.in_ok-reach_flat.was c.in_ok-reach_flat.ensures.found in
     let others : LeavesOthers old.game.rules pairs c.add_switches.new.pairs = subst (λ (x : AbstractGame). LeavesOthers x.rules pairs c.add_switches.new.pairs) c.game-game.ensures.game (c.in_ok-add_switches.ensures.others c.if-branch.false) in
     record {
       done = others.switches;
@@ -65,148 +63,122 @@ walk_each-loop-pair-init g t c =
       so_far = walk_begun c.args.after c.game-game.ensures.lawful.numbered come others (switches_as c.game-game.ensures.game refl c.if-branch.false c.in_ok-add_switches.ensures.lists);
     }
 
-pub walk_each-walk_behind-requires : goal.walk_each-walk_behind-requires
-walk_each-walk_behind-requires g t c κs within =
+pub walk-walk_behind-requires-in-Some-take_least : goal.walk-walk_behind-requires-in-Some-take_least
+walk-walk_behind-requires-in-Some-take_least g t c κs within =
     let now = c.loop-pair in
     let inv = c.loop-pair.invariant in
-    let turn = walk_turn c.game-game.ensures.lawful inv.search (ap (λ (h : History). h.state) inv.state) inv.front inv.max inv.whole inv.plain inv.so_far c.in-Some.ensures.permutation in
+    let turn = walk_turn c.game-game.ensures.lawful inv.search (ap (λ (h : History). h.state) inv.state) inv.front inv.max inv.whole inv.plain inv.so_far c.in-Some-take_least.ensures.permutation in
     let size : length now.front.items ≡ length c.args.front.now.items = ap (λ (ys : List (ℕ × ℕ)). length ys) inv.front in
     let few = inv.so_far.gathers.few in
     (omega (arith, size, c.requires.short, c.decreases), (within, (turn_fits turn c.requires.place.state, (turn_valid turn c.requires.place.state, (inv.enough, (omega (arith, size, c.requires.short), omega (arith, few, inv.max)))))))
 
-pub walk_each-returns-in_err-ended-clause-given_up : goal.walk_each-returns-in_err-ended-clause-given_up
-walk_each-returns-in_err-ended-clause-given_up g t c =
+pub walk-returns-in_err-ended-clause-given_up : goal.walk-returns-in_err-ended-clause-given_up
+walk-returns-in_err-ended-clause-given_up g t c =
     let inv = c.loop-pair.invariant in
-    let turn = walk_turn c.game-game.ensures.lawful inv.search (ap (λ (h : History). h.state) inv.state) inv.front inv.max inv.whole inv.plain inv.so_far c.in-Some.ensures.permutation in
+    let turn = walk_turn c.game-game.ensures.lawful inv.search (ap (λ (h : History). h.state) inv.state) inv.front inv.max inv.whole inv.plain inv.so_far c.in-Some-take_least.ensures.permutation in
     let p = err_from_is_err_and c.from_residual-in_err-ended.result c.from_residual-in_err-ended.ensures.1 in
     rw (p.1, p.2) (turn_given_up turn _ _ c.requires.short c.in_err-ended.ensures.given_up)
 
-pub walk_each-returns-then-ended-clause-walked : goal.walk_each-returns-then-ended-clause-walked
-walk_each-returns-then-ended-clause-walked g t c =
+pub walk-returns-then-ended-clause-walked : goal.walk-returns-then-ended-clause-walked
+walk-returns-then-ended-clause-walked g t c =
     let inv = c.loop-pair.invariant in
     let place : AbstractPlace = record { state = c.args.state.now.state; last = c.args.after } in
-    let turn = walk_turn c.game-game.ensures.lawful inv.search (ap (λ (h : History). h.state) inv.state) inv.front inv.max inv.whole inv.plain inv.so_far c.in-Some.ensures.permutation in
-    subst (λ (x : Searching). IsWalked c.args.search.now x place c.args.front.now.items c.args.found.now.max c.args.found.now.moves c.walk_behind.new.found.moves c.walk_behind.new.front.items true) (sym c.keep_list-then-ended.ensures)
+    let turn = walk_turn c.game-game.ensures.lawful inv.search (ap (λ (h : History). h.state) inv.state) inv.front inv.max inv.whole inv.plain inv.so_far c.in-Some-take_least.ensures.permutation in
+    subst (λ (x : Searching). IsWalked c.args.search.now x place c.args.front.now.items c.args.found.now.max c.args.found.now.moves c.walk_behind-in-Some-take_least.new.found.moves c.walk_behind-in-Some-take_least.new.front.items true) (sym c.keep_list-then-ended.ensures)
     (turn_ended turn c.requires.short c.if-ended.true c.in_ok-ended.ensures.walked)
 
-pub walk_each-loop-pair-smaller : goal.walk_each-loop-pair-smaller
-walk_each-loop-pair-smaller g t c =
-    turn_fewer c.loop-pair.pairs c.take_least.new.self c.in-Some.pair c.in-Some.ensures.permutation
+pub walk-loop-pair-smaller : goal.walk-loop-pair-smaller
+walk-loop-pair-smaller g t c =
+    turn_fewer c.loop-pair.pairs c.take_least.new.self c.in-Some-take_least.pair c.in-Some-take_least.ensures.permutation
 
-pub walk_each-loop-pair-preserved : goal.walk_each-loop-pair-preserved
-walk_each-loop-pair-preserved g t c =
+pub walk-loop-pair-preserved : goal.walk-loop-pair-preserved
+walk-loop-pair-preserved g t c =
     let now = c.loop-pair in
     let inv = c.loop-pair.invariant in
-    let then = c.walk_behind.new in
-    let q : ℕ × ℕ = c.in-Some.pair in
-    let turn = walk_turn c.game-game.ensures.lawful inv.search (ap (λ (h : History). h.state) inv.state) inv.front inv.max inv.whole inv.plain inv.so_far c.in-Some.ensures.permutation in
+    let then = c.walk_behind-in-Some-take_least.new in
+    let q : ℕ × ℕ = c.in-Some-take_least.pair in
+    let turn = walk_turn c.game-game.ensures.lawful inv.search (ap (λ (h : History). h.state) inv.state) inv.front inv.max inv.whole inv.plain inv.so_far c.in-Some-take_least.ensures.permutation in
     let more = c.in_ok-ended.ensures in
     record {
       done = inv.done ++ q ∷ [];
       first = then.front.items;
       whole = turn_whole turn;
-      plain = others_plain c.args.search.now.game now.pairs c.take_least.new.self q inv.plain c.in-Some.ensures.permutation;
-      search = kept_twice c.args.search.now now.search then.search inv.search c.walk_behind.ensures.search;
+      plain = others_plain c.args.search.now.game now.pairs c.take_least.new.self q inv.plain c.in-Some-take_least.ensures.permutation;
+      search = kept_twice c.args.search.now now.search then.search inv.search c.walk_behind-in-Some-take_least.ensures.search;
       state = room_twice c.args.state.now now.state then.state inv.state (more.state c.if-ended.false);
       room = (let later = more.room c.if-ended.false in let kept = inv.room in omega (arith, kept, later));
       enough = (let later = more.room c.if-ended.false in let kept = inv.enough in omega (arith, kept, later));
       front = more.front c.if-ended.false ∙ inv.front;
-      max = c.walk_behind.ensures.max ∙ inv.max;
+      max = c.walk_behind-in-Some-take_least.ensures.max ∙ inv.max;
       so_far = turn_on turn c.if-ended.false more.walked;
     }
 
-pub walk_each-returns-clause-walked : goal.walk_each-returns-clause-walked
-walk_each-returns-clause-walked g t c =
+pub walk-returns-clause-walked : goal.walk-returns-clause-walked
+walk-returns-clause-walked g t c =
     let now = c.loop-pair in
     let inv = c.loop-pair.invariant in
     let place : AbstractPlace = record { state = c.args.state.now.state; last = c.args.after } in
     subst (λ (x : Searching). IsWalked c.args.search.now x place c.args.front.now.items c.args.found.now.max c.args.found.now.moves now.found.moves now.front.items false) (sym c.keep_list-2.ensures)
-    (walked_any now.front.items (walk_whole c.game-game.ensures.lawful.numbered c.requires.short inv.whole c.in_default.ensures.none inv.so_far))
+    (walked_any now.front.items (walk_whole c.game-game.ensures.lawful.numbered c.requires.short inv.whole c.in_default-take_least.ensures.none inv.so_far))
 
 after_kept : (h k : History) → k ≡ record h { room = k.room } → IsAfter h k
 after_kept h k kept = after_room h h k (after_nothing h) kept
 
 -- ---- what comes next is one modifier alone
 
-pub walk-walk_only-requires : goal.walk-walk_only-requires
-walk-walk_only-requires g t c κs within =
-    let game = c.args.search.now.game in
-    (omega (arith, c.requires.short, c.decreases), (within, (subst (λ (f : Start). AreAllThatFollow game.rules f (c.in-Some.position ∷ [])) c.origin_after.ensures c.in-Some.ensures.only, (c.in-Some.ensures.modifies, (c.requires.place, (c.requires.short, c.requires.few))))))
-
-pub walk-walk_each-requires : goal.walk-walk_each-requires
-walk-walk_each-requires g t c κs within = (omega (arith, c.requires.short, c.decreases), (within, (c.requires.place, (c.requires.short, c.requires.few))))
-
-pub walk_only-reach_only-requires-clause-stands : goal.walk_only-reach_only-requires-clause-stands
-walk_only-reach_only-requires-clause-stands g t c =
+pub walk-reach_only-requires-clause-stands : goal.walk-reach_only-requires-clause-stands
+walk-reach_only-requires-clause-stands g t c =
     let game = c.args.search.now.game in
     let place : AbstractPlace = record { state = c.args.state.now.state; last = c.args.after } in
-    subst (IsStart game.rules) (sym c.origin_after.ensures) (place_start game c.game-game.ensures.lawful.numbered place c.requires.place)
+    subst (IsStart game.rules) (sym c.origin_after-origin.ensures) (place_start game.rules c.game-game.ensures.lawful.numbered c.args.after c.requires.place.last)
 
-pub walk_only-reach_only-requires-clause-only : goal.walk_only-reach_only-requires-clause-only
-walk_only-reach_only-requires-clause-only g t c = subst (λ (f : Start). AreAllThatFollow c.args.search.now.game.rules f (c.args.position ∷ [])) (sym c.origin_after.ensures) c.requires.only
-
-pub walk_only-returns-in_err-reach_only-clause-given_up : goal.walk_only-returns-in_err-reach_only-clause-given_up
-walk_only-returns-in_err-reach_only-clause-given_up g t c =
+pub walk-returns-in_err-reach_only-clause-given_up : goal.walk-returns-in_err-reach_only-clause-given_up
+walk-returns-in_err-reach_only-clause-given_up g t c =
     let p = err_from_is_err_and c.from_residual.result c.from_residual.ensures.1 in
-    rw (p.1, p.2) (none_come c.args.found.now.max (most_pairs - length c.args.front.now.items) c.game-game.ensures.lawful.numbered (answered_as refl c.origin_after.ensures c.in_err-reach_only.ensures.answered))
+    rw (p.1, p.2) (none_come c.args.found.now.max (most_pairs - length c.args.front.now.items) c.game-game.ensures.lawful.numbered (answered_as refl c.origin_after-origin.ensures c.in_err-reach_only.ensures.answered))
 
-pub walk_only-returns-in_err-reach_only-clause-after : goal.walk_only-returns-in_err-reach_only-clause-after
-walk_only-returns-in_err-reach_only-clause-after g t c = after_kept c.args.state.now c.reach_only.new.state c.reach_only.ensures.answered.given_back
+pub walk-returns-in_err-reach_only-clause-after : goal.walk-returns-in_err-reach_only-clause-after
+walk-returns-in_err-reach_only-clause-after g t c = after_kept c.args.state.now c.reach_only.new.state c.reach_only.ensures.answered.given_back
 
-false_not_true : false ≡ true → ⊥
-false_not_true e = cc
-
-pub walk_only-is_switch-requires-clause-position : goal.walk_only-is_switch-requires-clause-position
-walk_only-is_switch-requires-clause-position g t c =
+pub walk-is_switch-requires-clause-position : goal.walk-is_switch-requires-clause-position
+walk-is_switch-requires-clause-position g t c =
     let game = c.args.search.now.game in
-    subst (λ (x : AbstractGame). IsPositionOf x.rules c.args.position) (sym c.game-game.ensures.game) (modifier_position game c.game-game.ensures.lawful.numbered c.args.position c.requires.modifies.0)
+    subst (λ (x : AbstractGame). IsPositionOf x.rules c.in-Some.position) (sym c.game-game.ensures.game) (modifier_position game c.game-game.ensures.lawful.numbered c.in-Some.position c.in-Some.ensures.modifies.0)
 
-pub walk_only-returns-then-is_switch-clause-walked : goal.walk_only-returns-then-is_switch-clause-walked
-walk_only-returns-then-is_switch-clause-walked g t c =
-    let h = c.args.search.now in
-    let found = subst (λ (v : ℕ). HasReached h c.reach_only.new.self c.args.state.now c.reach_only.new.state (start_of c.origin_after.result) ((v, c.args.position) ∷ []) c.in_ok-reach_only.field-0) (sym c.vertex-vertex.ensures) c.in_ok-reach_only.ensures.found in
-    let come = has_come refl c.origin_after.ensures c.reach_only.ensures.answered c.in_ok-reach_only.was found in
-    let switches : IsSwitchAt h.game.rules c.args.position = subst (λ (x : AbstractGame). IsSwitchAt x.rules c.args.position) c.game-game.ensures.game (c.is_switch.ensures.0 c.if-is_switch.true) in
-    walk_switch c.args.after c.game-game.ensures.lawful.numbered come c.requires.short c.requires.few switches c.in_ok-full.full c.in_ok-full.ensures.adds
+pub walk-returns-then-is_switch-clause-walked : goal.walk-returns-then-is_switch-clause-walked
+walk-returns-then-is_switch-clause-walked g t c =
+    let come = has_come_here refl c.origin_after-origin.ensures c.reach_only.ensures.answered c.in_ok-reach_only.was c.vertex-vertex.ensures c.in_ok-reach_only.ensures.found in
+    walk_switch c.args.after c.game-game.ensures.lawful.numbered come c.requires.short c.requires.few (switch_by c.args.search.now.game c.game-game.result.now c.in-Some.position c.game-game.ensures.game (c.is_switch.ensures.0 c.if-is_switch.true)) c.in_ok-full.full c.in_ok-full.ensures.adds
 
-pub walk_only-returns-then-is_switch-clause-after : goal.walk_only-returns-then-is_switch-clause-after
-walk_only-returns-then-is_switch-clause-after g t c = after_kept c.args.state.now c.reach_only.new.state c.reach_only.ensures.answered.given_back
+pub walk-returns-then-is_switch-clause-after : goal.walk-returns-then-is_switch-clause-after
+walk-returns-then-is_switch-clause-after g t c = after_kept c.args.state.now c.reach_only.new.state c.reach_only.ensures.answered.given_back
 
-pub walk_only-walk_behind-requires : goal.walk_only-walk_behind-requires
-walk_only-walk_behind-requires g t c κs within =
-    let h = c.args.search.now in
-    let found = subst (λ (v : ℕ). HasReached h c.reach_only.new.self c.args.state.now c.reach_only.new.state (start_of c.origin_after.result) ((v, c.args.position) ∷ []) c.in_ok-reach_only.field-0) (sym c.vertex-vertex.ensures) c.in_ok-reach_only.ensures.found in
-    let come = has_come refl c.origin_after.ensures c.reach_only.ensures.answered c.in_ok-reach_only.was found in
-    let plain : ¬ IsSwitchAt h.game.rules c.args.position = λ is. false_not_true (sym c.if-is_switch.false ∙ c.is_switch.ensures.1 (subst (λ (x : AbstractGame). IsSwitchAt x.rules c.args.position) (sym c.game-game.ensures.game) is)) in
-    let turn = one_turn c.args.after c.args.front.now.items c.args.found.now.moves c.game-game.ensures.lawful come c.requires.few plain in
+pub walk-walk_behind-requires : goal.walk-walk_behind-requires
+walk-walk_behind-requires g t c κs within =
+    let come = has_come_here refl c.origin_after-origin.ensures c.reach_only.ensures.answered c.in_ok-reach_only.was c.vertex-vertex.ensures c.in_ok-reach_only.ensures.found in
+    let turn = one_turn c.args.after c.args.front.now.items c.args.found.now.moves c.game-game.ensures.lawful come c.requires.few (plain_by c.args.search.now.game c.game-game.result.now c.in-Some.position c.is_switch.result c.game-game.ensures.game c.is_switch.ensures.1 c.if-is_switch.false) in
     (omega (arith, c.requires.short, c.decreases), (within, (turn_fits turn c.requires.place.state, (turn_valid turn c.requires.place.state, (come.found.enough, (c.requires.short, c.requires.few))))))
 
-pub walk_only-returns-in_err-ended-clause-given_up : goal.walk_only-returns-in_err-ended-clause-given_up
-walk_only-returns-in_err-ended-clause-given_up g t c =
-    let h = c.args.search.now in
-    let found = subst (λ (v : ℕ). HasReached h c.reach_only.new.self c.args.state.now c.reach_only.new.state (start_of c.origin_after.result) ((v, c.args.position) ∷ []) c.in_ok-reach_only.field-0) (sym c.vertex-vertex.ensures) c.in_ok-reach_only.ensures.found in
-    let come = has_come refl c.origin_after.ensures c.reach_only.ensures.answered c.in_ok-reach_only.was found in
-    let plain : ¬ IsSwitchAt h.game.rules c.args.position = λ is. false_not_true (sym c.if-is_switch.false ∙ c.is_switch.ensures.1 (subst (λ (x : AbstractGame). IsSwitchAt x.rules c.args.position) (sym c.game-game.ensures.game) is)) in
-    let turn = one_turn c.args.after c.args.front.now.items c.args.found.now.moves c.game-game.ensures.lawful come c.requires.few plain in
-    let p = err_from_is_err_and c.from_residual-in_err-ended.result c.from_residual-in_err-ended.ensures.1 in
-    rw (p.1, p.2) (turn_given_up turn _ _ c.requires.short c.in_err-ended.ensures.given_up)
+pub walk-returns-in_err-early-clause-given_up : goal.walk-returns-in_err-early-clause-given_up
+walk-returns-in_err-early-clause-given_up g t c =
+    let come = has_come_here refl c.origin_after-origin.ensures c.reach_only.ensures.answered c.in_ok-reach_only.was c.vertex-vertex.ensures c.in_ok-reach_only.ensures.found in
+    let turn = one_turn c.args.after c.args.front.now.items c.args.found.now.moves c.game-game.ensures.lawful come c.requires.few (plain_by c.args.search.now.game c.game-game.result.now c.in-Some.position c.is_switch.result c.game-game.ensures.game c.is_switch.ensures.1 c.if-is_switch.false) in
+    let p = err_from_is_err_and c.from_residual-in_err-early.result c.from_residual-in_err-early.ensures.1 in
+    rw (p.1, p.2) (turn_given_up turn _ _ c.requires.short c.in_err-early.ensures.given_up)
 
-pub walk_only-returns-in_err-ended-clause-after : goal.walk_only-returns-in_err-ended-clause-after
-walk_only-returns-in_err-ended-clause-after g t c =
+pub walk-returns-in_err-early-clause-after : goal.walk-returns-in_err-early-clause-after
+walk-returns-in_err-early-clause-after g t c =
     after_both c.args.state.now c.reach_only.new.state c.walk_behind.new.state (after_kept c.args.state.now c.reach_only.new.state c.reach_only.ensures.answered.given_back) c.walk_behind.ensures.after
 
-pub walk_only-returns-clause-after : goal.walk_only-returns-clause-after
-walk_only-returns-clause-after g t c =
+pub walk-returns-in-Some-clause-after : goal.walk-returns-in-Some-clause-after
+walk-returns-in-Some-clause-after g t c =
     after_both c.args.state.now c.reach_only.new.state c.walk_behind.new.state (after_kept c.args.state.now c.reach_only.new.state c.reach_only.ensures.answered.given_back) c.walk_behind.ensures.after
 
-pub walk_only-returns-clause-walked : goal.walk_only-returns-clause-walked
-walk_only-returns-clause-walked g t c =
-    let h = c.args.search.now in
-    let found = subst (λ (v : ℕ). HasReached h c.reach_only.new.self c.args.state.now c.reach_only.new.state (start_of c.origin_after.result) ((v, c.args.position) ∷ []) c.in_ok-reach_only.field-0) (sym c.vertex-vertex.ensures) c.in_ok-reach_only.ensures.found in
-    let come = has_come refl c.origin_after.ensures c.reach_only.ensures.answered c.in_ok-reach_only.was found in
-    let plain : ¬ IsSwitchAt h.game.rules c.args.position = λ is. false_not_true (sym c.if-is_switch.false ∙ c.is_switch.ensures.1 (subst (λ (x : AbstractGame). IsSwitchAt x.rules c.args.position) (sym c.game-game.ensures.game) is)) in
-    let turn = one_turn c.args.after c.args.front.now.items c.args.found.now.moves c.game-game.ensures.lawful come c.requires.few plain in
-    turn_done turn c.requires.short c.in_ok-ended.ended c.in_ok-ended.ensures.walked
+pub walk-returns-in-Some-clause-walked : goal.walk-returns-in-Some-clause-walked
+walk-returns-in-Some-clause-walked g t c =
+    let come = has_come_here refl c.origin_after-origin.ensures c.reach_only.ensures.answered c.in_ok-reach_only.was c.vertex-vertex.ensures c.in_ok-reach_only.ensures.found in
+    let turn = one_turn c.args.after c.args.front.now.items c.args.found.now.moves c.game-game.ensures.lawful come c.requires.few (plain_by c.args.search.now.game c.game-game.result.now c.in-Some.position c.is_switch.result c.game-game.ensures.game c.is_switch.ensures.1 c.if-is_switch.false) in
+    turn_done turn c.requires.short c.in_ok-early.early c.in_ok-early.ensures.walked
 
 -- ---- behind a modifier
 
@@ -253,25 +225,25 @@ walk_behind-returns-clause-walked g t c =
 
 -- ---- all changes can be taken back
 
-pub walk_each-returns-in_err-reach_flat-clause-after : goal.walk_each-returns-in_err-reach_flat-clause-after
-walk_each-returns-in_err-reach_flat-clause-after g t c = after_kept c.args.state.now c.reach_flat.new.state c.reach_flat.ensures.answered.given_back
+pub walk-returns-in_err-reach_flat-clause-after : goal.walk-returns-in_err-reach_flat-clause-after
+walk-returns-in_err-reach_flat-clause-after g t c = after_kept c.args.state.now c.reach_flat.new.state c.reach_flat.ensures.answered.given_back
 
-pub walk_each-returns-in_err-add_switches-clause-after : goal.walk_each-returns-in_err-add_switches-clause-after
-walk_each-returns-in_err-add_switches-clause-after g t c = after_kept c.args.state.now c.reach_flat.new.state c.reach_flat.ensures.answered.given_back
+pub walk-returns-in_err-add_switches-clause-after : goal.walk-returns-in_err-add_switches-clause-after
+walk-returns-in_err-add_switches-clause-after g t c = after_kept c.args.state.now c.reach_flat.new.state c.reach_flat.ensures.answered.given_back
 
-pub walk_each-returns-then-branch-clause-after : goal.walk_each-returns-then-branch-clause-after
-walk_each-returns-then-branch-clause-after g t c = after_kept c.args.state.now c.reach_flat.new.state c.reach_flat.ensures.answered.given_back
+pub walk-returns-then-branch-clause-after : goal.walk-returns-then-branch-clause-after
+walk-returns-then-branch-clause-after g t c = after_kept c.args.state.now c.reach_flat.new.state c.reach_flat.ensures.answered.given_back
 
-pub walk_each-returns-in_err-ended-clause-after : goal.walk_each-returns-in_err-ended-clause-after
-walk_each-returns-in_err-ended-clause-after g t c =
-    after_both c.args.state.now c.loop-pair.state c.walk_behind.new.state (after_kept c.args.state.now c.loop-pair.state c.loop-pair.invariant.state) c.walk_behind.ensures.after
+pub walk-returns-in_err-ended-clause-after : goal.walk-returns-in_err-ended-clause-after
+walk-returns-in_err-ended-clause-after g t c =
+    after_both c.args.state.now c.loop-pair.state c.walk_behind-in-Some-take_least.new.state (after_kept c.args.state.now c.loop-pair.state c.loop-pair.invariant.state) c.walk_behind-in-Some-take_least.ensures.after
 
-pub walk_each-returns-then-ended-clause-after : goal.walk_each-returns-then-ended-clause-after
-walk_each-returns-then-ended-clause-after g t c =
-    after_both c.args.state.now c.loop-pair.state c.walk_behind.new.state (after_kept c.args.state.now c.loop-pair.state c.loop-pair.invariant.state) c.walk_behind.ensures.after
+pub walk-returns-then-ended-clause-after : goal.walk-returns-then-ended-clause-after
+walk-returns-then-ended-clause-after g t c =
+    after_both c.args.state.now c.loop-pair.state c.walk_behind-in-Some-take_least.new.state (after_kept c.args.state.now c.loop-pair.state c.loop-pair.invariant.state) c.walk_behind-in-Some-take_least.ensures.after
 
-pub walk_each-returns-clause-after : goal.walk_each-returns-clause-after
-walk_each-returns-clause-after g t c = after_kept c.args.state.now c.loop-pair.state c.loop-pair.invariant.state
+pub walk-returns-clause-after : goal.walk-returns-clause-after
+walk-returns-clause-after g t c = after_kept c.args.state.now c.loop-pair.state c.loop-pair.invariant.state
 
 pub walk_behind-returns-then-len-eq-MAX_PAIRS-clause-after : goal.walk_behind-returns-then-len-eq-MAX_PAIRS-clause-after
 walk_behind-returns-then-len-eq-MAX_PAIRS-clause-after g t c = after_nothing c.args.state.now

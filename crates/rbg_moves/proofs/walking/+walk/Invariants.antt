@@ -7,19 +7,13 @@ use Rattle.rbg_moves.proofs.Further.{IsSoFar, IsWhole}
 use Rattle.rbg_moves.proofs.walking.+walk.Given as goal
 
 abbrev pub decreases-walk : goal.decreases-walk
-decreases-walk g l = 3 * (most_pairs - length l.front.now.items)
-
-abbrev pub decreases-walk_only : goal.decreases-walk_only
-decreases-walk_only g l = 3 * (most_pairs - length l.front.now.items) - 1
-
-abbrev pub decreases-walk_each : goal.decreases-walk_each
-decreases-walk_each g l = 3 * (most_pairs - length l.front.now.items) - 1
+decreases-walk g l = 2 * (most_pairs - length l.front.now.items)
 
 abbrev pub decreases-walk_behind : goal.decreases-walk_behind
-decreases-walk_behind g l = 3 * (most_pairs - length l.front.now.items) - 2
+decreases-walk_behind g l = 2 * (most_pairs - length l.front.now.items) - 1
 
-abbrev pub invariant-walk_each-loop-pair : goal.invariant-walk_each-loop-pair
-invariant-walk_each-loop-pair g l = record {
+abbrev pub invariant-walk-loop-pair : goal.invariant-walk-loop-pair
+invariant-walk-loop-pair g l = record {
   done : List (ℕ × ℕ);
   first : List (ℕ × ℕ);
   whole : IsWhole l.fn.search.game l.fn.state.state (stand_of l.fn.after) (done ++ l.pairs);
@@ -33,5 +27,5 @@ invariant-walk_each-loop-pair g l = record {
   so_far : IsSoFar l.fn.search l.search (record { state = l.fn.state.state; last = l.fn.after }) l.fn.front.items l.fn.found.max l.fn.found.moves l.found.moves first done;
 }
 
-abbrev pub decreases-walk_each-loop-pair : goal.decreases-walk_each-loop-pair
-decreases-walk_each-loop-pair g l = length l.pairs
+abbrev pub decreases-walk-loop-pair : goal.decreases-walk-loop-pair
+decreases-walk-loop-pair g l = length l.pairs

@@ -1,7 +1,7 @@
 use Rattle.rbg_moves.proofs.played.PlayedGame.find_move.Goals as goal
 
 pub returns-clause-finds : goal.returns-clause-finds
-returns-clause-finds c = rw (← c.self.view_is) c.find_pairs.ensures.finds
+returns-clause-finds c = rw (← c.rules.ensures) c.find_pairs.ensures.finds
 
 pub returns-clause-tallies : goal.returns-clause-tallies
-returns-clause-tallies c = rw (← c.self.view_is) c.find_pairs.ensures.tallies
+returns-clause-tallies c = rw (← c.rules.ensures) c.find_pairs.ensures.tallies

@@ -482,11 +482,11 @@ runs_behind-runs_behind_one-requires g t c κs within =
     let is = c.loop-pair.invariant in
     let q : ℕ × ℕ = c.in-Some.pair in
     let there = turn_there c.args.pairs.now is.done c.loop-pair.pairs c.take_least.new.self q is.whole c.in-Some.ensures.permutation in
-    let fits : IsStateOf k.game l.state = onward IsStateOf h k s l is.tries.kept is.tries.given_back c.requires.fits in
-    let room : 2 ≤ l.room = omega (arith, c.requires.room, is.tries.room) in
+    let fits : IsStateOf k.game l.state = onward IsStateOf h k s l is.tries.stays.kept is.tries.stays.given_back c.requires.fits in
+    let room : 2 ≤ l.room = omega (arith, c.requires.room, is.tries.stays.room) in
     let some : 0 < c.args.modifiers = omega (arith, c.if-modifiers-le1.false) in
-    let ready = onward (λ x u. IsReady x u c.args.nested q) h k s l is.tries.kept is.tries.given_back (All-contains (IsReady h.game s.state c.args.nested) c.args.pairs.now q c.requires.ready there) in
-    let inside = onward (λ x u. StandsInPattern x.rules (after q.1)) h k s l is.tries.kept is.tries.given_back (All-contains (λ r. StandsInPattern h.game.rules (after r.1)) c.args.pairs.now q c.requires.inside there) in
+    let ready = onward (λ x u. IsReady x u c.args.nested q) h k s l is.tries.stays.kept is.tries.stays.given_back (All-contains (IsReady h.game s.state c.args.nested) c.args.pairs.now q c.requires.ready there) in
+    let inside = onward (λ x u. StandsInPattern x.rules (after q.1)) h k s l is.tries.stays.kept is.tries.stays.given_back (All-contains (λ r. StandsInPattern h.game.rules (after r.1)) c.args.pairs.now q c.requires.inside there) in
     (search rules, (within, (fits, (room, (ready, (inside, some))))))
 
 pub runs_behind-returns-in_err-runs_behind_one-clause-asked : goal.runs_behind-returns-in_err-runs_behind_one-clause-asked
@@ -508,7 +508,7 @@ runs_behind-returns-then-branch-clause-answer g t c =
     let is = c.loop-pair.invariant in
     let q : ℕ × ℕ = c.in-Some.pair in
     let there = turn_there c.args.pairs.now is.done c.loop-pair.pairs c.take_least.new.self q is.whole c.in-Some.ensures.permutation in
-    let decides = before (λ x u. IsTrue c.in_ok-runs_behind_one.field-0 ↔ RunsBehindPair x u q.0 q.1) h k s l is.tries.kept is.tries.given_back c.in_ok-runs_behind_one.ensures.answer in
+    let decides = before (λ x u. IsTrue c.in_ok-runs_behind_one.field-0 ↔ RunsBehindPair x u q.0 q.1) h k s l is.tries.stays.kept is.tries.stays.given_back c.in_ok-runs_behind_one.ensures.answer in
     turn_some h.game s.state c.args.pairs.now q c.in_ok-runs_behind_one.field-0 there decides c.if-branch.true
 
 pub runs_behind-returns-then-branch-clause-forced : goal.runs_behind-returns-then-branch-clause-forced

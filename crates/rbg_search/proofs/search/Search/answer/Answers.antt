@@ -1,6 +1,5 @@
-use Rattle.std.proofs.Common.{◌≡◌, ℕ, ◌+◌, ◌≤◌, sym, ◌∙◌, subst, arith}
+use Rattle.std.proofs.Common.{◌≡◌, ◌+◌, ◌≤◌, sym, ◌∙◌, arith}
 use Rattle.rbg_search.specs.Taken.{most_pairs_of}
-use Rattle.rbg_search.specs.internal.Spent.{IsSpentButOne}
 use Rattle.rbg_search.proofs.Fewness.{one_opened}
 use Rattle.rbg_search.proofs.Takings.{takes_nothing, takes_none_yet, takes_own, own_part, not_ok}
 use Rattle.std.specs.Prelude.{IsTrue, ◌↔◌}
@@ -53,11 +52,7 @@ pub count_pairs-requires-clause-few : goal.count_pairs-requires-clause-few
 count_pairs-requires-clause-few g c = onward_rules (λ x. c.args.scan.pairs ≤ most_pairs_of x) c.args.self.now c.open.new.self c.open.ensures.kept c.requires.few
 
 pub count_pairs-requires-clause-one : goal.count_pairs-requires-clause-one
-count_pairs-requires-clause-one g c =
-    let now = c.args.self.now in
-    let opened = c.open.new.self.opened in
-    onward_rules (λ x. IsSpentButOne x opened c.open.new.self.taken) now c.open.new.self c.open.ensures.kept
-    (subst (λ (n : ℕ). IsSpentButOne now.game opened n) (sym c.open.ensures.none_taken) (one_opened now.game now.opened now.taken opened c.open.ensures.spent c.in_ok-open.ensures.opened))
+count_pairs-requires-clause-one g c = one_opened c.args.self.now c.open.new.self c.open.ensures.kept c.open.ensures.none_taken c.open.ensures.spent c.in_ok-open.ensures.opened
 
 pub returns-in_err-open-clause-taken : goal.returns-in_err-open-clause-taken
 returns-in_err-open-clause-taken g c = λ s has.

@@ -1,4 +1,4 @@
-use Rattle.std.proofs.Common.{◌≡◌, ℕ, ◌+◌, ◌-◌, ◌*◌, ◌<◌, ◌≤◌, List, [], ◌∷◌, ◌++◌, length, sym, ap, ◌∙◌, subst, arith}
+use Rattle.std.proofs.Common.{◌≡◌, ℕ, ◌+◌, ◌-◌, ◌*◌, ◌<◌, ◌≤◌, [], ◌∷◌, length, ap, subst, arith}
 use Rattle.std.specs.Prelude.{Bool, Decides}
 use Rattle.std.proofs.lemmas.List.Elements.{All-nil, All-push}
 use Rattle.rbg_rules.specs.Positions.{positions_of, IsNumbered}
@@ -11,7 +11,6 @@ use Rattle.rbg_search.specs.Searching.{Searching}
 use Rattle.rbg_pairs.specs.Start.{start_of, IsPositionOf}
 use Rattle.rbg_search.proofs.Alone.{only_position, some_pair, alone_whole, alone_met, alone_pairs, alone_quiet}
 use Rattle.rbg_search.specs.Taken.{most_pairs_of}
-use Rattle.rbg_search.specs.internal.Spent.{IsSpentButOne}
 use Rattle.rbg_search.proofs.Fewness.{one_opened}
 use Rattle.rbg_search.proofs.Takings.{own_part, not_ok}
 use Rattle.rbg_search.proofs.Kept.{onward_rules, rules_before}
@@ -43,7 +42,7 @@ decided : (h e : Searching) (f : Start) (ends : Bool) (inner : AbstractGame) →
 decided h e f ends inner kept game is = rules_before (λ x. Decides ends (Ends x.rules f [])) h e kept (subst (λ (x : AbstractGame). Decides ends (Ends x.rules f [])) game is)
 
 -- What is said of the one modifier, where one opening was taken up for it.
-module _ (h e k : Searching) (s l : History) (f : Start) (p : ℕ) (ends : Bool) (begun : Finds h e s l f []) (fits : IsStateOf h.game s.state) (only : AreAllThatFollow h.game.rules f (p ∷ [])) (decides : Decides ends (Ends h.game.rules f [])) (modifies : IsTrialAt h.game s.state s.state.vertex p Modifies) (kept : k ≡ record e { opened = k.opened; taken = k.taken }) (opened : k.opened ≡ e.opened) (taken : k.taken ≡ e.taken + 1) where
+module _ {h e k : Searching} {s l : History} {f : Start} {p : ℕ} {ends : Bool} (begun : Finds h e s l f []) (fits : IsStateOf h.game s.state) (only : AreAllThatFollow h.game.rules f (p ∷ [])) (decides : Decides ends (Ends h.game.rules f [])) (modifies : IsTrialAt h.game s.state s.state.vertex p Modifies) (kept : k ≡ record e { opened = k.opened; taken = k.taken }) (opened : k.opened ≡ e.opened) (taken : k.taken ≡ e.taken + 1) where
   asked : {X : Type 0} (r : Result X AnyOver) → ¬ (r ≡ Err Deep) → ¬ (r ≡ Err Wide) → IsAsked h k s l reach s.state f h.modifiers r
   asked r deep wide =
       let part = own_part h.game reach s.state f 1 (alone_pairs h.game begun.lawful.numbered s.state f p ends only decides modifies) (few h s.state f p fits begun.lawful.numbered only) in
@@ -68,11 +67,7 @@ count_pairs-requires-clause-few g c =
     onward_rules (λ x. 1 ≤ length (positions_of x.rules) * length x.board.first) c.args.self.now c.enter.new.self c.enter.ensures.kept (few c.args.self.now c.args.state.now.state (start_of c.args.origin) c.args.position c.requires.fits c.enter.ensures.lawful.numbered c.requires.only)
 
 pub count_pairs-requires-clause-one : goal.count_pairs-requires-clause-one
-count_pairs-requires-clause-one g c =
-    let now = c.args.self.now in
-    let opened = c.enter.new.self.opened in
-    onward_rules (λ x. IsSpentButOne x opened c.enter.new.self.taken) now c.enter.new.self c.enter.ensures.kept
-    (subst (λ (n : ℕ). IsSpentButOne now.game opened n) (sym c.enter.ensures.none_taken) (one_opened now.game now.opened now.taken opened c.enter.ensures.spent c.in_ok-enter.ensures.opened))
+count_pairs-requires-clause-one g c = one_opened c.args.self.now c.enter.new.self c.enter.ensures.kept c.enter.ensures.none_taken c.enter.ensures.spent c.in_ok-enter.ensures.opened
 
 pub returns-in_err-enter-clause-answered : goal.returns-in_err-enter-clause-answered
 returns-in_err-enter-clause-answered g c =
@@ -84,26 +79,15 @@ returns-in_err-enter-clause-answered g c =
 
 pub returns-clause-answered : goal.returns-clause-answered
 returns-clause-answered g c =
-    let h = c.args.self.now in
-    let e = c.enter.new.self in
-    let s = c.args.state.now in
-    let l = c.enter.new.state in
-    let f = start_of c.args.origin in
-    let some : 0 < h.modifiers = subst (λ (m : ℕ). 0 < m) (ap (λ (x : Searching). x.modifiers) c.self.view_is) c.self.invariant.3 in
-    let begun : Finds h e s l f [] = finds_none h e e s l f c.enter.ensures.lawful c.requires.stands c.enter.ensures.kept refl c.enter.ensures.given_back c.enter.ensures.room c.in_ok-enter.ensures.enough c.in_ok-enter.ensures.opened c.enter.ensures.none_taken c.enter.ensures.spent in
-    let ends = decided h e f c.may_end-ends.result c.self-2.inside.rules c.enter.ensures.kept (ap (λ (x : Searching). x.game) c.self-2.view_is) c.may_end-ends.ensures in
+    let some : 0 < c.args.self.now.modifiers = subst (λ (m : ℕ). 0 < m) (ap (λ (x : Searching). x.modifiers) c.self.view_is) c.self.invariant.3 in
+    let begun = finds_none c.args.self.now c.enter.new.self c.enter.new.self c.args.state.now c.enter.new.state (start_of c.args.origin) c.enter.ensures.lawful c.requires.stands c.enter.ensures.kept refl c.enter.ensures.given_back c.enter.ensures.room c.in_ok-enter.ensures.enough c.in_ok-enter.ensures.opened c.enter.ensures.none_taken c.enter.ensures.spent in
+    let ends = decided c.args.self.now c.enter.new.self (start_of c.args.origin) c.may_end-ends.result c.self-2.inside.rules c.enter.ensures.kept (ap (λ (x : Searching). x.game) c.self-2.view_is) c.may_end-ends.ensures in
     answered some
-    (asked h e c.count_pairs.new.self s l f c.args.position c.may_end-ends.result begun c.requires.fits c.requires.only ends c.requires.modifies c.count_pairs.ensures.kept c.count_pairs.ensures.opened c.count_pairs.ensures.taken _
-    (ok_not_err c.may_end-ends.result Deep) (ok_not_err c.may_end-ends.result Wide))
-    (λ _ cut. (found h e c.count_pairs.new.self s l f c.args.position c.may_end-ends.result begun c.requires.fits c.requires.only ends c.requires.modifies c.count_pairs.ensures.kept c.count_pairs.ensures.opened c.count_pairs.ensures.taken).forced cut h.modifiers)
+    (asked begun c.requires.fits c.requires.only ends c.requires.modifies c.count_pairs.ensures.kept c.count_pairs.ensures.opened c.count_pairs.ensures.taken _ (ok_not_err c.may_end-ends.result Deep) (ok_not_err c.may_end-ends.result Wide))
+    (λ _ cut. (found begun c.requires.fits c.requires.only ends c.requires.modifies c.count_pairs.ensures.kept c.count_pairs.ensures.opened c.count_pairs.ensures.taken).forced cut c.args.self.now.modifiers)
 
 pub returns-clause-found : goal.returns-clause-found
 returns-clause-found g c =
-    let h = c.args.self.now in
-    let e = c.enter.new.self in
-    let s = c.args.state.now in
-    let l = c.enter.new.state in
-    let f = start_of c.args.origin in
-    let begun : Finds h e s l f [] = finds_none h e e s l f c.enter.ensures.lawful c.requires.stands c.enter.ensures.kept refl c.enter.ensures.given_back c.enter.ensures.room c.in_ok-enter.ensures.enough c.in_ok-enter.ensures.opened c.enter.ensures.none_taken c.enter.ensures.spent in
-    let ends = decided h e f c.may_end-ends.result c.self-2.inside.rules c.enter.ensures.kept (ap (λ (x : Searching). x.game) c.self-2.view_is) c.may_end-ends.ensures in
-    found h e c.count_pairs.new.self s l f c.args.position c.may_end-ends.result begun c.requires.fits c.requires.only ends c.requires.modifies c.count_pairs.ensures.kept c.count_pairs.ensures.opened c.count_pairs.ensures.taken
+    let begun = finds_none c.args.self.now c.enter.new.self c.enter.new.self c.args.state.now c.enter.new.state (start_of c.args.origin) c.enter.ensures.lawful c.requires.stands c.enter.ensures.kept refl c.enter.ensures.given_back c.enter.ensures.room c.in_ok-enter.ensures.enough c.in_ok-enter.ensures.opened c.enter.ensures.none_taken c.enter.ensures.spent in
+    let ends = decided c.args.self.now c.enter.new.self (start_of c.args.origin) c.may_end-ends.result c.self-2.inside.rules c.enter.ensures.kept (ap (λ (x : Searching). x.game) c.self-2.view_is) c.may_end-ends.ensures in
+    found begun c.requires.fits c.requires.only ends c.requires.modifies c.count_pairs.ensures.kept c.count_pairs.ensures.opened c.count_pairs.ensures.taken

@@ -1,0 +1,18 @@
+use Rattle.std.proofs.Common.{◌∙◌, ap, sym, subst}
+use Rattle.rbg_rules.specs.Games.{IsGame}
+use Rattle.rbg_rules.specs.Positions.{inside}
+use Rattle.rbg_rules.specs.State.{AbstractGame}
+use Rattle.rbg_rules.specs.Words.{beginning}
+use Rattle.rbg_pairs.specs.Closure.{at_vertex}
+use Rattle.rbg_search.specs.Searching.{Searching}
+use Rattle.rbg_search.specs.internal.Straight.{IsTold}
+use Rattle.rbg_search.proofs.DeadEnds.{dead_told}
+use Rattle.rbg_search.proofs.search.Search.scan.Goals as goal
+
+pub returns : goal.returns
+returns g c =
+    let game : AbstractGame = c.game.result.now in
+    let s = at_vertex c.args.state.now.state c.args.vertex in
+    let f = beginning (inside c.args.position) in
+    let lawful : IsGame game = subst IsGame (sym c.game.ensures.game) c.game.ensures.lawful in
+    subst (λ (x : AbstractGame). IsTold x s f c.in_ok-dead.dead.ends c.in_ok-dead.dead.many) (c.game.ensures.game ∙ ap (λ (h : Searching). h.game) c.self.view_is) (dead_told game lawful.numbered s f c.in_ok-dead.dead.many c.in_ok-dead.dead.ends c.in_ok-dead.ensures)
