@@ -3,6 +3,7 @@
 use crate::report::Report;
 use rbg_console::{Status, write_text};
 use rbg_game::Game;
+use rbg_moves::Unsettled;
 use rbg_perft::{CountError, Counts, Extent, PlayedGame, Workspace, count_from_start};
 use std::alloc::{AllocError, Global};
 use std::io::Write;
@@ -78,9 +79,9 @@ fn write_counts<W: Write>(
 /// The line that says why there is no number.
 fn reason_of(error: CountError) -> Result<&'static [u8], AllocError> {
     match error {
-        CountError::Heavy => Ok(b"over\n"),
-        CountError::Keeper => Ok(b"keeper\n"),
+        CountError::Unsettled(Unsettled::Heavy) => Ok(b"over\n"),
+        CountError::Unsettled(Unsettled::Endless) => Ok(b"keeper\n"),
+        CountError::Unsettled(Unsettled::Memory) => Err(AllocError),
         CountError::TooMany => Ok(b"large\n"),
-        CountError::Memory => Err(AllocError),
     }
 }

@@ -1,8 +1,6 @@
 -- Neighbours decide what follows and what is a word.
 use Rattle.std.proofs.Common.{ℕ, List, [], ◌∷◌}
-use Rattle.rbg_rules.specs.Expression.{Expression}
-use Rattle.rbg_rules.specs.Positions.{IsNumbered}
-use Rattle.rbg_rules.specs.Words.{Start, beginning, after, Follows, Ends}
+use Rattle.rbg_rules.specs.Meaning.{Expression, IsNumbered, Start, beginning, after, Follows, Ends}
 use Rattle.rbg_rules.proofs.LocalityLemmas.{locality_law}
 use Rattle.rbg_auto.specs.Laws.{IsChain, EndsAtLast, NeighbourLaw, ChainLaw}
 

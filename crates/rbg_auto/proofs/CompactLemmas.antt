@@ -4,10 +4,7 @@ use Rattle.std.specs.Prelude.{replicate}
 use Rattle.std.specs.List.{range_with_len}
 use Rattle.rbg_rules.specs.declared.rule.Action.{Action}
 use Rattle.rbg_rules.specs.declared.rule.Rule.{Rule}
-use Rattle.rbg_rules.specs.Expression.{Expression}
-use Rattle.rbg_rules.specs.Positions.{positions_of, IsNumbered}
-use Rattle.rbg_rules.specs.Games.{HasNoEmptySum}
-use Rattle.rbg_rules.specs.Translation.{expression_of}
+use Rattle.rbg_rules.specs.Meaning.{Expression, positions_of, IsNumbered, HasNoEmptySum, expression_of}
 use Rattle.rbg_rules.proofs.PositionLemmas.{Among}
 use Rattle.rbg_auto.specs.declared.span.Node.{Node}
 use Rattle.rbg_auto.specs.declared.span.Opening.{Opening}

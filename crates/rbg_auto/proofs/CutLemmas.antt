@@ -1,7 +1,6 @@
 -- Where a position stands in a word of a star.
 use Rattle.std.proofs.Common.{◌≡◌, ℕ, List, ◌∷◌, ◌++◌, sym, subst}
-use Rattle.rbg_rules.specs.Expression.{Expression}
-use Rattle.rbg_rules.specs.Words.{Word, Repeats, done, again}
+use Rattle.rbg_rules.specs.Meaning.{Expression, Word, Repeats, done, again}
 use Rattle.rbg_rules.proofs.CutLemmas.{in_first, in_second, cut_at, not_empty}
 
 -- A word of a star that goes through a position: one word of its part goes through it, and words come after.

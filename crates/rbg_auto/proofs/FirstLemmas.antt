@@ -2,10 +2,7 @@
 use Rattle.std.proofs.Common.{◌≡◌, ℕ, List, [], ◌∷◌, ◌++◌, refl, sym, ap, subst, inl, inr, ◌⊎◌, Bool, true, false}
 use Rattle.std.specs.Prelude.{◌&&◌, ◌||◌, if◌then◌else◌}
 use Rattle.std.proofs.lemmas.List.{append-nil}
-use Rattle.rbg_rules.specs.Expression.{Expression, act, skip, sequence, fail, choice, star}
-use Rattle.rbg_rules.specs.Positions.{positions_of}
-use Rattle.rbg_rules.specs.Games.{HasNoEmptySum}
-use Rattle.rbg_rules.specs.Words.{Word, Repeats, done, again}
+use Rattle.rbg_rules.specs.Meaning.{Expression, act, skip, sequence, fail, choice, star, positions_of, HasNoEmptySum, Word, Repeats, done, again}
 use Rattle.rbg_rules.proofs.PositionLemmas.{Among, Among_left, Among_right, Among_cases}
 use Rattle.rbg_rules.proofs.StateLemmas.{word_law}
 use Rattle.rbg_auto.specs.internal.Orders.{Ascends}

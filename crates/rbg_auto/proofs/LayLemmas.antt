@@ -1,7 +1,6 @@
 -- Laying the parts of an expression lays the whole.
 use Rattle.std.proofs.Common.{◌≡◌, ℕ, List, [], refl, ap, ◌∙◌, inl, inr, Bool, true}
-use Rattle.rbg_rules.specs.Expression.{AbstractAction, shift, on, off, assignment, comparison, switch, positive, negative, Expression, act, skip, sequence, fail, choice, star}
-use Rattle.rbg_rules.specs.Positions.{positions_of, positions_inside}
+use Rattle.rbg_rules.specs.Meaning.{AbstractAction, shift, on, off, assignment, comparison, switch, positive, negative, Expression, act, skip, sequence, fail, choice, star, positions_of, positions_inside}
 use Rattle.rbg_rules.proofs.PositionLemmas.{Among, Among_left, Among_right}
 use Rattle.rbg_auto.specs.internal.Orders.{Ascends, Joins}
 use Rattle.rbg_auto.specs.internal.Firsts.{firsts}

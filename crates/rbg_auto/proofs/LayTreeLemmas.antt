@@ -8,10 +8,7 @@ use Rattle.rbg_rules.specs.declared.rule.Action.{Action}
 use Rattle.rbg_rules.specs.declared.rule.Action.TheVariants.{Shift, On, Off, Assign, Compare, Switch, Positive, Negative}
 use Rattle.rbg_rules.specs.declared.rule.Rule.{Rule}
 use Rattle.rbg_rules.specs.declared.rule.Rule.TheVariants.{Act, Pattern, Then, Or, Star}
-use Rattle.rbg_rules.specs.Expression.{Expression, act, skip, sequence, fail, choice, star, sequence_of, choice_of}
-use Rattle.rbg_rules.specs.Positions.{positions_of, positions_inside}
-use Rattle.rbg_rules.specs.Translation.{action_of, shows_pattern, expression_of}
-use Rattle.rbg_rules.specs.Games.{HasNoEmptySum}
+use Rattle.rbg_rules.specs.Meaning.{Expression, act, skip, sequence, fail, choice, star, sequence_of, choice_of, positions_of, positions_inside, action_of, shows_pattern, expression_of, HasNoEmptySum}
 use Rattle.rbg_rules.proofs.Bridge.{expression_of-Then, expression_of-Or, expression_of-Star}
 use Rattle.rbg_rules.proofs.PositionLemmas.{Among, Among_left, Among_right}
 use Rattle.rbg_rules.proofs.TreeLemmas.{plain_at, pattern_in, none_in_sequence, none_in_choice}

@@ -6,9 +6,7 @@ use Rattle.std.proofs.lemmas.Option.{slice_get-get_or, slice_get_past}
 use Rattle.rbg_rules.specs.declared.rule.Action.{Action}
 use Rattle.rbg_rules.specs.declared.rule.Rule.{Rule}
 use Rattle.rbg_rules.specs.declared.rule.Rule.TheVariants.{Act, Pattern, Then, Or, Star}
-use Rattle.rbg_rules.specs.Positions.{positions_of, IsNumbered}
-use Rattle.rbg_rules.specs.Games.{HasNoEmptySum}
-use Rattle.rbg_rules.specs.Translation.{expression_of}
+use Rattle.rbg_rules.specs.Meaning.{positions_of, IsNumbered, HasNoEmptySum, expression_of}
 use Rattle.rbg_auto.specs.declared.plain.PlainNode.{PlainNode}
 use Rattle.rbg_auto.specs.Steps.{AreStepsOf}
 use Rattle.rbg_auto.specs.internal.Laying.{nothing, IsLawful, first_at, empty_at, IsWhole}

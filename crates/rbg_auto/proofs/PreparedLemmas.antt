@@ -2,8 +2,7 @@
 use Rattle.std.proofs.Common.{◌≡◌, ℕ, zero, suc, ◌+◌, ◌-◌, ◌<◌, ◌≤◌, List, [], ◌∷◌, length, map, get_or, refl, sym, ap, subst, Bool, true, false, IsTrue, ◌↔◌, arith}
 use Rattle.std.specs.Prelude.{◌≢◌, if◌then◌else◌, slice_range, Vec, Some}
 use Rattle.std.specs.Global.{Global}
-use Rattle.rbg_rules.specs.Expression.{Expression}
-use Rattle.rbg_rules.specs.Words.{after, Ends}
+use Rattle.rbg_rules.specs.Meaning.{Expression, after, Ends}
 use Rattle.rbg_auto.specs.declared.span.Node.{Node}
 use Rattle.rbg_auto.specs.declared.arrays.Compact.{Compact}
 use Rattle.rbg_auto.specs.declared.lent_steps.Step.{Step}

@@ -2,10 +2,7 @@
 use Rattle.std.proofs.Common.{◌≡◌, ℕ, List, [], ◌∷◌, ◌++◌, refl, sym, ◌∙◌, subst, inl, inr, ◌⊎◌, Bool, true, append_assoc}
 use Rattle.std.specs.Prelude.{◌&&◌}
 use Rattle.std.proofs.lemmas.List.{append-nil}
-use Rattle.rbg_rules.specs.Expression.{AbstractAction, Expression, act, skip, sequence, fail, choice, star}
-use Rattle.rbg_rules.specs.Positions.{positions_of, HasOwnAction}
-use Rattle.rbg_rules.specs.Games.{HasNoEmptySum}
-use Rattle.rbg_rules.specs.Words.{Word, Repeats, done, again}
+use Rattle.rbg_rules.specs.Meaning.{AbstractAction, Expression, act, skip, sequence, fail, choice, star, positions_of, HasOwnAction, HasNoEmptySum, Word, Repeats, done, again}
 use Rattle.rbg_rules.proofs.CutLemmas.{Cut, in_first, in_second, cut_at, single, word_position}
 use Rattle.rbg_rules.proofs.PositionLemmas.{Among, has_position}
 use Rattle.rbg_rules.proofs.PatternLemmas.{own_stands}

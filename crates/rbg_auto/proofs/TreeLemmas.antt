@@ -8,9 +8,7 @@ use Rattle.rbg_rules.specs.declared.rule.Action.{Action}
 use Rattle.rbg_rules.specs.declared.rule.Action.TheVariants.{Positive}
 use Rattle.rbg_rules.specs.declared.rule.Rule.{Rule}
 use Rattle.rbg_rules.specs.declared.rule.Rule.TheVariants.{Act, Pattern, Then, Or, Star}
-use Rattle.rbg_rules.specs.Expression.{Expression, skip, sequence, fail, choice, sequence_of, choice_of}
-use Rattle.rbg_rules.specs.Translation.{expression_of}
-use Rattle.rbg_rules.specs.Games.{HasNoEmptySum}
+use Rattle.rbg_rules.specs.Meaning.{Expression, skip, sequence, fail, choice, sequence_of, choice_of, expression_of, HasNoEmptySum}
 use Rattle.rbg_rules.proofs.Bridge.{expression_of-Then, expression_of-Or, expression_of-Star}
 use Rattle.rbg_rules.proofs.TreeLemmas.{plain_at, pattern_in, none_in_sequence, none_in_choice}
 use Rattle.rbg_auto.specs.internal.Firsts.{may_be_empty, past, firsts}

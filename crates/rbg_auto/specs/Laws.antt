@@ -1,8 +1,6 @@
 -- Laws that tie the steps to words. The module `laws` proves each.
 use Rattle.std.specs.Prelude.{ℕ, List, [], ◌∷◌, ◌↔◌}
-use Rattle.rbg_rules.specs.Expression.{Expression}
-use Rattle.rbg_rules.specs.Positions.{IsNumbered, Level}
-use Rattle.rbg_rules.specs.Words.{WordOf, Start, beginning, after, Follows, Ends}
+use Rattle.rbg_rules.specs.Meaning.{Expression, IsNumbered, Level, WordOf, Start, beginning, after, Follows, Ends}
 
 -- Each position comes directly after the one before, the first one after i.
 abbrev pub IsChain : Expression → ℕ → List ℕ → Type 0

@@ -1,8 +1,6 @@
 -- What is lent of an automaton.
 use Rattle.std.specs.Prelude.{ℕ, ◌+◌, ◌<◌, ◌≤◌, ◌≢◌, List, [], length, slice_range, slice_index_or}
-use Rattle.rbg_rules.specs.Expression.{Expression}
-use Rattle.rbg_rules.specs.Positions.{positions_of}
-use Rattle.rbg_rules.specs.Words.{after, Ends}
+use Rattle.rbg_rules.specs.Meaning.{Expression, positions_of, after, Ends}
 use Rattle.rbg_auto.specs.declared.lent_steps.LentSteps.{LentSteps}
 use Rattle.rbg_auto.specs.declared.lent_steps.Step.{Step}
 use Rattle.rbg_auto.specs.declared.steps.Glance.TheVariants.{Unknown}

@@ -2,10 +2,7 @@
 use Rattle.std.specs.Prelude.{◌≡◌, ℕ, List, length}
 use Rattle.rbg_rules.specs.declared.rule.Action.{Action}
 use Rattle.rbg_rules.specs.declared.rule.Rule.{Rule}
-use Rattle.rbg_rules.specs.Expression.{Expression}
-use Rattle.rbg_rules.specs.Games.{HasNoEmptySum}
-use Rattle.rbg_rules.specs.Positions.{positions_of, IsNumbered}
-use Rattle.rbg_rules.specs.Translation.{expression_of}
+use Rattle.rbg_rules.specs.Meaning.{Expression, HasNoEmptySum, positions_of, IsNumbered, expression_of}
 
 -- It holds of the tree's expression with that many positions, whatever actions stand at them, where the positions are
 -- numbered and no sum is empty.

@@ -1,9 +1,7 @@
 -- Which positions come next in the words of the rules.
 use Rattle.std.specs.Prelude.{ℕ, ◌⊎◌, List, [], ◌∷◌, Bool, IsTrue, Contains, ◌↔◌}
 use Rattle.std.specs.List.Sorted.{IsStrictlyIncreasing}
-use Rattle.rbg_rules.specs.Expression.{Expression, shift, on, off, switch}
-use Rattle.rbg_rules.specs.Positions.{HasAction, IsPatternAt, Level, outermost, inside}
-use Rattle.rbg_rules.specs.Words.{Start, beginning, after, Follows, Ends}
+use Rattle.rbg_rules.specs.Meaning.{Expression, shift, on, off, switch, HasAction, IsPatternAt, Level, outermost, inside, Start, beginning, after, Follows, Ends}
 use Rattle.rbg_auto.specs.declared.steps.Expr.{Expr}
 use Rattle.rbg_auto.specs.declared.steps.Expr.TheVariants.{Rules, Inside}
 use Rattle.rbg_auto.specs.declared.steps.Glance.{Glance}

@@ -1,7 +1,6 @@
 //! The answers of an automaton by position, lent as slices.
 ghost use Rattle.std.specs.Prelude.{[], ◌≢◌};
-ghost use Rattle.rbg_rules.specs.Expression.{Expression};
-ghost use Rattle.rbg_rules.specs.Words.{after, Ends};
+ghost use Rattle.rbg_rules.specs.Meaning.{Expression, after, Ends};
 ghost use Rattle.rbg_auto.specs.declared.steps.Glance.TheVariants.{Unknown};
 ghost use Rattle.rbg_auto.specs.Steps.{AreNext, IsGlance};
 ghost use Rattle.rbg_auto.specs.LentSteps.{HasAnswer, IsLentOf};

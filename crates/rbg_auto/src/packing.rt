@@ -1,8 +1,6 @@
 //! The automaton of a game, made in one walk over its rules.
 ghost use Rattle.std.specs.Prelude.{ℕ, ◌<◌, ◌^◌, IfOk};
-ghost use Rattle.rbg_rules.specs.Expression.{Expression, on};
-ghost use Rattle.rbg_rules.specs.Positions.{HasAction};
-ghost use Rattle.rbg_rules.specs.Table.{Stands};
+ghost use Rattle.rbg_rules.specs.Meaning.{Expression, on, HasAction, Stands};
 ghost use Rattle.rbg_auto.specs.OfTree.{HoldsOfTree};
 ghost use Rattle.rbg_auto.specs.Steps.{IsGlance};
 

@@ -1,7 +1,6 @@
 //! What every automaton of positions answers, and the law that ties its answers to the words of the rules.
 ghost use Rattle.std.specs.Prelude.{[], IsTrue, ◌↔◌, IfSome};
-ghost use Rattle.rbg_rules.specs.Expression.{Expression};
-ghost use Rattle.rbg_rules.specs.Words.{beginning, after, Ends};
+ghost use Rattle.rbg_rules.specs.Meaning.{Expression, beginning, after, Ends};
 ghost use Rattle.rbg_auto.specs.LentSteps.{IsLentOf};
 ghost use Rattle.rbg_auto.specs.Steps.{level_of, AreFirst, AreNext, IsGlance};
 

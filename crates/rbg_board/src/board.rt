@@ -19,17 +19,6 @@ pub struct Board {
     table: Vec<Option<Vertex>>,
 }
 
-/// Written out, so that letting a board go is one call in the proofs of those who hold one, not a step for each part.
-impl Drop for Board {
-    fn drop(self) {
-        let Board {
-            first: _,
-            width: _,
-            table: _,
-        } = self;
-    }
-}
-
 impl Model for Board {
     ghost use Rattle.rbg_board.specs.Graph.{Graph};
 
@@ -41,6 +30,17 @@ impl Model for Board {
     ghost view = { λ b. graph_of_table b.first.items b.width b.table.items };
 
     ghost invariant = { λ b. IsTable (length b.first.items) b.width b.table.items };
+}
+
+/// Written out, so that letting a board go is one call in the proofs of those who hold one, not a step for each part.
+impl Drop for Board {
+    fn drop(self) {
+        let Board {
+            first: _,
+            width: _,
+            table: _,
+        } = self;
+    }
 }
 
 impl Board {

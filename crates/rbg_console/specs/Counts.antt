@@ -1,8 +1,7 @@
 -- The line that says how many of each thing a game has.
 use Rattle.std.specs.Prelude.{ℕ, List, ◌++◌, codes, length}
 use Rattle.std.specs.Fmt.{decimal}
-use Rattle.rbg_rules.specs.Positions.{positions_of}
-use Rattle.rbg_rules.specs.State.{AbstractGame}
+use Rattle.rbg_rules.specs.Meaning.{positions_of, AbstractGame}
 
 -- `players 2 pieces 3 variables 2 directions 4 vertices 2 positions 10`
 abbrev pub counts : ℕ → ℕ → ℕ → ℕ → ℕ → ℕ → List ℕ

@@ -5,13 +5,7 @@ use Rattle.std.specs.List.{list_any}
 use Rattle.std.specs.Str.{bytes_eq}
 use Rattle.std.proofs.lemmas.Bool.{and_parts, or_parts}
 use Rattle.std.proofs.lemmas.Slice.Eq.{bytes_eq-Decides}
-use Rattle.rbg_rules.specs.Expression.{AbstractAction, shift, on, off, assignment, comparison, switch, positive, negative, Expression, act, skip, sequence, fail, choice, star, sequence_of}
-use Rattle.rbg_rules.specs.Positions.{HasAction, HasInside, HasOwnAction, IsNumbered, IsSwitchAt, IsPatternAt, HasNoSwitch, outermost, is_modifier}
-use Rattle.rbg_rules.specs.Words.{Word, Follows, after}
-use Rattle.rbg_rules.specs.State.{AbstractGame, AbstractState}
-use Rattle.rbg_rules.specs.Actions.{Applies}
-use Rattle.rbg_rules.specs.Moves.{RunPairs, stay, modify, pass, AbstractPlace, Legal, IsLegal, stand_of}
-use Rattle.rbg_rules.specs.Laws.{IsJoinOfWords}
+use Rattle.rbg_rules.specs.Meaning.{AbstractAction, shift, on, off, assignment, comparison, switch, positive, negative, Expression, act, skip, sequence, fail, choice, star, sequence_of, HasAction, HasInside, HasOwnAction, IsNumbered, IsSwitchAt, IsPatternAt, HasNoSwitch, outermost, is_modifier, Word, Follows, after, AbstractGame, AbstractState, Applies, RunPairs, stay, modify, pass, AbstractPlace, Legal, IsLegal, stand_of, IsJoinOfWords}
 use Rattle.rbg_rules.proofs.PositionLemmas.{Among, Among_right, one_stands}
 use Rattle.rbg_rules.proofs.PatternLemmas.{word_own}
 use Rattle.rbg_rules.proofs.LevelLemmas.{one_level_law}

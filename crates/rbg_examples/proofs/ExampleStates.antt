@@ -1,6 +1,6 @@
 -- The states of the examples in which white moves: on one square, and on two.
 use Rattle.std.proofs.Common.{[], ◌∷◌}
-use Rattle.rbg_rules.specs.State.{AbstractState}
+use Rattle.rbg_rules.specs.Meaning.{AbstractState}
 use Rattle.rbg_examples.specs.ExampleGames.{state_of}
 
 -- before an off on one square, and behind one of w

@@ -1,9 +1,6 @@
 -- In `->white ([w])* {}` no switch follows the first one.
 use Rattle.std.proofs.Common.{◌≡◌, ℕ, List, [], ◌∷◌, ◌++◌, refl, inl, inr, ap, ◌∙◌, subst, ◌⊎◌}
-use Rattle.rbg_rules.specs.Expression.{off, on, switch, act, star, Expression}
-use Rattle.rbg_rules.specs.Positions.{IsNumbered, IsSwitchAt}
-use Rattle.rbg_rules.specs.Words.{Follows, after}
-use Rattle.rbg_rules.specs.Laws.{IsJoinOfWords}
+use Rattle.rbg_rules.specs.Meaning.{off, on, switch, act, star, Expression, IsNumbered, IsSwitchAt, Follows, after, IsJoinOfWords}
 use Rattle.rbg_examples.specs.ExampleGames.{without_end}
 use Rattle.rbg_rules.proofs.PositionLemmas.{Among, Among_left, Among_right, Among_cases}
 use Rattle.rbg_rules.proofs.PatternLemmas.{only_one, word_own}

@@ -2,9 +2,7 @@
 -- directions up, down, left and right (0 to 3), variables white and black (0 and 1) and n (2).
 use Rattle.std.specs.Prelude.{ℕ, List, [], ◌∷◌, Some, None, codes}
 use Rattle.rbg_board.specs.Graph.{Graph}
-use Rattle.rbg_rules.specs.Expression.{number, variable, sum, shift, on, off, assignment, switch, positive, negative, Expression, act, star, sequence_of, choice_of}
-use Rattle.rbg_rules.specs.State.{AbstractGame, AbstractState}
-use Rattle.rbg_rules.specs.Moves.{AbstractPlace}
+use Rattle.rbg_rules.specs.Meaning.{number, variable, sum, shift, on, off, assignment, switch, positive, negative, Expression, act, star, sequence_of, choice_of, AbstractGame, AbstractState, AbstractPlace}
 
 -- one square e, and two squares e, e in a row
 abbrev pub one_square : Graph

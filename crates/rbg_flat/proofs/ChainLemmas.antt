@@ -3,11 +3,7 @@ use Rattle.std.proofs.Common.{◌≡◌, ℕ, List, [], ◌∷◌, ◌++◌, Boo
 use Rattle.std.proofs.lemmas.List.Elements.{All-nil, All-cons, All-head, All-tail, All-append}
 use Rattle.std.specs.Prelude.{Some}
 use Rattle.rbg_board.specs.Graph.{next}
-use Rattle.rbg_rules.specs.Expression.{AbstractAction, shift, on, off, assignment, comparison, switch, positive, negative}
-use Rattle.rbg_rules.specs.Positions.{IsNumbered, IsModifierAt, HasNoModifier, HasAction, is_modifier}
-use Rattle.rbg_rules.specs.Words.{Start, after, Follows, Ends}
-use Rattle.rbg_rules.specs.State.{AbstractGame, AbstractState}
-use Rattle.rbg_rules.specs.Actions.{rest, step, Acts, Applies, Run}
+use Rattle.rbg_rules.specs.Meaning.{AbstractAction, shift, on, off, assignment, comparison, switch, positive, negative, IsNumbered, IsModifierAt, HasNoModifier, HasAction, is_modifier, Start, after, Follows, Ends, AbstractGame, AbstractState, rest, step, Acts, Applies, Run}
 use Rattle.rbg_rules.proofs.RunLemmas.{Runs_join}
 use Rattle.rbg_rules.proofs.PositionLemmas.{one_stands}
 use Rattle.rbg_rules.proofs.LocalityLemmas.{locality_law}

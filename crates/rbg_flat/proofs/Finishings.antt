@@ -5,12 +5,7 @@ use Rattle.std.proofs.lemmas.Nat.{mul-le, div-mul-add}
 use Rattle.std.proofs.lemmas.List.{length-append, length-map}
 use Rattle.std.proofs.lemmas.List.Elements.{Contains-get_or}
 use native.Mathlib.Decide.{ℕ_discrete}
-use Rattle.rbg_rules.specs.Expression.{AbstractAction, shift, on, off, assignment, comparison, switch, positive, negative}
-use Rattle.rbg_rules.specs.Games.{IsGame}
-use Rattle.rbg_rules.specs.Positions.{HasAction, IsModifierAt, IsNumbered, is_modifier, positions_of}
-use Rattle.rbg_rules.specs.State.{AbstractGame, AbstractState}
-use Rattle.rbg_rules.specs.Actions.{Acts, Applies}
-use Rattle.rbg_rules.specs.Words.{Start}
+use Rattle.rbg_rules.specs.Meaning.{AbstractAction, shift, on, off, assignment, comparison, switch, positive, negative, IsGame, HasAction, IsModifierAt, IsNumbered, is_modifier, positions_of, AbstractGame, AbstractState, Acts, Applies, Start}
 use Rattle.rbg_rules.proofs.PositionLemmas.{one_stands}
 use Rattle.rbg_state.proofs.Trying.{same_value}
 use Rattle.rbg_flat.specs.Found.{IsFound, AreFound, HasCandidates, most_candidates}

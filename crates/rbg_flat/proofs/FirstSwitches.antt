@@ -2,8 +2,7 @@
 use Rattle.std.proofs.Common.{◌≡◌, ◌⊎◌, ◌<◌, ◌+◌, ℕ, List, Option, Some, None, All, Contains, take, length, get_or, IfSome, IfNone, inl, inr, sym, ap, subst, arith}
 use Rattle.std.proofs.lemmas.List.{take_more}
 use Rattle.std.proofs.lemmas.List.Elements.{All-push, All-weaker, All-contains, All-contains_itself, Contains-get_or, Contains-push_cases}
-use Rattle.rbg_rules.specs.Expression.{Expression}
-use Rattle.rbg_rules.specs.Positions.{IsSwitchAt}
+use Rattle.rbg_rules.specs.Meaning.{Expression, IsSwitchAt}
 use Rattle.rbg_flat.specs.Order.{IsBefore}
 use Rattle.rbg_flat.specs.internal.Bits.{pairs_in, first_of, first_at, IsFilled}
 use Rattle.rbg_flat.specs.declared.found.Word.{Word}

@@ -2,14 +2,11 @@
 use Rattle.std.proofs.Common.{◌≡◌, ℕ, ◌<◌, ◌≤◌, ◌⊎◌, inl, inr, List, [], ◌∷◌, ◌++◌, length, get_or, sym, subst, ◌∙◌}
 use Rattle.std.specs.Prelude.{Contains, All}
 use Rattle.std.proofs.lemmas.List.Elements.{Contains-get_or}
-use Rattle.rbg_rules.specs.Positions.{IsNumbered, positions_of}
-use Rattle.rbg_rules.specs.State.{AbstractGame}
-use Rattle.rbg_rules.specs.Words.{Start, after, Follows}
+use Rattle.rbg_rules.specs.Meaning.{IsNumbered, positions_of, AbstractGame, Start, after, Follows, IsGame}
 use Rattle.rbg_rules.proofs.LocalityLemmas.{locality_law}
 use Rattle.rbg_leaps.specs.declared.target.Target.{Target}
 use Rattle.rbg_leaps.specs.Asked.{AreTargetsFrom}
 use Rattle.rbg_board.specs.Graph.{IsClosed}
-use Rattle.rbg_rules.specs.Games.{IsGame}
 use Rattle.rbg_leaps.specs.Leaps.{IsLeap, Leads, stay, go}
 use Rattle.rbg_leaps.proofs.ShiftLemmas.{follower_stands, action_within}
 use Rattle.rbg_flat.specs.internal.Sets.{SetsOfVertices, HasBitAt, IsMarked, IsOpen, Meets, ClosesWord}

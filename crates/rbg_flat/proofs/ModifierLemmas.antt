@@ -1,10 +1,7 @@
 -- Of which kind the actions of the program are.
 use Rattle.std.specs.Prelude.{IsTrue}
 use Rattle.std.proofs.Common.{◌≡◌, ◌<◌, ℕ, List, ◌⊎◌, Bool, true, false, inl, inr, refl, sym, ap, subst, ◌∙◌, arith}
-use Rattle.rbg_rules.specs.Expression.{AbstractAction, shift, on, off, comparison, switch, positive, negative, Expression}
-use Rattle.rbg_rules.specs.Positions.{HasAction, IsNumbered, IsModifierAt, IsPatternAt, is_modifier, is_pattern}
-use Rattle.rbg_rules.specs.State.{AbstractGame, AbstractState}
-use Rattle.rbg_rules.specs.Table.{Stands}
+use Rattle.rbg_rules.specs.Meaning.{AbstractAction, shift, on, off, comparison, switch, positive, negative, Expression, HasAction, IsNumbered, IsModifierAt, IsPatternAt, is_modifier, is_pattern, AbstractGame, AbstractState, Stands}
 use Rattle.rbg_rules.specs.declared.rule.Action.{Action}
 use Rattle.rbg_rules.specs.declared.rule.Action.TheVariants.{Shift, On, Off, Assign, Compare, Switch, Positive, Negative}
 use Rattle.rbg_rules.proofs.PositionLemmas.{one_stands}

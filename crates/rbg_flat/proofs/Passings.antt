@@ -8,12 +8,9 @@ use Rattle.std.proofs.lemmas.List.Elements.{Contains-push, Contains-push_cases, 
 use Rattle.std.proofs.lemmas.Nat.Bits.{bit_at_and, bit_at-zero}
 use Rattle.std.proofs.lemmas.Option.{get_or_from_slice_get}
 use Rattle.std.proofs.lemmas.Option.{slice_get-get_or}
-use Rattle.rbg_rules.specs.Expression.{on, comparison, AbstractArithmetic}
+use Rattle.rbg_rules.specs.Meaning.{on, comparison, AbstractArithmetic, Acts, IsModifierAt, IsNumbered, HasAction, is_modifier, AbstractGame, AbstractState}
 use Rattle.rbg_base.specs.declared.relation.Relation.{Relation}
-use Rattle.rbg_rules.specs.Actions.{Acts}
 use Rattle.rbg_state.proofs.Trying.{same_value}
-use Rattle.rbg_rules.specs.Positions.{IsModifierAt, IsNumbered, HasAction, is_modifier}
-use Rattle.rbg_rules.specs.State.{AbstractGame, AbstractState}
 use Rattle.rbg_rules.proofs.MoveLemmas.{applied_acts}
 use Rattle.rbg_rules.proofs.PositionLemmas.{one_stands}
 use Rattle.std.specs.Prelude.{true, false}

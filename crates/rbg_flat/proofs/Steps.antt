@@ -1,8 +1,7 @@
 -- How a flat part that is being found goes on, and what it is in the end.
 use Rattle.std.proofs.Common.{◌≡◌, ℕ, inl, inr, Bool, true}
 use Rattle.std.specs.Prelude.{◌↔◌}
-use Rattle.rbg_rules.specs.Words.{Start}
-use Rattle.rbg_rules.specs.State.{AbstractGame, AbstractState}
+use Rattle.rbg_rules.specs.Meaning.{Start, AbstractGame, AbstractState}
 use Rattle.rbg_flat.specs.Chains.{IsMet, first, then, EndsMet}
 use Rattle.rbg_flat.specs.internal.Begun.{Pairs, IsBegun}
 

@@ -1,9 +1,7 @@
 -- Where switches stand, and shifts.
 use Rattle.std.proofs.Common.{◌≡◌, ℕ, Bool, true, false, refl, sym, ap, ◌∙◌}
 use Rattle.std.specs.Prelude.{IsTrue, ◌↔◌}
-use Rattle.rbg_rules.specs.Expression.{AbstractAction, shift, off, switch, positive, negative, Expression}
-use Rattle.rbg_rules.specs.Positions.{HasAction, IsNumbered, IsSwitchAt}
-use Rattle.rbg_rules.specs.Table.{Stands}
+use Rattle.rbg_rules.specs.Meaning.{AbstractAction, shift, off, switch, positive, negative, Expression, HasAction, IsNumbered, IsSwitchAt, Stands}
 use Rattle.rbg_rules.specs.declared.rule.Action.{Action}
 use Rattle.rbg_rules.specs.declared.rule.Action.TheVariants.{Shift, On, Off, Assign, Compare, Switch, Positive, Negative}
 use Rattle.rbg_rules.proofs.PositionLemmas.{one_stands}

@@ -3,11 +3,7 @@ use Rattle.std.proofs.Common.{◌≡◌, ℕ, ◌<◌, inl, inr, List, true, fal
 use Rattle.std.specs.Prelude.{◌↔◌}
 use Rattle.rbg_board.specs.Graph.{IsClosed}
 use Rattle.rbg_base.specs.declared.relation.Relation.{Relation}
-use Rattle.rbg_rules.specs.Expression.{on, comparison, positive, negative, Expression, AbstractArithmetic}
-use Rattle.rbg_rules.specs.Games.{IsGame}
-use Rattle.rbg_rules.specs.Positions.{HasAction, IsModifierAt, IsNumbered, IsPatternAt, is_modifier, is_pattern}
-use Rattle.rbg_rules.specs.State.{AbstractGame, AbstractState, IsStateOf}
-use Rattle.rbg_rules.specs.Words.{Start}
+use Rattle.rbg_rules.specs.Meaning.{on, comparison, positive, negative, Expression, AbstractArithmetic, IsGame, HasAction, IsModifierAt, IsNumbered, IsPatternAt, is_modifier, is_pattern, AbstractGame, AbstractState, IsStateOf, Start}
 use Rattle.rbg_rules.proofs.PositionLemmas.{one_stands}
 use Rattle.rbg_flat.specs.Chains.{Holds, IsMet, first, then}
 use Rattle.rbg_flat.specs.Paths.{IsComparisonAt}

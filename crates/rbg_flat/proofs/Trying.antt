@@ -2,11 +2,7 @@
 use Rattle.std.proofs.Common.{◌≡◌, ℕ, ◌+◌, ◌*◌, ◌/◌, ◌%◌, ◌<◌, ◌⊎◌, inl, inr, List, Bool, true, get_or, refl, sym, ap, subst, ◌∙◌, arith}
 use Rattle.std.specs.Prelude.{◌↔◌}
 use Rattle.std.specs.Int.{bit_at}
-use Rattle.rbg_rules.specs.Games.{IsGame}
-use Rattle.rbg_rules.specs.Positions.{IsModifierAt}
-use Rattle.rbg_rules.specs.State.{AbstractGame, AbstractState, IsStateOf}
-use Rattle.rbg_rules.specs.Actions.{Applies}
-use Rattle.rbg_rules.specs.Words.{Start, after}
+use Rattle.rbg_rules.specs.Meaning.{IsGame, IsModifierAt, AbstractGame, AbstractState, IsStateOf, Applies, Start, after}
 use Rattle.rbg_leaps.specs.Leaps.{IsLeap, EndsAcross}
 use Rattle.rbg_flat.specs.Chains.{Holds, IsMet, then, EndsMet}
 use Rattle.rbg_flat.specs.internal.Begun.{IsBegun}

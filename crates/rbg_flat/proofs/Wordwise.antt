@@ -3,8 +3,7 @@ use Rattle.std.proofs.Common.{◌≡◌, ◌≢◌, ℕ, ◌+◌, ◌*◌, ◌/�
 use Rattle.std.specs.Int.{bit_at}
 use Rattle.std.proofs.lemmas.Nat.Bits.{bit_at-zero, bit_at-lt}
 use native.Mathlib.Decide.{ℕ_discrete}
-use Rattle.rbg_rules.specs.State.{AbstractGame}
-use Rattle.rbg_rules.specs.Words.{after}
+use Rattle.rbg_rules.specs.Meaning.{AbstractGame, after}
 use Rattle.rbg_leaps.specs.Leaps.{IsLeap, EndsAcross}
 use Rattle.rbg_flat.specs.internal.Leading.{LeadsFrom, EndsFrom, LeadsPast, EndsPast, LearnsEnd}
 use Rattle.rbg_flat.specs.internal.Sets.{SetsOfVertices, IsInWord, Meets}

@@ -1,9 +1,6 @@
 -- What may come next with no modifier before it.
 use Rattle.std.specs.Prelude.{◌≡◌, ℕ, List, [], ◌∷◌, ◌++◌}
-use Rattle.rbg_rules.specs.Positions.{HasNoModifier}
-use Rattle.rbg_rules.specs.Words.{Start, Follows, Ends}
-use Rattle.rbg_rules.specs.State.{AbstractGame, AbstractState}
-use Rattle.rbg_rules.specs.Actions.{Run}
+use Rattle.rbg_rules.specs.Meaning.{HasNoModifier, Start, Follows, Ends, AbstractGame, AbstractState, Run}
 use Rattle.rbg_leaps.specs.Leaps.{IsShiftAt}
 
 -- Position p, which is no shift, may come next at vertex v, with no modifier before it: some positions without a

@@ -1,8 +1,6 @@
 -- Places from which nothing goes on.
 use Rattle.std.specs.Prelude.{◌↔◌, ◌≤◌, ℕ, Bool, IsTrue}
-use Rattle.rbg_rules.specs.Positions.{IsModifierAt, IsPatternAt}
-use Rattle.rbg_rules.specs.State.{AbstractGame, AbstractState}
-use Rattle.rbg_rules.specs.Words.{Start}
+use Rattle.rbg_rules.specs.Meaning.{IsModifierAt, IsPatternAt, AbstractGame, AbstractState, Start}
 use Rattle.rbg_flat.specs.Candidates.{IsCandidate, MayEnd}
 use Rattle.rbg_flat.specs.Found.{HasCandidates, most_candidates}
 

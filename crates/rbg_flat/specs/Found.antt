@@ -1,9 +1,6 @@
 -- What a flat part finds, and how many candidates it has.
 use Rattle.std.specs.Prelude.{◌≡◌, ◌≢◌, ℕ, ◌*◌, ◌↔◌, List, length, AllPairs, Contains}
-use Rattle.rbg_rules.specs.Positions.{IsModifierAt, positions_of}
-use Rattle.rbg_rules.specs.Words.{Start}
-use Rattle.rbg_rules.specs.State.{AbstractGame, AbstractState}
-use Rattle.rbg_rules.specs.Actions.{Applies}
+use Rattle.rbg_rules.specs.Meaning.{IsModifierAt, positions_of, Start, AbstractGame, AbstractState, Applies}
 use Rattle.rbg_flat.specs.Candidates.{IsCandidate}
 
 -- The candidate at position p and vertex v is a modifier, and valid there.

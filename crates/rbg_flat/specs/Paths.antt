@@ -1,10 +1,7 @@
 -- The leaps of a game, and what flat parts need to know of its positions.
 use Rattle.std.specs.Prelude.{◌≡◌, ◌+◌, ◌⊎◌, ℕ, List, [], ◌∷◌, length, slice_get, Some, IsTrue}
 use Rattle.rbg_base.specs.declared.relation.Relation.{Relation}
-use Rattle.rbg_rules.specs.Expression.{Expression, AbstractArithmetic, on, off, comparison, switch}
-use Rattle.rbg_rules.specs.Positions.{HasAction, IsModifierAt, IsPatternAt, positions_of}
-use Rattle.rbg_rules.specs.State.{AbstractGame}
-use Rattle.rbg_rules.specs.Words.{after, Follows}
+use Rattle.rbg_rules.specs.Meaning.{Expression, AbstractArithmetic, on, off, comparison, switch, HasAction, IsModifierAt, IsPatternAt, positions_of, AbstractGame, after, Follows}
 use Rattle.rbg_leaps.specs.Leaps.{IsShiftAt}
 use Rattle.rbg_leaps.specs.Made.{AreLeapsOf}
 use Rattle.rbg_flat.specs.declared.paths.Facts.{Facts}

@@ -1,10 +1,6 @@
 //! Patterns in which nothing goes on, as is seen at once.
 ghost use Rattle.std.specs.Prelude.{ℕ, ◌<◌, length, All, IfSome, IsTrue};
-ghost use Rattle.rbg_rules.specs.Games.{IsGame};
-ghost use Rattle.rbg_rules.specs.Laws.{IsStart};
-ghost use Rattle.rbg_rules.specs.Positions.{inside};
-ghost use Rattle.rbg_rules.specs.State.{IsStateOf};
-ghost use Rattle.rbg_rules.specs.Words.{beginning};
+ghost use Rattle.rbg_rules.specs.Meaning.{IsGame, IsStart, inside, IsStateOf, beginning};
 ghost use Rattle.rbg_flat.specs.Chains.{at_vertex};
 ghost use Rattle.rbg_flat.specs.Ending.{IsDeadEnd};
 ghost use Rattle.rbg_flat.specs.Paths.{ArePathsOf};

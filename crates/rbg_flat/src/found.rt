@@ -2,8 +2,7 @@
 ghost use Rattle.std.specs.Prelude.{◌≡◌, ℕ, ◌<◌, ◌≤◌, ◌^◌, ◌↔◌, ◌⊎◌, [], ◌∷◌, ◌++◌, length, slice_get, Some, All, Contains, IfSome, IfNone, OnOk, IsTrue, Decides};
 ghost use Rattle.std.specs.Int.{bit_at};
 ghost use Rattle.std.specs.List.Sorted.{IsPermutation};
-ghost use Rattle.rbg_rules.specs.Games.{IsGame};
-ghost use Rattle.rbg_rules.specs.Positions.{IsSwitchAt, positions_of};
+ghost use Rattle.rbg_rules.specs.Meaning.{IsGame, IsSwitchAt, positions_of};
 ghost use Rattle.rbg_flat.specs.Order.{IsBefore, IsLeast};
 ghost use Rattle.rbg_flat.specs.internal.Shown.{shows_switch};
 ghost use Rattle.rbg_flat.specs.internal.Bits.{pairs_of, pairs_in, first_of, first_at, IsFilled};

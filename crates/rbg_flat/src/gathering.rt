@@ -1,8 +1,6 @@
 //! What was found is gathered: the modifiers that are valid, and how many candidates there are.
 ghost use Rattle.std.specs.Prelude.{◌≡◌, ◌↔◌, ◌/◌, ◌<◌, ◌≤◌, ◌^◌, length, count_ones, IfOk, IsTrue};
-ghost use Rattle.rbg_rules.specs.Games.{IsGame};
-ghost use Rattle.rbg_rules.specs.Positions.{IsModifierAt, positions_of};
-ghost use Rattle.rbg_rules.specs.State.{IsStateOf};
+ghost use Rattle.rbg_rules.specs.Meaning.{IsGame, IsModifierAt, positions_of, IsStateOf};
 ghost use Rattle.rbg_flat.specs.Paths.{ArePathsOf};
 ghost use Rattle.rbg_flat.specs.internal.Places.{IsMetAt};
 ghost use Rattle.rbg_flat.specs.internal.Gathering.{Gathers, Keeps};

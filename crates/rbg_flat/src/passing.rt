@@ -1,9 +1,7 @@
 //! At which vertices what is met is to be looked at, and at which it passes: it is no modifier, and valid there.
 ghost use Rattle.std.specs.Prelude.{◌≡◌, ◌<◌, ◌≤◌, ◌↔◌, ◌+◌, ◌*◌, [], ◌∷◌, ℕ, length, slice_get, Some, IsTrue};
 ghost use Rattle.std.specs.Int.{bit_at};
-ghost use Rattle.rbg_rules.specs.Games.{IsGame};
-ghost use Rattle.rbg_rules.specs.Positions.{IsPatternAt, positions_of};
-ghost use Rattle.rbg_rules.specs.State.{IsStateOf};
+ghost use Rattle.rbg_rules.specs.Meaning.{IsGame, IsPatternAt, positions_of, IsStateOf};
 ghost use Rattle.rbg_leaps.specs.Limits.{row_words};
 ghost use Rattle.rbg_flat.specs.Paths.{ArePathsOf, IsKind};
 ghost use Rattle.rbg_flat.specs.declared.paths.Kind.TheVariants.{On, Comparison};

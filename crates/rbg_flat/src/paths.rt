@@ -1,7 +1,6 @@
 //! The leaps of a game, and what flat parts need to know of each position.
 ghost use Rattle.std.specs.Prelude.{◌≡◌, ℕ, ◌+◌, ◌≤◌, ◌<◌, ◌↔◌, All, Some, length, slice_get, true, IfOk, IfSome, IfNone, IsTrue};
-ghost use Rattle.rbg_rules.specs.Games.{IsGame};
-ghost use Rattle.rbg_rules.specs.Positions.{positions_of};
+ghost use Rattle.rbg_rules.specs.Meaning.{IsGame, positions_of};
 ghost use Rattle.rbg_leaps.specs.Leaps.{IsShiftAt};
 ghost use Rattle.rbg_leaps.specs.Limits.{IsTooLarge};
 ghost use Rattle.rbg_flat.specs.Paths.{AreFacts, AreShown, ArePathsOf};

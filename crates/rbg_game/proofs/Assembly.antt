@@ -7,9 +7,7 @@ use Rattle.std.proofs.lemmas.List.{map-append, length-map}
 use Rattle.std.proofs.lemmas.Slice.Zip.{AllZip-long}
 use Rattle.rbg_grammar.specs.Formed.{IsWhole}
 use Rattle.rbg_grammar.specs.Tree.{SpeltBounded, SpeltBoard, rectangle, hexagon, graph, SpeltName, SpeltDescription}
-use Rattle.rbg_rules.specs.Expression.{Expression}
-use Rattle.rbg_rules.specs.Games.{IsGame, IsWithinLimits}
-use Rattle.rbg_rules.specs.Limits.{greatest_bound}
+use Rattle.rbg_rules.specs.Meaning.{Expression, IsGame, IsWithinLimits, greatest_bound}
 use Rattle.rbg_game.specs.declared.checking.boards.NamedBoard.{NamedBoard}
 use Rattle.rbg_game.specs.declared.checking.names.Things.{Things}
 use Rattle.rbg_game.specs.declared.game_error.GameError.{GameError}

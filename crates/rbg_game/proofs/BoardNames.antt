@@ -4,7 +4,7 @@ use Rattle.std.specs.List.{AllZip, concat}
 use Rattle.std.proofs.lemmas.List.Elements.{All-nil, All-cons, All-append, Contains-append_cases}
 use Rattle.std.proofs.lemmas.Option.{slice_get_within}
 use Rattle.rbg_grammar.specs.Tree.{SpeltName}
-use Rattle.rbg_rules.specs.LawfulNames.{AreDifferentNames}
+use Rattle.rbg_rules.specs.Meaning.{AreDifferentNames}
 use Rattle.rbg_numbering.specs.Names.{IsNumberOf}
 use Rattle.rbg_numbering.proofs.Lists.{AllZip-once}
 use Rattle.rbg_numbering.proofs.RuleFaults.{unnumbered}

@@ -13,9 +13,7 @@ use Rattle.rbg_board.specs.declared.error.BoardError.{BoardError}
 use Rattle.rbg_board.specs.declared.error.BoardError.TheVariants as board_errors
 use Rattle.rbg_grammar.specs.Tree.{SpeltName, SpeltBounded, SpeltEdge, SpeltVertex, SpeltBoard, rectangle, hexagon, graph}
 use Rattle.rbg_grammar.specs.Tree.{SpeltDescription}
-use Rattle.rbg_rules.specs.State.{AbstractGame}
-use Rattle.rbg_rules.specs.Limits.{greatest_bound, most_directions}
-use Rattle.rbg_rules.specs.LawfulNames.{AreDifferentNames, AreLawfulNames}
+use Rattle.rbg_rules.specs.Meaning.{AbstractGame, greatest_bound, most_directions, AreDifferentNames, AreLawfulNames}
 use Rattle.rbg_game.specs.declared.game_error.GameError.{GameError}
 use Rattle.rbg_game.specs.GameErrors.{game_error_of}
 use Rattle.rbg_game.specs.declared.game_error.GameError.TheVariants.{Memory}

@@ -9,7 +9,7 @@ use Rattle.rbg_board.specs.Cells.{AreDifferent}
 use Rattle.rbg_board.specs.Written.{Written, directions_in}
 use Rattle.rbg_board.specs.declared.error.BoardError.{BoardError}
 use Rattle.rbg_grammar.specs.Tree.{SpeltName, SpeltEdge, SpeltVertex}
-use Rattle.rbg_rules.specs.LawfulNames.{AreDifferentNames}
+use Rattle.rbg_rules.specs.Meaning.{AreDifferentNames}
 use Rattle.rbg_game.specs.Descriptions.{NamedBoard, EdgeIs, VertexIs, vertex_names, IsGraphBoard}
 use Rattle.rbg_game.specs.Faults.{StandsTwice, HasGraphFault, no_vertex, many_vertices, same_vertex, same_direction, unknown_vertex}
 use Rattle.rbg_numbering.proofs.Lists.{AllZip-at, fellow}

@@ -10,7 +10,7 @@ use Rattle.std.proofs.Math.Seq.{get_or-append_seam}
 use Rattle.rbg_base.proofs.CallerLemmas.{AllZip-weaker, Contains-from_get, get_from-Contains, slice_get-append_left}
 use Rattle.rbg_board.specs.Cells.{AreDifferent}
 use Rattle.rbg_grammar.specs.Tree.{SpeltName}
-use Rattle.rbg_rules.specs.LawfulNames.{AreDifferentNames}
+use Rattle.rbg_rules.specs.Meaning.{AreDifferentNames}
 use Rattle.rbg_numbering.specs.declared.error.NumberingError.{NumberingError}
 use Rattle.rbg_numbering.specs.declared.error.NumberingError.TheVariants as errors
 use Rattle.rbg_numbering.specs.Names.{IsNumberOf}

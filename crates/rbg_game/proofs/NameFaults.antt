@@ -8,7 +8,7 @@ use Rattle.std.proofs.lemmas.Option.{slice_get_within}
 use Rattle.rbg_grammar.specs.Tree.{SpeltName, SpeltBounded, SpeltDescription}
 use Rattle.rbg_grammar.specs.Views.{bounded_of}
 use Rattle.rbg_grammar.specs.declared.description.Bounded.{Bounded}
-use Rattle.rbg_rules.specs.Limits.{greatest_bound}
+use Rattle.rbg_rules.specs.Meaning.{greatest_bound}
 use Rattle.rbg_game.specs.declared.game_error.GameError.{GameError}
 use Rattle.rbg_numbering.specs.declared.error.NumberingError.{NumberingError}
 use Rattle.rbg_game.specs.GameErrors.{game_error_of}

@@ -12,8 +12,7 @@ use Rattle.rbg_board.specs.Written.{Written, names_of, directions_in, directions
 use Rattle.rbg_board.specs.declared.error.BoardError.{BoardError}
 use Rattle.rbg_board.specs.declared.error.BoardError.TheVariants as board_errors
 use Rattle.rbg_grammar.specs.Tree.{SpeltName, SpeltEdge, SpeltVertex, graph}
-use Rattle.rbg_rules.specs.Limits.{most_directions}
-use Rattle.rbg_rules.specs.LawfulNames.{AreDifferentNames, AreLawfulNames}
+use Rattle.rbg_rules.specs.Meaning.{most_directions, AreDifferentNames, AreLawfulNames}
 use Rattle.rbg_numbering.specs.Names.{IsNumberOf}
 use Rattle.rbg_game.specs.Descriptions.{NamedBoard, EdgeIs, VertexIs, vertex_names, directions_named, IsOrderOfFirstUse}
 use Rattle.rbg_game.specs.Faults.{StandsTwice, HasGraphFault, no_vertex, many_vertices, same_vertex, same_direction, unknown_vertex}

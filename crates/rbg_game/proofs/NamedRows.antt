@@ -11,8 +11,7 @@ use Rattle.rbg_board.specs.Cells.{Rows, width_of}
 use Rattle.rbg_board.specs.RowLaws.{MakesRows}
 use Rattle.rbg_board.specs.declared.error.BoardError.{BoardError}
 use Rattle.rbg_board.specs.declared.error.BoardError.TheVariants as board_errors
-use Rattle.rbg_rules.specs.Limits.{most_directions}
-use Rattle.rbg_rules.specs.LawfulNames.{AreDifferentNames}
+use Rattle.rbg_rules.specs.Meaning.{most_directions, AreDifferentNames}
 use Rattle.rbg_numbering.specs.declared.error.NumberingError.{NumberingError}
 use Rattle.rbg_game.specs.Descriptions.{IsRowsBoard, BoardIs, NamedBoard as DescribedBoard}
 use Rattle.rbg_game.specs.GameErrors.{game_error_of}

@@ -3,8 +3,7 @@ use Rattle.std.proofs.Common.{◌≡◌, ℕ, List, ◌++◌, Some, sym, ◌∙�
 use Rattle.std.proofs.lemmas.Option.{same_Some}
 use Rattle.std.proofs.lemmas.List.{map-append}
 use Rattle.rbg_grammar.specs.Tree.{SpeltBounded, SpeltDescription}
-use Rattle.rbg_rules.specs.State.{AbstractGame}
-use Rattle.rbg_rules.specs.LawfulNames.{AreDifferentNames}
+use Rattle.rbg_rules.specs.Meaning.{AbstractGame, AreDifferentNames}
 use Rattle.rbg_numbering.specs.Names.{Names, HasDifferentNames}
 use Rattle.rbg_numbering.specs.Rules.{RuleIs}
 use Rattle.rbg_game.specs.Descriptions.{names_in}

@@ -8,7 +8,7 @@ use Rattle.rbg_board.specs.Hexagon.{HexagonEdge, MakesHexagon}
 use Rattle.rbg_board.specs.Written.{Written, pieces_of, directions_of, WrittenEdge}
 use Rattle.rbg_board.proofs.CallerLemmas.{one_graph}
 use Rattle.rbg_grammar.specs.Tree.{SpeltName, SpeltEdge, SpeltVertex, SpeltBoard, rectangle, hexagon, graph}
-use Rattle.rbg_rules.specs.LawfulNames.{AreDifferentNames}
+use Rattle.rbg_rules.specs.Meaning.{AreDifferentNames}
 use Rattle.rbg_numbering.specs.Names.{IsNumberOf}
 use Rattle.rbg_game.specs.Descriptions.{NamedBoard, IsRowsBoard, EdgeIs, VertexIs, directions_named, IsGraphBoard, BoardIs}
 use Rattle.rbg_game.proofs.BoardNames.{rows_once}

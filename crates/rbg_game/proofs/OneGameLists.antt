@@ -1,6 +1,6 @@
 -- Names in order of first use are determined.
 use Rattle.std.proofs.Common.{◌≡◌, ℕ, zero, suc, ◌<◌, ◌⊎◌, inl, inr, List, [], ◌∷◌, ◌++◌, Some, slice_get, Contains, refl, sym, ◌∙◌, subst, arith}
-use Rattle.rbg_rules.specs.LawfulNames.{AreDifferentNames}
+use Rattle.rbg_rules.specs.Meaning.{AreDifferentNames}
 use Rattle.rbg_game.specs.Descriptions.{IsOrderOfFirstUse}
 use Rattle.rbg_base.proofs.CallerLemmas.{Contains-from_get, get_from-Contains}
 

@@ -9,9 +9,7 @@ use Rattle.rbg_board.specs.Hexagon.{HexagonEdge, MakesHexagon}
 use Rattle.rbg_board.specs.Written.{Written, pieces_of, directions_of, WrittenEdge, MakesGraph}
 use Rattle.rbg_grammar.specs.Tree.{SpeltName, SpeltBounded, SpeltEdge, SpeltVertex}
 use Rattle.rbg_grammar.specs.Tree.{SpeltBoard, rectangle, hexagon, graph, SpeltDescription}
-use Rattle.rbg_rules.specs.Games.{IsGame}
-use Rattle.rbg_rules.specs.LawfulNames.{AreDifferentNames}
-use Rattle.rbg_rules.specs.State.{AbstractGame}
+use Rattle.rbg_rules.specs.Meaning.{IsGame, AreDifferentNames, AbstractGame}
 use Rattle.rbg_numbering.specs.Names.{Names, IsNumberOf, texts_of}
 use Rattle.rbg_numbering.specs.Rules.{RuleIs}
 

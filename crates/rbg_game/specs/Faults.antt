@@ -9,8 +9,7 @@ use Rattle.rbg_board.specs.declared.error.BoardError.{BoardError}
 use Rattle.rbg_board.specs.declared.error.BoardError.TheVariants as board_errors
 use Rattle.rbg_grammar.specs.Tree.{SpeltName, SpeltNumber, SpeltBounded, SpeltEdge, SpeltVertex}
 use Rattle.rbg_grammar.specs.Tree.{SpeltBoard, rectangle, hexagon, graph, SpeltDescription}
-use Rattle.rbg_rules.specs.Limits.{most_players, most_pieces, most_variables}
-use Rattle.rbg_rules.specs.Limits.{greatest_bound, most_directions, most_vertices}
+use Rattle.rbg_rules.specs.Meaning.{most_players, most_pieces, most_variables, greatest_bound, most_directions, most_vertices}
 use Rattle.rbg_game.specs.declared.game_error.GameError.{GameError}
 use Rattle.rbg_game.specs.declared.game_error.GameError.TheVariants.{UnknownName, SameName, Bound, TooMany, Memory, Board}
 use Rattle.rbg_game.specs.declared.game_error.Thing.TheVariants.{Players, Pieces, Variables, Directions}

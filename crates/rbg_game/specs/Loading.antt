@@ -10,7 +10,7 @@ use Rattle.rbg_grammar.specs.Tree.{SpeltDescription}
 use Rattle.rbg_grammar.specs.Spells.{Spells}
 use Rattle.rbg_syntax.specs.Faults.{HasFault as HasSyntaxFault}
 use Rattle.rbg_syntax.specs.declared.error.SyntaxError.TheVariants.{Memory as SyntaxMemory}
-use Rattle.rbg_rules.specs.State.{AbstractGame}
+use Rattle.rbg_rules.specs.Meaning.{AbstractGame}
 use Rattle.rbg_game.specs.Descriptions.{IsGameOf}
 use Rattle.rbg_game.specs.Faults.{HasFault}
 use Rattle.rbg_game.specs.declared.game_error.GameError.TheVariants.{Memory as GameMemory}

@@ -1,7 +1,7 @@
 -- Laws: a description is at most one game, and so is a text; a description with a fault is none.
 use Rattle.std.specs.Prelude.{◌≡◌, ◌≢◌, ℕ, List}
 use Rattle.rbg_grammar.specs.Tree.{SpeltDescription}
-use Rattle.rbg_rules.specs.State.{AbstractGame}
+use Rattle.rbg_rules.specs.Meaning.{AbstractGame}
 use Rattle.rbg_game.specs.declared.game_error.GameError.{GameError}
 use Rattle.rbg_game.specs.declared.game_error.GameError.TheVariants.{Memory}
 use Rattle.rbg_game.specs.Descriptions.{IsGameOf}

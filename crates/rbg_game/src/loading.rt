@@ -2,7 +2,7 @@
 ghost use Rattle.std.specs.Prelude.{ℕ, List, IfOk, IfErr, ◌≢◌};
 ghost use Rattle.rbg_tokens.specs.Text.{HasTokens};
 ghost use Rattle.rbg_grammar.specs.Descriptions.{description_of};
-ghost use Rattle.rbg_rules.specs.State.{AbstractGame};
+ghost use Rattle.rbg_rules.specs.Meaning.{AbstractGame};
 ghost use Rattle.rbg_game.specs.Descriptions.{IsGameOf};
 ghost use Rattle.rbg_game.specs.Faults.{HasFault};
 ghost use Rattle.rbg_game.specs.Layouts.{IsLayoutOf, HasLayout};

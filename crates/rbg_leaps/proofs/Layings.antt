@@ -5,11 +5,7 @@ use Rattle.std.proofs.lemmas.List.{length-append, length-take-le, length-drop, g
 use Rattle.std.proofs.lemmas.List.Elements.{All-append, All-drop, All-take}
 use Rattle.std.proofs.Math.Nat.{mul-le-mul_right}
 use Rattle.std.proofs.lemmas.Slice.{between_is}
-use Rattle.rbg_rules.specs.Expression.{Expression}
-use Rattle.rbg_rules.specs.Laws.{IsStart}
-use Rattle.rbg_rules.specs.Positions.{IsNumbered, inside}
-use Rattle.rbg_rules.specs.State.{AbstractGame}
-use Rattle.rbg_rules.specs.Words.{Start, beginning, after}
+use Rattle.rbg_rules.specs.Meaning.{Expression, IsStart, IsNumbered, inside, AbstractGame, Start, beginning, after}
 use Rattle.rbg_auto.specs.declared.steps.Expr.TheVariants.{Rules, Inside}
 use Rattle.rbg_leaps.specs.declared.asking.Leaps.{Leaps}
 use Rattle.rbg_leaps.specs.declared.lists.Lists.{Lists}

@@ -1,9 +1,7 @@
 -- An entry that shares what is told behind a shift.
 use Rattle.std.proofs.Common.{◌≡◌, ◌+◌, ◌*◌, ◌<◌, ◌∙◌, ◌⊎◌, ℕ, length, get_or, sym, ap, subst}
 use Rattle.std.specs.Prelude.{Bool, Contains, IsTrue}
-use Rattle.rbg_rules.specs.Positions.{IsNumbered}
-use Rattle.rbg_rules.specs.State.{AbstractGame}
-use Rattle.rbg_rules.specs.Words.{after}
+use Rattle.rbg_rules.specs.Meaning.{IsNumbered, AbstractGame, after}
 use Rattle.rbg_leaps.specs.declared.lists.Lists.{Lists}
 use Rattle.rbg_leaps.specs.declared.table.Entry.{Entry}
 use Rattle.rbg_leaps.specs.declared.table.Table.{Table}

@@ -9,12 +9,7 @@ use Rattle.std.proofs.lemmas.List.Elements.{All-weaker, All-contains_itself}
 use Rattle.rbg_board.specs.Graph.{next}
 use Rattle.rbg_rules.specs.declared.rule.Action.{Action}
 use Rattle.rbg_rules.specs.declared.rule.Action.TheVariants.{Shift, On, Off, Assign, Compare, Switch, Positive, Negative}
-use Rattle.rbg_rules.specs.Expression.{AbstractAction, shift, on, off, assignment, comparison, switch, positive, negative, Expression}
-use Rattle.rbg_rules.specs.Positions.{HasAction, positions_of, IsNumbered, Level, outermost, inside, IsLevel}
-use Rattle.rbg_rules.specs.Words.{WordOf, Start, beginning, after, Follows}
-use Rattle.rbg_rules.specs.State.{AbstractGame}
-use Rattle.rbg_rules.specs.Table.{Stands}
-use Rattle.rbg_rules.specs.Translation.{arithmetic_of}
+use Rattle.rbg_rules.specs.Meaning.{AbstractAction, shift, on, off, assignment, comparison, switch, positive, negative, Expression, HasAction, positions_of, IsNumbered, Level, outermost, inside, IsLevel, WordOf, Start, beginning, after, Follows, AbstractGame, Stands, arithmetic_of}
 use Rattle.rbg_rules.proofs.PositionLemmas.{Among, Among_right, has_position, one_stands}
 use Rattle.rbg_rules.proofs.PatternLemmas.{own_stands, stands_inside, word_own}
 use Rattle.rbg_auto.specs.Steps.{AreAllThatFollow}

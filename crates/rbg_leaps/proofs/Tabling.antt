@@ -4,9 +4,7 @@ use Rattle.std.specs.Prelude.{All, Contains, IsTrue, slice_range, replicate}
 use Rattle.std.proofs.lemmas.List.{length-replicate}
 use Rattle.std.proofs.Math.ListN.{get_or-eq_default}
 use Rattle.std.proofs.Math.Nat.{mul-le-mul_right}
-use Rattle.rbg_rules.specs.Positions.{IsNumbered}
-use Rattle.rbg_rules.specs.State.{AbstractGame}
-use Rattle.rbg_rules.specs.Words.{Start, after}
+use Rattle.rbg_rules.specs.Meaning.{IsNumbered, AbstractGame, Start, after}
 use Rattle.rbg_leaps.specs.declared.lists.Lists.{Lists}
 use Rattle.rbg_leaps.specs.declared.table.Entry.{Entry}
 use Rattle.rbg_leaps.specs.declared.table.Table.{Table}

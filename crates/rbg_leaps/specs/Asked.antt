@@ -1,8 +1,7 @@
 -- What is told of the leaps that are asked for.
 use Rattle.std.specs.Prelude.{◌≡◌, ℕ, ◌/◌, ◌%◌, ◌<◌, List, Contains}
 use Rattle.std.specs.Int.{bit_at}
-use Rattle.rbg_rules.specs.State.{AbstractGame}
-use Rattle.rbg_rules.specs.Words.{Start}
+use Rattle.rbg_rules.specs.Meaning.{AbstractGame, Start}
 use Rattle.rbg_leaps.specs.declared.target.Target.{Target}
 use Rattle.rbg_leaps.specs.Leaps.{IsLeap}
 use Rattle.rbg_leaps.specs.Limits.{row_words}

@@ -1,10 +1,7 @@
 -- Where shifts alone lead.
 use Rattle.std.specs.Prelude.{◌≡◌, ℕ, List, [], ◌∷◌, ◌++◌, Some}
 use Rattle.rbg_board.specs.Graph.{next}
-use Rattle.rbg_rules.specs.Expression.{Expression, shift}
-use Rattle.rbg_rules.specs.Positions.{HasAction}
-use Rattle.rbg_rules.specs.State.{AbstractGame}
-use Rattle.rbg_rules.specs.Words.{Start, Follows, Ends}
+use Rattle.rbg_rules.specs.Meaning.{Expression, shift, HasAction, AbstractGame, Start, Follows, Ends}
 
 -- A shift stands at the position.
 pub record IsShiftAt (rules : Expression) (p : ℕ) : Type 0 where

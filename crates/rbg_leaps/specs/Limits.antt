@@ -1,7 +1,6 @@
 -- When a game has no table of leaps.
 use Rattle.std.specs.Prelude.{ℕ, ◌+◌, ◌*◌, ◌/◌, ◌<◌, length}
-use Rattle.rbg_rules.specs.Positions.{positions_of}
-use Rattle.rbg_rules.specs.State.{AbstractGame}
+use Rattle.rbg_rules.specs.Meaning.{positions_of, AbstractGame}
 
 -- how many words there may be for one row of vertices at each position and each vertex: 32 megabytes
 abbrev pub most_words : ℕ

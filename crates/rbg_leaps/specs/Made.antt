@@ -1,8 +1,6 @@
 -- The leaps of a game as they were made.
 use Rattle.std.specs.Prelude.{ℕ, ◌+◌, ◌*◌, ◌<◌, ◌↔◌, List, length, slice_range, slice_index_or, false, IsTrue}
-use Rattle.rbg_rules.specs.Laws.{IsStart}
-use Rattle.rbg_rules.specs.State.{AbstractGame}
-use Rattle.rbg_rules.specs.Words.{Start}
+use Rattle.rbg_rules.specs.Meaning.{IsStart, AbstractGame, Start}
 use Rattle.rbg_auto.specs.declared.steps.Expr.{Expr}
 use Rattle.rbg_auto.specs.declared.steps.Expr.TheVariants.{Rules, Inside}
 use Rattle.rbg_leaps.specs.declared.asking.Leaps.{Leaps}

@@ -1,5 +1,5 @@
 -- Where one stands in the rules.
-use Rattle.rbg_rules.specs.Words.{Start, beginning, after}
+use Rattle.rbg_rules.specs.Meaning.{Start, beginning, after}
 use Rattle.rbg_auto.specs.Steps.{level_of}
 use Rattle.rbg_leaps.specs.declared.origin.Origin.{Origin}
 use Rattle.rbg_leaps.specs.declared.origin.Origin.TheVariants.{Begin, After}

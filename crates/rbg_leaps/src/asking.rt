@@ -32,8 +32,7 @@ pub struct Leaps {
 
 impl Leaps {
     ghost use Rattle.std.specs.Prelude.{◌≡◌, ◌+◌, ◌*◌, ◌<◌, ◌≤◌, ◌↔◌, slice_range, IfSome, IfNone, IsTrue};
-    ghost use Rattle.rbg_rules.specs.Laws.{IsStart};
-    ghost use Rattle.rbg_rules.specs.State.{AbstractGame};
+    ghost use Rattle.rbg_rules.specs.Meaning.{IsStart, AbstractGame};
     ghost use Rattle.rbg_leaps.specs.declared.origin.Origin.TheVariants.{Begin, After};
     ghost use Rattle.rbg_leaps.specs.Leaps.{EndsAcross};
     ghost use Rattle.rbg_leaps.specs.Origin.{start_of};

@@ -1,8 +1,6 @@
 //! A game, and what is looked up of it at each step of a shift.
 ghost use Rattle.std.specs.Prelude.{◌≡◌, ℕ, ◌<◌, ◌≤◌, ◌↔◌, length, Some, IfSome, IfNone, IsTrue};
-ghost use Rattle.rbg_rules.specs.Expression.{shift};
-ghost use Rattle.rbg_rules.specs.Positions.{HasAction};
-ghost use Rattle.rbg_rules.specs.Games.{IsGame};
+ghost use Rattle.rbg_rules.specs.Meaning.{shift, HasAction, IsGame};
 ghost use Rattle.rbg_leaps.specs.Leaps.{IsShiftAt};
 ghost use Rattle.rbg_leaps.specs.internal.Steps.{AreDirections, Comes};
 
@@ -21,7 +19,7 @@ pub(crate) struct Ground<'a> {
 }
 
 impl<'a> Model for Ground<'a> {
-    ghost use Rattle.rbg_rules.specs.State.{AbstractGame};
+    ghost use Rattle.rbg_rules.specs.Meaning.{AbstractGame};
 
     ghost Value = { AbstractGame };
 
@@ -32,7 +30,7 @@ impl<'a> Model for Ground<'a> {
     ghost view = { λ g. g.game.now };
 
     ghost use Rattle.std.specs.Prelude.{◌≡◌};
-    ghost use Rattle.rbg_rules.specs.Games.{IsGame};
+    ghost use Rattle.rbg_rules.specs.Meaning.{IsGame};
     ghost use Rattle.rbg_leaps.specs.internal.Steps.{AreDirections};
 
     ghost invariant = { λ g. (g.board ≡ g.game.now.board) × AreDirections g.game.now.rules g.directions.now

@@ -15,13 +15,23 @@ pub(crate) struct Node {
 }
 
 /// The lists in one array, and a node for each that differs from the others.
-#[derive(Drop)]
 pub(crate) struct Interner {
     pub(crate) positions: Vec<Position>,
     pub(crate) nodes: Vec<Node>,
     /// A node by the hash of its list. Of two nodes with one hash only the later one is known.
     spots: HashMap<u64, usize>,
     ghost within: { All (IsNodeWithin (length positions.items)) nodes.items },
+}
+
+/// Written out, so that letting the lists go is one call in the proofs of those who hold one, not a step for each part.
+impl Drop for Interner {
+    fn drop(self) {
+        let Interner {
+            positions: _,
+            nodes: _,
+            spots: _,
+        } = self;
+    }
 }
 
 impl Node {

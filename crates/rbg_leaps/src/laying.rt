@@ -1,6 +1,6 @@
 //! The leaps as they are asked for: the entries after each position, side by side.
 ghost use Rattle.std.specs.Prelude.{◌+◌, ◌*◌, ◌<◌, ◌≤◌, length, All, IfOk};
-ghost use Rattle.rbg_rules.specs.Games.{IsGame};
+ghost use Rattle.rbg_rules.specs.Meaning.{IsGame};
 ghost use Rattle.rbg_leaps.specs.Made.{AreLeapsOf};
 ghost use Rattle.rbg_leaps.specs.internal.Interned.{AreListsOf};
 ghost use Rattle.rbg_leaps.specs.internal.Tables.{AreLaid, IsFilled};

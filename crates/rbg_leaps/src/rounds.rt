@@ -1,6 +1,6 @@
 //! Rounds over all nodes and vertices, until nothing is missing.
 ghost use Rattle.std.specs.Prelude.{◌≡◌, ◌<◌, length, false, IfOk, OnOk, IsTrue};
-ghost use Rattle.rbg_rules.specs.Games.{IsGame};
+ghost use Rattle.rbg_rules.specs.Meaning.{IsGame};
 ghost use Rattle.rbg_leaps.specs.internal.Interned.{AreListsOf};
 ghost use Rattle.rbg_leaps.specs.internal.Tables.{IsSoundTable, IsRightAt, IsRightSoFar, StaysClosed, AreClosedAt, AreAllClosed, LeadsOneWay, IsFilled, FillsRightly, AreFilled, AreFilledSoFar};
 

@@ -32,16 +32,6 @@ pub(crate) struct TokenBuffer<'t> {
     tokens: Vec<KeptToken<'t>>,
 }
 
-/// Written out, so that letting a buffer go is one call in the proofs of those who hold one, not a step for each part.
-impl Drop for TokenBuffer<'_> {
-    fn drop(self) {
-        let TokenBuffer {
-            joined: _,
-            tokens: _,
-        } = self;
-    }
-}
-
 impl<'t> Model for TokenBuffer<'t> {
     ghost use Rattle.std.specs.Prelude.{List, map, All};
     ghost use Rattle.rbg_tokens.specs.Token.{Lexeme};
@@ -53,6 +43,16 @@ impl<'t> Model for TokenBuffer<'t> {
     ghost view = { λ b. map (kept_lexeme b.joined.items) b.tokens.items };
 
     ghost invariant = { λ b. All (IsKeptWithin b.joined.items) b.tokens.items };
+}
+
+/// Written out, so that letting a buffer go is one call in the proofs of those who hold one, not a step for each part.
+impl Drop for TokenBuffer<'_> {
+    fn drop(self) {
+        let TokenBuffer {
+            joined: _,
+            tokens: _,
+        } = self;
+    }
 }
 
 impl<'t> TokenBuffer<'t> {

@@ -36,13 +36,6 @@ pub(crate) struct Macros<'t> {
     by_name: IndexMap<&'t [u8], Template<'t>>,
 }
 
-/// Written out, so that letting the macros go is one call in the proofs of those who hold one, not a step for each part.
-impl Drop for Macros<'_> {
-    fn drop(self) {
-        let Macros { by_name: _ } = self;
-    }
-}
-
 impl<'t> Model for Macros<'t> {
     ghost use Rattle.std.specs.Prelude.{List, map};
     ghost use Rattle.rbg_macro.specs.Macro.{Macro};
@@ -52,6 +45,13 @@ impl<'t> Model for Macros<'t> {
     ghost use Rattle.rbg_macro.specs.internal.Template.{macro_in};
 
     ghost view = { λ m. map macro_in m.by_name.entries };
+}
+
+/// Written out, so that letting the macros go is one call in the proofs of those who hold one, not a step for each part.
+impl Drop for Macros<'_> {
+    fn drop(self) {
+        let Macros { by_name: _ } = self;
+    }
 }
 
 impl<'t> Template<'t> {

@@ -57,16 +57,6 @@ pub struct Source<'t> {
     sections: Vec<SectionSpan>,
 }
 
-/// Written out, so that letting a source go is one call in the proofs of those who hold one, not a step for each part.
-impl Drop for Source<'_> {
-    fn drop(self) {
-        let Source {
-            tokens: _,
-            sections: _,
-        } = self;
-    }
-}
-
 impl<'t> Model for Source<'t> {
     ghost use Rattle.std.specs.Prelude.{List, map, All, length};
     ghost use Rattle.rbg_macro.specs.Sections.{SectionTokens};
@@ -78,6 +68,16 @@ impl<'t> Model for Source<'t> {
     ghost view = { λ s. map (section_in s.tokens) s.sections.items };
 
     ghost invariant = { λ s. All (IsSectionIn s.tokens) s.sections.items };
+}
+
+/// Written out, so that letting a source go is one call in the proofs of those who hold one, not a step for each part.
+impl Drop for Source<'_> {
+    fn drop(self) {
+        let Source {
+            tokens: _,
+            sections: _,
+        } = self;
+    }
 }
 
 /// One section of a source.

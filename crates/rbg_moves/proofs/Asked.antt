@@ -2,12 +2,7 @@
 use Rattle.std.proofs.Common.{◌≡◌, ℕ, ◌+◌, ◌-◌, ◌^◌, ◌≤◌, min, List, [], length, Bool, false, Option, Some, None, refl, sym, ap, ◌∙◌, subst, inl, inr}
 use Rattle.std.specs.Prelude.{Result, Ok, Err, IsErrAnd, IfSome, IfNone}
 use Rattle.rbg_base.specs.Move.{most_pairs, IsMoveLength}
-use Rattle.rbg_rules.specs.Limits.{most_modifiers}
-use Rattle.rbg_rules.specs.Positions.{IsNumbered}
-use Rattle.rbg_rules.specs.State.{AbstractGame, AbstractState}
-use Rattle.rbg_rules.specs.Words.{Start}
-use Rattle.rbg_rules.specs.Moves.{AbstractPlace, Finished, IsLegal, stand_of}
-use Rattle.rbg_rules.specs.Questions.{Question, find_move, list_moves, try_move}
+use Rattle.rbg_rules.specs.Meaning.{most_modifiers, IsNumbered, AbstractGame, AbstractState, Start, AbstractPlace, Finished, IsLegal, stand_of, Question, find_move, list_moves, try_move}
 use Rattle.rbg_search.specs.Searching.{Searching, Tally}
 use Rattle.rbg_search.specs.declared.over.Over.{Over}
 use Rattle.rbg_search.specs.declared.over.Over.TheVariants.{Deep, Wide, Memory}

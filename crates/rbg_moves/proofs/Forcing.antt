@@ -2,15 +2,8 @@
 use Rattle.std.proofs.Common.{◌≡◌, ◌≢◌, ℕ, zero, suc, ◌-◌, ◌<◌, ◌≤◌, List, [], ◌∷◌, ◌++◌, length, Bool, true, false, refl, sym, ap, subst, inl, inr, arith}
 use Rattle.std.specs.Prelude.{All, Contains, Some}
 use Rattle.std.proofs.lemmas.List.Elements.{All-head, All-contains, All-weaker}
-use Rattle.rbg_rules.specs.Positions.{IsNumbered, IsSwitchAt}
-use Rattle.rbg_rules.specs.Words.{Start, after}
-use Rattle.rbg_rules.specs.State.{AbstractGame, AbstractState}
-use Rattle.rbg_rules.specs.Actions.{Applies}
-use Rattle.rbg_rules.specs.Expression.{switch}
+use Rattle.rbg_rules.specs.Meaning.{IsNumbered, IsSwitchAt, Start, after, AbstractGame, AbstractState, Applies, switch, stay, modify, AbstractPlace, stand_of, Legal, IsLegal, Finished, most_openings, most_modifiers, Question, try_move, find_move, list_moves, reach, pattern, Item, IsMove, AnswersBehind, GoesTo, IsForcedTo, Forced, at, behind, IsForcedDeep}
 use Rattle.rbg_rules.proofs.PlaceLemmas.{RunPairs_join}
-use Rattle.rbg_rules.specs.Moves.{stay, modify, AbstractPlace, stand_of, Legal, IsLegal, Finished}
-use Rattle.rbg_rules.specs.Limits.{most_openings, most_modifiers}
-use Rattle.rbg_rules.specs.Questions.{Question, try_move, find_move, list_moves, reach, pattern, Item, IsMove, AnswersBehind, GoesTo, IsForcedTo, Forced, at, behind, IsForcedDeep}
 use Rattle.rbg_rules.proofs.MoveLemmas.{Applies_one}
 use Rattle.rbg_pairs.specs.Flat.{IsNext, IsFlatPart}
 use Rattle.rbg_search.specs.Forced.{CountsForced, TakesBehind}

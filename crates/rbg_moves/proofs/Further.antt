@@ -6,13 +6,7 @@ use Rattle.std.proofs.lemmas.List.{length_push}
 use Rattle.std.proofs.lemmas.List.Sorted.{All-permutation, IsPermutation-append_right, IsPermutation-refl}
 use Rattle.std.proofs.lemmas.List.Elements.{All-head, All-nil, All-push, All-tail}
 use Rattle.rbg_base.specs.Move.{most_pairs}
-use Rattle.rbg_rules.specs.Positions.{IsNumbered, IsModifierAt, IsSwitchAt}
-use Rattle.rbg_rules.specs.Words.{Start, after}
-use Rattle.rbg_rules.specs.State.{AbstractGame, AbstractState, IsStateOf}
-use Rattle.rbg_rules.specs.Actions.{Applies}
-use Rattle.rbg_rules.specs.Games.{IsGame}
-use Rattle.rbg_rules.specs.Moves.{AbstractPlace, stand_of, IsLegal}
-use Rattle.rbg_rules.specs.Questions.{Question, try_move, reach, GoesTo}
+use Rattle.rbg_rules.specs.Meaning.{IsNumbered, IsModifierAt, IsSwitchAt, Start, after, AbstractGame, AbstractState, IsStateOf, Applies, IsGame, AbstractPlace, stand_of, IsLegal, Question, try_move, reach, GoesTo}
 use Rattle.rbg_rules.proofs.MoveLemmas.{Applies_one}
 use Rattle.rbg_rules.proofs.TableLemmas.{numbered_action}
 use Rattle.rbg_state.specs.History.{History}

@@ -6,10 +6,7 @@ use Rattle.std.proofs.lemmas.List.Elements.{All-contains, All-contains_itself, A
 use Rattle.std.specs.List.Sorted.{IsPermutation}
 use Rattle.std.proofs.lemmas.List.Sorted.{IsPermutation-sym, Contains-permutation}
 use Rattle.rbg_base.specs.Move.{most_pairs, IsMoveLength}
-use Rattle.rbg_rules.specs.Positions.{IsNumbered, IsSwitchAt}
-use Rattle.rbg_rules.specs.State.{AbstractGame, AbstractState}
-use Rattle.rbg_rules.specs.Actions.{Applies}
-use Rattle.rbg_rules.specs.Moves.{AbstractPlace, stand_of, Legal, IsLegal}
+use Rattle.rbg_rules.specs.Meaning.{IsNumbered, IsSwitchAt, AbstractGame, AbstractState, Applies, AbstractPlace, stand_of, Legal, IsLegal}
 use Rattle.rbg_rules.proofs.MoveLemmas.{Applies_one}
 use Rattle.rbg_pairs.specs.Flat.{IsNext, IsFlatPart}
 use Rattle.rbg_pairs.proofs.Meetings.{met_once}

@@ -4,9 +4,7 @@ use Rattle.std.specs.Prelude.{All, AllPairs, Contains, IsErrAnd, Result, Ok, Err
 use Rattle.std.specs.List.Sorted.{IsPermutation}
 use Rattle.std.proofs.lemmas.List.{map-id}
 use Rattle.std.proofs.lemmas.List.Sorted.{IsPermutation-sym, All-permutation, Contains-permutation, length_permutation}
-use Rattle.rbg_rules.specs.State.{AbstractGame}
-use Rattle.rbg_rules.specs.Moves.{AbstractPlace, IsLegal}
-use Rattle.rbg_rules.specs.Questions.{Question, list_moves}
+use Rattle.rbg_rules.specs.Meaning.{AbstractGame, AbstractPlace, IsLegal, Question, list_moves}
 use Rattle.rbg_search.specs.Searching.{Tally}
 use Rattle.rbg_search.specs.declared.over.Over.{Over}
 use Rattle.rbg_moves.specs.Answers.{GivesUp}

@@ -2,15 +2,7 @@
 use Rattle.std.proofs.Common.{◌≡◌, ℕ, ◌<◌, length, List, [], ◌∷◌, ◌++◌, Bool, true, false, refl, sym, ap, ◌∙◌, subst, append_assoc}
 use Rattle.std.specs.Prelude.{Option, Some, None}
 use Rattle.std.proofs.lemmas.List.Elements.{All-head, All-tail, All-cons, All-append}
-use Rattle.rbg_rules.specs.Expression.{switch}
-use Rattle.rbg_rules.specs.Positions.{IsNumbered, IsModifierAt, IsSwitchAt, HasNoSwitch, is_modifier}
-use Rattle.rbg_rules.specs.Words.{Start, after, Follows}
-use Rattle.rbg_rules.specs.State.{AbstractGame, AbstractState, IsStateOf}
-use Rattle.rbg_rules.specs.Actions.{Applies, Run}
-use Rattle.rbg_rules.specs.Moves.{RunPairs, stay, modify, pass, AbstractPlace, stand_of, Legal}
-use Rattle.rbg_rules.specs.Places.{IsPlaceOf}
-use Rattle.rbg_rules.specs.Games.{IsGame}
-use Rattle.rbg_rules.specs.Questions.{try_move}
+use Rattle.rbg_rules.specs.Meaning.{switch, IsNumbered, IsModifierAt, IsSwitchAt, HasNoSwitch, is_modifier, Start, after, Follows, AbstractGame, AbstractState, IsStateOf, Applies, Run, RunPairs, stay, modify, pass, AbstractPlace, stand_of, Legal, IsPlaceOf, IsGame, try_move}
 use Rattle.rbg_rules.proofs.MoveLemmas.{Applies_one}
 use Rattle.rbg_rules.proofs.PlaceLemmas.{RunPairs_join}
 use Rattle.rbg_rules.proofs.LocalityLemmas.{locality_law}

@@ -1,9 +1,6 @@
 -- What a question counts, and what a workspace counts of one that was answered.
 use Rattle.std.proofs.Common.{◌≡◌, ℕ, ◌+◌, ◌-◌, ◌^◌, min, true, ap, ◌∙◌, subst}
-use Rattle.rbg_rules.specs.State.{AbstractGame, AbstractState}
-use Rattle.rbg_rules.specs.Words.{Start, after}
-use Rattle.rbg_rules.specs.Moves.{AbstractPlace, stand_of}
-use Rattle.rbg_rules.specs.Questions.{Question}
+use Rattle.rbg_rules.specs.Meaning.{AbstractGame, AbstractState, Start, after, AbstractPlace, stand_of, Question}
 use Rattle.rbg_search.specs.Counting.{CountsOpenings}
 use Rattle.rbg_search.specs.Forced.{CountsAllForced}
 use Rattle.rbg_search.specs.Passing.{GoesOn}

@@ -2,11 +2,7 @@
 -- result of the call, in whatever form this tells a move or a list of moves.
 use Rattle.std.specs.Prelude.{◌≡◌, ℕ, ◌⊎◌, List, length, Bool, true, false, Option, Result, Err, IfOk, IfSome, IfNone, OnOk}
 use Rattle.rbg_base.specs.Move.{IsMoveLength}
-use Rattle.rbg_rules.specs.State.{AbstractGame}
-use Rattle.rbg_rules.specs.Heavy.{IsTooHard}
-use Rattle.rbg_rules.specs.Moves.{AbstractPlace, Finished, IsLegal, Legal}
-use Rattle.rbg_rules.specs.Places.{IsPlaceOf}
-use Rattle.rbg_rules.specs.Questions.{Question, find_move, list_moves, try_move}
+use Rattle.rbg_rules.specs.Meaning.{AbstractGame, IsTooHard, AbstractPlace, Finished, IsLegal, Legal, IsPlaceOf, Question, find_move, list_moves, try_move}
 use Rattle.rbg_search.specs.declared.over.Over.{Over}
 use Rattle.rbg_search.specs.declared.over.Over.TheVariants.{Deep, Wide}
 use Rattle.rbg_moves.specs.Limits.{IsDeepAt, IsWideAt, FitsLimits}

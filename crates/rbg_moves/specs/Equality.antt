@@ -4,7 +4,7 @@ use Rattle.std.specs.Option.{option_eq}
 use Rattle.std.specs.Cmp.{IsEquivalence, IsPartialEquivalence}
 use Rattle.std.specs.Cmp.{partial_equiv_from_equiv, nat_eq_equiv, on_equiv, and_equiv}
 use Rattle.std.specs.Cmp.Lexicographic.{options_equiv}
-use Rattle.rbg_rules.specs.Moves.{AbstractPlace}
+use Rattle.rbg_rules.specs.Meaning.{AbstractPlace}
 use Rattle.rbg_state.specs.Equality.{is_same_state, same_present_equiv}
 use Rattle.rbg_state.specs.History.{History}
 

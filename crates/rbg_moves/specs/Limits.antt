@@ -1,9 +1,6 @@
 -- The limit of the keeper's moves, and what an answer says of the limits of questions.
 use Rattle.std.specs.Prelude.{ℕ, ◌≤◌, Bool}
-use Rattle.rbg_rules.specs.State.{AbstractGame}
-use Rattle.rbg_rules.specs.Moves.{AbstractPlace, stand_of}
-use Rattle.rbg_rules.specs.Questions.{Question, IsDeep, IsWide, HasForced, IsForcedDeep}
-use Rattle.rbg_rules.specs.Limits.{most_openings, most_modifiers}
+use Rattle.rbg_rules.specs.Meaning.{AbstractGame, AbstractPlace, stand_of, Question, IsDeep, IsWide, HasForced, IsForcedDeep, most_openings, most_modifiers}
 
 -- the keeper makes at most this many moves in a row
 abbrev pub most_keeper_moves : ℕ

@@ -1,9 +1,7 @@
 -- Moves of the keeper before a player's.
 use Rattle.std.specs.Prelude.{◌≡◌, ◌≢◌, ℕ, zero, suc, ◌<◌, ◌≤◌, ◌⊎◌, List, length}
 use Rattle.rbg_base.specs.Move.{IsMoveLength}
-use Rattle.rbg_rules.specs.State.{AbstractGame}
-use Rattle.rbg_rules.specs.Heavy.{IsHeavyToFind}
-use Rattle.rbg_rules.specs.Moves.{AbstractPlace, Legal, Finished}
+use Rattle.rbg_rules.specs.Meaning.{AbstractGame, IsHeavyToFind, AbstractPlace, Legal, Finished}
 use Rattle.rbg_moves.specs.Limits.{most_keeper_moves}
 
 -- So many moves of the keeper lead from one place to the other.

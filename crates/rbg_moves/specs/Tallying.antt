@@ -1,8 +1,6 @@
 -- What a workspace counts of a question.
 use Rattle.std.specs.Prelude.{◌≡◌, ℕ, ◌+◌, ◌-◌, ◌^◌, min, true, Result, OnOk, OnErr}
-use Rattle.rbg_rules.specs.State.{AbstractGame}
-use Rattle.rbg_rules.specs.Moves.{AbstractPlace, stand_of}
-use Rattle.rbg_rules.specs.Questions.{Question}
+use Rattle.rbg_rules.specs.Meaning.{AbstractGame, AbstractPlace, stand_of, Question}
 use Rattle.rbg_search.specs.Counting.{CountsOpenings}
 use Rattle.rbg_search.specs.Forced.{CountsAllForced}
 use Rattle.rbg_search.specs.Searching.{Tally}

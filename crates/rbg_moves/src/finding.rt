@@ -1,9 +1,7 @@
 //! Some legal move, where there is one.
 ghost use Rattle.std.specs.Prelude.{◌≡◌, ◌≤◌, length, IfOk, IfSome, IfNone, OnOk, Err, Bool};
 ghost use Rattle.rbg_base.specs.Move.{IsMoveLength};
-ghost use Rattle.rbg_rules.specs.Moves.{Finished};
-ghost use Rattle.rbg_rules.specs.Questions.{find_move};
-ghost use Rattle.rbg_rules.specs.Places.{IsPlaceOf};
+ghost use Rattle.rbg_rules.specs.Meaning.{Finished, find_move, IsPlaceOf};
 ghost use Rattle.rbg_moves.specs.Answers.{FindsMove};
 ghost use Rattle.rbg_moves.specs.Tallying.{Tallies};
 ghost use Rattle.rbg_moves.specs.internal.Fronts.{FindsFront, IsWalkedFrom};

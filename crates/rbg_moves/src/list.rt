@@ -1,8 +1,7 @@
 //! The legal moves of a place.
 ghost use Rattle.std.specs.Prelude.{◌≡◌, ◌≢◌, ◌<◌, AllPairs, IfOk, OnOk};
 ghost use Rattle.std.specs.List.Sorted.{IsPermutation};
-ghost use Rattle.rbg_rules.specs.Questions.{list_moves as listing_moves};
-ghost use Rattle.rbg_rules.specs.Places.{IsPlaceOf};
+ghost use Rattle.rbg_rules.specs.Meaning.{list_moves as listing_moves, IsPlaceOf};
 ghost use Rattle.rbg_moves.specs.Answers.{ListsMoves};
 ghost use Rattle.rbg_moves.specs.Listing.{IsGathered, IsListed, IsMoveBefore};
 ghost use Rattle.rbg_moves.specs.Tallying.{Tallies};

@@ -1,7 +1,6 @@
 //! Moves that are known to be legal.
 ghost use Rattle.std.specs.Prelude.{◌≡◌, IfOk, OnOk, OnErr};
-ghost use Rattle.rbg_rules.specs.Moves.{Legal, IsLegal};
-ghost use Rattle.rbg_rules.specs.Places.{IsPlaceOf};
+ghost use Rattle.rbg_rules.specs.Meaning.{Legal, IsLegal, IsPlaceOf};
 ghost use Rattle.rbg_state.specs.History.{IsAfter};
 
 use crate::asking::game_is_accepted;

@@ -1,6 +1,6 @@
 //! Where play stands in a game.
 ghost use Rattle.std.specs.Prelude.{◌≡◌, IfOk, OnOk, None};
-ghost use Rattle.rbg_rules.specs.State.{start_of, IsStateOf};
+ghost use Rattle.rbg_rules.specs.Meaning.{start_of, IsStateOf};
 
 use rbg_base::{Memory, Position};
 use rbg_rules::Game;
@@ -16,7 +16,7 @@ pub struct Place {
 }
 
 impl Model for Place {
-    ghost use Rattle.rbg_rules.specs.Moves.{AbstractPlace};
+    ghost use Rattle.rbg_rules.specs.Meaning.{AbstractPlace};
 
     ghost Value = { AbstractPlace };
 

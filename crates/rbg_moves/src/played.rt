@@ -1,11 +1,6 @@
 //! A game that is made ready for play, and what play asks of its rules.
 ghost use Rattle.std.specs.Prelude.{◌≡◌, ◌↔◌, ◌<◌, ◌≤◌, ◌^◌, None, length, take, All, IfOk, IfSome, IsTrue, OnErr, OnOk};
-ghost use Rattle.rbg_rules.specs.Games.{IsGame};
-ghost use Rattle.rbg_rules.specs.Limits.{most_players};
-ghost use Rattle.rbg_rules.specs.Moves.{IsLegal, Legal};
-ghost use Rattle.rbg_rules.specs.Places.{IsPlaceOf};
-ghost use Rattle.rbg_rules.specs.Questions.{find_move, list_moves as listing_moves, try_move};
-ghost use Rattle.rbg_rules.specs.State.{AbstractGame, start_of};
+ghost use Rattle.rbg_rules.specs.Meaning.{IsGame, most_players, IsLegal, Legal, IsPlaceOf, find_move, list_moves as listing_moves, try_move, AbstractGame, start_of};
 ghost use Rattle.rbg_flat.specs.Paths.{ArePathsOf};
 ghost use Rattle.rbg_moves.specs.Answers.{FindsMove, TellsMove, ListsMoves, TriesMove};
 ghost use Rattle.rbg_moves.specs.Listing.{IsGathered, IsListed};
@@ -39,20 +34,8 @@ pub struct PlayedGame {
     paths: Option<Paths>,
 }
 
-/// Written out, so that letting a game go is one call in the proofs of those who hold one, not a step for each part.
-impl Drop for PlayedGame {
-    fn drop(self) {
-        let PlayedGame {
-            alloc: _,
-            game: _,
-            automaton: _,
-            paths: _,
-        } = self;
-    }
-}
-
 impl Model for PlayedGame {
-    ghost use Rattle.rbg_rules.specs.State.{AbstractGame};
+    ghost use Rattle.rbg_rules.specs.Meaning.{AbstractGame};
 
     ghost Value = { AbstractGame };
 
@@ -63,12 +46,24 @@ impl Model for PlayedGame {
     ghost view = { λ played. played.game };
 
     ghost use Rattle.std.specs.Prelude.{IfSome};
-    ghost use Rattle.rbg_rules.specs.Games.{IsGame};
+    ghost use Rattle.rbg_rules.specs.Meaning.{IsGame};
     ghost use Rattle.rbg_flat.specs.Paths.{ArePathsOf};
 
     ghost invariant = { λ played.
         IsGame played.game × ⟦<Compact as Steps>⟧.of_rules played.automaton played.game.rules
         × IfSome played.paths (ArePathsOf played.game) };
+}
+
+/// Written out, so that letting a game go is one call in the proofs of those who hold one, not a step for each part.
+impl Drop for PlayedGame {
+    fn drop(self) {
+        let PlayedGame {
+            alloc: _,
+            game: _,
+            automaton: _,
+            paths: _,
+        } = self;
+    }
 }
 
 /// The leaps of a game, where they are told.

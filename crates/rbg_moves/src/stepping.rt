@@ -1,11 +1,6 @@
 //! One modifier of a move.
 ghost use Rattle.std.specs.Prelude.{◌≡◌, ℕ, ◌≤◌, not, IsTrue, IfOk, OnOk, Err, false};
-ghost use Rattle.rbg_rules.specs.State.{IsStateOf};
-ghost use Rattle.rbg_rules.specs.Actions.{Applies};
-ghost use Rattle.rbg_rules.specs.Moves.{stand_of};
-ghost use Rattle.rbg_rules.specs.Places.{IsPlaceOf};
-ghost use Rattle.rbg_rules.specs.Questions.{reach, IsDeep};
-ghost use Rattle.rbg_rules.specs.Games.{IsGame};
+ghost use Rattle.rbg_rules.specs.Meaning.{IsStateOf, Applies, stand_of, IsPlaceOf, reach, IsDeep, IsGame};
 ghost use Rattle.rbg_state.specs.History.{capacity_of, IsAfter};
 ghost use Rattle.rbg_pairs.specs.Flat.{IsNext};
 ghost use Rattle.rbg_search.specs.Counting.{CountsOpenings, IsOverBudget};

@@ -1,8 +1,6 @@
 //! Whether a list of pairs is a legal move.
 ghost use Rattle.std.specs.Prelude.{◌≡◌, IfOk, IfSome, IfNone, OnOk, OnErr};
-ghost use Rattle.rbg_rules.specs.Moves.{AbstractPlace, Legal};
-ghost use Rattle.rbg_rules.specs.Places.{IsPlaceOf};
-ghost use Rattle.rbg_rules.specs.Questions.{try_move};
+ghost use Rattle.rbg_rules.specs.Meaning.{AbstractPlace, Legal, IsPlaceOf, try_move};
 ghost use Rattle.rbg_moves.specs.Answers.{TriesMove};
 ghost use Rattle.rbg_moves.specs.Tallying.{Tallies};
 ghost use Rattle.rbg_moves.specs.internal.Stepping.{place_behind, IsFollowed};

@@ -24,8 +24,7 @@ impl From<Over> for Unsettled {
 
     fn from(over: Over) -> Unsettled {
         match over {
-            Over::Deep => Unsettled::Heavy,
-            Over::Wide => Unsettled::Heavy,
+            Over::Deep | Over::Wide => Unsettled::Heavy,
             Over::Memory => Unsettled::Memory,
         }
     }

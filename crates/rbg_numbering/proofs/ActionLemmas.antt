@@ -14,10 +14,7 @@ use Rattle.rbg_grammar.specs.declared.names.Name.{Name}
 use Rattle.rbg_grammar.specs.declared.rule.Action.{Action as SyntaxAction}
 use Rattle.rbg_grammar.specs.declared.rule.Action as actions
 use Rattle.rbg_grammar.proofs.Trees.{action_of-Shift, action_of-On, action_of-Off, action_of-Assign, action_of-Compare, action_of-Switch}
-use Rattle.rbg_rules.specs.Expression.{switch, skip, act}
-use Rattle.rbg_rules.specs.Limits.{most_positions, most_nested_patterns}
-use Rattle.rbg_rules.specs.Positions.{positions_of, positions_inside}
-use Rattle.rbg_rules.specs.Translation.{action_of, action_at, shows_pattern, arithmetic_of, expression_of}
+use Rattle.rbg_rules.specs.Meaning.{switch, skip, act, most_positions, most_nested_patterns, positions_of, positions_inside, action_of, action_at, shows_pattern, arithmetic_of, expression_of}
 use Rattle.rbg_rules.specs.declared.arithmetic.Arithmetic.{Arithmetic}
 use Rattle.rbg_rules.specs.declared.rule.Action.{Action}
 use Rattle.rbg_rules.specs.declared.rule.Action.TheVariants.{Shift, On, Off, Assign, Compare, Switch, Positive, Negative}

@@ -14,8 +14,7 @@ use Rattle.rbg_grammar.specs.declared.expression.Operand.{Operand}
 use Rattle.rbg_grammar.specs.declared.names.Name.{Name}
 use Rattle.rbg_grammar.specs.declared.names.Number.{Number}
 use Rattle.rbg_grammar.proofs.Trees.{expression_of-Number, expression_of-Name, expression_of-Negated, expression_of-Chain}
-use Rattle.rbg_rules.specs.Expression.{AbstractArithmetic, negated}
-use Rattle.rbg_rules.specs.Translation.{Change, changed, arithmetic_of, operation_of}
+use Rattle.rbg_rules.specs.Meaning.{AbstractArithmetic, negated, Change, changed, arithmetic_of, operation_of}
 use Rattle.rbg_rules.specs.declared.arithmetic.Arithmetic.TheViews.{roll-Operation}
 use Rattle.rbg_rules.specs.declared.arithmetic.Arithmetic.{Arithmetic}
 use Rattle.rbg_rules.specs.declared.arithmetic.Arithmetic.TheVariants as arithmetics

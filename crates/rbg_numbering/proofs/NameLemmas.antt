@@ -20,7 +20,7 @@ use Rattle.std.proofs.lemmas.Str.{IsUtf8-from_ascii}
 use Rattle.std.proofs.lemmas.Str.Ascii.{IsAscii-from_all}
 use Rattle.rbg_base.specs.Names.{is_name, is_name_part}
 use Rattle.rbg_base.proofs.CallerLemmas.{name_parts, Contains-from_get, get_from-Contains, slice_get-append_left}
-use Rattle.rbg_rules.specs.LawfulNames.{AreDifferentNames, AreLawfulNames, AreNames}
+use Rattle.rbg_rules.specs.Meaning.{AreDifferentNames, AreLawfulNames, AreNames}
 use Rattle.rbg_numbering.specs.NameTables.{bytes_of}
 use Rattle.rbg_numbering.specs.internal.Tables.{GivesPlaces, number_for}
 use Rattle.rbg_numbering.proofs.Lists.{slice_get-last}

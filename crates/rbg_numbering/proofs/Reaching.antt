@@ -1,7 +1,6 @@
 -- What goes on from an expression to its parts reaches the actions that stand in it.
 use Rattle.std.proofs.Common.{◌≡◌, ℕ, suc, ◌≤◌, inl, inr, sym, subst, arith}
-use Rattle.rbg_rules.specs.Expression.{AbstractAction, positive, negative, Expression, act, skip, sequence, fail, choice, star}
-use Rattle.rbg_rules.specs.Positions.{HasAction, HasInside}
+use Rattle.rbg_rules.specs.Meaning.{AbstractAction, positive, negative, Expression, act, skip, sequence, fail, choice, star, HasAction, HasInside}
 
 -- `Holds` is said of an expression in which so many patterns may be opened, and `HoldsOf` of an action.
 module _ (Holds : ℕ → Expression → Type 0) (HoldsOf : ℕ → AbstractAction → Type 0)

@@ -4,10 +4,7 @@ use Rattle.std.specs.Prelude.{Contains}
 use Rattle.std.specs.List.{AllZip}
 use Rattle.std.proofs.lemmas.List.{length-append}
 use Rattle.rbg_grammar.specs.Tree.{SpeltName, SpeltExpression, SpeltOperands, no_operands, SpeltRule, SpeltRules, no_rules, more_rules, SpeltAction}
-use Rattle.rbg_rules.specs.Expression.{AbstractArithmetic, AbstractAction, switch, Expression, skip, sequence, fail, choice}
-use Rattle.rbg_rules.specs.Games.{NestsWithin, InsideNestsWithin}
-use Rattle.rbg_rules.specs.Positions.{HasAction, HasInside, positions_of, positions_inside, IsPatternOf, IsLevel, inside as level_of}
-use Rattle.rbg_rules.specs.Limits.{most_positions, most_nested_patterns}
+use Rattle.rbg_rules.specs.Meaning.{AbstractArithmetic, AbstractAction, switch, Expression, skip, sequence, fail, choice, NestsWithin, InsideNestsWithin, HasAction, HasInside, positions_of, positions_inside, IsPatternOf, IsLevel, inside as level_of, most_positions, most_nested_patterns}
 use Rattle.rbg_numbering.specs.declared.error.NumberingError.{NumberingError}
 use Rattle.rbg_numbering.specs.declared.error.NumberingError.TheVariants.{Memory}
 use Rattle.rbg_numbering.specs.Names.{Names, IsNumberOf}

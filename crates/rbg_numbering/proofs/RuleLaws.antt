@@ -10,12 +10,7 @@ use Rattle.rbg_base.specs.declared.operator.Operator.{Operator}
 use Rattle.rbg_base.specs.declared.operator.Operator.TheVariants.{Plus, Minus, Times, Over}
 use Rattle.rbg_grammar.specs.Formed.{is_formed, are_formed, is_formed_action, has_two_rules}
 use Rattle.rbg_grammar.specs.Tree.{SpeltName, SpeltExpression, SpeltOperands, no_operands, more_operands, SpeltRule, SpeltRules, no_rules, more_rules, SpeltAction}
-use Rattle.rbg_rules.specs.Expression.{AbstractArithmetic, AbstractAction, shift, on, off, assignment, comparison, switch, positive, negative, Expression, act, skip, sequence, fail, choice, star}
-use Rattle.rbg_rules.specs.Games.{HasNoEmptySum, HasNoEmptySumInside, NestsWithin, InsideNestsWithin, HasNamesOf, IsActionOf}
-use Rattle.rbg_rules.specs.Limits.{most_nested_patterns}
-use Rattle.rbg_rules.specs.Positions.{HasAction, HasInside, positions_of}
-use Rattle.rbg_rules.specs.State.{AbstractGame}
-use Rattle.rbg_rules.specs.Translation.{operated, expression_of}
+use Rattle.rbg_rules.specs.Meaning.{AbstractArithmetic, AbstractAction, shift, on, off, assignment, comparison, switch, positive, negative, Expression, act, skip, sequence, fail, choice, star, HasNoEmptySum, HasNoEmptySumInside, NestsWithin, InsideNestsWithin, HasNamesOf, IsActionOf, most_nested_patterns, HasAction, HasInside, positions_of, AbstractGame, operated, expression_of}
 use Rattle.rbg_rules.specs.declared.rule.Action.{Action}
 use Rattle.rbg_rules.specs.declared.rule.Rule.{Rule}
 use Rattle.rbg_numbering.specs.Names.{Names, IsNumberOf}

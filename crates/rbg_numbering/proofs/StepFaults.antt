@@ -1,7 +1,7 @@
 -- What is wrong with a part of the rules is wrong with the whole.
 use Rattle.std.proofs.Common.{◌≡◌, ℕ, zero, suc, ◌+◌, ◌<◌, ◌≤◌, List, [], ◌∷◌, length, take, get_or, refl, sym, ap, subst, arith}
 use Rattle.rbg_grammar.specs.Tree.{SpeltRule, SpeltRules, no_rules, more_rules, rules_after, SpeltAction}
-use Rattle.rbg_rules.specs.Limits.{most_nested_patterns}
+use Rattle.rbg_rules.specs.Meaning.{most_nested_patterns}
 use Rattle.rbg_numbering.specs.declared.error.NumberingError.{NumberingError}
 use Rattle.rbg_numbering.specs.Names.{Names}
 use Rattle.rbg_numbering.specs.Faults.{HasSpeltAction, this, in_sequence, in_choice, in_star, in_positive, in_negative, SomeHasSpeltAction, earlier, last, IsSpeltPattern, positive_pattern, negative_pattern, HasPattern, HasPatternInside, in_none, in_one_more, HasSwitch, actions_in, actions_of}

@@ -6,11 +6,7 @@ use Rattle.std.specs.List.{range_with_len}
 use Rattle.std.proofs.lemmas.List.{length-append, map-append}
 use Rattle.std.proofs.lemmas.List.Elements.{All-nil, All-push}
 use Rattle.rbg_grammar.specs.Tree.{SpeltRule, SpeltRules, no_rules, more_rules, rules_after, SpeltAction}
-use Rattle.rbg_rules.specs.Expression.{Expression, act, skip, sequence, fail, choice, star}
-use Rattle.rbg_rules.specs.Limits.{most_positions}
-use Rattle.rbg_rules.specs.Positions.{positions_of}
-use Rattle.rbg_rules.specs.Table.{IsWithin}
-use Rattle.rbg_rules.specs.Translation.{expression_of, action_of, action_at, shows_pattern}
+use Rattle.rbg_rules.specs.Meaning.{Expression, act, skip, sequence, fail, choice, star, most_positions, positions_of, IsWithin, expression_of, action_of, action_at, shows_pattern}
 use Rattle.rbg_rules.specs.declared.rule.Action.{Action}
 use Rattle.rbg_rules.specs.declared.rule.Action.TheVariants.{Positive, Negative}
 use Rattle.rbg_rules.specs.declared.rule.Rule.{Rule}

@@ -4,7 +4,7 @@ use Rattle.rbg_grammar.specs.Tree.{SpeltName, SpeltNumber, SpeltExpression, Spel
 use Rattle.rbg_grammar.specs.Tree.{SpeltRule, SpeltRules, no_rules, more_rules, SpeltAction}
 use Rattle.rbg_base.specs.declared.operator.Operator.{Operator}
 use Rattle.rbg_base.specs.declared.relation.Relation.{Relation}
-use Rattle.rbg_rules.specs.Limits.{most_positions, most_nested_patterns}
+use Rattle.rbg_rules.specs.Meaning.{most_positions, most_nested_patterns}
 use Rattle.rbg_numbering.specs.declared.error.NumberingError.{NumberingError}
 use Rattle.rbg_numbering.specs.declared.error.NumberingError.TheVariants.{UnknownName, NumberTooGreat, SwitchInPattern, PatternTooDeep, TooManyPositions, Memory}
 use Rattle.rbg_numbering.specs.Names.{Names}

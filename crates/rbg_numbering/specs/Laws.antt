@@ -1,7 +1,7 @@
 -- Laws: a rule is one expression by numbers at most; with a fault it is none.
 use Rattle.std.specs.Prelude.{◌≡◌, ◌≢◌}
 use Rattle.rbg_grammar.specs.Tree.{SpeltRule}
-use Rattle.rbg_rules.specs.Expression.{Expression}
+use Rattle.rbg_rules.specs.Meaning.{Expression}
 use Rattle.rbg_numbering.specs.declared.error.NumberingError.{NumberingError}
 use Rattle.rbg_numbering.specs.declared.error.NumberingError.TheVariants.{Memory}
 use Rattle.rbg_numbering.specs.Names.{Names, HasDifferentNames}

@@ -1,7 +1,7 @@
 -- Names and their numbers.
 use Rattle.std.specs.Prelude.{◌≡◌, ℕ, List, Some, map, slice_get}
 use Rattle.rbg_grammar.specs.Tree.{SpeltName}
-use Rattle.rbg_rules.specs.LawfulNames.{AreDifferentNames}
+use Rattle.rbg_rules.specs.Meaning.{AreDifferentNames}
 
 -- the names of things, each list in order of the numbers
 pub record Names : Type 0 where

@@ -1,13 +1,8 @@
 -- The rules of a description by numbers, with all that every game keeps of its rules.
 use Rattle.std.specs.Prelude.{◌≡◌, ℕ, ◌≤◌, length}
 use Rattle.rbg_grammar.specs.Tree.{SpeltRule}
-use Rattle.rbg_rules.specs.Expression.{AbstractAction, switch, Expression}
-use Rattle.rbg_rules.specs.Games.{HasNoEmptySum, NestsWithin, IsActionOf}
-use Rattle.rbg_rules.specs.Positions.{HasAction, positions_of, IsNumbered, IsLevel, inside}
-use Rattle.rbg_rules.specs.State.{AbstractGame}
-use Rattle.rbg_rules.specs.Translation.{rules_of}
+use Rattle.rbg_rules.specs.Meaning.{AbstractAction, switch, Expression, HasNoEmptySum, NestsWithin, IsActionOf, HasAction, positions_of, IsNumbered, IsLevel, inside, AbstractGame, rules_of, most_players, most_variables, most_pieces, most_directions, most_positions, most_nested_patterns}
 use Rattle.rbg_rules.specs.declared.rule.Rules.{Rules}
-use Rattle.rbg_rules.specs.Limits.{most_players, most_variables, most_pieces, most_directions, most_positions, most_nested_patterns}
 use Rattle.rbg_numbering.specs.declared.tables.NameTables.{NameTables}
 use Rattle.rbg_numbering.specs.Names.{Names}
 use Rattle.rbg_numbering.specs.Rules.{RuleIs}

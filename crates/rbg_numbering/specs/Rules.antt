@@ -4,11 +4,7 @@ use Rattle.std.specs.Prelude.{◌≡◌, ℕ, ◌+◌, ◌<◌, ◌^◌, ◌⊎�
 use Rattle.std.specs.List.{AllZip}
 use Rattle.rbg_grammar.specs.Tree.{SpeltExpression, SpeltOperands, no_operands, more_operands}
 use Rattle.rbg_grammar.specs.Tree.{SpeltRule, SpeltRules, no_rules, more_rules, SpeltAction}
-use Rattle.rbg_rules.specs.Expression.{AbstractArithmetic, number, variable, piece_count, negated}
-use Rattle.rbg_rules.specs.Expression.{AbstractAction, shift, on, off, assignment, comparison, switch}
-use Rattle.rbg_rules.specs.Expression.{positive, negative}
-use Rattle.rbg_rules.specs.Expression.{Expression, act, skip, sequence, fail, choice, star}
-use Rattle.rbg_rules.specs.Translation.{operated}
+use Rattle.rbg_rules.specs.Meaning.{AbstractArithmetic, number, variable, piece_count, negated, AbstractAction, shift, on, off, assignment, comparison, switch, positive, negative, Expression, act, skip, sequence, fail, choice, star, operated}
 use Rattle.rbg_numbering.specs.Names.{Names, IsNumberOf}
 
 abbrev mutual

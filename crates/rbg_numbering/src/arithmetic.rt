@@ -3,7 +3,7 @@ ghost use Rattle.std.specs.Prelude.{◌≡◌, ◌<◌, IfOk, IfErr, All, map, l
 ghost use Rattle.rbg_grammar.specs.Formed.{is_formed_expression};
 ghost use Rattle.rbg_grammar.specs.Tree.{SpeltExpression, no_operands, operands_after, chain};
 ghost use Rattle.rbg_grammar.specs.Views.{name_of, number_of, expression_of, operand_of};
-ghost use Rattle.rbg_rules.specs.Translation.{arithmetic_of};
+ghost use Rattle.rbg_rules.specs.Meaning.{arithmetic_of};
 ghost use Rattle.rbg_numbering.specs.Rules.{ArithmeticIs, ChainIs};
 ghost use Rattle.rbg_numbering.specs.Names.{Names};
 ghost use Rattle.rbg_numbering.specs.Faults.{HasArithmeticFault};

@@ -5,7 +5,7 @@ ghost use Rattle.std.specs.List.{AllZip};
 ghost use Rattle.rbg_base.specs.Names.{is_name};
 ghost use Rattle.rbg_grammar.specs.Views.{name_of};
 ghost use Rattle.rbg_rules.specs.Texts.{texts};
-ghost use Rattle.rbg_rules.specs.LawfulNames.{AreLawfulNames};
+ghost use Rattle.rbg_rules.specs.Meaning.{AreLawfulNames};
 ghost use Rattle.rbg_numbering.specs.Names.{IsNumberOf};
 ghost use Rattle.rbg_numbering.specs.NameTables.{HasLookUpFault, HasNameFault};
 
@@ -23,16 +23,6 @@ pub struct NameTable {
     numbers: BTreeMap<Vec<u8>, usize>,
 }
 
-/// Written out, so that letting a table go is one call in the proofs of those who hold one, not a step for each part.
-impl Drop for NameTable {
-    fn drop(self) {
-        let NameTable {
-            names: _,
-            numbers: _,
-        } = self;
-    }
-}
-
 impl Model for NameTable {
     ghost use Rattle.std.specs.Prelude.{ℕ, List};
 
@@ -45,6 +35,16 @@ impl Model for NameTable {
     ghost use Rattle.rbg_numbering.specs.internal.Tables.{IsTable};
 
     ghost invariant = { λ table. IsTable (bytes_of table.names.items) table.numbers };
+}
+
+/// Written out, so that letting a table go is one call in the proofs of those who hold one, not a step for each part.
+impl Drop for NameTable {
+    fn drop(self) {
+        let NameTable {
+            names: _,
+            numbers: _,
+        } = self;
+    }
 }
 
 impl NameTable {

@@ -1,13 +1,7 @@
 -- What is reached step by step is what runs without a modifier reach.
 use Rattle.std.proofs.Common.{◌≡◌, ℕ, ◌⊎◌, List, [], ◌∷◌, ◌++◌, Bool, true, false, refl, sym, ap, ◌∙◌, subst, inl, inr, append_assoc}
 use Rattle.std.proofs.lemmas.List.Elements.{All-nil, All-head, All-tail, All-push}
-use Rattle.rbg_rules.specs.Positions.{IsNumbered, IsModifierAt, HasNoModifier, is_modifier}
-use Rattle.rbg_rules.specs.Words.{Start, after, Follows, Ends}
-use Rattle.rbg_rules.specs.State.{AbstractGame, AbstractState}
-use Rattle.rbg_rules.specs.Actions.{rest, step, Applies, Run}
-use Rattle.rbg_rules.specs.Moves.{RunPairs, stay, modify, pass}
-use Rattle.rbg_rules.specs.Questions.{SomeWordRuns}
-use Rattle.rbg_rules.specs.Laws.{SameButVertex}
+use Rattle.rbg_rules.specs.Meaning.{IsNumbered, IsModifierAt, HasNoModifier, is_modifier, Start, after, Follows, Ends, AbstractGame, AbstractState, rest, step, Applies, Run, RunPairs, stay, modify, pass, SomeWordRuns, SameButVertex}
 use Rattle.rbg_rules.proofs.RunLemmas.{Runs_join}
 use Rattle.rbg_rules.proofs.PositionLemmas.{one_stands}
 use Rattle.rbg_rules.proofs.PlaceLemmas.{quiet_acts, same_state, RunPairs_join, Runs-RunPairs}

@@ -2,10 +2,7 @@
 use Rattle.std.proofs.Common.{◌≡◌, ◌⊎◌, ℕ, zero, suc, [], ◌∷◌, true, false, inl, inr, sym, ap, refl, ◌∙◌, arith}
 use Rattle.std.specs.Prelude.{Contains, Option, Some, None, slice_index}
 use Rattle.rbg_board.specs.Graph.{next}
-use Rattle.rbg_rules.specs.Expression.{AbstractAction, shift, on, off, switch, positive, negative, Expression}
-use Rattle.rbg_rules.specs.Positions.{IsNumbered, HasAction, IsPatternAt, is_modifier, is_pattern}
-use Rattle.rbg_rules.specs.State.{AbstractGame, AbstractState}
-use Rattle.rbg_rules.specs.Actions.{Acts}
+use Rattle.rbg_rules.specs.Meaning.{AbstractAction, shift, on, off, switch, positive, negative, Expression, IsNumbered, HasAction, IsPatternAt, is_modifier, is_pattern, AbstractGame, AbstractState, Acts}
 use Rattle.rbg_rules.proofs.MoveLemmas.{applied_acts}
 use Rattle.rbg_rules.proofs.PositionLemmas.{one_stands}
 use Rattle.rbg_pairs.specs.Closure.{at_vertex}

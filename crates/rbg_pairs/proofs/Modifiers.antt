@@ -1,8 +1,6 @@
 -- Where an action that is no modifier leads.
 use Rattle.std.proofs.Common.{◌≡◌, ℕ, ap}
-use Rattle.rbg_rules.specs.Positions.{IsNumbered, IsModifierAt}
-use Rattle.rbg_rules.specs.State.{AbstractGame, AbstractState}
-use Rattle.rbg_rules.specs.Actions.{Applies}
+use Rattle.rbg_rules.specs.Meaning.{IsNumbered, IsModifierAt, AbstractGame, AbstractState, Applies}
 use Rattle.rbg_rules.proofs.MoveLemmas.{Applies_one}
 use Rattle.rbg_state.specs.Trials.{IsTrial}
 use Rattle.rbg_state.specs.declared.state.trials.Trial.{Trial}

@@ -1,9 +1,6 @@
 -- How deep patterns nest where a search goes on.
 use Rattle.std.proofs.Common.{◌≡◌, ℕ, suc, ◌-◌, ◌≤◌, List, [], ◌∷◌, ◌++◌, refl, sym, ◌∙◌, subst, inl, inr, arith, append_assoc}
-use Rattle.rbg_rules.specs.Expression.{AbstractAction, shift, on, off, assignment, comparison, switch, positive, negative, Expression, act, skip, sequence, fail, choice, star}
-use Rattle.rbg_rules.specs.Positions.{HasAction, HasInside, HasOwnAction, IsNumbered, Level, outermost, inside, IsLevel}
-use Rattle.rbg_rules.specs.Words.{Start, beginning, after, Follows}
-use Rattle.rbg_rules.specs.Games.{NestsWithin, InsideNestsWithin}
+use Rattle.rbg_rules.specs.Meaning.{AbstractAction, shift, on, off, assignment, comparison, switch, positive, negative, Expression, act, skip, sequence, fail, choice, star, HasAction, HasInside, HasOwnAction, IsNumbered, Level, outermost, inside, IsLevel, Start, beginning, after, Follows, NestsWithin, InsideNestsWithin}
 use Rattle.rbg_rules.proofs.PositionLemmas.{Among, Among_right, one_stands}
 use Rattle.rbg_rules.proofs.PatternLemmas.{own_stands, word_own}
 use Rattle.rbg_rules.proofs.LevelLemmas.{one_level_law}

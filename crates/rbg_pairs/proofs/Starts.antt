@@ -1,8 +1,6 @@
 -- What may come next stands in the rules.
 use Rattle.std.proofs.Common.{ℕ, [], ◌∷◌}
-use Rattle.rbg_rules.specs.Expression.{AbstractAction, Expression}
-use Rattle.rbg_rules.specs.Positions.{HasAction, IsNumbered}
-use Rattle.rbg_rules.specs.Words.{Start, Follows}
+use Rattle.rbg_rules.specs.Meaning.{AbstractAction, Expression, HasAction, IsNumbered, Start, Follows}
 use Rattle.rbg_leaps.proofs.ShiftLemmas.{follower_stands, action_within}
 use Rattle.rbg_pairs.specs.Start.{IsPositionOf}
 

@@ -3,9 +3,7 @@ use Rattle.std.proofs.Common.{◌≡◌, ◌≢◌, ℕ, ◌+◌, ◌*◌, ◌/�
 use Rattle.std.specs.Prelude.{All, AllPairs, Contains}
 use Rattle.std.proofs.lemmas.List.{length-take-le, length-take, length-append, get_or-take, take_more, take-append-le}
 use Rattle.std.proofs.lemmas.List.Elements.{All-weaker, Contains-push_cases}
-use Rattle.rbg_rules.specs.Expression.{Expression}
-use Rattle.rbg_rules.specs.Positions.{IsPatternAt}
-use Rattle.rbg_rules.specs.State.{AbstractGame}
+use Rattle.rbg_rules.specs.Meaning.{Expression, IsPatternAt, AbstractGame}
 use Rattle.rbg_pairs.specs.Start.{IsPositionOf}
 use Rattle.rbg_pairs.specs.Meeting.{HasMark, MeetsAll}
 use Rattle.rbg_pairs.specs.internal.Taking.{marks_of, AreMet, Lengthens}

@@ -1,10 +1,6 @@
 -- The flat part as what a search takes up step by step.
 use Rattle.std.specs.Prelude.{◌≡◌, ℕ, ◌⊎◌, [], ◌∷◌}
-use Rattle.rbg_rules.specs.Positions.{IsModifierAt}
-use Rattle.rbg_rules.specs.Words.{Start, after, Follows, Ends}
-use Rattle.rbg_rules.specs.State.{AbstractGame, AbstractState}
-use Rattle.rbg_rules.specs.Actions.{Applies}
-use Rattle.rbg_rules.specs.Questions.{SomeWordRuns}
+use Rattle.rbg_rules.specs.Meaning.{IsModifierAt, Start, after, Follows, Ends, AbstractGame, AbstractState, Applies, SomeWordRuns}
 pub use Rattle.rbg_state.specs.Trials.{at_vertex}
 
 -- An action that is no modifier leads from one vertex to the other.

@@ -1,9 +1,6 @@
 -- The flat part of an opening: what is reached from a semi-state without a modifier.
 use Rattle.std.specs.Prelude.{◌≡◌, ◌≢◌, ℕ, ◌↔◌, List, [], ◌∷◌, ◌++◌, Contains, AllPairs, Bool, Decides}
-use Rattle.rbg_rules.specs.Positions.{IsModifierAt, HasNoModifier}
-use Rattle.rbg_rules.specs.Words.{Start, Follows}
-use Rattle.rbg_rules.specs.State.{AbstractGame, AbstractState}
-use Rattle.rbg_rules.specs.Actions.{Applies, Run}
+use Rattle.rbg_rules.specs.Meaning.{IsModifierAt, HasNoModifier, Start, Follows, AbstractGame, AbstractState, Applies, Run}
 use Rattle.rbg_flat.specs.Candidates.{MayEnd}
 pub use Rattle.rbg_flat.specs.Order.{IsBefore}
 

@@ -1,9 +1,6 @@
 -- How deep patterns may still nest from where one stands.
 use Rattle.std.specs.Prelude.{◌≡◌, ℕ}
-use Rattle.rbg_rules.specs.Expression.{AbstractAction, Expression}
-use Rattle.rbg_rules.specs.Positions.{HasOwnAction, Level, IsLevel}
-use Rattle.rbg_rules.specs.Words.{Start, beginning, after}
-use Rattle.rbg_rules.specs.Games.{NestsWithin}
+use Rattle.rbg_rules.specs.Meaning.{AbstractAction, Expression, HasOwnAction, Level, IsLevel, Start, beginning, after, NestsWithin}
 
 -- One stands in the level, whose expression is x.
 abbrev pub StandsIn : Start → Level → Expression → Type 0

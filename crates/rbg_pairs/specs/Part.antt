@@ -1,9 +1,6 @@
 -- A flat part that is being found.
 use Rattle.std.specs.Prelude.{◌≡◌, ◌≢◌, ℕ, ◌+◌, ◌*◌, ◌⊎◌, List, [], ◌∷◌, length, All, AllPairs, Contains, Bool, Decides}
-use Rattle.rbg_rules.specs.Positions.{IsModifierAt, positions_of}
-use Rattle.rbg_rules.specs.Words.{Start, after, Follows, Ends}
-use Rattle.rbg_rules.specs.State.{AbstractGame, AbstractState}
-use Rattle.rbg_rules.specs.Actions.{Applies}
+use Rattle.rbg_rules.specs.Meaning.{IsModifierAt, positions_of, Start, after, Follows, Ends, AbstractGame, AbstractState, Applies}
 use Rattle.rbg_pairs.specs.Closure.{at_vertex, Leads, Reached, IsFound, LeadsToEnd}
 use Rattle.rbg_pairs.specs.Meeting.{Met}
 use Rattle.rbg_state.specs.declared.state.trials.Trial.{Trial}

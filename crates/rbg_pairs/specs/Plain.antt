@@ -1,6 +1,6 @@
 -- Pairs at positions that are no shifts.
 use Rattle.std.specs.Prelude.{◌≡◌, ◌≢◌, ◌↔◌, ℕ, ◌≤◌, List, length, AllPairs, Contains}
-use Rattle.rbg_rules.specs.Expression.{Expression}
+use Rattle.rbg_rules.specs.Meaning.{Expression}
 use Rattle.rbg_leaps.specs.Leaps.{IsShiftAt}
 
 -- So many of the pairs are at positions that are no shifts.

@@ -1,7 +1,6 @@
 -- Where the program stands in the rules.
 use Rattle.std.specs.Prelude.{◌<◌, ◌≤◌, ℕ, length}
-use Rattle.rbg_rules.specs.Expression.{Expression}
-use Rattle.rbg_rules.specs.Positions.{positions_of}
+use Rattle.rbg_rules.specs.Meaning.{Expression, positions_of}
 pub use Rattle.rbg_leaps.specs.Origin.{start_of}
 
 -- The position is one of the rules.

@@ -1,7 +1,6 @@
 //! A game and the steps of its rules.
 ghost use Rattle.std.specs.Prelude.{◌≡◌, ◌≤◌, [], All, IfSome, IsTrue, ◌↔◌};
-ghost use Rattle.rbg_rules.specs.Games.{IsGame};
-ghost use Rattle.rbg_rules.specs.Words.{Start, Ends};
+ghost use Rattle.rbg_rules.specs.Meaning.{IsGame, Start, Ends};
 ghost use Rattle.rbg_pairs.specs.Nesting.{NestsFrom};
 ghost use Rattle.rbg_auto.specs.Steps.{AreAllThatFollow, IsGlance};
 ghost use Rattle.rbg_flat.specs.Paths.{ArePathsOf};
@@ -26,7 +25,7 @@ pub struct GameSteps<'a, S: Steps> {
 }
 
 impl<'a, S: Steps> Model for GameSteps<'a, S> {
-    ghost use Rattle.rbg_rules.specs.State.{AbstractGame};
+    ghost use Rattle.rbg_rules.specs.Meaning.{AbstractGame};
 
     ghost Value = { AbstractGame };
 
@@ -37,7 +36,7 @@ impl<'a, S: Steps> Model for GameSteps<'a, S> {
     ghost view = { λ g. g.game.now };
 
     ghost use Rattle.std.specs.Prelude.{IfSome};
-    ghost use Rattle.rbg_rules.specs.Games.{IsGame};
+    ghost use Rattle.rbg_rules.specs.Meaning.{IsGame};
     ghost use Rattle.rbg_flat.specs.Paths.{ArePathsOf};
 
     ghost invariant = { λ g. S.of_rules g.steps.now g.game.now.rules × IsGame g.game.now

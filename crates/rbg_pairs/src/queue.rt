@@ -1,9 +1,6 @@
 //! The pairs of a vertex and a position that a flat part meets, each once, in the order in which they are met.
 ghost use Rattle.std.specs.Prelude.{◌≡◌, ◌≢◌, ℕ, ◌<◌, ◌≤◌, ◌+◌, ◌-◌, ◌*◌, ◌/◌, ◌%◌, ◌^◌, [], length, slice_get, Some, take, replicate, ◌++◌, All, AllPairs, Contains, Bool, true, false, OnOk, OnErr, IfOk, IsTrue};
-ghost use Rattle.rbg_rules.specs.Games.{IsGame};
-ghost use Rattle.rbg_rules.specs.Positions.{IsPatternAt};
-ghost use Rattle.rbg_rules.specs.State.{AbstractState};
-ghost use Rattle.rbg_rules.specs.Words.{Start};
+ghost use Rattle.rbg_rules.specs.Meaning.{IsGame, IsPatternAt, AbstractState, Start};
 ghost use Rattle.rbg_pairs.specs.Meeting.{HasMark, MeetsAll, AreMarked, is_marked, mark_at};
 ghost use Rattle.rbg_pairs.specs.Part.{IsPart, HasMarksOf};
 

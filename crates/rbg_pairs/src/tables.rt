@@ -1,8 +1,7 @@
 //! A game and its automaton, lent as slices.
 ghost use Rattle.std.specs.Prelude.{◌≡◌, ◌<◌, [], length, All, IfSome};
 ghost use Rattle.rbg_board.specs.Graph.{next};
-ghost use Rattle.rbg_rules.specs.Games.{IsGame};
-ghost use Rattle.rbg_rules.specs.Words.{after, Ends};
+ghost use Rattle.rbg_rules.specs.Meaning.{IsGame, after, Ends};
 ghost use Rattle.rbg_auto.specs.LentSteps.{IsLentOf};
 ghost use Rattle.rbg_auto.specs.Steps.{AreNext, IsGlance};
 ghost use Rattle.rbg_auto.specs.declared.steps.Glance.TheVariants.{Unknown};
@@ -23,7 +22,7 @@ pub(crate) struct Tables<'a> {
 }
 
 impl<'a> Model for Tables<'a> {
-    ghost use Rattle.rbg_rules.specs.State.{AbstractGame};
+    ghost use Rattle.rbg_rules.specs.Meaning.{AbstractGame};
 
     ghost Value = { AbstractGame };
 
@@ -35,7 +34,7 @@ impl<'a> Model for Tables<'a> {
 
     ghost use Rattle.std.specs.Prelude.{◌≡◌, ◌≤◌, ℕ, length};
     ghost use Rattle.rbg_board.specs.Graph.{HasWidth};
-    ghost use Rattle.rbg_rules.specs.Games.{IsGame};
+    ghost use Rattle.rbg_rules.specs.Meaning.{IsGame};
     ghost use Rattle.rbg_auto.specs.LentSteps.{IsLentOf};
 
     ghost invariant = { λ t. (t.board ≡ t.game.now.board) × IsLentOf t.game.now.rules t.lent × IsGame t.game.now

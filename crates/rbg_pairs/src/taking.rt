@@ -1,10 +1,7 @@
 //! The inner loop of a flat part: pairs are taken up to the first that is a pattern, of whose action nothing is told (as
 //! where words may end), or for which there is no room.
 ghost use Rattle.std.specs.Prelude.{◌≡◌, ℕ, ◌<◌, ◌≤◌, ◌-◌, [], ◌∷◌, ◌++◌, List, length, take, Contains, Bool, false, IsTrue};
-ghost use Rattle.rbg_rules.specs.State.{AbstractState};
-ghost use Rattle.rbg_rules.specs.Positions.{IsPatternAt};
-ghost use Rattle.rbg_rules.specs.Words.{Start, after, Ends};
-ghost use Rattle.rbg_rules.specs.Games.{IsGame};
+ghost use Rattle.rbg_rules.specs.Meaning.{AbstractState, IsPatternAt, Start, after, Ends, IsGame};
 ghost use Rattle.rbg_pairs.specs.Start.{IsPositionOf};
 ghost use Rattle.rbg_pairs.specs.Part.{IsTrialAt, IsPart};
 ghost use Rattle.rbg_pairs.specs.internal.Taking.{AreMet, Lengthens};

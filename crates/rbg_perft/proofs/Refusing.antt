@@ -3,23 +3,20 @@ use Rattle.std.proofs.Common.{◌≡◌, ℕ, zero, suc, ◌-◌, ◌<◌, ◌�
 use Rattle.std.specs.Prelude.{AllPairs}
 use Rattle.std.specs.Option.{ok_or}
 use Rattle.std.proofs.lemmas.List.{length-take, get_or-take}
-use Rattle.rbg_rules.specs.State.{AbstractGame}
-use Rattle.rbg_rules.specs.Moves.{AbstractPlace, Legal}
-use Rattle.rbg_rules.specs.Questions.{list_moves}
-use Rattle.rbg_rules.specs.Heavy.{IsHeavyToFind, IsTooHard}
+use Rattle.rbg_rules.specs.Meaning.{AbstractGame, AbstractPlace, Legal, list_moves, IsHeavyToFind, IsTooHard}
 use Rattle.rbg_search.specs.declared.over.Over.{Over}
 use Rattle.rbg_search.specs.declared.over.Over.TheVariants.{Deep, Wide, Memory as OverMemory}
 use Rattle.rbg_moves.specs.Settling.{Settles, MeetsHeavy, IsEndless}
 use Rattle.rbg_moves.specs.declared.unsettled.Unsettled.{Unsettled}
 use Rattle.rbg_moves.specs.declared.unsettled.Unsettled.TheVariants as unsettled
 use Rattle.rbg_perft.specs.declared.error.CountError.{CountError}
-use Rattle.rbg_perft.specs.declared.error.CountError.TheVariants.{Heavy, Keeper, TooMany, Memory}
+use Rattle.rbg_perft.specs.declared.error.CountError.TheVariants as errors
 use Rattle.rbg_perft.specs.declared.extent.Extent.{Extent}
 use Rattle.rbg_perft.specs.declared.extent.Extent.TheVariants.{Ends}
 use Rattle.rbg_perft.specs.Refusals.{IsAsked, IsNotCounted, IsNotCountedFrom}
 use Rattle.rbg_perft.specs.Refusals.Meets.{here, behind}
 use Rattle.rbg_perft.specs.Refusals.AsksTooMuch.{keeper, player}
-use Rattle.rbg_perft.specs.internal.Refusing.{error_of_over, error_of_unsettled}
+use Rattle.rbg_perft.specs.internal.Refusing.{error_of_over}
 
 pub over_to_find : (T : Type 0) (game : AbstractGame) (to : AbstractPlace) (over : Over) → (◌≡◌ {A = Result T Over} (Err over) (Err Deep) ⊎ ◌≡◌ {A = Result T Over} (Err over) (Err Wide) → IsHeavyToFind game to) → IsNotCountedFrom game 0 Ends to (error_of_over over)
 over_to_find T game to Deep hard = λ place settles. here tt (player settles (hard (inl refl)))
@@ -31,17 +28,17 @@ over_to_list T game to Deep hard further extent = λ place settles. here tt (pla
 over_to_list T game to Wide hard further extent = λ place settles. here tt (player settles (hard (inr refl)))
 over_to_list T game to OverMemory hard further extent = λ place settles. tt
 
-pub unsettled_refused : (T : Type 0) (game : AbstractGame) (moves : ℕ) (extent : Extent) (place : AbstractPlace) (why : Unsettled) → IsAsked moves extent → (◌≡◌ {A = Result T Unsettled} (Err why) (Err unsettled.Heavy) → MeetsHeavy game place) → (◌≡◌ {A = Result T Unsettled} (Err why) (Err unsettled.Endless) → IsEndless game place) → IsNotCounted game moves extent place (error_of_unsettled why)
+pub unsettled_refused : (T : Type 0) (game : AbstractGame) (moves : ℕ) (extent : Extent) (place : AbstractPlace) (why : Unsettled) → IsAsked moves extent → (◌≡◌ {A = Result T Unsettled} (Err why) (Err unsettled.Heavy) → MeetsHeavy game place) → (◌≡◌ {A = Result T Unsettled} (Err why) (Err unsettled.Endless) → IsEndless game place) → IsNotCounted game moves extent place (errors.Unsettled why)
 unsettled_refused T game moves extent place unsettled.Heavy asked hard stuck = here asked (keeper (hard refl))
 unsettled_refused T game moves extent place unsettled.Endless asked hard stuck = here asked (stuck refl)
 unsettled_refused T game moves extent place unsettled.Memory asked hard stuck = tt
 
 -- what is wrong behind a first move is wrong behind the keeper's moves and that one
 pub behind_first : (game : AbstractGame) (moves : ℕ) (extent : Extent) (place to next : AbstractPlace) (pairs : List (ℕ × ℕ)) (error : CountError) → Settles game place to → Legal game to pairs next → IsNotCounted game moves extent next error → IsNotCounted game (suc moves) extent place error
-behind_first game moves extent place to next pairs Heavy settles legal wrong = behind settles legal wrong
-behind_first game moves extent place to next pairs Keeper settles legal wrong = behind settles legal wrong
-behind_first game moves extent place to next pairs TooMany settles legal wrong = behind settles legal wrong
-behind_first game moves extent place to next pairs Memory settles legal wrong = tt
+behind_first game moves extent place to next pairs (errors.Unsettled unsettled.Heavy) settles legal wrong = behind settles legal wrong
+behind_first game moves extent place to next pairs (errors.Unsettled unsettled.Endless) settles legal wrong = behind settles legal wrong
+behind_first game moves extent place to next pairs (errors.Unsettled unsettled.Memory) settles legal wrong = tt
+behind_first game moves extent place to next pairs errors.TooMany settles legal wrong = behind settles legal wrong
 
 -- where there is a move to count
 pub refused_next : (game : AbstractGame) (moves : ℕ) (extent : Extent) (place : AbstractPlace) (error : CountError) → 0 < moves → IsNotCounted game (suc (moves - 1)) extent place error → IsNotCounted game moves extent place error
@@ -50,7 +47,7 @@ refused_next game moves extent place error some refused =
     subst (λ k. IsNotCounted game k extent place error) next refused
 
 -- no sum was found
-pub no_sum : (T : Type 0) (sum : Option T) (error : CountError) → ◌≡◌ {A = Result T CountError} (Err error) (ok_or sum TooMany) → (error ≡ TooMany) × (sum ≡ None)
+pub no_sum : (T : Type 0) (sum : Option T) (error : CountError) → ◌≡◌ {A = Result T CountError} (Err error) (ok_or sum errors.TooMany) → (error ≡ errors.TooMany) × (sum ≡ None)
 no_sum T (Some x) error is = absurd (cc is)
 no_sum T None error is = (cc is, refl)
 

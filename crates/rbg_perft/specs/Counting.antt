@@ -1,7 +1,6 @@
 -- How many sequences of moves a game has from a place.
 use Rattle.std.specs.Prelude.{◌≡◌, ◌≢◌, ℕ, ◌+◌, ◌⊎◌, zero, suc, List, [], ◌∷◌, ◌++◌, All, AllPairs, Contains}
-use Rattle.rbg_rules.specs.State.{AbstractGame}
-use Rattle.rbg_rules.specs.Moves.{AbstractPlace, Legal, IsLegal, Finished}
+use Rattle.rbg_rules.specs.Meaning.{AbstractGame, AbstractPlace, Legal, IsLegal, Finished}
 use Rattle.rbg_moves.specs.Settling.{Settles}
 use Rattle.rbg_perft.specs.declared.extent.Extent.{Extent}
 use Rattle.rbg_perft.specs.declared.extent.Extent.TheVariants.{Ends, Moves}

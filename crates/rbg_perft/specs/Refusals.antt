@@ -1,15 +1,13 @@
 -- Why the sequences of moves from a place are not counted.
 use Rattle.std.specs.Prelude.{◌≢◌, ℕ, ◌<◌, ◌⊎◌, zero, suc, List, All, AllPairs}
-use Rattle.rbg_rules.specs.State.{AbstractGame}
-use Rattle.rbg_rules.specs.Heavy.{IsTooHard}
-use Rattle.rbg_rules.specs.Moves.{AbstractPlace, Legal, IsLegal}
-use Rattle.rbg_rules.specs.Questions.{Question, find_move, list_moves}
+use Rattle.rbg_rules.specs.Meaning.{AbstractGame, IsTooHard, AbstractPlace, Legal, IsLegal, Question, find_move, list_moves}
 use Rattle.rbg_moves.specs.Settling.{Settles, MeetsHeavy, IsEndless}
 use Rattle.rbg_perft.specs.Counting.{AreCountedBehind, Sums}
 use Rattle.rbg_perft.specs.declared.error.CountError.{CountError}
 use Rattle.rbg_perft.specs.declared.extent.Extent.{Extent}
 use Rattle.rbg_perft.specs.declared.extent.Extent.TheVariants.{Ends, Moves}
-use Rattle.rbg_perft.specs.declared.error.CountError.TheVariants.{Heavy, Keeper, TooMany, Memory}
+use Rattle.rbg_moves.specs.declared.unsettled.Unsettled.TheVariants.{Heavy, Endless, Memory}
+use Rattle.rbg_perft.specs.declared.error.CountError.TheVariants.{TooMany, Unsettled}
 
 -- the greatest number that is counted, 2^64 - 1
 abbrev pub most_counted : ℕ
@@ -63,15 +61,15 @@ pub data AreTooMany (game : AbstractGame) (extent : Extent) : (moves : ℕ) → 
       AreTooMany game extent (suc moves) place
 
 -- Why so many moves are not counted from a place.
---   Heavy: at a place that they lead to, a question is above the limits.
---   Keeper: at one, the keeper is to move after 1,000 of its moves in a row.
+--   Unsettled Heavy: at a place that they lead to, a question is above the limits.
+--   Unsettled Endless: at one, the keeper is to move after 1,000 of its moves in a row.
+--   Unsettled Memory: memory ran out.
 --   TooMany: at one, a number is too great.
---   Memory: memory ran out.
 abbrev pub IsNotCounted : AbstractGame → (moves : ℕ) → Extent → AbstractPlace → CountError → Type 0
-IsNotCounted game moves extent place Heavy = Meets (AsksTooMuch game) game extent moves place
-IsNotCounted game moves extent place Keeper = Meets (λ _ at. IsEndless game at) game extent moves place
+IsNotCounted game moves extent place (Unsettled Heavy) = Meets (AsksTooMuch game) game extent moves place
+IsNotCounted game moves extent place (Unsettled Endless) = Meets (λ _ at. IsEndless game at) game extent moves place
+IsNotCounted game moves extent place (Unsettled Memory) = Unit {0}
 IsNotCounted game moves extent place TooMany = Meets (AreTooMany game extent) game extent moves place
-IsNotCounted game moves extent place Memory = Unit {0}
 
 -- The same, of every place from which the keeper's moves lead here.
 abbrev pub IsNotCountedFrom : AbstractGame → (moves : ℕ) → Extent → AbstractPlace → CountError → Type 0

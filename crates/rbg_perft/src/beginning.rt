@@ -1,6 +1,6 @@
 //! Sequences of moves from the beginning of play.
 ghost use Rattle.std.specs.Prelude.{IfErr, IfOk, None};
-ghost use Rattle.rbg_rules.specs.State.{start_of};
+ghost use Rattle.rbg_rules.specs.Meaning.{start_of};
 ghost use Rattle.rbg_perft.specs.Counting.{AreCounted};
 ghost use Rattle.rbg_perft.specs.Refusals.{IsNotCounted};
 

@@ -1,7 +1,8 @@
 //! Why sequences of moves were not counted.
 ghost use Rattle.std.specs.Prelude.{◌≡◌};
-ghost use Rattle.rbg_perft.specs.declared.error.CountError.TheVariants.{Memory};
-ghost use Rattle.rbg_perft.specs.internal.Refusing.{error_of_over, error_of_unsettled};
+ghost use Rattle.rbg_moves.specs.declared.unsettled.Unsettled.TheVariants.{Memory};
+ghost use Rattle.rbg_perft.specs.declared.error.CountError.TheVariants as errors;
+ghost use Rattle.rbg_perft.specs.internal.Refusing.{error_of_over};
 
 use rbg_base::Memory as OutOfMemory;
 use rbg_moves::{Over, Unsettled};
@@ -9,40 +10,32 @@ use rbg_moves::{Over, Unsettled};
 /// Why sequences of moves were not counted.
 #[derive(Clone, Copy, Debug)]
 pub enum CountError {
-    /// A question at one of the places is above the limits.
-    Heavy,
-    /// The keeper is to move after 1,000 of its moves in a row.
-    Keeper,
+    /// The keeper's moves from one of the places don't end, a question there is above the limits, or memory ran out.
+    Unsettled(Unsettled),
     /// A number is above 2^64 - 1.
     TooMany,
-    /// A request for memory failed.
-    Memory,
+}
+
+impl From<Unsettled> for CountError {
+    ghost from_gives = { λ unsettled error. error ≡ errors.Unsettled unsettled };
+
+    fn from(unsettled: Unsettled) -> CountError {
+        CountError::Unsettled(unsettled)
+    }
 }
 
 impl From<Over> for CountError {
     ghost from_gives = { λ over error. error ≡ error_of_over over };
 
     fn from(over: Over) -> CountError {
-        CountError::from(Unsettled::from(over))
-    }
-}
-
-impl From<Unsettled> for CountError {
-    ghost from_gives = { λ unsettled error. error ≡ error_of_unsettled unsettled };
-
-    fn from(unsettled: Unsettled) -> CountError {
-        match unsettled {
-            Unsettled::Heavy => CountError::Heavy,
-            Unsettled::Endless => CountError::Keeper,
-            Unsettled::Memory => CountError::Memory,
-        }
+        CountError::Unsettled(Unsettled::from(over))
     }
 }
 
 impl From<OutOfMemory> for CountError {
-    ghost from_gives = { λ _ error. error ≡ Memory };
+    ghost from_gives = { λ _ error. error ≡ errors.Unsettled Memory };
 
-    fn from(_error: OutOfMemory) -> CountError {
-        CountError::Memory
+    fn from(_memory: OutOfMemory) -> CountError {
+        CountError::Unsettled(Unsettled::Memory)
     }
 }

@@ -9,7 +9,7 @@ use crate::telling::{tell_kept, tell_memory};
 use rbg_auto::{Compact, Expr, Steps, compact};
 use rbg_base::{Move, Pair, Position};
 use rbg_game::{Game, load};
-use rbg_moves::{Listed, Over, Place, PlayedGame, Workspace};
+use rbg_moves::{Listed, Over, Place, PlayedGame, Unsettled, Workspace};
 use rbg_perft::{CountError, Extent, count_from_start};
 use rbg_search::{Budget, Buffers, FlatPart, Origin, Search};
 use rbg_state::SemiState;
@@ -327,7 +327,7 @@ fn tell_count<W: Write>(alloc: Global, game: &PlayedGame, output: &mut W) -> io:
             "sequences {}, ended {}",
             counts.sequences, counts.ended
         ),
-        Err(CountError::Memory) => tell_memory(output),
+        Err(CountError::Unsettled(Unsettled::Memory)) => tell_memory(output),
         Err(error) => writeln!(output, "{error:?}"),
     }
 }

@@ -17,6 +17,7 @@ pub mod Laws
 pub mod Translation
 pub mod Table
 pub mod Texts
+pub mod Meaning
 pub mod Codes
 pub mod PlaceCodes
 pub mod Kept

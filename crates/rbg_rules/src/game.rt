@@ -30,13 +30,6 @@ pub struct Game {
     parts: Parts,
 }
 
-/// Written out, so that letting a game go is one call in the proofs of those who hold one, not a step for each part.
-impl Drop for Game {
-    fn drop(self) {
-        let Game { parts: _ } = self;
-    }
-}
-
 impl Model for Game {
     ghost use Rattle.rbg_rules.specs.State.{AbstractGame};
 
@@ -53,6 +46,13 @@ impl Model for Game {
     ghost use Rattle.rbg_rules.specs.Kept.{IsKept};
 
     ghost invariant = { λ g. IsKept g.parts };
+}
+
+/// Written out, so that letting a game go is one call in the proofs of those who hold one, not a step for each part.
+impl Drop for Game {
+    fn drop(self) {
+        let Game { parts: _ } = self;
+    }
 }
 
 impl Game {

@@ -1,7 +1,6 @@
 -- The keys of what stands behind other parts.
 use Rattle.std.proofs.Common.{◌≡◌, ℕ, ◌+◌, ◌<◌, List, [], ◌∷◌, ◌++◌, length, get_or, map, take, sym, ap, ◌∙◌, append_assoc}
-use Rattle.rbg_rules.specs.Expression.{AbstractArithmetic, Expression}
-use Rattle.rbg_rules.specs.Translation.{arithmetic_of, changed, operated, operation_of}
+use Rattle.rbg_rules.specs.Meaning.{AbstractArithmetic, Expression, arithmetic_of, changed, operated, operation_of}
 use Rattle.rbg_rules.specs.declared.arithmetic.Operation.{Operation}
 use Rattle.rbg_rules.proofs.Bridge.{operation_of_out}
 use Rattle.rbg_same.specs.declared.mark.Mark.{Mark}

@@ -2,7 +2,7 @@
 use Rattle.std.proofs.Common.{◌≡◌, ℕ, Bool, true, false, not, List, IsTrue, Decides, refl, sym, ap, ◌∙◌}
 use Rattle.std.specs.Prelude.{bytes_eq}
 use Rattle.std.proofs.lemmas.Slice.Eq.{bytes_eq-Decides}
-use Rattle.rbg_rules.specs.Expression.{Expression}
+use Rattle.rbg_rules.specs.Meaning.{Expression}
 use Rattle.rbg_same.specs.declared.mark.Mark.{Mark}
 use Rattle.rbg_same.specs.internal.Marks.{rules_key}
 use Rattle.rbg_same.proofs.Keys.{same_key}

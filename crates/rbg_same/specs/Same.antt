@@ -1,7 +1,7 @@
 -- A game with other pieces on its board.
 use Rattle.std.specs.Prelude.{ℕ, ◌≤◌, List}
 use Rattle.rbg_board.specs.Graph.{Graph, HasWidth}
-use Rattle.rbg_rules.specs.State.{AbstractGame}
+use Rattle.rbg_rules.specs.Meaning.{AbstractGame}
 
 -- The same game, with these pieces on the vertices of its board when play begins.
 abbrev pub game_with : (game : AbstractGame) → (pieces : List ℕ) → AbstractGame

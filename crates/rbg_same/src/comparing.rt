@@ -1,6 +1,6 @@
 //! Two games, compared.
 ghost use Rattle.std.specs.Prelude.{◌≡◌, ◌↔◌, IfOk, IsTrue};
-ghost use Rattle.rbg_rules.specs.Translation.{rules_of};
+ghost use Rattle.rbg_rules.specs.Meaning.{rules_of};
 ghost use Rattle.rbg_same.specs.Same.{IsNarrow, game_with};
 ghost use Rattle.rbg_same.specs.internal.Marks.{rules_key};
 

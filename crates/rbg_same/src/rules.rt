@@ -1,7 +1,6 @@
 //! The key of the rules of a game.
 ghost use Rattle.std.specs.Prelude.{◌≡◌, ℕ, List, [], ◌∷◌, ◌++◌, IfNone, IfSome, OnOk, Some, None, fold, map};
-ghost use Rattle.rbg_rules.specs.Expression.{Expression, fail};
-ghost use Rattle.rbg_rules.specs.Translation.{act_of, action_at, expression_of, pattern_of};
+ghost use Rattle.rbg_rules.specs.Meaning.{Expression, fail, act_of, action_at, expression_of, pattern_of};
 ghost use Rattle.rbg_same.specs.declared.mark.Mark.{Mark};
 ghost use Rattle.rbg_same.specs.declared.mark.Mark.TheVariants.{Act as ActMark};
 ghost use Rattle.rbg_same.specs.internal.Marks.{Marks, rules_key};

@@ -1,7 +1,6 @@
 //! The keys of arithmetic and of actions.
 ghost use Rattle.std.specs.Prelude.{◌≡◌, List, ◌++◌, OnOk, false, map};
-ghost use Rattle.rbg_rules.specs.Expression.{AbstractArithmetic, Expression};
-ghost use Rattle.rbg_rules.specs.Translation.{action_of, arithmetic_of, changed, operation_of, operated, shows_pattern};
+ghost use Rattle.rbg_rules.specs.Meaning.{AbstractArithmetic, Expression, action_of, arithmetic_of, changed, operation_of, operated, shows_pattern};
 ghost use Rattle.rbg_same.specs.declared.mark.Mark.{Mark};
 ghost use Rattle.rbg_same.specs.internal.Marks.{action_key, arithmetic_key, on_key};
 

@@ -3,10 +3,7 @@ use Rattle.std.proofs.Common.{ℕ, zero, suc, ◌*◌, ◌<◌, ◌≤◌, List,
 use Rattle.std.proofs.lemmas.Nat.{rows as products}
 use Rattle.std.specs.Prelude.{Contains, Decides}
 use Rattle.std.proofs.lemmas.List.Elements.{Contains-push, Contains-push_cases}
-use Rattle.rbg_rules.specs.Expression.{Expression}
-use Rattle.rbg_rules.specs.Positions.{IsNumbered, IsPatternAt}
-use Rattle.rbg_rules.specs.Words.{Start, Ends}
-use Rattle.rbg_rules.specs.State.{AbstractGame, AbstractState}
+use Rattle.rbg_rules.specs.Meaning.{Expression, IsNumbered, IsPatternAt, Start, Ends, AbstractGame, AbstractState}
 use Rattle.rbg_leaps.specs.Leaps.{IsShiftAt}
 use Rattle.rbg_auto.specs.Steps.{AreAllThatFollow}
 use Rattle.rbg_pairs.specs.Flat.{IsFlatPart}

@@ -1,13 +1,7 @@
 -- What a pattern's answer is by the words of its inside.
 use Rattle.std.proofs.Common.{◌≡◌, ℕ, Bool, true, false, not, refl, sym}
 use Rattle.std.specs.Prelude.{IsTrue, ◌↔◌}
-use Rattle.rbg_rules.specs.Expression.{AbstractAction, shift, off, switch}
-use Rattle.rbg_rules.specs.Positions.{HasAction, IsNumbered, IsPatternAt, inside, is_pattern}
-use Rattle.rbg_rules.specs.Words.{beginning}
-use Rattle.rbg_rules.specs.State.{AbstractGame, AbstractState}
-use Rattle.rbg_rules.specs.Actions.{Applies}
-use Rattle.rbg_rules.specs.Questions.{SomeWordRuns}
-use Rattle.rbg_rules.specs.Table.{Stands}
+use Rattle.rbg_rules.specs.Meaning.{AbstractAction, shift, off, switch, HasAction, IsNumbered, IsPatternAt, inside, is_pattern, beginning, AbstractGame, AbstractState, Applies, SomeWordRuns, Stands}
 use Rattle.rbg_rules.specs.declared.rule.Action.{Action}
 use Rattle.rbg_rules.specs.declared.rule.Action.TheVariants.{Shift, On, Off, Assign, Compare, Switch, Positive, Negative}
 use Rattle.rbg_rules.proofs.AnswerLemmas.{answer_law}

@@ -1,12 +1,7 @@
 -- What is asked of a pattern that was taken, and of a modifier that is applied.
 use Rattle.std.proofs.Common.{◌≡◌, ℕ, suc, ◌+◌, ◌<◌, ◌≤◌, List, take, length, Bool, true, false, refl, sym, ap, ◌∙◌, subst, inl, inr, arith}
 use Rattle.std.specs.Prelude.{IsTrue, ◌↔◌}
-use Rattle.rbg_rules.specs.Expression.{positive, negative, Expression}
-use Rattle.rbg_rules.specs.Positions.{IsNumbered, IsModifierAt, IsPatternAt, is_modifier, inside, IsLevel}
-use Rattle.rbg_rules.specs.Words.{Start, beginning, after}
-use Rattle.rbg_rules.specs.Questions.{SomeWordRuns}
-use Rattle.rbg_rules.specs.State.{AbstractGame, AbstractState}
-use Rattle.rbg_rules.specs.Actions.{Applies}
+use Rattle.rbg_rules.specs.Meaning.{positive, negative, Expression, IsNumbered, IsModifierAt, IsPatternAt, is_modifier, inside, IsLevel, Start, beginning, after, SomeWordRuns, AbstractGame, AbstractState, Applies}
 use Rattle.rbg_rules.proofs.PositionLemmas.{one_stands}
 use Rattle.rbg_rules.proofs.MoveLemmas.{pattern_law}
 use Rattle.rbg_state.specs.History.{History, states_of, capacity_of, IsAfter}

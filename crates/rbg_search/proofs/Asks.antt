@@ -1,9 +1,7 @@
 -- What is said of a question that was asked, and handed on to who asked.
 use Rattle.std.proofs.Common.{◌≡◌, ℕ, ◌<◌, ◌≤◌, List, Bool, false, refl, sym, subst, arith}
 use Rattle.std.specs.Prelude.{Result, Ok, Err, IsOk, IsErrAnd}
-use Rattle.rbg_rules.specs.State.{AbstractState}
-use Rattle.rbg_rules.specs.Words.{Start}
-use Rattle.rbg_rules.specs.Questions.{Question, reach, pattern}
+use Rattle.rbg_rules.specs.Meaning.{AbstractState, Start, Question, reach, pattern}
 use Rattle.rbg_state.specs.History.{History}
 use Rattle.rbg_search.specs.Answered.{IsAnswered}
 use Rattle.rbg_search.specs.Forced.{CountsForced}

@@ -3,15 +3,7 @@ use Rattle.std.proofs.Common.{◌≡◌, ◌≢◌, ℕ, suc, ◌+◌, ◌<◌, 
 use Rattle.std.specs.Prelude.{All, AllPairs, Contains}
 use Rattle.std.proofs.lemmas.List.{length-take-le, get_or-take, take_more}
 use Rattle.std.proofs.lemmas.List.Elements.{All-contains, All-take}
-use Rattle.rbg_rules.specs.Expression.{Expression, switch}
-use Rattle.rbg_rules.specs.Positions.{IsNumbered, IsModifierAt, IsSwitchAt}
-use Rattle.rbg_rules.specs.Words.{Start, after}
-use Rattle.rbg_rules.specs.State.{AbstractGame, AbstractState}
-use Rattle.rbg_rules.specs.Moves.{stand_of}
-use Rattle.rbg_rules.specs.Places.{IsLastOf}
-use Rattle.rbg_rules.specs.Games.{HasNoEmptySum}
-use Rattle.rbg_rules.specs.Questions.{Question, try_move, find_move, list_moves, reach, pattern, Item, modifier_at, items_of, GoesTo, AnswersBehind, Opening, IsDeep, IsWide}
-use Rattle.rbg_rules.specs.Laws.{IsStart}
+use Rattle.rbg_rules.specs.Meaning.{Expression, switch, IsNumbered, IsModifierAt, IsSwitchAt, Start, after, AbstractGame, AbstractState, stand_of, IsLastOf, HasNoEmptySum, Question, try_move, find_move, list_moves, reach, pattern, Item, modifier_at, items_of, GoesTo, AnswersBehind, Opening, IsDeep, IsWide, IsStart}
 use Rattle.rbg_rules.proofs.PlaceLemmas.{RunPairs-Runs}
 use Rattle.rbg_rules.proofs.TableLemmas.{numbered_action}
 use Rattle.rbg_rules.proofs.TrimLemmas.{empty_opening_law}

@@ -4,12 +4,7 @@ use Rattle.std.specs.Prelude.{All, Contains, Some, slice_get, Result, Ok, Err, I
 use Rattle.std.proofs.lemmas.List.{get_or_default}
 use Rattle.std.proofs.lemmas.List.Elements.{All-contains}
 use Rattle.std.proofs.lemmas.Option.{slice_get_within, get_or_from_slice_get}
-use Rattle.rbg_rules.specs.Positions.{IsPatternAt, inside}
-use Rattle.rbg_rules.specs.Words.{Start, beginning, after}
-use Rattle.rbg_rules.specs.State.{AbstractGame, AbstractState}
-use Rattle.rbg_rules.specs.Actions.{Applies}
-use Rattle.rbg_rules.specs.Games.{IsGame}
-use Rattle.rbg_rules.specs.Questions.{Question, reach, pattern, IsDeep}
+use Rattle.rbg_rules.specs.Meaning.{IsPatternAt, inside, Start, beginning, after, AbstractGame, AbstractState, Applies, IsGame, Question, reach, pattern, IsDeep}
 use Rattle.rbg_state.specs.History.{History}
 use Rattle.rbg_pairs.specs.Flat.{IsFlatPart}
 use Rattle.rbg_search.specs.Searching.{Searching}

@@ -3,13 +3,7 @@ use Rattle.std.proofs.Common.{◌≡◌, ◌≢◌, ℕ, zero, suc, ◌+◌, ◌
 use Rattle.std.specs.Prelude.{Contains}
 use Rattle.std.proofs.lemmas.List.Elements.{All-nil, All-cons, All-contains, Contains-append_left, Contains-push}
 use Rattle.std.proofs.lemmas.List.Kept.{AllPairs-cons}
-use Rattle.rbg_rules.specs.Positions.{IsNumbered, IsPatternAt, inside}
-use Rattle.rbg_rules.specs.Words.{Start, beginning, after}
-use Rattle.rbg_rules.specs.State.{AbstractGame, AbstractState}
-use Rattle.rbg_rules.specs.Actions.{Applies}
-use Rattle.rbg_rules.specs.Games.{IsGame}
-use Rattle.rbg_rules.specs.Questions.{Question, try_move, reach, pattern, Item, modifier_at, pattern_at, items_of, Opening, HasOpenings, IsDeep}
-use Rattle.rbg_rules.specs.Laws.{IsStart}
+use Rattle.rbg_rules.specs.Meaning.{IsNumbered, IsPatternAt, inside, Start, beginning, after, AbstractGame, AbstractState, Applies, IsGame, Question, try_move, reach, pattern, Item, modifier_at, pattern_at, items_of, Opening, HasOpenings, IsDeep, IsStart}
 use Rattle.rbg_rules.proofs.TrimLemmas.{empty_opening_law}
 use Rattle.rbg_pairs.specs.Flat.{IsNext}
 use Rattle.rbg_search.specs.Counting.{CountsOpenings, IsOverBudget}

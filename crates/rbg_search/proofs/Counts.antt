@@ -4,11 +4,7 @@ use Rattle.std.specs.Prelude.{All, AllPairs, Contains}
 use Rattle.std.proofs.lemmas.List.{length-append, length-map, length-take, get_or-take}
 use Rattle.std.proofs.lemmas.List.Elements.{All-append, All-weaker, All-map, All-tail, Contains-append_left, Contains-push}
 use Rattle.std.proofs.lemmas.List.Kept.{AllPairs-cons}
-use Rattle.rbg_rules.specs.Positions.{IsNumbered, IsSwitchAt}
-use Rattle.rbg_rules.specs.Words.{Start, after}
-use Rattle.rbg_rules.specs.State.{AbstractGame, AbstractState}
-use Rattle.rbg_rules.specs.Actions.{Applies}
-use Rattle.rbg_rules.specs.Questions.{Question, reach, Item, modifier_at, pattern_at, items_of, GoesTo, Opening, at, behind, HasOpenings}
+use Rattle.rbg_rules.specs.Meaning.{IsNumbered, IsSwitchAt, Start, after, AbstractGame, AbstractState, Applies, Question, reach, Item, modifier_at, pattern_at, items_of, GoesTo, Opening, at, behind, HasOpenings}
 use Rattle.rbg_pairs.specs.Flat.{IsNext}
 use Rattle.rbg_search.specs.Counting.{CountsOpenings, IsOverBudget}
 use Rattle.rbg_search.specs.Passing.{Passes, BeginsAmong, CountsSuch, CountsUpTo}

@@ -1,8 +1,6 @@
 -- A pattern in which nothing goes on from its beginning.
 use Rattle.std.proofs.Common.{ℕ, [], Bool, arith}
-use Rattle.rbg_rules.specs.Positions.{IsNumbered}
-use Rattle.rbg_rules.specs.Words.{Start}
-use Rattle.rbg_rules.specs.State.{AbstractGame, AbstractState}
+use Rattle.rbg_rules.specs.Meaning.{IsNumbered, Start, AbstractGame, AbstractState}
 use Rattle.rbg_flat.specs.Ending.{IsDeadEnd}
 use Rattle.rbg_flat.specs.Found.{AreFound}
 use Rattle.rbg_search.specs.internal.Straight.{IsScanned, IsTold}

@@ -1,13 +1,7 @@
 -- A search that finds a flat part, step by step.
 use Rattle.std.proofs.Common.{◌≡◌, ℕ, suc, ◌+◌, ◌<◌, ◌≤◌, length, List, [], ◌∷◌, ◌++◌, Bool, take, sym, ap, ◌∙◌, subst, arith}
 use Rattle.std.specs.Prelude.{Contains, Result, Ok, Err, IsOk, IsErrAnd, Some, slice_get, IsTrue, ◌↔◌}
-use Rattle.rbg_rules.specs.Games.{IsGame}
-use Rattle.rbg_rules.specs.Laws.{IsStart}
-use Rattle.rbg_rules.specs.Positions.{IsPatternAt, inside}
-use Rattle.rbg_rules.specs.State.{IsStateOf}
-use Rattle.rbg_rules.specs.Words.{Start, beginning}
-use Rattle.rbg_rules.specs.Actions.{Applies}
-use Rattle.rbg_rules.specs.Questions.{reach, pattern}
+use Rattle.rbg_rules.specs.Meaning.{IsGame, IsStart, IsPatternAt, inside, IsStateOf, Start, beginning, Applies, reach, pattern}
 use Rattle.rbg_state.specs.History.{History}
 use Rattle.rbg_pairs.specs.Closure.{at_vertex, Reached}
 use Rattle.rbg_pairs.specs.Nesting.{NestsFrom}

@@ -1,10 +1,7 @@
 -- A search that finds a flat part by sets, step by step.
 use Rattle.std.proofs.Common.{◌≡◌, ℕ, List, [], ◌∷◌, ◌++◌, Bool}
 use Rattle.std.specs.Prelude.{Contains, IsTrue, ◌↔◌, ◌≤◌, Result, Ok, Err, IsErrAnd}
-use Rattle.rbg_rules.specs.Positions.{inside}
-use Rattle.rbg_rules.specs.Words.{Start, beginning}
-use Rattle.rbg_rules.specs.Actions.{Applies}
-use Rattle.rbg_rules.specs.Questions.{reach, pattern}
+use Rattle.rbg_rules.specs.Meaning.{inside, Start, beginning, Applies, reach, pattern}
 use Rattle.rbg_state.specs.History.{History}
 use Rattle.rbg_flat.specs.declared.flat.Flat.{Flat}
 use Rattle.rbg_flat.specs.Found.{HasCandidates}

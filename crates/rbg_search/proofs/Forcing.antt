@@ -4,11 +4,7 @@ use Rattle.std.specs.Prelude.{Contains}
 use Rattle.std.proofs.lemmas.List.{length-append, length-map, take_more}
 use Rattle.std.proofs.lemmas.List.Elements.{All-weaker, Contains-append_left, Contains-append_right, Contains-push_cases}
 use Rattle.rbg_base.proofs.CallerLemmas.{Contains-map}
-use Rattle.rbg_rules.specs.Positions.{IsNumbered, IsSwitchAt, IsPatternAt, inside}
-use Rattle.rbg_rules.specs.Words.{Start, beginning, after}
-use Rattle.rbg_rules.specs.State.{AbstractGame, AbstractState}
-use Rattle.rbg_rules.specs.Actions.{Applies}
-use Rattle.rbg_rules.specs.Questions.{Question, reach, pattern, Item, modifier_at, pattern_at, items_of, SomeWordRuns, GoesTo, IsForcedTo, Forced, at, behind, HasForced, IsForcedDeep}
+use Rattle.rbg_rules.specs.Meaning.{IsNumbered, IsSwitchAt, IsPatternAt, inside, Start, beginning, after, AbstractGame, AbstractState, Applies, Question, reach, pattern, Item, modifier_at, pattern_at, items_of, SomeWordRuns, GoesTo, IsForcedTo, Forced, at, behind, HasForced, IsForcedDeep}
 use Rattle.rbg_rules.proofs.PlaceLemmas.{RunPairs-Runs}
 use Rattle.rbg_rules.proofs.MoveLemmas.{Applies_one}
 use Rattle.rbg_pairs.specs.Flat.{IsNext, IsFlatPart}

@@ -1,6 +1,6 @@
 -- What stays of a search and of a semi-state over several steps.
 use Rattle.std.proofs.Common.{◌≡◌, ℕ, ◌+◌, ◌-◌, ◌<◌, ◌≤◌, arith, sym, ap, ◌∙◌, subst}
-use Rattle.rbg_rules.specs.State.{AbstractGame, AbstractState}
+use Rattle.rbg_rules.specs.Meaning.{AbstractGame, AbstractState}
 use Rattle.rbg_state.specs.History.{History}
 use Rattle.rbg_search.specs.Searching.{Searching}
 

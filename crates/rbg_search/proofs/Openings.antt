@@ -2,13 +2,7 @@
 use Rattle.std.proofs.Common.{◌≡◌, ℕ, List, [], ◌∷◌, ◌++◌, Bool, true, false, refl, sym, ap, ◌∙◌, subst, append_assoc}
 use Rattle.std.specs.Prelude.{All}
 use Rattle.std.proofs.lemmas.List.Elements.{All-nil, All-cons, All-head, All-tail, All-append, All-weaker}
-use Rattle.rbg_rules.specs.Expression.{switch, Expression}
-use Rattle.rbg_rules.specs.Positions.{IsNumbered, IsModifierAt, IsSwitchAt, IsPatternAt, HasNoModifier, HasNoSwitch, is_modifier, inside}
-use Rattle.rbg_rules.specs.Words.{WordOf, Start, beginning, after, Follows, Ends}
-use Rattle.rbg_rules.specs.State.{AbstractGame, AbstractState}
-use Rattle.rbg_rules.specs.Actions.{rest, step, Applies, Run}
-use Rattle.rbg_rules.specs.Moves.{RunPairs, stay, modify, pass}
-use Rattle.rbg_rules.specs.Questions.{Question, find_move, reach, pattern, Item, modifier_at, pattern_at, RunsOn, GoesTo, AnswersBehind, IsProperPrefix, Opening, at, behind}
+use Rattle.rbg_rules.specs.Meaning.{switch, Expression, IsNumbered, IsModifierAt, IsSwitchAt, IsPatternAt, HasNoModifier, HasNoSwitch, is_modifier, inside, WordOf, Start, beginning, after, Follows, Ends, AbstractGame, AbstractState, rest, step, Applies, Run, RunPairs, stay, modify, pass, Question, find_move, reach, pattern, Item, modifier_at, pattern_at, RunsOn, GoesTo, AnswersBehind, IsProperPrefix, Opening, at, behind}
 use Rattle.rbg_rules.proofs.PlaceLemmas.{RunPairs_join}
 use Rattle.rbg_rules.proofs.PositionLemmas.{one_stands}
 use Rattle.rbg_rules.proofs.MoveLemmas.{Applies_one}

@@ -11,8 +11,7 @@ use Rattle.std.proofs.lemmas.Cmp.{nat_cmp_total, on_total, then_total}
 use Rattle.std.proofs.lemmas.Bool.Decides.{nat_tests}
 use Rattle.std.proofs.lemmas.List.Edits.{Swapped, swapped_from_swap, length-swap}
 use Rattle.std.proofs.lemmas.List.Sorted.{IsPermutation-keeps, IsPermutation-sym, Contains-permutation, sorted_far, ranks_by}
-use Rattle.rbg_rules.specs.Words.{Start}
-use Rattle.rbg_rules.specs.State.{AbstractGame, AbstractState, IsStateOf}
+use Rattle.rbg_rules.specs.Meaning.{Start, AbstractGame, AbstractState, IsStateOf}
 use Rattle.rbg_pairs.specs.Flat.{IsBefore, IsFlatPart}
 use Rattle.rbg_pairs.specs.Start.{IsPositionOf}
 use Rattle.rbg_search.specs.internal.Behind.{IsReady}

@@ -1,11 +1,6 @@
 -- Where one stands in a pattern: one stays in it, and no switch comes.
 use Rattle.std.proofs.Common.{◌≡◌, ℕ, List, [], ◌∷◌, ◌++◌, refl, sym, ◌∙◌, subst}
-use Rattle.rbg_rules.specs.Expression.{AbstractAction, switch, Expression}
-use Rattle.rbg_rules.specs.Positions.{HasAction, IsNumbered, IsSwitchAt, IsPatternAt, Level, inside, IsLevel}
-use Rattle.rbg_rules.specs.Words.{Start, beginning, after, Follows}
-use Rattle.rbg_rules.specs.State.{AbstractGame}
-use Rattle.rbg_rules.specs.Games.{IsGame}
-use Rattle.rbg_rules.specs.Laws.{IsStart}
+use Rattle.rbg_rules.specs.Meaning.{AbstractAction, switch, Expression, HasAction, IsNumbered, IsSwitchAt, IsPatternAt, Level, inside, IsLevel, Start, beginning, after, Follows, AbstractGame, IsGame, IsStart}
 use Rattle.rbg_rules.proofs.PositionLemmas.{one_stands}
 use Rattle.rbg_rules.proofs.PatternLemmas.{own_stands}
 use Rattle.rbg_rules.proofs.LevelLemmas.{one_level_law}

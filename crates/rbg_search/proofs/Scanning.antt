@@ -1,10 +1,7 @@
 -- What a scan tells of a pattern's question: its answer, and what it had to take up.
 use Rattle.std.proofs.Common.{◌≡◌, ◌≢◌, ℕ, ◌+◌, List, [], ◌∷◌, Bool, true, false, refl, arith}
 use Rattle.std.specs.Prelude.{Contains, IsTrue, ◌↔◌}
-use Rattle.rbg_rules.specs.Positions.{IsNumbered}
-use Rattle.rbg_rules.specs.Words.{Start}
-use Rattle.rbg_rules.specs.State.{AbstractGame, AbstractState}
-use Rattle.rbg_rules.specs.Questions.{try_move, reach, pattern, SomeWordRuns, Item}
+use Rattle.rbg_rules.specs.Meaning.{IsNumbered, Start, AbstractGame, AbstractState, try_move, reach, pattern, SomeWordRuns, Item}
 use Rattle.rbg_search.specs.Forced.{HasFewInRow, CountsForced}
 use Rattle.rbg_search.specs.internal.Behind.{SomeRunsBehind}
 use Rattle.rbg_search.specs.internal.Straight.{IsScanned}

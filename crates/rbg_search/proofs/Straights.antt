@@ -4,9 +4,7 @@ use Rattle.std.specs.Prelude.{All, AllPairs, Contains, Decides}
 use Rattle.std.proofs.lemmas.List.Elements.{All-nil, All-cons, All-head, All-push, All-weaker, All-contains, Contains-push}
 use Rattle.std.proofs.lemmas.List.Quantifiers.{all_pairs_push}
 use Rattle.std.proofs.lemmas.Bool.Decides.{nat_tests}
-use Rattle.rbg_rules.specs.Positions.{IsNumbered, IsPatternAt}
-use Rattle.rbg_rules.specs.Words.{Start, after, Ends}
-use Rattle.rbg_rules.specs.State.{AbstractGame, AbstractState}
+use Rattle.rbg_rules.specs.Meaning.{IsNumbered, IsPatternAt, Start, after, Ends, AbstractGame, AbstractState}
 use Rattle.rbg_auto.specs.Steps.{AreAllThatFollow}
 use Rattle.rbg_pairs.specs.Meeting.{MeetsAll}
 use Rattle.rbg_pairs.specs.Part.{IsTrialAt, IsPart}

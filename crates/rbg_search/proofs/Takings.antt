@@ -5,11 +5,7 @@ use Rattle.std.proofs.lemmas.Nat.{mul-le}
 use Rattle.std.proofs.lemmas.List.{length-append}
 use Rattle.std.proofs.lemmas.List.Sums.{sum_by-append, sum_by-le}
 use Rattle.std.proofs.lemmas.List.Elements.{All-nil, All-push, All-append, All-weaker, All-contains}
-use Rattle.rbg_rules.specs.Expression.{shift, Expression}
-use Rattle.rbg_rules.specs.Positions.{IsNumbered, IsModifierAt, IsPatternAt, is_modifier, inside}
-use Rattle.rbg_rules.specs.Words.{Start, beginning, after}
-use Rattle.rbg_rules.specs.State.{AbstractGame, AbstractState}
-use Rattle.rbg_rules.specs.Questions.{Question, reach, pattern}
+use Rattle.rbg_rules.specs.Meaning.{shift, Expression, IsNumbered, IsModifierAt, IsPatternAt, is_modifier, inside, Start, beginning, after, AbstractGame, AbstractState, Question, reach, pattern}
 use Rattle.rbg_rules.proofs.PositionLemmas.{one_stands}
 use Rattle.rbg_leaps.specs.Leaps.{IsShiftAt}
 use Rattle.rbg_flat.specs.Candidates.{IsCandidate}

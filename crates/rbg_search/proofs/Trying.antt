@@ -3,10 +3,7 @@ use Rattle.std.proofs.Common.{◌≡◌, ℕ, suc, ◌-◌, ◌<◌, ◌≤◌, 
 use Rattle.std.specs.Prelude.{All, Result, Ok, Err, IsOk, IsErrAnd, IsTrue, ◌↔◌}
 use Rattle.std.specs.List.Sorted.{IsPermutation}
 use Rattle.std.proofs.lemmas.List.Elements.{All-contains}
-use Rattle.rbg_rules.specs.State.{AbstractState}
-use Rattle.rbg_rules.specs.Words.{Start, after}
-use Rattle.rbg_rules.specs.Actions.{Applies}
-use Rattle.rbg_rules.specs.Questions.{reach, pattern}
+use Rattle.rbg_rules.specs.Meaning.{AbstractState, Start, after, Applies, reach, pattern}
 use Rattle.rbg_state.specs.History.{History}
 use Rattle.rbg_pairs.specs.Closure.{at_vertex}
 use Rattle.rbg_search.specs.Counting.{CountsOpenings}

@@ -1,7 +1,6 @@
 -- What a search says of a question that it was asked, whether it answered or not.
 use Rattle.std.specs.Prelude.{◌≡◌, ℕ, ◌<◌, ◌≤◌, List, length, All, Bool, Result, Err, IsOk}
-use Rattle.rbg_rules.specs.Words.{Start}
-use Rattle.rbg_rules.specs.Questions.{Question, reach, IsDeep, IsForcedDeep}
+use Rattle.rbg_rules.specs.Meaning.{Start, Question, reach, IsDeep, IsForcedDeep}
 use Rattle.rbg_state.specs.History.{History}
 use Rattle.rbg_pairs.specs.Flat.{IsFlatPart}
 use Rattle.rbg_pairs.specs.Start.{IsPositionOf}

@@ -1,8 +1,6 @@
 -- How many openings a search takes up.
 use Rattle.std.specs.Prelude.{◌≡◌, ℕ, ◌+◌, ◌<◌}
-use Rattle.rbg_rules.specs.Words.{Start}
-use Rattle.rbg_rules.specs.State.{AbstractGame, AbstractState}
-use Rattle.rbg_rules.specs.Questions.{Question, HasOpenings}
+use Rattle.rbg_rules.specs.Meaning.{Start, AbstractGame, AbstractState, Question, HasOpenings}
 
 -- The count of openings goes from the old number to the new one, and the question has as many different openings as
 -- were added.

@@ -1,10 +1,6 @@
 -- That a search took up all that it had to: the forced openings are among those that it counted, and none is too deep.
 use Rattle.std.specs.Prelude.{ℕ, ◌+◌, ◌-◌, ◌<◌, ◌≤◌, List, [], ◌∷◌, length, Contains, Bool}
-use Rattle.rbg_rules.specs.Positions.{IsSwitchAt}
-use Rattle.rbg_rules.specs.Words.{Start, after}
-use Rattle.rbg_rules.specs.State.{AbstractGame, AbstractState}
-use Rattle.rbg_rules.specs.Actions.{Applies}
-use Rattle.rbg_rules.specs.Questions.{Question, Item, modifier_at, pattern_at, HasForced, Forced}
+use Rattle.rbg_rules.specs.Meaning.{IsSwitchAt, Start, after, AbstractGame, AbstractState, Applies, Question, Item, modifier_at, pattern_at, HasForced, Forced}
 
 -- The list has fewer than `left` modifiers in a row at its beginning, and fewer than `most` behind each pattern. (Where
 -- `left` or `most` is 0 that is said of 1: no modifier is there.)

@@ -1,10 +1,6 @@
 -- How a question goes on behind a modifier, and what it counts while the modifiers that come next are taken in turn.
 use Rattle.std.specs.Prelude.{◌≡◌, ◌≢◌, ℕ, ◌+◌, List, [], ◌∷◌, ◌++◌, length, All, AllPairs, Contains}
-use Rattle.rbg_rules.specs.Positions.{IsSwitchAt}
-use Rattle.rbg_rules.specs.Words.{Start}
-use Rattle.rbg_rules.specs.State.{AbstractGame, AbstractState}
-use Rattle.rbg_rules.specs.Actions.{Applies}
-use Rattle.rbg_rules.specs.Questions.{Question, try_move, find_move, list_moves, pattern, Item, modifier_at, pattern_at, items_of, AnswersBehind, Opening, IsDeep}
+use Rattle.rbg_rules.specs.Meaning.{IsSwitchAt, Start, AbstractGame, AbstractState, Applies, Question, try_move, find_move, list_moves, pattern, Item, modifier_at, pattern_at, items_of, AnswersBehind, Opening, IsDeep}
 use Rattle.rbg_pairs.specs.Flat.{IsNext}
 
 -- The question from s and f asks the second one behind the modifier p at vertex v: `try_move` follows its own pairs,

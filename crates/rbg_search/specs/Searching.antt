@@ -1,7 +1,7 @@
 -- A search as its callers see it.
 use Rattle.std.specs.Prelude.{ℕ, refl}
 use Rattle.std.specs.Coded.{Coded, coded_ℕ, coded×, code_by}
-use Rattle.rbg_rules.specs.State.{AbstractGame}
+use Rattle.rbg_rules.specs.Meaning.{AbstractGame}
 use Rattle.rbg_rules.specs.Codes.{coded_game}
 
 -- A search in a game: how many openings it may take up, how many modifiers in a row are too many, how many openings it

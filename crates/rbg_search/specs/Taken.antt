@@ -1,10 +1,7 @@
 -- How many pairs of a vertex and a position a search takes: the candidates of its flat parts, so shifts are none of
 -- them.
 use Rattle.std.specs.Prelude.{◌≡◌, ℕ, ◌+◌, ◌*◌, ◌≤◌, List, length, sum, All}
-use Rattle.rbg_rules.specs.Positions.{IsPatternAt, inside, positions_of}
-use Rattle.rbg_rules.specs.Words.{Start, beginning, after}
-use Rattle.rbg_rules.specs.State.{AbstractGame, AbstractState}
-use Rattle.rbg_rules.specs.Questions.{Question, pattern}
+use Rattle.rbg_rules.specs.Meaning.{IsPatternAt, inside, positions_of, Start, beginning, after, AbstractGame, AbstractState, Question, pattern}
 use Rattle.rbg_flat.specs.Candidates.{IsCandidate}
 use Rattle.rbg_flat.specs.Found.{HasCandidates}
 use Rattle.rbg_search.specs.Passing.{GoesOn}

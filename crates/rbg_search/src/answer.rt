@@ -1,11 +1,6 @@
 //! What a pattern's answer is, and what becomes of the pattern by it.
 ghost use Rattle.std.specs.Prelude.{◌≡◌, ℕ, IsTrue, ◌↔◌};
-ghost use Rattle.rbg_rules.specs.State.{AbstractGame, AbstractState};
-ghost use Rattle.rbg_rules.specs.Positions.{IsNumbered, IsPatternAt, inside};
-ghost use Rattle.rbg_rules.specs.Words.{beginning};
-ghost use Rattle.rbg_rules.specs.Actions.{Applies};
-ghost use Rattle.rbg_rules.specs.Questions.{SomeWordRuns};
-ghost use Rattle.rbg_rules.specs.Games.{IsGame};
+ghost use Rattle.rbg_rules.specs.Meaning.{AbstractGame, AbstractState, IsNumbered, IsPatternAt, inside, beginning, Applies, SomeWordRuns, IsGame};
 ghost use Rattle.rbg_pairs.specs.Start.{IsPositionOf};
 ghost use Rattle.rbg_pairs.specs.Closure.{at_vertex};
 ghost use Rattle.rbg_pairs.specs.Part.{IsTrialAt};

@@ -1,10 +1,6 @@
 //! Flat parts that are found by pairs: what a search does with one.
 ghost use Rattle.std.specs.Prelude.{◌≡◌, ℕ, ◌+◌, ◌^◌, ◌<◌, ◌≤◌, ◌↔◌, length, slice_get, Some, IfOk, OnOk, IfSome, IfNone, IsTrue, [], ◌∷◌, ◌++◌, take, Contains, IfErr};
-ghost use Rattle.rbg_rules.specs.State.{AbstractState, IsStateOf};
-ghost use Rattle.rbg_rules.specs.Positions.{IsPatternAt};
-ghost use Rattle.rbg_rules.specs.Words.{Start};
-ghost use Rattle.rbg_rules.specs.Actions.{Applies};
-ghost use Rattle.rbg_rules.specs.Games.{IsGame};
+ghost use Rattle.rbg_rules.specs.Meaning.{AbstractState, IsStateOf, IsPatternAt, Start, Applies, IsGame};
 ghost use Rattle.rbg_pairs.specs.Flat.{IsFlatPart};
 ghost use Rattle.rbg_pairs.specs.Start.{start_of};
 ghost use Rattle.rbg_search.specs.internal.Begun.{IsBegun};

@@ -1,8 +1,6 @@
 //! Flat parts that are found by sets of vertices: what a search does with one.
 ghost use Rattle.std.specs.Prelude.{◌≡◌, ◌<◌, length, IfOk, IfErr, IfSome, IfNone, OnOk, OnErr};
-ghost use Rattle.rbg_rules.specs.Laws.{IsStart};
-ghost use Rattle.rbg_rules.specs.State.{IsStateOf};
-ghost use Rattle.rbg_rules.specs.Words.{Start};
+ghost use Rattle.rbg_rules.specs.Meaning.{IsStart, IsStateOf, Start};
 ghost use Rattle.rbg_flat.specs.Found.{HasCandidates};
 ghost use Rattle.rbg_flat.specs.Paths.{ArePathsOf};
 ghost use Rattle.rbg_flat.specs.internal.Leading.{AreSizedFor};

@@ -1,11 +1,7 @@
 //! Patterns that need no flat part: those whose inside is a straight line of actions, and those in which nothing goes on
 //! from the beginning. They are answered by a scan.
 ghost use Rattle.std.specs.Prelude.{◌≡◌, ◌<◌, ◌≤◌, ◌↔◌, length, Bool, Err, IfOk, IfSome, IsOk, IsTrue, OnOk};
-ghost use Rattle.rbg_rules.specs.Actions.{Applies};
-ghost use Rattle.rbg_rules.specs.Positions.{IsPatternAt, inside};
-ghost use Rattle.rbg_rules.specs.Questions.{pattern};
-ghost use Rattle.rbg_rules.specs.State.{AbstractState, IsStateOf};
-ghost use Rattle.rbg_rules.specs.Words.{beginning};
+ghost use Rattle.rbg_rules.specs.Meaning.{Applies, IsPatternAt, inside, pattern, AbstractState, IsStateOf, beginning};
 ghost use Rattle.rbg_flat.specs.Found.{HasCandidates};
 ghost use Rattle.rbg_pairs.specs.Closure.{at_vertex};
 ghost use Rattle.rbg_search.specs.Forced.{CountsForced};

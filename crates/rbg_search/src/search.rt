@@ -1,12 +1,6 @@
 //! A search in a game: what is reached without a modifier, and whether patterns hold, on one budget.
 ghost use Rattle.std.specs.Prelude.{◌≡◌, ℕ, ◌+◌, ◌-◌, ◌*◌, ◌^◌, ◌<◌, ◌≤◌, ◌↔◌, suc, length, Some, All, AllPairs, IfOk, OnOk, IfSome, IsTrue, [], ◌∷◌, take, OnErr, IfErr, Err, Bool, max, min};
-ghost use Rattle.rbg_rules.specs.State.{AbstractState, IsStateOf};
-ghost use Rattle.rbg_rules.specs.Positions.{IsModifierAt, IsPatternAt, inside};
-ghost use Rattle.rbg_rules.specs.Words.{Start, beginning, after};
-ghost use Rattle.rbg_rules.specs.Actions.{Applies};
-ghost use Rattle.rbg_rules.specs.Questions.{SomeWordRuns, reach, pattern};
-ghost use Rattle.rbg_rules.specs.Games.{IsGame};
-ghost use Rattle.rbg_rules.specs.Laws.{IsStart};
+ghost use Rattle.rbg_rules.specs.Meaning.{AbstractState, IsStateOf, IsModifierAt, IsPatternAt, inside, Start, beginning, after, Applies, SomeWordRuns, reach, pattern, IsGame, IsStart};
 ghost use Rattle.rbg_search.specs.Forced.{CountsForced};
 ghost use Rattle.rbg_flat.specs.Paths.{ArePathsOf};
 ghost use Rattle.rbg_search.specs.Taken.{most_pairs_of};

@@ -1,6 +1,6 @@
 //! Where one action alone may come next: a flat part that is one modifier needs no queue.
 ghost use Rattle.std.specs.Prelude.{◌≡◌, [], ◌∷◌, IfSome};
-ghost use Rattle.rbg_rules.specs.State.{IsStateOf};
+ghost use Rattle.rbg_rules.specs.Meaning.{IsStateOf};
 ghost use Rattle.rbg_auto.specs.Steps.{AreAllThatFollow};
 ghost use Rattle.rbg_pairs.specs.Start.{start_of};
 ghost use Rattle.rbg_pairs.specs.Part.{IsTrialAt};

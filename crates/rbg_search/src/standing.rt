@@ -1,6 +1,6 @@
 //! Where a pattern is asked: the current vertex for a while.
 ghost use Rattle.std.specs.Prelude.{◌≡◌, ◌<◌, length};
-ghost use Rattle.rbg_rules.specs.State.{AbstractGame, IsStateOf};
+ghost use Rattle.rbg_rules.specs.Meaning.{AbstractGame, IsStateOf};
 ghost use Rattle.rbg_state.specs.History.{capacity_of, IsAfter};
 
 use rbg_base::Vertex;

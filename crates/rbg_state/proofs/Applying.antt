@@ -1,13 +1,7 @@
 -- An action is applied in one way.
 use Rattle.std.proofs.Common.{◌≡◌, ℕ, ◌+◌, ◌<◌, ◌≤◌, ◌⊎◌, false, inl, inr, subst, sym, refl, arith}
 use Rattle.std.proofs.lemmas.Bool.{false_from_ne_true}
-use Rattle.rbg_rules.specs.Expression.{AbstractAction, shift, on, off, assignment, comparison, switch, Expression}
-use Rattle.rbg_rules.specs.Positions.{HasAction, IsPatternAt}
-use Rattle.rbg_rules.specs.State.{AbstractGame, AbstractState, IsStateOf}
-use Rattle.rbg_rules.specs.Actions.{Applies}
-use Rattle.rbg_rules.specs.Games.{IsGame}
-use Rattle.rbg_rules.specs.Translation.{arithmetic_of, shows_pattern}
-use Rattle.rbg_rules.specs.Table.{Shows, Stands}
+use Rattle.rbg_rules.specs.Meaning.{AbstractAction, shift, on, off, assignment, comparison, switch, Expression, HasAction, IsPatternAt, AbstractGame, AbstractState, IsStateOf, Applies, IsGame, arithmetic_of, shows_pattern, Shows, Stands}
 use Rattle.rbg_rules.specs.declared.rule.Action.{Action}
 use Rattle.rbg_rules.specs.declared.rule.Action.TheVariants.{Shift, On, Off, Assign, Compare, Switch, Positive, Negative}
 use Rattle.rbg_rules.proofs.MoveLemmas.{applied_acts, Applies_one}

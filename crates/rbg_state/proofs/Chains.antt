@@ -3,10 +3,7 @@ use Rattle.std.proofs.Common.{◌≡◌, ℕ, zero, suc, ◌+◌, ◌<◌, List,
 use Rattle.std.proofs.lemmas.List.Sums.{fold_more}
 use Rattle.std.specs.Prelude.{Vec, Box, IfSome, Some}
 use Rattle.std.specs.Global.{Global}
-use Rattle.rbg_rules.specs.Expression.{AbstractArithmetic}
-use Rattle.rbg_rules.specs.Values.{on_values, value_of}
-use Rattle.rbg_rules.specs.State.{AbstractState}
-use Rattle.rbg_rules.specs.Translation.{arithmetic_of, operation_of, operated, changed}
+use Rattle.rbg_rules.specs.Meaning.{AbstractArithmetic, on_values, value_of, AbstractState, arithmetic_of, operation_of, operated, changed}
 use Rattle.rbg_rules.specs.declared.arithmetic.Arithmetic.{Arithmetic}
 use Rattle.rbg_rules.specs.declared.arithmetic.Arithmetic.TheVariants.{Chain}
 use Rattle.rbg_rules.specs.declared.arithmetic.Operation.{Operation}

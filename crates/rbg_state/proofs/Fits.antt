@@ -6,7 +6,7 @@ use Rattle.std.specs.Result.{OkIff, result_ok}
 use Rattle.std.specs.Int.{CanDivide, w64}
 use Rattle.std.specs.Prelude.{FitsSigned, int_div}
 use Rattle.std.proofs.lemmas.Bool.Decides.{nat_tests}
-use Rattle.rbg_rules.specs.Values.{if_fits, divided}
+use Rattle.rbg_rules.specs.Meaning.{if_fits, divided}
 
 within : (n : ℕ) → n < 2 ^ 63 → nat_le n (2 ^ 63 - 1) ≡ true
 within n h = grind (arith, nat_tests)

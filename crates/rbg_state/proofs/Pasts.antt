@@ -3,7 +3,7 @@ use Rattle.std.proofs.Common.{◌≡◌, ℕ, suc, ◌-◌, List, [], ◌∷◌,
 use Rattle.std.proofs.lemmas.List.{length-set, length_push, get_or_append_left}
 use Rattle.std.specs.Prelude.{Vec, vec_len, vec_capacity, All}
 use Rattle.std.specs.Global.{Global}
-use Rattle.rbg_rules.specs.State.{AbstractState}
+use Rattle.rbg_rules.specs.Meaning.{AbstractState}
 use Rattle.rbg_state.specs.declared.change.Change.{Change}
 use Rattle.rbg_state.specs.declared.change.Change.TheVariants.{Player, Vertex, Piece, Value}
 use Rattle.rbg_state.specs.Changes.{IsChangeWithin, set, set_back, past_of, history_of}

@@ -5,11 +5,7 @@ use Rattle.std.specs.List.{All}
 use Rattle.std.specs.Prelude.{Vec, Box}
 use Rattle.std.specs.Global.{Global}
 use Rattle.rbg_base.specs.declared.relation.Relation.{Relation}
-use Rattle.rbg_rules.specs.Expression.{AbstractAction, AbstractArithmetic, assignment, comparison, number, variable, piece_count, negated, sum, difference, product, quotient}
-use Rattle.rbg_rules.specs.State.{AbstractGame, AbstractState, IsStateOf}
-use Rattle.rbg_rules.specs.Games.{HasNamesOf, IsActionOf, IsGame}
-use Rattle.rbg_rules.specs.Translation.{arithmetic_of, operation_of, operated, changed}
-use Rattle.rbg_rules.specs.Table.{Shows}
+use Rattle.rbg_rules.specs.Meaning.{AbstractAction, AbstractArithmetic, assignment, comparison, number, variable, piece_count, negated, sum, difference, product, quotient, AbstractGame, AbstractState, IsStateOf, HasNamesOf, IsActionOf, IsGame, arithmetic_of, operation_of, operated, changed, Shows}
 use Rattle.rbg_rules.specs.declared.rule.Action.{Action}
 use Rattle.rbg_rules.specs.declared.arithmetic.Arithmetic.{Arithmetic}
 use Rattle.rbg_rules.specs.declared.arithmetic.Arithmetic.TheVariants.{Negated, Chain}

@@ -2,14 +2,7 @@
 use Rattle.std.proofs.Common.{◌≡◌, ℕ, ◌<◌, true, false, sym, refl, ap, subst, ◌∙◌, length}
 use Rattle.std.specs.Prelude.{Option, Some, None, IfSome, IfNone}
 use Rattle.rbg_base.specs.declared.relation.Relation.{Relation}
-use Rattle.rbg_rules.specs.Expression.{AbstractArithmetic, number, variable, piece_count, negated, sum, difference, product, quotient, AbstractAction, comparison}
-use Rattle.rbg_rules.specs.Positions.{HasAction, IsPatternAt, is_modifier}
-use Rattle.rbg_rules.specs.State.{AbstractGame, AbstractState, IsStateOf}
-use Rattle.rbg_rules.specs.Actions.{Acts}
-use Rattle.rbg_rules.specs.Values.{value_of}
-use Rattle.rbg_rules.specs.Games.{IsGame, IsActionOf}
-use Rattle.rbg_rules.specs.Translation.{shows_pattern}
-use Rattle.rbg_rules.specs.Table.{Shows, Stands}
+use Rattle.rbg_rules.specs.Meaning.{AbstractArithmetic, number, variable, piece_count, negated, sum, difference, product, quotient, AbstractAction, comparison, HasAction, IsPatternAt, is_modifier, AbstractGame, AbstractState, IsStateOf, Acts, value_of, IsGame, IsActionOf, shows_pattern, Shows, Stands}
 use Rattle.rbg_rules.specs.declared.rule.Action.{Action}
 use Rattle.rbg_rules.specs.declared.rule.Action.TheVariants.{Shift, On, Off, Assign, Compare, Switch, Positive, Negative}
 use Rattle.rbg_rules.proofs.MoveLemmas.{applied_acts}

@@ -1,8 +1,6 @@
 -- What is answered of an action.
 use Rattle.std.specs.Prelude.{◌≡◌, ◌⊎◌}
-use Rattle.rbg_rules.specs.Expression.{AbstractAction}
-use Rattle.rbg_rules.specs.State.{AbstractGame, AbstractState}
-use Rattle.rbg_rules.specs.Actions.{Acts}
+use Rattle.rbg_rules.specs.Meaning.{AbstractAction, AbstractGame, AbstractState, Acts}
 use Rattle.rbg_state.specs.History.{History, changed_to}
 use Rattle.rbg_state.specs.declared.state.actions.Applied.{Applied}
 use Rattle.rbg_state.specs.declared.state.actions.Applied.TheVariants.{Valid, Invalid}

@@ -1,6 +1,6 @@
 -- Changes of one part of a semi-state, and the states that a list of changes leads back to.
 use Rattle.std.specs.Prelude.{ℕ, ◌<◌, List, [], ◌∷◌, slice_set}
-use Rattle.rbg_rules.specs.State.{AbstractState}
+use Rattle.rbg_rules.specs.Meaning.{AbstractState}
 use Rattle.rbg_state.specs.History.{History}
 use Rattle.rbg_state.specs.declared.change.Change.{Change}
 use Rattle.rbg_state.specs.declared.change.Change.TheVariants.{Player, Vertex, Piece, Value}

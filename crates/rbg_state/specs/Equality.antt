@@ -3,7 +3,7 @@ use Rattle.std.specs.Prelude.{Bool, ◌==◌, ◌&&◌, nat_eq}
 use Rattle.std.specs.Cmp.{IsEquivalence, IsPartialEquivalence}
 use Rattle.std.specs.Cmp.{partial_equiv_from_equiv, nat_eq_equiv, on_equiv, and_equiv}
 use Rattle.std.specs.Cmp.Lexicographic.{pointwise, lists_equiv}
-use Rattle.rbg_rules.specs.State.{AbstractState}
+use Rattle.rbg_rules.specs.Meaning.{AbstractState}
 use Rattle.rbg_state.specs.History.{History}
 
 -- they have the same player, vertex, pieces and values

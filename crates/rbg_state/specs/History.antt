@@ -1,6 +1,6 @@
 -- A semi-state that changes in place, and what can be taken back.
 use Rattle.std.specs.Prelude.{◌≡◌, ℕ, ◌+◌, ◌-◌, List, [], ◌∷◌, ◌++◌, length, take}
-use Rattle.rbg_rules.specs.State.{AbstractState}
+use Rattle.rbg_rules.specs.Meaning.{AbstractState}
 
 -- A semi-state that changes in place.
 --   state: the semi-state at present

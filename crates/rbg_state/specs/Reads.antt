@@ -1,7 +1,6 @@
 -- Which variables arithmetic reads.
 use Rattle.std.specs.Prelude.{ℕ, ◌<◌}
-use Rattle.rbg_rules.specs.Expression.{AbstractArithmetic, number, variable, piece_count, negated}
-use Rattle.rbg_rules.specs.Expression.{sum, difference, product, quotient}
+use Rattle.rbg_rules.specs.Meaning.{AbstractArithmetic, number, variable, piece_count, negated, sum, difference, product, quotient}
 
 -- each variable that the expression reads has a number below this one
 abbrev pub ReadsBelow : ℕ → AbstractArithmetic → Type 0

@@ -1,9 +1,6 @@
 -- What an action would do where it is tried.
 use Rattle.std.specs.Prelude.{◌≡◌, ℕ, true, false}
-use Rattle.rbg_rules.specs.Expression.{AbstractAction}
-use Rattle.rbg_rules.specs.Positions.{is_modifier, IsModifierAt}
-use Rattle.rbg_rules.specs.State.{AbstractGame, AbstractState}
-use Rattle.rbg_rules.specs.Actions.{Acts, Applies}
+use Rattle.rbg_rules.specs.Meaning.{AbstractAction, is_modifier, IsModifierAt, AbstractGame, AbstractState, Acts, Applies}
 use Rattle.rbg_state.specs.declared.state.trials.Trial.{Trial}
 use Rattle.rbg_state.specs.declared.state.trials.Trial.TheVariants.{Invalid, Modifies, LeadsTo}
 

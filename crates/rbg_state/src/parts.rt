@@ -1,6 +1,6 @@
 //! The parts of a semi-state, one of which is changed at a time.
 ghost use Rattle.std.specs.Prelude.{◌≡◌, ◌*◌, ◌<◌, ◌==◌, Some, length, count_by, slice_get, IfOk, IfSome};
-ghost use Rattle.rbg_rules.specs.State.{start_of, IsStateOf};
+ghost use Rattle.rbg_rules.specs.Meaning.{start_of, IsStateOf};
 ghost use Rattle.rbg_state.specs.Changes.{set, IsChangeWithin};
 ghost use Rattle.rbg_state.specs.Rows.{IsWordOf};
 
@@ -23,7 +23,7 @@ pub(crate) struct Parts {
 }
 
 impl Model for Parts {
-    ghost use Rattle.rbg_rules.specs.State.{AbstractState};
+    ghost use Rattle.rbg_rules.specs.Meaning.{AbstractState};
 
     ghost Value = { AbstractState };
 

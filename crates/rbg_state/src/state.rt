@@ -1,7 +1,7 @@
 //! A semi-state: who is to act, what stands on each vertex, what each variable holds, and the current
 //! vertex. It changes in place and keeps a list of its changes, so that they can be taken back.
 ghost use Rattle.std.specs.Prelude.{◌≡◌, ℕ, ◌+◌, ◌*◌, ◌-◌, ◌<◌, ◌≤◌, ◌==◌, [], length, take, count_by, slice_get, Some, IfOk, IfSome, OnOk, OnErr};
-ghost use Rattle.rbg_rules.specs.State.{AbstractGame, start_of, IsStateOf};
+ghost use Rattle.rbg_rules.specs.Meaning.{AbstractGame, start_of, IsStateOf};
 ghost use Rattle.rbg_state.specs.History.{History, states_of, capacity_of, changed_to, IsAfter};
 ghost use Rattle.rbg_state.specs.Changes.{set, IsChangeWithin};
 ghost use Rattle.rbg_state.specs.Rows.{IsWordOf};
@@ -27,16 +27,6 @@ pub struct SemiState {
     changes: Vec<Change>,
 }
 
-/// Written out, so that letting a semi-state go is one call in the proofs of those who hold one, not a step for each part.
-impl Drop for SemiState {
-    fn drop(self) {
-        let SemiState {
-            parts: _,
-            changes: _,
-        } = self;
-    }
-}
-
 impl Model for SemiState {
     ghost use Rattle.std.specs.Prelude.{◌-◌, length, All, vec_len, vec_capacity};
     ghost use Rattle.rbg_state.specs.History.{History};
@@ -48,6 +38,16 @@ impl Model for SemiState {
     ghost view = { λ s. history_of s.parts s.changes.items (vec_capacity s.changes - vec_len s.changes) };
 
     ghost invariant = { λ s. All (IsChangeWithin (length s.parts.pieces) (length s.parts.values)) s.changes.items };
+}
+
+/// Written out, so that letting a semi-state go is one call in the proofs of those who hold one, not a step for each part.
+impl Drop for SemiState {
+    fn drop(self) {
+        let SemiState {
+            parts: _,
+            changes: _,
+        } = self;
+    }
 }
 
 impl SemiState {

@@ -1,9 +1,6 @@
 -- What is asked at a place of a game.
 use Rattle.std.specs.Prelude.{◌≡◌, Option, IfSome}
-use Rattle.rbg_rules.specs.Expression.{Expression}
-use Rattle.rbg_rules.specs.Moves.{AbstractPlace}
-use Rattle.rbg_rules.specs.Places.{IsPlaceOf}
-use Rattle.rbg_rules.specs.State.{AbstractGame}
+use Rattle.rbg_rules.specs.Meaning.{Expression, AbstractPlace, IsPlaceOf, AbstractGame}
 
 -- The automaton is that of the game, the game that was made ready for play is the same one, and the place is one of it.
 abbrev pub IsAskedAt : {Steps : Type 0} (of_rules : Steps → Expression → Type 0) → Steps → (game played : AbstractGame) → AbstractPlace → Type 0

@@ -3,8 +3,7 @@ use Rattle.std.proofs.Common.{◌≡◌, ℕ, zero, suc, ◌+◌, ◌<◌, ◌==
 use Rattle.std.proofs.lemmas.Bool.{eqb-true, eq-eqb}
 use Rattle.std.specs.Prelude.{Vec, Box}
 use Rattle.std.specs.Global.{Global}
-use Rattle.rbg_rules.specs.Expression.{AbstractArithmetic}
-use Rattle.rbg_rules.specs.Translation.{arithmetic_of, operation_of, operated, changed}
+use Rattle.rbg_rules.specs.Meaning.{AbstractArithmetic, arithmetic_of, operation_of, operated, changed}
 use Rattle.rbg_rules.specs.declared.arithmetic.Arithmetic.{Arithmetic}
 use Rattle.rbg_rules.specs.declared.arithmetic.Arithmetic.TheVariants.{Chain}
 use Rattle.rbg_rules.specs.declared.arithmetic.Operation.{Operation}

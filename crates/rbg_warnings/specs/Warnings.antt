@@ -1,9 +1,7 @@
 -- What an author is warned of in a game: what it has and its rules never use, and numbers that a variable can't hold.
 use Rattle.std.specs.Prelude.{◌≡◌, ℕ, ◌-◌, ◌==◌, ◌||◌, nat_lt, Bool, true, false, IsTrue, List, ◌++◌, map, length, slice_index, Contains}
 use Rattle.std.specs.List.{range_with_len}
-use Rattle.rbg_rules.specs.Expression.{AbstractArithmetic, number, variable, piece_count, negated, sum, difference, product, quotient, AbstractAction, shift, off, assignment, comparison, switch}
-use Rattle.rbg_rules.specs.Positions.{HasAction, positions_of}
-use Rattle.rbg_rules.specs.State.{AbstractGame}
+use Rattle.rbg_rules.specs.Meaning.{AbstractArithmetic, number, variable, piece_count, negated, sum, difference, product, quotient, AbstractAction, shift, off, assignment, comparison, switch, HasAction, positions_of, AbstractGame}
 use Rattle.rbg_warnings.specs.declared.thing.Thing.{Thing}
 use Rattle.rbg_warnings.specs.declared.thing.Thing.TheVariants.{Player, Piece, Variable, Direction}
 use Rattle.rbg_warnings.specs.declared.warning.Warning.{Warning}

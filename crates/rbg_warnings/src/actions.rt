@@ -1,7 +1,6 @@
 //! What single actions do.
 ghost use Rattle.std.specs.Prelude.{◌≡◌, slice_index};
-ghost use Rattle.rbg_rules.specs.Expression.{Expression};
-ghost use Rattle.rbg_rules.specs.Translation.{action_of, arithmetic_of};
+ghost use Rattle.rbg_rules.specs.Meaning.{Expression, action_of, arithmetic_of};
 ghost use Rattle.rbg_warnings.specs.Warnings.{assigns_too_much as is_too_much, is_number_above, uses as is_used};
 ghost use Rattle.rbg_warnings.specs.internal.Kinds.{is_variable_in};
 

@@ -1,6 +1,6 @@
 //! What arithmetic names.
 ghost use Rattle.std.specs.Prelude.{◌≡◌};
-ghost use Rattle.rbg_rules.specs.Translation.{arithmetic_of};
+ghost use Rattle.rbg_rules.specs.Meaning.{arithmetic_of};
 ghost use Rattle.rbg_warnings.specs.Warnings.{names_variable as names};
 ghost use Rattle.rbg_warnings.specs.internal.Walking.{number_in, operands_name};
 

@@ -1,7 +1,7 @@
 //! The warnings of a game.
 ghost use Rattle.std.specs.Prelude.{◌≡◌, ◌↔◌, ◌+◌, ◌<◌, ◌≤◌, ◌^◌, [], ◌∷◌, length, map, Contains, IfOk, OnOk, IsTrue};
 ghost use Rattle.std.specs.List.{range_with_len};
-ghost use Rattle.rbg_rules.specs.Positions.{positions_of};
+ghost use Rattle.rbg_rules.specs.Meaning.{positions_of};
 ghost use Rattle.rbg_warnings.specs.declared.warning.Warning.TheVariants.{TooGreat as TooGreatWarning, Unused as UnusedWarning};
 ghost use Rattle.rbg_warnings.specs.Sifting.{Keeps};
 ghost use Rattle.rbg_warnings.specs.Warnings.{

@@ -2,8 +2,7 @@
 use Rattle.std.specs.Prelude.{◌≡◌, ℕ, ◌<◌, ◌⊎◌, List, [], length, Bool, true, Option}
 use Rattle.rbg_rules.specs.declared.rule.Action.{Action}
 use Rattle.rbg_rules.specs.declared.rule.Rule.{Rule}
-use Rattle.rbg_rules.specs.Translation.{expression_of}
-use Rattle.rbg_rules.specs.Games.{HasNoEmptySum}
+use Rattle.rbg_rules.specs.Meaning.{expression_of, HasNoEmptySum}
 use Rattle.rbg_auto.specs.declared.span.Node.{Node}
 use Rattle.rbg_auto.specs.declared.span.Opening.{Opening}
 use Rattle.rbg_auto.specs.declared.span.Span.{Span}

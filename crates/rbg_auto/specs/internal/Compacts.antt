@@ -1,8 +1,7 @@
 -- The steps that an array of lists has.
 use Rattle.std.specs.Prelude.{◌≡◌, ℕ, ◌<◌, List, length, Vec, Some}
 use Rattle.std.specs.Global.{Global}
-use Rattle.rbg_rules.specs.Expression.{Expression}
-use Rattle.rbg_rules.specs.Positions.{positions_of}
+use Rattle.rbg_rules.specs.Meaning.{Expression, positions_of}
 use Rattle.rbg_auto.specs.declared.arrays.Compact.{Compact}
 use Rattle.rbg_auto.specs.declared.lent_steps.LentSteps.{LentSteps}
 use Rattle.rbg_auto.specs.declared.lent_steps.Step.{Step}

@@ -1,6 +1,6 @@
 -- Where the words of an expression begin, read off the expression.
 use Rattle.std.specs.Prelude.{ℕ, List, [], ◌∷◌, ◌++◌, Bool, true, false, ◌&&◌, ◌||◌, if◌then◌else◌}
-use Rattle.rbg_rules.specs.Expression.{Expression, act, skip, sequence, fail, choice, star}
+use Rattle.rbg_rules.specs.Meaning.{Expression, act, skip, sequence, fail, choice, star}
 
 -- whether the empty list is a word
 abbrev pub may_be_empty : Expression → Bool

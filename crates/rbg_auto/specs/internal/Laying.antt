@@ -1,8 +1,6 @@
 -- What the walk over the rules lays down at each position.
 use Rattle.std.specs.Prelude.{◌≡◌, ℕ, ◌<◌, List, [], Bool, true, false, ◌&&◌}
-use Rattle.rbg_rules.specs.Expression.{AbstractAction, positive, negative, Expression, act, skip, sequence, fail, choice, star}
-use Rattle.rbg_rules.specs.Positions.{positions_of, Level, outermost, inside}
-use Rattle.rbg_rules.specs.Games.{HasNoEmptySum}
+use Rattle.rbg_rules.specs.Meaning.{AbstractAction, positive, negative, Expression, act, skip, sequence, fail, choice, star, positions_of, Level, outermost, inside, HasNoEmptySum}
 use Rattle.rbg_rules.proofs.PositionLemmas.{Among}
 use Rattle.rbg_auto.specs.internal.Orders.{Ascends, Joins}
 use Rattle.rbg_auto.specs.internal.Firsts.{may_be_empty, past, firsts}

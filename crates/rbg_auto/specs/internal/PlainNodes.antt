@@ -1,7 +1,7 @@
 -- The steps that lists by position have, and what laying a tree of the program makes of them.
 use Rattle.std.specs.Prelude.{◌≡◌, ℕ, ◌<◌, List, length, Bool, Option, Some, None, slice_get}
 use Rattle.rbg_rules.specs.declared.rule.Rule.{Rule}
-use Rattle.rbg_rules.specs.Expression.{Expression}
+use Rattle.rbg_rules.specs.Meaning.{Expression}
 use Rattle.rbg_auto.specs.declared.plain.PlainNode.{PlainNode}
 use Rattle.rbg_auto.specs.declared.plain.Automaton.{Automaton}
 use Rattle.rbg_auto.specs.Steps.{AreStepsOf}

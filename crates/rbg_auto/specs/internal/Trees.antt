@@ -2,9 +2,7 @@
 use Rattle.std.specs.Prelude.{◌≡◌, ℕ, List, ◌++◌, Bool, map}
 use Rattle.rbg_rules.specs.declared.rule.Action.{Action}
 use Rattle.rbg_rules.specs.declared.rule.Rule.{Rule}
-use Rattle.rbg_rules.specs.Expression.{Expression, sequence_of, choice_of}
-use Rattle.rbg_rules.specs.Translation.{expression_of}
-use Rattle.rbg_rules.specs.Games.{HasNoEmptySum}
+use Rattle.rbg_rules.specs.Meaning.{Expression, sequence_of, choice_of, expression_of, HasNoEmptySum}
 use Rattle.rbg_auto.specs.internal.Orders.{Joins}
 use Rattle.rbg_auto.specs.internal.Firsts.{may_be_empty, firsts}
 use Rattle.rbg_auto.specs.internal.Laying.{Laid, ComesBefore, IsLawful, Lays}

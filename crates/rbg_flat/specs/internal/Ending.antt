@@ -1,7 +1,6 @@
 -- Targets from which nothing goes on.
 use Rattle.std.specs.Prelude.{◌≡◌, ◌≢◌, ◌↔◌, ◌<◌, ◌≤◌, ℕ, List, length, All, AllPairs, Contains}
-use Rattle.rbg_rules.specs.Positions.{IsModifierAt, positions_of}
-use Rattle.rbg_rules.specs.State.{AbstractGame, AbstractState}
+use Rattle.rbg_rules.specs.Meaning.{IsModifierAt, positions_of, AbstractGame, AbstractState}
 use Rattle.rbg_leaps.specs.declared.target.Target.{Target}
 use Rattle.rbg_flat.specs.internal.Leading.{IsAmong, IsTargetFor}
 use Rattle.rbg_flat.specs.internal.Passing.{IsToTry}

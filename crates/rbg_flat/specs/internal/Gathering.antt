@@ -1,9 +1,7 @@
 -- How what was found is gathered, word by word.
 use Rattle.std.specs.Prelude.{◌≡◌, ◌≢◌, ◌↔◌, ℕ, ◌/◌, ◌%◌, ◌≤◌, List, ◌++◌, length, map, Bool, true, false, AllPairs, Contains}
 use Rattle.std.specs.Int.{bit_at}
-use Rattle.rbg_rules.specs.Positions.{IsModifierAt}
-use Rattle.rbg_rules.specs.State.{AbstractGame, AbstractState}
-use Rattle.rbg_rules.specs.Actions.{Applies}
+use Rattle.rbg_rules.specs.Meaning.{IsModifierAt, AbstractGame, AbstractState, Applies}
 use Rattle.rbg_flat.specs.internal.Sets.{SetsOfVertices, IsMarked}
 
 -- The items are those of which something is so, each once.

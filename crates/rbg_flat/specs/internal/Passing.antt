@@ -1,10 +1,7 @@
 -- Where an action passes.
 use Rattle.std.specs.Prelude.{◌≡◌, ℕ, List, Contains, slice_get, Some}
 use Rattle.rbg_base.specs.declared.relation.Relation.{Relation}
-use Rattle.rbg_rules.specs.Expression.{AbstractArithmetic, on, comparison}
-use Rattle.rbg_rules.specs.Positions.{HasAction, IsModifierAt}
-use Rattle.rbg_rules.specs.State.{AbstractGame, AbstractState}
-use Rattle.rbg_rules.specs.Actions.{Applies}
+use Rattle.rbg_rules.specs.Meaning.{AbstractArithmetic, on, comparison, HasAction, IsModifierAt, AbstractGame, AbstractState, Applies}
 use Rattle.rbg_flat.specs.Chains.{at_vertex}
 
 -- The action at position p is no modifier, and valid at vertex v.

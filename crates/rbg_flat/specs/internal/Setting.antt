@@ -1,8 +1,6 @@
 -- What a flat part is looked for in, and how it is led on there.
 use Rattle.std.specs.Prelude.{ℕ}
-use Rattle.rbg_rules.specs.Games.{IsGame}
-use Rattle.rbg_rules.specs.State.{IsStateOf}
-use Rattle.rbg_rules.specs.Words.{Start}
+use Rattle.rbg_rules.specs.Meaning.{IsGame, IsStateOf, Start}
 use Rattle.rbg_flat.specs.declared.flat.Flat.{Flat}
 use Rattle.rbg_flat.specs.declared.setting.Setting.{Setting}
 use Rattle.rbg_flat.specs.Paths.{ArePathsOf}

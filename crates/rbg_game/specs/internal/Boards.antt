@@ -6,8 +6,7 @@ use Rattle.rbg_board.specs.Cells.{AreDifferent}
 use Rattle.rbg_board.specs.declared.error.BoardError.{BoardError}
 use Rattle.rbg_board.specs.declared.error.BoardError.TheVariants as board_errors
 use Rattle.rbg_grammar.specs.Tree.{SpeltName, SpeltBoard}
-use Rattle.rbg_rules.specs.Limits.{most_directions, most_vertices}
-use Rattle.rbg_rules.specs.LawfulNames.{AreDifferentNames, AreLawfulNames}
+use Rattle.rbg_rules.specs.Meaning.{most_directions, most_vertices, AreDifferentNames, AreLawfulNames}
 use Rattle.rbg_game.specs.declared.checking.boards.NamedBoard.{NamedBoard}
 use Rattle.rbg_game.specs.declared.game_error.GameError.{GameError}
 use Rattle.rbg_game.specs.declared.game_error.GameError.TheVariants as errors

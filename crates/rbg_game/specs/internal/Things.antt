@@ -1,10 +1,7 @@
 -- The players, variables and pieces of a description by their numbers, and the game that is made of them.
 use Rattle.std.specs.Prelude.{◌≡◌, ℕ, ◌≤◌, List, [], ◌++◌, length, All}
 use Rattle.rbg_grammar.specs.Tree.{SpeltBounded, SpeltDescription}
-use Rattle.rbg_rules.specs.Expression.{Expression}
-use Rattle.rbg_rules.specs.State.{AbstractGame}
-use Rattle.rbg_rules.specs.Limits.{most_players, most_pieces, most_variables, greatest_bound}
-use Rattle.rbg_rules.specs.LawfulNames.{AreLawfulNames}
+use Rattle.rbg_rules.specs.Meaning.{Expression, AbstractGame, most_players, most_pieces, most_variables, greatest_bound, AreLawfulNames}
 use Rattle.rbg_game.specs.declared.checking.boards.NamedBoard.{NamedBoard}
 use Rattle.rbg_game.specs.declared.checking.names.Things.{Things}
 use Rattle.rbg_numbering.specs.Names.{texts_of}

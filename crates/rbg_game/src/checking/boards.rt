@@ -3,7 +3,7 @@ ghost use Rattle.std.specs.Prelude.{◌≡◌, ◌<◌, ◌≤◌, ◌^◌, ◌�
 ghost use Rattle.std.specs.List.{AllZip};
 ghost use Rattle.rbg_board.specs.Cells.{rows_of};
 ghost use Rattle.rbg_grammar.specs.Views.{name_of, names_of, board_of};
-ghost use Rattle.rbg_rules.specs.LawfulNames.{AreLawfulNames};
+ghost use Rattle.rbg_rules.specs.Meaning.{AreLawfulNames};
 ghost use Rattle.rbg_numbering.specs.Names.{IsNumberOf};
 ghost use Rattle.rbg_numbering.specs.NameTables.{HasLookUpFault};
 ghost use Rattle.rbg_game.specs.Faults.{HasBoardFault};

@@ -4,7 +4,7 @@ ghost use Rattle.std.specs.List.{AllZip};
 ghost use Rattle.rbg_board.specs.Vertices.{written_of};
 ghost use Rattle.rbg_grammar.specs.Tree.{graph};
 ghost use Rattle.rbg_grammar.specs.Views.{edge_of, vertex_of};
-ghost use Rattle.rbg_rules.specs.LawfulNames.{AreDifferentNames};
+ghost use Rattle.rbg_rules.specs.Meaning.{AreDifferentNames};
 ghost use Rattle.rbg_numbering.specs.Names.{IsNumberOf};
 ghost use Rattle.rbg_game.specs.Descriptions.{IsOrderOfFirstUse, directions_named, vertex_names};
 ghost use Rattle.rbg_game.specs.Faults.{HasBoardFault, board_pieces};

@@ -1,7 +1,6 @@
 -- The branches of lists of positions.
 use Rattle.std.specs.Prelude.{◌≡◌, ℕ, ◌<◌, List, length, slice_index_or, Some, None}
-use Rattle.rbg_rules.specs.Expression.{Expression, shift}
-use Rattle.rbg_rules.specs.Positions.{HasAction}
+use Rattle.rbg_rules.specs.Meaning.{Expression, shift, HasAction}
 use Rattle.rbg_leaps.specs.declared.branches.Branch.{Branch}
 use Rattle.rbg_leaps.specs.Leaps.{IsShiftAt}
 

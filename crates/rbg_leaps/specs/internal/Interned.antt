@@ -1,8 +1,6 @@
 -- Nodes with their lists, and the nodes of places in the rules.
 use Rattle.std.specs.Prelude.{◌≡◌, ℕ, ◌+◌, ◌<◌, List, ◌++◌, length, slice_range, slice_index_or, Bool}
-use Rattle.rbg_rules.specs.Expression.{Expression}
-use Rattle.rbg_rules.specs.Positions.{positions_of, outermost, inside}
-use Rattle.rbg_rules.specs.Words.{Start, beginning, after}
+use Rattle.rbg_rules.specs.Meaning.{Expression, positions_of, outermost, inside, Start, beginning, after}
 use Rattle.rbg_auto.specs.declared.steps.Expr.TheVariants.{Rules, Inside}
 use Rattle.rbg_leaps.specs.declared.branches.Branch.{Branch}
 use Rattle.rbg_leaps.specs.declared.lists.Lists.{Lists}

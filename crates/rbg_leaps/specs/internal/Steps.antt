@@ -1,10 +1,7 @@
 -- One step in the rules and on the board.
 use Rattle.std.specs.Prelude.{◌≡◌, ℕ, ◌+◌, ◌≤◌, ◌↔◌, List, [], length, Bool, IsTrue, Some, None, Option, slice_index_or}
 use Rattle.rbg_board.specs.Graph.{next}
-use Rattle.rbg_rules.specs.Expression.{Expression, shift}
-use Rattle.rbg_rules.specs.Positions.{HasAction, positions_of}
-use Rattle.rbg_rules.specs.State.{AbstractGame}
-use Rattle.rbg_rules.specs.Words.{Start, Ends}
+use Rattle.rbg_rules.specs.Meaning.{Expression, shift, HasAction, positions_of, AbstractGame, Start, Ends}
 use Rattle.rbg_auto.specs.Steps.{AreAllThatFollow}
 use Rattle.rbg_leaps.specs.Leaps.{IsShiftAt, IsLeap, EndsAcross}
 

@@ -1,7 +1,6 @@
 -- What a table that is being made tells, whether it is right so far, and whether anything is missing.
 use Rattle.std.specs.Prelude.{◌≡◌, ◌≢◌, ℕ, ◌+◌, ◌*◌, ◌<◌, ◌≤◌, ◌⊎◌, List, length, slice_index_or, Bool, true, false, IsTrue, All, Contains}
-use Rattle.rbg_rules.specs.Games.{IsGame}
-use Rattle.rbg_rules.specs.State.{AbstractGame}
+use Rattle.rbg_rules.specs.Meaning.{IsGame, AbstractGame}
 use Rattle.rbg_leaps.specs.declared.lists.Lists.{Lists}
 use Rattle.rbg_leaps.specs.declared.table.Entry.{Entry}
 use Rattle.rbg_leaps.specs.declared.table.Table.{Table}

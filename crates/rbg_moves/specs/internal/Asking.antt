@@ -1,9 +1,6 @@
 -- What a search takes up for a question about moves.
 use Rattle.std.specs.Prelude.{ℕ, zero, suc, Bool, true, false}
-use Rattle.rbg_rules.specs.Limits.{most_openings, most_modifiers}
-use Rattle.rbg_rules.specs.State.{AbstractGame, AbstractState}
-use Rattle.rbg_rules.specs.Words.{Start}
-use Rattle.rbg_rules.specs.Questions.{Question, find_move, list_moves}
+use Rattle.rbg_rules.specs.Meaning.{most_openings, most_modifiers, AbstractGame, AbstractState, Start, Question, find_move, list_moves}
 use Rattle.rbg_search.specs.Counting.{CountsOpenings, IsOverBudget}
 use Rattle.rbg_search.specs.Forced.{CountsForced}
 use Rattle.rbg_search.specs.Passing.{IsTooDeep}

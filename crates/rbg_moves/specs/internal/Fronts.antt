@@ -1,9 +1,7 @@
 -- What is said of a move whose pairs are left in a buffer.
 use Rattle.std.specs.Prelude.{◌≡◌, ℕ, List, [], length, Bool, true, false, Result, IfOk, OnOk}
 use Rattle.rbg_base.specs.Move.{IsMoveLength}
-use Rattle.rbg_rules.specs.State.{AbstractGame}
-use Rattle.rbg_rules.specs.Moves.{AbstractPlace, Finished, IsLegal}
-use Rattle.rbg_rules.specs.Questions.{find_move}
+use Rattle.rbg_rules.specs.Meaning.{AbstractGame, AbstractPlace, Finished, IsLegal, find_move}
 use Rattle.rbg_search.specs.Searching.{Tally}
 use Rattle.rbg_search.specs.declared.over.Over.{Over}
 use Rattle.rbg_moves.specs.Answers.{GivesUp}

@@ -1,12 +1,6 @@
 -- One modifier of a move, and the place behind it.
 use Rattle.std.specs.Prelude.{◌≡◌, ℕ, ◌<◌, List, [], length, false, Option, Some, None, Result, Err, IfOk, IfSome, OnOk}
-use Rattle.rbg_rules.specs.Positions.{IsModifierAt}
-use Rattle.rbg_rules.specs.State.{AbstractGame, AbstractState}
-use Rattle.rbg_rules.specs.Actions.{Applies}
-use Rattle.rbg_rules.specs.Moves.{AbstractPlace, Legal, stand_of}
-use Rattle.rbg_rules.specs.Places.{IsPlaceOf}
-use Rattle.rbg_rules.specs.Questions.{try_move, IsDeep}
-use Rattle.rbg_rules.specs.Words.{Start}
+use Rattle.rbg_rules.specs.Meaning.{IsModifierAt, AbstractGame, AbstractState, Applies, AbstractPlace, Legal, stand_of, IsPlaceOf, try_move, IsDeep, Start}
 use Rattle.rbg_pairs.specs.Flat.{IsNext}
 use Rattle.rbg_pairs.specs.Start.{IsPositionOf}
 use Rattle.rbg_search.specs.Counting.{CountsOpenings, IsOverBudget}

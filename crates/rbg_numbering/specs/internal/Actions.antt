@@ -1,9 +1,7 @@
 -- One action by numbers, and what is wrong with one.
 use Rattle.std.specs.Prelude.{◌≡◌, ℕ, ◌+◌, ◌<◌, ◌≤◌, List, [], ◌∷◌, ◌++◌, Option, Some, None, Bool, true, false, length}
 use Rattle.rbg_grammar.specs.Tree.{SpeltName, SpeltExpression, SpeltAction}
-use Rattle.rbg_rules.specs.Expression.{skip}
-use Rattle.rbg_rules.specs.Limits.{most_positions, most_nested_patterns}
-use Rattle.rbg_rules.specs.Translation.{action_of, shows_pattern}
+use Rattle.rbg_rules.specs.Meaning.{skip, most_positions, most_nested_patterns, action_of, shows_pattern}
 use Rattle.rbg_rules.specs.declared.rule.Action.{Action}
 use Rattle.rbg_numbering.specs.declared.error.NumberingError.{NumberingError}
 use Rattle.rbg_numbering.specs.declared.error.NumberingError.TheVariants.{SwitchInPattern, PatternTooDeep, TooManyPositions, Memory}

@@ -1,8 +1,7 @@
 -- What the operations of a chain do.
 use Rattle.std.specs.Prelude.{◌≡◌}
 use Rattle.rbg_grammar.specs.Tree.{SpeltOperand}
-use Rattle.rbg_rules.specs.Expression.{AbstractArithmetic}
-use Rattle.rbg_rules.specs.Translation.{operated, operation_of}
+use Rattle.rbg_rules.specs.Meaning.{AbstractArithmetic, operated, operation_of}
 use Rattle.rbg_rules.specs.declared.arithmetic.Operation.{Operation}
 use Rattle.rbg_numbering.specs.Names.{Names}
 use Rattle.rbg_numbering.specs.Rules.{ArithmeticIs}

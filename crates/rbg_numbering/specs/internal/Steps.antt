@@ -2,11 +2,7 @@
 use Rattle.std.specs.Prelude.{◌≡◌, ℕ, suc, ◌+◌, ◌<◌, ◌≤◌, List, [], ◌∷◌, ◌++◌, length, map, All}
 use Rattle.std.specs.List.{range_with_len}
 use Rattle.rbg_grammar.specs.Tree.{SpeltName, SpeltExpression, SpeltRule, SpeltAction}
-use Rattle.rbg_rules.specs.Expression.{AbstractAction, switch, positive, negative, Expression, act, skip, sequence, fail, choice, star}
-use Rattle.rbg_rules.specs.Limits.{most_positions, most_nested_patterns}
-use Rattle.rbg_rules.specs.Positions.{positions_of}
-use Rattle.rbg_rules.specs.Table.{IsWithin}
-use Rattle.rbg_rules.specs.Translation.{expression_of}
+use Rattle.rbg_rules.specs.Meaning.{AbstractAction, switch, positive, negative, Expression, act, skip, sequence, fail, choice, star, most_positions, most_nested_patterns, positions_of, IsWithin, expression_of}
 use Rattle.rbg_rules.specs.declared.rule.Action.{Action}
 use Rattle.rbg_rules.specs.declared.rule.Rule.{Rule}
 use Rattle.rbg_numbering.specs.declared.error.NumberingError.{NumberingError}

@@ -4,7 +4,7 @@ use Rattle.std.specs.BTreeMap.{BTreeMap, get_by}
 use Rattle.std.specs.Cmp.Lexicographic.{slice_cmp}
 use Rattle.std.specs.Global.{Global}
 use Rattle.std.specs.Ordering.{nat_cmp}
-use Rattle.rbg_rules.specs.LawfulNames.{AreLawfulNames}
+use Rattle.rbg_rules.specs.Meaning.{AreLawfulNames}
 
 -- the number that the map has for a text
 abbrev pub number_for : BTreeMap (Vec ℕ Global) ℕ → List ℕ → Option ℕ

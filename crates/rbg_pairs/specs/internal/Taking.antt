@@ -1,7 +1,6 @@
 -- A queue while pairs are taken from it.
 use Rattle.std.specs.Prelude.{◌≡◌, ℕ, ◌+◌, ◌*◌, ◌≤◌, List, ◌++◌, length, take}
-use Rattle.rbg_rules.specs.Positions.{positions_of}
-use Rattle.rbg_rules.specs.State.{AbstractGame}
+use Rattle.rbg_rules.specs.Meaning.{positions_of, AbstractGame}
 use Rattle.rbg_pairs.specs.Meeting.{AreMarked}
 
 -- how many marks there are for a game

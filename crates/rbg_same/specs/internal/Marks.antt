@@ -1,6 +1,6 @@
 -- The key of rules: a list of marks in which nothing of them is lost.
 use Rattle.std.specs.Prelude.{◌≡◌, ℕ, List, [], ◌∷◌, ◌++◌, map}
-use Rattle.rbg_rules.specs.Expression.{AbstractArithmetic, number, variable, piece_count, negated, sum, difference, product, quotient, AbstractAction, shift, on, off, assignment, comparison, switch, positive, negative, Expression, act, skip, sequence, fail, choice, star}
+use Rattle.rbg_rules.specs.Meaning.{AbstractArithmetic, number, variable, piece_count, negated, sum, difference, product, quotient, AbstractAction, shift, on, off, assignment, comparison, switch, positive, negative, Expression, act, skip, sequence, fail, choice, star}
 use Rattle.rbg_same.specs.declared.mark.Mark.{Mark}
 use Rattle.rbg_same.specs.declared.mark.Mark.TheVariants.{Number, Variable, PieceCount, Negated, Sum, Difference, Product, Quotient, Shift, On, OnPiece, Off, Assign, Compare, Switch, Positive, Negative, Act, Skip, Then, Fail, Or, Star}
 

@@ -1,7 +1,7 @@
 -- What two games or boards have in common.
 use Rattle.std.specs.Prelude.{◌≡◌, ℕ, List}
 use Rattle.rbg_board.specs.Graph.{Graph}
-use Rattle.rbg_rules.specs.State.{AbstractGame}
+use Rattle.rbg_rules.specs.Meaning.{AbstractGame}
 use Rattle.rbg_same.specs.declared.names.Things.{Things}
 use Rattle.rbg_same.specs.declared.names.Things.TheVariants.{Pieces, Variables, Directions}
 

@@ -1,11 +1,6 @@
 -- What is counted while the patterns of a flat part are asked, and behind its modifiers.
 use Rattle.std.specs.Prelude.{◌≡◌, ◌≢◌, ℕ, ◌≤◌, List, [], ◌∷◌, All, AllPairs, Contains, Result, Err, IsOk}
-use Rattle.rbg_rules.specs.Expression.{Expression}
-use Rattle.rbg_rules.specs.Positions.{IsLevel, inside}
-use Rattle.rbg_rules.specs.Words.{Start}
-use Rattle.rbg_rules.specs.State.{AbstractGame, AbstractState}
-use Rattle.rbg_rules.specs.Games.{IsGame}
-use Rattle.rbg_rules.specs.Questions.{Question, reach, Item, modifier_at, pattern_at}
+use Rattle.rbg_rules.specs.Meaning.{Expression, IsLevel, inside, Start, AbstractGame, AbstractState, IsGame, Question, reach, Item, modifier_at, pattern_at}
 use Rattle.rbg_state.specs.History.{History}
 use Rattle.rbg_flat.specs.Candidates.{MayEnd}
 use Rattle.rbg_pairs.specs.Flat.{IsNext}

@@ -1,7 +1,6 @@
 -- A flat part of the program that is being found.
 use Rattle.std.specs.Prelude.{◌≤◌, length, take}
-use Rattle.rbg_rules.specs.Words.{Start}
-use Rattle.rbg_rules.specs.State.{AbstractGame, AbstractState}
+use Rattle.rbg_rules.specs.Meaning.{Start, AbstractGame, AbstractState}
 use Rattle.rbg_pairs.specs.Part.{IsPart, HasMarksOf}
 use Rattle.rbg_pairs.specs.declared.flat.Flat.{Flat}
 

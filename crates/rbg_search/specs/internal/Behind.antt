@@ -1,10 +1,6 @@
 -- What runs behind the modifiers of a flat part.
 use Rattle.std.specs.Prelude.{◌<◌, ℕ, List, length, Contains}
-use Rattle.rbg_rules.specs.Positions.{IsModifierAt}
-use Rattle.rbg_rules.specs.Words.{after}
-use Rattle.rbg_rules.specs.State.{AbstractGame, AbstractState}
-use Rattle.rbg_rules.specs.Actions.{Applies}
-use Rattle.rbg_rules.specs.Questions.{SomeWordRuns}
+use Rattle.rbg_rules.specs.Meaning.{IsModifierAt, after, AbstractGame, AbstractState, Applies, SomeWordRuns}
 use Rattle.rbg_pairs.specs.Closure.{at_vertex}
 use Rattle.rbg_pairs.specs.Nesting.{NestsFrom}
 use Rattle.rbg_pairs.specs.Start.{IsPositionOf}

@@ -1,8 +1,6 @@
 -- A search that finds a flat part.
 use Rattle.std.specs.Prelude.{◌≡◌, ℕ, ◌+◌, ◌≤◌, List, All, Bool, take}
-use Rattle.rbg_rules.specs.Games.{IsGame}
-use Rattle.rbg_rules.specs.Words.{Start}
-use Rattle.rbg_rules.specs.Questions.{reach}
+use Rattle.rbg_rules.specs.Meaning.{IsGame, Start, reach}
 use Rattle.rbg_state.specs.History.{History}
 use Rattle.rbg_pairs.specs.declared.flat.Flat.{Flat}
 use Rattle.rbg_search.specs.Answered.{HasReached}

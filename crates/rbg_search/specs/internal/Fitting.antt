@@ -1,7 +1,6 @@
 -- Which games flat parts that are kept fit.
 use Rattle.std.specs.Prelude.{◌≡◌, ℕ, length}
-use Rattle.rbg_rules.specs.Positions.{positions_of}
-use Rattle.rbg_rules.specs.State.{AbstractGame}
+use Rattle.rbg_rules.specs.Meaning.{positions_of, AbstractGame}
 use Rattle.rbg_flat.specs.internal.Leading.{AreSizedFor}
 use Rattle.rbg_flat.specs.internal.Sets.{SetsOfVertices}
 use Rattle.rbg_pairs.specs.Part.{HasMarksOf}

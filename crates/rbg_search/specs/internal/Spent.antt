@@ -1,6 +1,6 @@
 -- How many pairs a search has taken at most.
 use Rattle.std.specs.Prelude.{◌≡◌, ℕ, ◌+◌, ◌*◌, ◌≤◌}
-use Rattle.rbg_rules.specs.State.{AbstractGame}
+use Rattle.rbg_rules.specs.Meaning.{AbstractGame}
 use Rattle.rbg_search.specs.Taken.{most_pairs_of}
 
 -- No more pairs were taken than so many flat parts have.

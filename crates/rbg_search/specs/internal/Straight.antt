@@ -1,8 +1,6 @@
 -- A straight line of actions that is scanned along.
 use Rattle.std.specs.Prelude.{◌≢◌, ℕ, ◌<◌, ◌≤◌, List, [], ◌∷◌, ◌++◌, All, AllPairs, Bool}
-use Rattle.rbg_rules.specs.Positions.{IsPatternAt}
-use Rattle.rbg_rules.specs.Words.{Start}
-use Rattle.rbg_rules.specs.State.{AbstractGame, AbstractState}
+use Rattle.rbg_rules.specs.Meaning.{IsPatternAt, Start, AbstractGame, AbstractState}
 use Rattle.rbg_flat.specs.Found.{HasCandidates}
 use Rattle.rbg_pairs.specs.Flat.{IsFlatPart}
 use Rattle.rbg_pairs.specs.Closure.{Reached}

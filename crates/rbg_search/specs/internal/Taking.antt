@@ -1,9 +1,6 @@
 -- Which forced openings were taken up while the patterns of a flat part are asked, and behind its modifiers.
 use Rattle.std.specs.Prelude.{◌≡◌, ℕ, ◌+◌, ◌≤◌, List, [], ◌∷◌, length, Contains, Bool, false}
-use Rattle.rbg_rules.specs.Positions.{IsNumbered, IsPatternAt, inside}
-use Rattle.rbg_rules.specs.Words.{beginning}
-use Rattle.rbg_rules.specs.State.{AbstractGame, AbstractState}
-use Rattle.rbg_rules.specs.Questions.{pattern, Item, pattern_at, Forced}
+use Rattle.rbg_rules.specs.Meaning.{IsNumbered, IsPatternAt, inside, beginning, AbstractGame, AbstractState, pattern, Item, pattern_at, Forced}
 use Rattle.rbg_search.specs.Forced.{HasFewInRow, TakesBehind}
 use Rattle.rbg_pairs.specs.Closure.{at_vertex}
 

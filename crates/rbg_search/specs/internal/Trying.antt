@@ -1,8 +1,6 @@
 -- A search that tries modifiers in turn, whether some word runs behind one of them.
 use Rattle.std.specs.Prelude.{◌≡◌, ℕ, ◌≤◌, List, All, Bool, Result, Err, IsOk}
-use Rattle.rbg_rules.specs.Positions.{IsNumbered}
-use Rattle.rbg_rules.specs.Words.{Start}
-use Rattle.rbg_rules.specs.Questions.{reach, pattern}
+use Rattle.rbg_rules.specs.Meaning.{IsNumbered, Start, reach, pattern}
 use Rattle.rbg_state.specs.History.{History}
 use Rattle.rbg_search.specs.Counting.{CountsOpenings}
 use Rattle.rbg_search.specs.Forced.{TakesBehind}

@@ -1,13 +1,6 @@
 //! What the actions of a game do to a semi-state.
 ghost use Rattle.std.specs.Prelude.{◌≡◌, ℕ, ◌+◌, ◌<◌, ◌≤◌, ◌↔◌, false, length, slice_index, pos, Some, IfSome, IfNone, IsTrue};
-ghost use Rattle.rbg_rules.specs.Expression.{AbstractAction, shift, on, off, assignment, comparison, switch};
-ghost use Rattle.rbg_rules.specs.State.{AbstractGame, AbstractState, IsStateOf};
-ghost use Rattle.rbg_rules.specs.Positions.{positions_of, IsPatternAt};
-ghost use Rattle.rbg_rules.specs.Actions.{Applies};
-ghost use Rattle.rbg_rules.specs.Values.{value_of, Relates};
-ghost use Rattle.rbg_rules.specs.Games.{IsGame, IsActionOf};
-ghost use Rattle.rbg_rules.specs.Translation.{arithmetic_of, shows_pattern};
-ghost use Rattle.rbg_rules.specs.Table.{Shows};
+ghost use Rattle.rbg_rules.specs.Meaning.{AbstractAction, shift, on, off, assignment, comparison, switch, AbstractGame, AbstractState, IsStateOf, positions_of, IsPatternAt, Applies, value_of, Relates, IsGame, IsActionOf, arithmetic_of, shows_pattern, Shows};
 ghost use Rattle.rbg_state.specs.History.{capacity_of, IsAfter};
 ghost use Rattle.rbg_state.specs.Reads.{ReadsBelow};
 

@@ -1,7 +1,6 @@
 //! The arithmetic of a game: whole numbers of 64 bits with a sign, and no value where one does not fit.
 ghost use Rattle.std.specs.Prelude.{◌≡◌, Some, length, All, IfSome};
-ghost use Rattle.rbg_rules.specs.Values.{value_of};
-ghost use Rattle.rbg_rules.specs.Translation.{arithmetic_of};
+ghost use Rattle.rbg_rules.specs.Meaning.{value_of, arithmetic_of};
 ghost use Rattle.rbg_state.specs.Reads.{ReadsBelow};
 ghost use Rattle.rbg_state.specs.Evaluation.{result_of, value_after};
 

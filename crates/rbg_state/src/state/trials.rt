@@ -1,12 +1,7 @@
 //! What the actions of a game would do to a semi-state, which stays as it is.
 ghost use Rattle.std.specs.Prelude.{◌≡◌, ℕ, ◌<◌, ◌≤◌, ◌↔◌, true, false, length, slice_index, Contains, IfSome, IfNone, IsTrue, Option};
 ghost use Rattle.rbg_board.specs.Graph.{next};
-ghost use Rattle.rbg_rules.specs.Expression.{AbstractAction, shift, on, assignment, comparison};
-ghost use Rattle.rbg_rules.specs.State.{AbstractGame, AbstractState, IsStateOf};
-ghost use Rattle.rbg_rules.specs.Positions.{positions_of, IsPatternAt};
-ghost use Rattle.rbg_rules.specs.Games.{IsGame, IsActionOf};
-ghost use Rattle.rbg_rules.specs.Translation.{arithmetic_of, shows_pattern};
-ghost use Rattle.rbg_rules.specs.Table.{Shows};
+ghost use Rattle.rbg_rules.specs.Meaning.{AbstractAction, shift, on, assignment, comparison, AbstractGame, AbstractState, IsStateOf, positions_of, IsPatternAt, IsGame, IsActionOf, arithmetic_of, shows_pattern, Shows};
 ghost use Rattle.rbg_state.specs.Reads.{ReadsBelow};
 ghost use Rattle.rbg_state.specs.Trials.{Tells, IsTrial};
 

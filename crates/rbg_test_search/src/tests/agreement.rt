@@ -1,7 +1,7 @@
 //! All questions of small random games are answered as slowly trying all words answers them.
 ghost use Rattle.std.specs.Prelude.{◌≡◌, IfOk, IfSome};
 ghost use Rattle.rbg_flat.specs.Paths.{ArePathsOf};
-ghost use Rattle.rbg_rules.specs.Places.{IsPlaceOf};
+ghost use Rattle.rbg_rules.specs.Meaning.{IsPlaceOf};
 
 use crate::tests::asked::Asked;
 use crate::tests::board::Board;

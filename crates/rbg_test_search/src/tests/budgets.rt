@@ -1,6 +1,6 @@
 //! What questions take up, and where a budget ends them.
 ghost use Rattle.std.specs.Prelude.{IfOk};
-ghost use Rattle.rbg_rules.specs.Places.{IsPlaceOf};
+ghost use Rattle.rbg_rules.specs.Meaning.{IsPlaceOf};
 
 use rbg_auto::{Steps, compact};
 use rbg_game::load;

@@ -1,8 +1,7 @@
 //! What searches reach and which patterns hold, beside the slow answers.
 ghost use Rattle.std.specs.Prelude.{◌<◌, ◌≤◌, length};
 ghost use Rattle.rbg_flat.specs.Paths.{ArePathsOf};
-ghost use Rattle.rbg_rules.specs.Laws.{IsStart};
-ghost use Rattle.rbg_rules.specs.Positions.{positions_of, IsPatternAt};
+ghost use Rattle.rbg_rules.specs.Meaning.{IsStart, positions_of, IsPatternAt};
 ghost use Rattle.rbg_pairs.specs.Start.{start_of};
 ghost use Rattle.rbg_test_search.specs.Asking.{IsSearchedAt};
 

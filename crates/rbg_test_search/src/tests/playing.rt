@@ -1,7 +1,6 @@
 //! Which moves are legal and where they lead, beside the slow answers.
 ghost use Rattle.std.specs.Prelude.{◌<◌, IfOk, IfSome};
-ghost use Rattle.rbg_rules.specs.State.{IsStateOf};
-ghost use Rattle.rbg_rules.specs.Places.{IsPlaceOf};
+ghost use Rattle.rbg_rules.specs.Meaning.{IsStateOf, IsPlaceOf};
 ghost use Rattle.rbg_test_search.specs.Asking.{IsAskedAt};
 
 use crate::tests::asked::Asked;

@@ -1,6 +1,6 @@
 -- Things by their kinds and numbers.
 use Rattle.std.specs.Prelude.{ℕ, Bool, false}
-use Rattle.rbg_rules.specs.Expression.{AbstractArithmetic}
+use Rattle.rbg_rules.specs.Meaning.{AbstractArithmetic}
 use Rattle.rbg_warnings.specs.Warnings.{names_variable}
 use Rattle.rbg_warnings.specs.declared.thing.Kind.{Kind}
 use Rattle.rbg_warnings.specs.declared.thing.Kind.TheVariants.{Players, Pieces, Variables, Directions}

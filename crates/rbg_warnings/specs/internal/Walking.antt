@@ -1,10 +1,7 @@
 -- What is found on a walk through arithmetic, and through the positions of a game.
 use Rattle.std.specs.Prelude.{◌≡◌, ℕ, ◌≤◌, ◌||◌, Bool, false, IsTrue, List, [], ◌∷◌, ◌++◌, Option, Some, None}
 use Rattle.rbg_rules.specs.declared.arithmetic.Operation.{Operation}
-use Rattle.rbg_rules.specs.Expression.{AbstractArithmetic, number, AbstractAction}
-use Rattle.rbg_rules.specs.Positions.{HasAction}
-use Rattle.rbg_rules.specs.Translation.{arithmetic_of}
-use Rattle.rbg_rules.specs.State.{AbstractGame}
+use Rattle.rbg_rules.specs.Meaning.{AbstractArithmetic, number, AbstractAction, HasAction, arithmetic_of, AbstractGame}
 use Rattle.rbg_warnings.specs.declared.thing.Thing.{Thing}
 use Rattle.rbg_warnings.specs.declared.warning.Warning.{Warning}
 use Rattle.rbg_warnings.specs.Sifting.{Keeps}

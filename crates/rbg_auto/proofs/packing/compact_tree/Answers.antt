@@ -1,7 +1,6 @@
 -- The proof of `packing::compact_tree`.
 use Rattle.std.proofs.Common.{length, ◌+◌}
-use Rattle.rbg_rules.specs.Positions.{positions_of}
-use Rattle.rbg_rules.specs.Translation.{expression_of}
+use Rattle.rbg_rules.specs.Meaning.{positions_of, expression_of}
 use Rattle.rbg_auto.proofs.CompactLemmas.{IsBlank, compact_steps, has_each, untold}
 use Rattle.rbg_auto.proofs.packing.compact_tree.Goals as goal
 

@@ -5,11 +5,7 @@ use Rattle.std.specs.List.{list_any}
 use Rattle.std.specs.Str.{bytes_eq}
 use Rattle.std.proofs.lemmas.List.Elements.{All-cons, All-nil}
 use Rattle.rbg_board.specs.Graph.{next}
-use Rattle.rbg_rules.specs.Limits.{greatest_bound}
-use Rattle.rbg_rules.specs.LawfulNames.{AreLawfulNames}
-use Rattle.rbg_rules.specs.Expression.{AbstractAction, shift, off, positive, negative, switch, act, Expression, sequence_of}
-use Rattle.rbg_rules.specs.Positions.{HasAction, IsLevel, inside}
-use Rattle.rbg_rules.specs.Games.{IsActionOf}
+use Rattle.rbg_rules.specs.Meaning.{greatest_bound, AreLawfulNames, AbstractAction, shift, off, positive, negative, switch, act, Expression, sequence_of, HasAction, IsLevel, inside, IsActionOf}
 use Rattle.rbg_examples.specs.ExampleGames.{looking_right, two_squares}
 use Rattle.rbg_rules.proofs.NameLemmas.{no_names, lawful_name}
 use Rattle.rbg_base.specs.Names.{is_name}

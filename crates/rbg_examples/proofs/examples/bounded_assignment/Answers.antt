@@ -1,10 +1,7 @@
 -- The proof of `examples::bounded_assignment`.
 use Rattle.std.proofs.Common.{[], ◌∷◌, refl, inl, inr, arith}
 use Rattle.std.proofs.lemmas.List.Elements.{All-cons, All-nil}
-use Rattle.rbg_rules.specs.Expression.{assignment, switch, variable, number, sum}
-use Rattle.rbg_rules.specs.Positions.{IsSwitchAt, outermost}
-use Rattle.rbg_rules.specs.Words.{done, again}
-use Rattle.rbg_rules.specs.Moves.{stay, modify}
+use Rattle.rbg_rules.specs.Meaning.{assignment, switch, variable, number, sum, IsSwitchAt, outermost, done, again, stay, modify}
 use Rattle.rbg_examples.specs.ExampleGames.{counting, state_of}
 use Rattle.rbg_examples.proofs.ExampleLemmas.{legal_by, no_switch_at}
 use Rattle.rbg_examples.proofs.examples.bounded_assignment.Goals as goal

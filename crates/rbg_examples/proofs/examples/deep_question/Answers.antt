@@ -1,12 +1,7 @@
 -- The proof of `examples::deep_question`.
 use Rattle.std.proofs.Common.{ℕ, zero, suc, List, [], ◌∷◌, refl, inl, inr, sym, subst}
 use Rattle.std.proofs.lemmas.List.{append-nil}
-use Rattle.rbg_rules.specs.Expression.{off}
-use Rattle.rbg_rules.specs.Positions.{outermost}
-use Rattle.rbg_rules.specs.Words.{after, Follows}
-use Rattle.rbg_rules.specs.State.{AbstractState}
-use Rattle.rbg_rules.specs.Moves.{RunPairs, stay, modify}
-use Rattle.rbg_rules.specs.Questions.{Opening, at, GoesTo, find_move, items_of}
+use Rattle.rbg_rules.specs.Meaning.{off, outermost, after, Follows, AbstractState, RunPairs, stay, modify, Opening, at, GoesTo, find_move, items_of}
 use Rattle.rbg_examples.specs.ExampleGames.{without_end, state_of}
 use Rattle.rbg_examples.proofs.WithoutEnd.{off_no_switch, no_switch_follows}
 use Rattle.rbg_examples.proofs.Offs.{offs, pairs, length-pairs, word, no_switch}

@@ -2,14 +2,7 @@
 use Rattle.std.proofs.Common.{◌≡◌, ℕ, zero, suc, List, [], ◌∷◌, ◌++◌, refl, inl, inr, sym, ap, ◌∙◌, subst, ◌⊎◌, true, false, append_assoc, arith}
 use Rattle.std.proofs.lemmas.List.{append-nil}
 use Rattle.std.proofs.lemmas.List.Elements.{All-cons, All-nil}
-use Rattle.rbg_rules.specs.Expression.{AbstractAction, off, on, switch, act, star, choice_of, sequence_of, Expression}
-use Rattle.rbg_rules.specs.Positions.{HasAction, IsNumbered, IsSwitchAt, HasOwnAction, outermost, is_modifier}
-use Rattle.rbg_rules.specs.Words.{after, Word, Follows}
-use Rattle.rbg_rules.specs.State.{AbstractState}
-use Rattle.rbg_rules.specs.Actions.{Applies}
-use Rattle.rbg_rules.specs.Moves.{RunPairs, stay, modify, pass}
-use Rattle.rbg_rules.specs.Questions.{Opening, at, IsProperPrefix, AnswersBehind, IsDeep, find_move, items_of}
-use Rattle.rbg_rules.specs.Laws.{IsJoinOfWords}
+use Rattle.rbg_rules.specs.Meaning.{AbstractAction, off, on, switch, act, star, choice_of, sequence_of, Expression, HasAction, IsNumbered, IsSwitchAt, HasOwnAction, outermost, is_modifier, after, Word, Follows, AbstractState, Applies, RunPairs, stay, modify, pass, Opening, at, IsProperPrefix, AnswersBehind, IsDeep, find_move, items_of, IsJoinOfWords}
 use Rattle.rbg_examples.specs.ExampleGames.{heavy_choice, state_of}
 use Rattle.rbg_rules.proofs.PositionLemmas.{Among, Among_left, Among_right, Among_cases, one_stands}
 use Rattle.rbg_rules.proofs.PatternLemmas.{only_one, own_stands, word_own}

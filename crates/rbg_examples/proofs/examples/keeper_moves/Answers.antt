@@ -1,11 +1,7 @@
 -- The proof of `examples::keeper_moves`.
 use Rattle.std.proofs.Common.{[], refl, inl}
 use Rattle.std.proofs.lemmas.List.Elements.{All-nil}
-use Rattle.rbg_rules.specs.Expression.{switch}
-use Rattle.rbg_rules.specs.Positions.{IsSwitchAt, outermost}
-use Rattle.rbg_rules.specs.Words.{done, again}
-use Rattle.rbg_rules.specs.State.{start_of}
-use Rattle.rbg_rules.specs.Moves.{stay, modify}
+use Rattle.rbg_rules.specs.Meaning.{switch, IsSwitchAt, outermost, done, again, start_of, stay, modify}
 use Rattle.rbg_examples.specs.ExampleGames.{keeper_for_ever}
 use Rattle.rbg_examples.proofs.ExampleLemmas.{legal_by}
 use Rattle.rbg_examples.proofs.examples.keeper_moves.Goals as goal

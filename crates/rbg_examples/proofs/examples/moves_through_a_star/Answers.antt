@@ -1,11 +1,7 @@
 -- The proof of `examples::moves_through_a_star`.
 use Rattle.std.proofs.Common.{◌≡◌, ℕ, [], ◌∷◌, ◌++◌, List, refl, inl, inr, ap, sym, ◌∙◌, subst}
 use Rattle.std.proofs.lemmas.List.Elements.{All-cons, All-nil}
-use Rattle.rbg_rules.specs.Expression.{off, switch}
-use Rattle.rbg_rules.specs.Positions.{HasAction, IsNumbered, IsSwitchAt, HasNoSwitch, outermost}
-use Rattle.rbg_rules.specs.Words.{done, again}
-use Rattle.rbg_rules.specs.Actions.{Applies}
-use Rattle.rbg_rules.specs.Moves.{stay, modify}
+use Rattle.rbg_rules.specs.Meaning.{off, switch, HasAction, IsNumbered, IsSwitchAt, HasNoSwitch, outermost, done, again, Applies, stay, modify}
 use Rattle.rbg_examples.specs.ExampleGames.{star_of_offs, state_of}
 use Rattle.rbg_rules.proofs.PlaceLemmas.{RunPairs-append, one_switch, snoc_same}
 use Rattle.rbg_examples.proofs.ExampleLemmas.{legal_by, no_switch_at, last_pair, PairAmong, pair_first, pair_position, all_among}

@@ -3,12 +3,7 @@ use Rattle.std.proofs.Common.{◌≡◌, ℕ, List, [], ◌∷◌, ◌++◌, ref
 use Rattle.std.specs.Prelude.{Some}
 use Rattle.std.proofs.lemmas.List.Elements.{All-cons, All-nil}
 use Rattle.rbg_board.specs.Graph.{Graph, next}
-use Rattle.rbg_rules.specs.Expression.{AbstractAction, shift, on, off, negative, switch, act, Expression, sequence_of}
-use Rattle.rbg_rules.specs.Positions.{HasAction, IsNumbered, IsSwitchAt, HasNoSwitch, outermost}
-use Rattle.rbg_rules.specs.Words.{Word}
-use Rattle.rbg_rules.specs.State.{AbstractState}
-use Rattle.rbg_rules.specs.Actions.{Applies, Runs, ActsIn, rest, step}
-use Rattle.rbg_rules.specs.Moves.{RunPairs, stay, modify, pass}
+use Rattle.rbg_rules.specs.Meaning.{AbstractAction, shift, on, off, negative, switch, act, Expression, sequence_of, HasAction, IsNumbered, IsSwitchAt, HasNoSwitch, outermost, Word, AbstractState, Applies, Runs, ActsIn, rest, step, RunPairs, stay, modify, pass}
 use Rattle.rbg_examples.specs.ExampleGames.{nothing_right, one_square, two_squares, state_of}
 use Rattle.rbg_rules.proofs.PositionLemmas.{Among}
 use Rattle.rbg_rules.proofs.MoveLemmas.{applied_acts}

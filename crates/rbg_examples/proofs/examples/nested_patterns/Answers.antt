@@ -3,13 +3,7 @@ use Rattle.std.proofs.Common.{◌≡◌, ℕ, List, [], ◌∷◌, ◌++◌, ref
 use Rattle.std.specs.Prelude.{Some}
 use Rattle.std.proofs.lemmas.List.Elements.{All-cons, All-nil}
 use Rattle.rbg_board.specs.Graph.{next}
-use Rattle.rbg_rules.specs.Expression.{AbstractAction, shift, off, positive, negative, switch, act, star, choice_of, Expression}
-use Rattle.rbg_rules.specs.Positions.{HasAction, HasOwnAction, HasNoSwitch, IsNumbered, IsSwitchAt, outermost, is_modifier}
-use Rattle.rbg_rules.specs.Words.{Word, Repeats, done, again}
-use Rattle.rbg_rules.specs.State.{AbstractState}
-use Rattle.rbg_rules.specs.Actions.{Applies, Runs, ActsIn, rest, step}
-use Rattle.rbg_rules.specs.Moves.{RunPairs, stay, modify, pass, AbstractPlace, Legal}
-use Rattle.rbg_rules.specs.Laws.{IsJoinOfWords}
+use Rattle.rbg_rules.specs.Meaning.{AbstractAction, shift, off, positive, negative, switch, act, star, choice_of, Expression, HasAction, HasOwnAction, HasNoSwitch, IsNumbered, IsSwitchAt, outermost, is_modifier, Word, Repeats, done, again, AbstractState, Applies, Runs, ActsIn, rest, step, RunPairs, stay, modify, pass, AbstractPlace, Legal, IsJoinOfWords}
 use Rattle.rbg_examples.specs.ExampleGames.{nested, only_right, two_squares, state_of, white_on}
 use Rattle.rbg_rules.proofs.PositionLemmas.{Among, Among_cases, one_stands}
 use Rattle.rbg_rules.proofs.PatternLemmas.{word_own}

@@ -1,9 +1,6 @@
 -- The proof of `examples::nothing_forced`.
 use Rattle.std.proofs.Common.{◌≡◌, ℕ, List, [], ◌∷◌, ◌++◌, refl, inl, inr, sym, ap, ◌∙◌, subst}
-use Rattle.rbg_rules.specs.Expression.{off}
-use Rattle.rbg_rules.specs.Positions.{IsNumbered, IsSwitchAt}
-use Rattle.rbg_rules.specs.Words.{after}
-use Rattle.rbg_rules.specs.Questions.{at, behind, IsMove}
+use Rattle.rbg_rules.specs.Meaning.{off, IsNumbered, IsSwitchAt, after, at, behind, IsMove}
 use Rattle.rbg_examples.specs.ExampleGames.{star_of_offs, state_of}
 use Rattle.rbg_rules.proofs.PlaceLemmas.{RunPairs-append, one_switch, snoc_same}
 use Rattle.rbg_examples.proofs.ExampleLemmas.{no_switch_at}

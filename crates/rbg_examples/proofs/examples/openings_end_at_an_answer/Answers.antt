@@ -1,10 +1,7 @@
 -- The proof of `examples::openings_end_at_an_answer`.
 use Rattle.std.proofs.Common.{◌≡◌, ℕ, List, [], ◌∷◌, refl, inl, inr}
 use Rattle.std.proofs.lemmas.List.Elements.{All-nil}
-use Rattle.rbg_rules.specs.Positions.{IsSwitchAt, outermost}
-use Rattle.rbg_rules.specs.Words.{after, done}
-use Rattle.rbg_rules.specs.Moves.{stay}
-use Rattle.rbg_rules.specs.Questions.{at, behind, AnswersBehind, GoesTo, find_move}
+use Rattle.rbg_rules.specs.Meaning.{IsSwitchAt, outermost, after, done, stay, at, behind, AnswersBehind, GoesTo, find_move}
 use Rattle.rbg_examples.specs.ExampleGames.{star_of_offs, state_of}
 use Rattle.rbg_examples.proofs.ExampleLemmas.{no_pattern_among}
 use Rattle.rbg_examples.proofs.examples.openings_end_at_an_answer.Goals as goal

@@ -2,12 +2,7 @@
 use Rattle.std.proofs.Common.{◌≡◌, ℕ, List, [], ◌∷◌, refl, inl, inr, sym, ap, ◌∙◌, subst}
 use Rattle.std.proofs.lemmas.List.Elements.{All-cons, All-nil}
 use Rattle.rbg_board.specs.Graph.{next}
-use Rattle.rbg_rules.specs.Expression.{AbstractAction, shift, on, off, positive, negative, switch, act, Expression, sequence_of}
-use Rattle.rbg_rules.specs.Positions.{HasAction, IsNumbered, IsSwitchAt, HasNoSwitch, outermost, inside, IsLevel, is_modifier}
-use Rattle.rbg_rules.specs.Words.{beginning, WordOf, Word}
-use Rattle.rbg_rules.specs.State.{AbstractState}
-use Rattle.rbg_rules.specs.Moves.{RunPairs, stay, modify, pass}
-use Rattle.rbg_rules.specs.Questions.{at, behind, AnswersBehind, GoesTo, pattern}
+use Rattle.rbg_rules.specs.Meaning.{AbstractAction, shift, on, off, positive, negative, switch, act, Expression, sequence_of, HasAction, IsNumbered, IsSwitchAt, HasNoSwitch, outermost, inside, IsLevel, is_modifier, beginning, WordOf, Word, AbstractState, RunPairs, stay, modify, pass, at, behind, AnswersBehind, GoesTo, pattern}
 use Rattle.rbg_examples.specs.ExampleGames.{looking_right}
 use Rattle.rbg_examples.proofs.ExampleLemmas.{no_switch_at, true_not_false, only_nothing, all_of_one, acts_word, only_word}
 use Rattle.rbg_rules.proofs.PositionLemmas.{one_stands}

@@ -3,13 +3,7 @@ use Rattle.std.proofs.Common.{◌≡◌, ◌≢◌, ℕ, List, [], ◌∷◌, �
 use Rattle.std.specs.Prelude.{All, Contains, AllPairs}
 use Rattle.std.proofs.lemmas.List.Elements.{All-cons, All-nil}
 use Rattle.std.proofs.lemmas.List.Kept.{AllPairs-cons}
-use Rattle.rbg_rules.specs.Expression.{on, off, positive, negative, Expression}
-use Rattle.rbg_rules.specs.Positions.{HasAction, IsNumbered, IsSwitchAt, IsPatternAt, HasNoSwitch, IsLevel, inside}
-use Rattle.rbg_rules.specs.Words.{Word, WordOf, Start, beginning, Follows}
-use Rattle.rbg_rules.specs.State.{AbstractState}
-use Rattle.rbg_rules.specs.Actions.{Applies}
-use Rattle.rbg_rules.specs.Moves.{RunPairs, stay, modify, pass}
-use Rattle.rbg_rules.specs.Questions.{Item, modifier_at, RunsOn, Opening, at, behind, GoesTo, Forced, SomeWordRuns, pattern, items_of}
+use Rattle.rbg_rules.specs.Meaning.{on, off, positive, negative, Expression, HasAction, IsNumbered, IsSwitchAt, IsPatternAt, HasNoSwitch, IsLevel, inside, Word, WordOf, Start, beginning, Follows, AbstractState, Applies, RunPairs, stay, modify, pass, Item, modifier_at, RunsOn, Opening, at, behind, GoesTo, Forced, SomeWordRuns, pattern, items_of}
 use Rattle.rbg_examples.specs.ExampleGames.{asking_a_sum, off_and_stop}
 use Rattle.rbg_rules.proofs.PositionLemmas.{Among, Among_left, Among_right, one_stands}
 use Rattle.rbg_rules.proofs.MoveLemmas.{applied_acts}

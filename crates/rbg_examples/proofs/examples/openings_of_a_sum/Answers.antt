@@ -3,13 +3,7 @@ use Rattle.std.proofs.Common.{◌≡◌, ◌≢◌, ℕ, List, [], ◌∷◌, �
 use Rattle.std.specs.Prelude.{All, Contains, AllPairs}
 use Rattle.std.proofs.lemmas.List.Elements.{All-cons, All-nil}
 use Rattle.std.proofs.lemmas.List.Kept.{AllPairs-cons}
-use Rattle.rbg_rules.specs.Expression.{off, switch, act, choice_of}
-use Rattle.rbg_rules.specs.Positions.{HasAction, IsNumbered, IsSwitchAt, HasNoSwitch, outermost}
-use Rattle.rbg_rules.specs.Words.{after, Follows, Word}
-use Rattle.rbg_rules.specs.State.{AbstractState}
-use Rattle.rbg_rules.specs.Moves.{RunPairs, stay, modify, pass}
-use Rattle.rbg_rules.specs.Laws.{IsJoinOfWords}
-use Rattle.rbg_rules.specs.Questions.{Item, modifier_at, Opening, at, behind, GoesTo, AnswersBehind, find_move, items_of}
+use Rattle.rbg_rules.specs.Meaning.{off, switch, act, choice_of, HasAction, IsNumbered, IsSwitchAt, HasNoSwitch, outermost, after, Follows, Word, AbstractState, RunPairs, stay, modify, pass, IsJoinOfWords, Item, modifier_at, Opening, at, behind, GoesTo, AnswersBehind, find_move, items_of}
 use Rattle.rbg_examples.specs.ExampleGames.{small_sum}
 use Rattle.rbg_rules.proofs.PositionLemmas.{Among}
 use Rattle.rbg_examples.proofs.ExampleLemmas.{no_switch_at, true_not_false, only_nothing, all_of_one, modifies, no_pairs, one_pair, goes_on, join_word, at_front, all_among, no_pattern_among}

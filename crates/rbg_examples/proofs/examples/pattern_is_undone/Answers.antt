@@ -2,11 +2,7 @@
 use Rattle.std.proofs.Common.{ℕ, List, [], ◌∷◌, ◌++◌, refl, inl, inr, subst, arith}
 use Rattle.std.proofs.lemmas.List.Elements.{All-cons, All-nil}
 use Rattle.rbg_board.specs.Graph.{next}
-use Rattle.rbg_rules.specs.Expression.{AbstractAction, shift, on, off, positive, switch, act, Expression, sequence_of}
-use Rattle.rbg_rules.specs.Positions.{HasAction, IsNumbered, IsSwitchAt, HasNoSwitch, outermost}
-use Rattle.rbg_rules.specs.State.{AbstractState}
-use Rattle.rbg_rules.specs.Actions.{Applies, rest, step}
-use Rattle.rbg_rules.specs.Moves.{stay, modify, pass}
+use Rattle.rbg_rules.specs.Meaning.{AbstractAction, shift, on, off, positive, switch, act, Expression, sequence_of, HasAction, IsNumbered, IsSwitchAt, HasNoSwitch, outermost, AbstractState, Applies, rest, step, stay, modify, pass}
 use Rattle.rbg_examples.specs.ExampleGames.{looking_right}
 use Rattle.rbg_rules.proofs.PositionLemmas.{Among, Among_left, Among_right}
 use Rattle.rbg_examples.proofs.ExampleLemmas.{legal_by, no_switch_at, goes_on, pair_first, pair_position, places, acts_word, only_word}

@@ -1,6 +1,6 @@
 -- The proof of `examples::words`.
 use Rattle.std.proofs.Common.{[], ◌∷◌, refl}
-use Rattle.rbg_rules.specs.Words.{done, again}
+use Rattle.rbg_rules.specs.Meaning.{done, again}
 use Rattle.rbg_examples.proofs.examples.words.Goals as goal
 
 pub returns-clause-none : goal.returns-clause-none

@@ -2,8 +2,7 @@ use Rattle.std.proofs.Common.{◌<◌, ◌≤◌, ℕ, List, Option, take, get_o
 use Rattle.std.specs.Prelude.{All, Contains}
 use Rattle.std.proofs.lemmas.List.{take_all}
 use Rattle.std.proofs.lemmas.List.Elements.{All-contains}
-use Rattle.rbg_rules.specs.Expression.{Expression}
-use Rattle.rbg_rules.specs.Positions.{positions_of, IsSwitchAt}
+use Rattle.rbg_rules.specs.Meaning.{Expression, positions_of, IsSwitchAt}
 use Rattle.rbg_flat.specs.Order.{IsBefore}
 use Rattle.rbg_flat.specs.internal.Bits.{pairs_in, first_of, first_at, IsFilled}
 use Rattle.rbg_flat.specs.declared.found.Word.{Word}

@@ -1,9 +1,7 @@
 use Rattle.std.proofs.Common.{◌≡◌, ℕ, ◌+◌, ◌*◌, List, subst}
 use Rattle.std.specs.Prelude.{◌↔◌}
 use Rattle.std.specs.Int.{bit_at}
-use Rattle.rbg_rules.specs.Positions.{HasAction}
-use Rattle.rbg_rules.specs.Expression.{on}
-use Rattle.rbg_rules.specs.Table.{Stands}
+use Rattle.rbg_rules.specs.Meaning.{HasAction, on, Stands}
 use Rattle.rbg_rules.specs.declared.rule.Action.{Action}
 use Rattle.rbg_flat.specs.internal.Passing.{IsOneOf}
 use Rattle.rbg_flat.proofs.ModifierLemmas.{other_never}

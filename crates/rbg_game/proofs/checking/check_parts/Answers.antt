@@ -1,7 +1,6 @@
 use Rattle.std.proofs.Common.{sym, subst}
 use Rattle.rbg_grammar.specs.Descriptions.{description_of_parts}
-use Rattle.rbg_rules.specs.State.{AbstractGame}
-use Rattle.rbg_rules.specs.Translation.{rules_of}
+use Rattle.rbg_rules.specs.Meaning.{AbstractGame, rules_of}
 use Rattle.rbg_game.specs.declared.game_error.GameError.TheVariants.{Memory}
 use Rattle.rbg_game.specs.GameErrors.{game_error_of}
 use Rattle.rbg_game.specs.Descriptions.{IsGameOf}

@@ -1,5 +1,4 @@
-use Rattle.rbg_rules.specs.Positions.{inside}
-use Rattle.rbg_rules.specs.Words.{beginning, after}
+use Rattle.rbg_rules.specs.Meaning.{inside, beginning, after}
 use Rattle.rbg_leaps.proofs.Interning.{node_of_kept, one_more_list}
 use Rattle.rbg_leaps.proofs.lists.lists_of.Goals as goal
 

@@ -1,5 +1,5 @@
 use Rattle.std.proofs.Common.{subst}
-use Rattle.rbg_rules.specs.State.{AbstractGame}
+use Rattle.rbg_rules.specs.Meaning.{AbstractGame}
 use Rattle.rbg_leaps.specs.Made.{AreLeapsOf}
 use Rattle.rbg_leaps.proofs.making.leaps.Goals as goal
 

@@ -2,8 +2,7 @@
 use Rattle.std.proofs.Common.{ℕ, List, length, sym, ◌∙◌, subst}
 use Rattle.std.specs.Prelude.{IfSome}
 use Rattle.rbg_base.specs.Move.{IsMoveLength}
-use Rattle.rbg_rules.specs.Moves.{AbstractPlace}
-use Rattle.rbg_rules.specs.Questions.{find_move}
+use Rattle.rbg_rules.specs.Meaning.{AbstractPlace, find_move}
 use Rattle.rbg_moves.specs.Answers.{GivesUp}
 use Rattle.rbg_moves.proofs.Asked.{finds_at, finds_no_other, finds_none, finds_other, gives_memory, gives_on}
 use Rattle.rbg_moves.proofs.finding.find_move.Goals as goal

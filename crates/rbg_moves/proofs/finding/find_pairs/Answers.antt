@@ -1,7 +1,7 @@
 -- The pairs that were left in the front are handed out.
 use Rattle.std.proofs.Common.{◌≡◌, ℕ, List, length, sym, ap, subst}
 use Rattle.rbg_base.specs.Move.{IsMoveLength}
-use Rattle.rbg_rules.specs.Moves.{IsLegal}
+use Rattle.rbg_rules.specs.Meaning.{IsLegal}
 use Rattle.rbg_moves.proofs.Asked.{finds_none, gives_answer, gives_on, tallies_none, tallies_one}
 use Rattle.rbg_moves.proofs.finding.find_pairs.Goals as goal
 

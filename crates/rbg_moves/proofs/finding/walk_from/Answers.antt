@@ -1,8 +1,7 @@
 -- A walk from the place gathered moves, or the question was given up.
 use Rattle.std.proofs.Common.{◌≡◌, ◌≤◌, ◌-◌, ℕ, List, length, refl, ap, subst, arith}
 use Rattle.rbg_base.specs.Move.{most_pairs}
-use Rattle.rbg_rules.specs.Limits.{most_modifiers}
-use Rattle.rbg_rules.specs.Moves.{IsLegal}
+use Rattle.rbg_rules.specs.Meaning.{most_modifiers, IsLegal}
 use Rattle.rbg_state.proofs.Histories.{no_shorter}
 use Rattle.rbg_moves.specs.internal.Asking.{question_of, is_cut}
 use Rattle.rbg_moves.specs.internal.Gathering.{Gathers}

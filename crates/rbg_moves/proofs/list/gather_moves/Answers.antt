@@ -1,6 +1,6 @@
 -- The legal moves of a place are gathered, or the question was given up.
 use Rattle.std.proofs.Common.{ℕ, List, [], true, subst, ◌∙◌}
-use Rattle.rbg_rules.specs.Moves.{IsLegal}
+use Rattle.rbg_rules.specs.Meaning.{IsLegal}
 use Rattle.rbg_search.specs.Searching.{Tally}
 use Rattle.rbg_moves.specs.Answers.{GivesUp}
 use Rattle.rbg_moves.specs.Limits.{FitsLimits}

@@ -1,10 +1,7 @@
 use Rattle.std.proofs.Common.{◌≡◌, ℕ, suc, ◌+◌, ◌<◌, List, ◌∷◌, length, get_or, drop, sym, ap, ◌∙◌, subst, arith}
 use Rattle.std.proofs.Math.Seq.{drop-cons}
 use Rattle.std.proofs.lemmas.List.{drop_all}
-use Rattle.rbg_rules.specs.Games.{IsGame}
-use Rattle.rbg_rules.specs.State.{AbstractGame, AbstractState, IsStateOf}
-use Rattle.rbg_rules.specs.Actions.{Applies}
-use Rattle.rbg_rules.specs.Moves.{AbstractPlace, stand_of, Legal}
+use Rattle.rbg_rules.specs.Meaning.{IsGame, AbstractGame, AbstractState, IsStateOf, Applies, AbstractPlace, stand_of, Legal}
 use Rattle.rbg_pairs.specs.Flat.{IsNext}
 use Rattle.rbg_state.specs.History.{History}
 use Rattle.rbg_state.proofs.Histories.{after_nothing, after_both}

@@ -1,7 +1,6 @@
 -- The move goes on from the place that was reached.
 use Rattle.std.proofs.Common.{drop}
-use Rattle.rbg_rules.specs.Moves.{AbstractPlace, Legal}
-use Rattle.rbg_rules.specs.Places.{IsPlaceOf}
+use Rattle.rbg_rules.specs.Meaning.{AbstractPlace, Legal, IsPlaceOf}
 use Rattle.rbg_state.specs.History.{IsAfter}
 use Rattle.rbg_moves.specs.internal.Stepping.{IsMadeFrom}
 use Rattle.rbg_moves.proofs.making.make_each.Given as goal

@@ -1,6 +1,6 @@
 -- The move is made on a copy of the place.
 use Rattle.std.proofs.Common.{ℕ, List, sym, subst}
-use Rattle.rbg_rules.specs.Moves.{AbstractPlace, Legal, IsLegal}
+use Rattle.rbg_rules.specs.Meaning.{AbstractPlace, Legal, IsLegal}
 use Rattle.rbg_moves.proofs.making.make_move.Goals as goal
 
 pub make_pairs-requires-clause-legal : goal.make_pairs-requires-clause-legal

@@ -1,5 +1,5 @@
 use Rattle.std.proofs.Common.{ℕ, sym, subst}
-use Rattle.rbg_rules.specs.Positions.{IsModifierAt}
+use Rattle.rbg_rules.specs.Meaning.{IsModifierAt}
 use Rattle.rbg_search.proofs.Asking.{no_modifier}
 use Rattle.rbg_moves.proofs.Steps.{modifier_position}
 use Rattle.rbg_moves.proofs.stepping.apply_at.Goals as goal

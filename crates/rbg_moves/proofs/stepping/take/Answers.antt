@@ -1,12 +1,7 @@
 use Rattle.std.proofs.Common.{◌≡◌, ◌<◌, ℕ, length, true, false, sym, ap, ◌∙◌, subst}
 use Rattle.std.specs.Prelude.{List, Bool, Contains, Result, Ok}
 use Rattle.std.proofs.lemmas.List.Elements.{All-contains}
-use Rattle.rbg_rules.specs.State.{AbstractGame, AbstractState, IsStateOf}
-use Rattle.rbg_rules.specs.Actions.{Applies}
-use Rattle.rbg_rules.specs.Moves.{stand_of}
-use Rattle.rbg_rules.specs.Words.{Start}
-use Rattle.rbg_rules.specs.Laws.{IsStart}
-use Rattle.rbg_rules.specs.Questions.{reach}
+use Rattle.rbg_rules.specs.Meaning.{AbstractGame, AbstractState, IsStateOf, Applies, stand_of, Start, IsStart, reach}
 use Rattle.rbg_pairs.specs.Start.{start_of, IsPositionOf}
 use Rattle.rbg_search.specs.Answered.{IsAnswered, HasReached}
 use Rattle.rbg_search.specs.Searching.{Searching}

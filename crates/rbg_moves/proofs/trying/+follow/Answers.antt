@@ -3,9 +3,7 @@ use Rattle.std.proofs.Common.{rules, ◌≡◌, ℕ, List, [], ◌∷◌, length
 use Rattle.std.specs.Prelude.{◌==◌, Some, None}
 use Rattle.std.proofs.lemmas.Result.{err_from_is_err_and}
 use Rattle.std.proofs.lemmas.Bool.Decides.{Decides-eqb}
-use Rattle.rbg_rules.specs.Positions.{IsSwitchAt}
-use Rattle.rbg_rules.specs.State.{AbstractGame}
-use Rattle.rbg_rules.specs.Moves.{AbstractPlace, stand_of}
+use Rattle.rbg_rules.specs.Meaning.{IsSwitchAt, AbstractGame, AbstractPlace, stand_of}
 use Rattle.rbg_moves.specs.internal.Stepping.{IsStep}
 use Rattle.rbg_moves.proofs.Following.{followed_as, follows_none, follows_in_vain, follows_first, follows_on}
 use Rattle.rbg_moves.proofs.Forcing.{last_forced}

@@ -1,10 +1,7 @@
 -- The pairs lead to a place, or nowhere, or the question was given up.
 use Rattle.std.proofs.Common.{◌≡◌, ℕ, List, [], length, true, false, refl, ap, ◌∙◌, subst, arith}
 use Rattle.std.specs.Prelude.{Option, Some, None, IfSome}
-use Rattle.rbg_rules.specs.State.{AbstractGame, AbstractState}
-use Rattle.rbg_rules.specs.Moves.{AbstractPlace, stand_of}
-use Rattle.rbg_rules.specs.Places.{IsPlaceOf}
-use Rattle.rbg_rules.specs.Questions.{try_move}
+use Rattle.rbg_rules.specs.Meaning.{AbstractGame, AbstractState, AbstractPlace, stand_of, IsPlaceOf, try_move}
 use Rattle.rbg_rules.proofs.PlaceLemmas.{one_place_law}
 use Rattle.rbg_search.specs.Forced.{CountsForced}
 use Rattle.rbg_search.specs.Passing.{somewhere}

@@ -1,8 +1,7 @@
 -- How far the recursion goes, and what the loop over the pairs keeps.
 use Rattle.std.proofs.Common.{◌≡◌, ◌≤◌, ◌-◌, ◌*◌, ◌++◌, ℕ, List, All, length}
 use Rattle.rbg_base.specs.Move.{most_pairs}
-use Rattle.rbg_rules.specs.Moves.{stand_of}
-use Rattle.rbg_rules.specs.Positions.{IsSwitchAt}
+use Rattle.rbg_rules.specs.Meaning.{stand_of, IsSwitchAt}
 use Rattle.rbg_moves.proofs.Further.{IsSoFar, IsWhole}
 use Rattle.rbg_moves.proofs.walking.+walk.Given as goal
 

@@ -3,7 +3,7 @@ use Rattle.rbg_grammar.specs.declared.expression.Expression.{the_lemmas}
 use Rattle.rbg_grammar.specs.Tree.{SpeltExpression, no_operands, operands_after}
 use Rattle.rbg_grammar.specs.Views.{expression_of, operand_of}
 use Rattle.rbg_grammar.specs.Formed.{is_formed_expression}
-use Rattle.rbg_rules.specs.Translation.{arithmetic_of}
+use Rattle.rbg_rules.specs.Meaning.{arithmetic_of}
 use Rattle.rbg_numbering.specs.declared.error.NumberingError.TheVariants.{Memory}
 use Rattle.rbg_numbering.specs.Numbered.{names_of}
 use Rattle.rbg_numbering.specs.Faults.{HasArithmeticFault, arithmetic_memory}

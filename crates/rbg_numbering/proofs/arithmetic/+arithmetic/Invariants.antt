@@ -2,7 +2,7 @@
 use Rattle.std.proofs.Common.{◌+◌, map, take}
 use Rattle.rbg_grammar.specs.Tree.{no_operands, operands_after}
 use Rattle.rbg_grammar.specs.Views.{operand_of}
-use Rattle.rbg_rules.specs.Translation.{changed, arithmetic_of, operation_of}
+use Rattle.rbg_rules.specs.Meaning.{changed, arithmetic_of, operation_of}
 use Rattle.rbg_numbering.specs.Numbered.{names_of}
 use Rattle.rbg_numbering.specs.Rules.{ChainIs}
 use Rattle.rbg_numbering.proofs.arithmetic.+arithmetic.Given as goal

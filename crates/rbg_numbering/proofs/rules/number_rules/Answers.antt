@@ -1,6 +1,6 @@
 use Rattle.std.proofs.Common.{[], length, subst}
 use Rattle.rbg_grammar.specs.Views.{rule_of}
-use Rattle.rbg_rules.specs.Limits.{most_nested_patterns}
+use Rattle.rbg_rules.specs.Meaning.{most_nested_patterns}
 use Rattle.rbg_numbering.specs.Numbered.{names_of}
 use Rattle.rbg_numbering.specs.Faults.{HasRuleFault}
 use Rattle.rbg_numbering.specs.internal.Steps.{AddsRule, HasFaultFrom}

@@ -1,9 +1,7 @@
 use Rattle.std.proofs.Common.{[], ◌∷◌, refl, subst}
 use Rattle.std.specs.Prelude.{IfSome}
 use Rattle.std.proofs.lemmas.Option.{IfSome_then}
-use Rattle.rbg_rules.specs.Expression.{shift, on}
-use Rattle.rbg_rules.specs.Positions.{HasAction}
-use Rattle.rbg_rules.specs.State.{AbstractGame}
+use Rattle.rbg_rules.specs.Meaning.{shift, on, HasAction, AbstractGame}
 use Rattle.rbg_state.specs.Trials.{IsTrial}
 use Rattle.rbg_pairs.specs.Closure.{at_vertex}
 use Rattle.rbg_pairs.specs.Part.{IsTrialAt}

@@ -2,13 +2,12 @@
 use Rattle.std.proofs.Common.{rules, ◌≡◌, ◌≢◌, ℕ, List, ◌+◌, ◌-◌, ◌<◌, ◌≤◌, ◌⊎◌, length, suc, take, refl, subst, sym, arith, Some}
 use Rattle.std.specs.Prelude.{All, IfSome}
 use Rattle.std.proofs.lemmas.Option.{slice_get_within, get_or_from_slice_get}
-use Rattle.rbg_rules.specs.Moves.{AbstractPlace, IsLegal}
-use Rattle.rbg_rules.specs.Places.{IsPlaceOf}
+use Rattle.rbg_rules.specs.Meaning.{AbstractPlace, IsLegal, IsPlaceOf}
 use Rattle.rbg_moves.specs.Settling.{Settles}
 use Rattle.rbg_perft.specs.Counting.{AreCountedBehind, AreLegalMoves}
 use Rattle.rbg_perft.specs.Counting.Sums.{none}
 use Rattle.rbg_perft.specs.declared.extent.Extent.TheVariants.{Moves}
-use Rattle.rbg_perft.specs.internal.Refusing.{error_of_unsettled}
+use Rattle.rbg_perft.specs.declared.error.CountError.TheVariants.{Unsettled}
 use Rattle.std.specs.Prelude.{IfNone}
 use Rattle.std.proofs.lemmas.List.Elements.{All-take}
 use Rattle.rbg_perft.specs.Counting.{Sums}
@@ -89,7 +88,7 @@ count_from-returns-clause-counted t c =
 pub count_from-returns-in_err-settle-clause-refused : goal.count_from-returns-in_err-settle-clause-refused
 count_from-returns-in_err-settle-clause-refused t c =
     let some : 0 < c.args.moves = omega (arith, c.if-moves-eq0.false) in
-    passed_on c.from_residual-in_err-settle.result (error_of_unsettled c.in_err-settle.field-0.0) _ c.from_residual-in_err-settle.ensures.1
+    passed_on c.from_residual-in_err-settle.result (Unsettled c.in_err-settle.field-0.0) _ c.from_residual-in_err-settle.ensures.1
     (unsettled_refused _ _ _ _ _ c.in_err-settle.field-0.0 (asked_of_some _ _ some) c.in_err-settle.ensures.heavy c.in_err-settle.ensures.endless)
 
 pub count_from-returns-in_err-listed-clause-refused : goal.count_from-returns-in_err-listed-clause-refused

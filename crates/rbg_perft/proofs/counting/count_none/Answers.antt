@@ -4,15 +4,16 @@ use Rattle.std.proofs.Common.{inr, refl, subst, sym}
 use Rattle.rbg_perft.specs.Counting.{AreCounted}
 use Rattle.rbg_perft.specs.Refusals.{IsNotCounted}
 use Rattle.rbg_perft.specs.declared.extent.Extent.TheVariants.{Ends}
-use Rattle.rbg_perft.specs.internal.Refusing.{error_of_over, error_of_unsettled}
+use Rattle.rbg_perft.specs.declared.error.CountError.TheVariants.{Unsettled}
+use Rattle.rbg_perft.specs.internal.Refusing.{error_of_over}
 use Rattle.rbg_perft.proofs.Refusing.{over_to_find, unsettled_refused}
 use Rattle.rbg_base.proofs.Errors.{passed_on}
 use Rattle.rbg_perft.proofs.counting.count_none.Goals as goal
 
 pub returns-in_err-settle-in-Ends-clause-refused : goal.returns-in_err-settle-in-Ends-clause-refused
 returns-in_err-settle-in-Ends-clause-refused c =
-    passed_on c.from_residual.result (error_of_unsettled c.in_err-settle-in-Ends.field-0.0) _ c.from_residual.ensures.1
-    (subst (λ e. IsNotCounted c.args.game.now 0 e c.args.place.now (error_of_unsettled c.in_err-settle-in-Ends.field-0.0)) (sym c.in-Ends.is)
+    passed_on c.from_residual.result (Unsettled c.in_err-settle-in-Ends.field-0.0) _ c.from_residual.ensures.1
+    (subst (λ e. IsNotCounted c.args.game.now 0 e c.args.place.now (Unsettled c.in_err-settle-in-Ends.field-0.0)) (sym c.in-Ends.is)
     (unsettled_refused _ _ 0 Ends _ c.in_err-settle-in-Ends.field-0.0 tt c.in_err-settle-in-Ends.ensures.heavy c.in_err-settle-in-Ends.ensures.endless))
 
 pub returns-in_err-has_move-in-Ends-clause-refused : goal.returns-in_err-has_move-in-Ends-clause-refused

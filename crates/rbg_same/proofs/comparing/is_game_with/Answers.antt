@@ -1,7 +1,7 @@
 -- The boards of games, where one game is the other with other pieces.
 use Rattle.std.proofs.Common.{◌≡◌, ℕ, List, sym, ap, subst, ◌∙◌}
 use Rattle.rbg_board.specs.Graph.{Graph}
-use Rattle.rbg_rules.specs.State.{AbstractGame}
+use Rattle.rbg_rules.specs.Meaning.{AbstractGame}
 use Rattle.rbg_same.specs.Same.{IsNarrow, game_with}
 use Rattle.rbg_same.specs.internal.Parts.{IsBoardWith}
 use Rattle.rbg_same.proofs.comparing.is_game_with.Goals as goal

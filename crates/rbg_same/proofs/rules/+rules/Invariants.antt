@@ -1,7 +1,6 @@
 -- The key of what the parts so far make.
 use Rattle.std.proofs.Common.{◌≡◌, List, ◌++◌, fold, map, take}
-use Rattle.rbg_rules.specs.Expression.{Expression}
-use Rattle.rbg_rules.specs.Translation.{expression_of}
+use Rattle.rbg_rules.specs.Meaning.{Expression, expression_of}
 use Rattle.rbg_same.specs.declared.mark.Mark.{Mark}
 use Rattle.rbg_same.specs.internal.Marks.{Marks, rules_key}
 use Rattle.rbg_same.proofs.rules.+rules.Given as goal

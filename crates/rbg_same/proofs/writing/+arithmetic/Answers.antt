@@ -3,7 +3,7 @@ use Rattle.std.proofs.Common.{◌≡◌, List, [], ◌∷◌, ◌++◌, map, tak
 use Rattle.std.proofs.lemmas.Result.{on_ok_weaker}
 use Rattle.std.specs.Prelude.{Box}
 use Rattle.std.specs.Global.{Global}
-use Rattle.rbg_rules.specs.Translation.{arithmetic_of, changed, operation_of}
+use Rattle.rbg_rules.specs.Meaning.{arithmetic_of, changed, operation_of}
 use Rattle.rbg_rules.specs.declared.arithmetic.Arithmetic.{Arithmetic}
 use Rattle.rbg_rules.specs.declared.arithmetic.Arithmetic.TheVariants.{Negated as NegatedNode}
 use Rattle.rbg_rules.proofs.Bridge.{arithmetic_of-Negated}

@@ -1,7 +1,6 @@
 -- The key of what the operations so far make.
 use Rattle.std.proofs.Common.{◌≡◌, List, ◌++◌, map, take}
-use Rattle.rbg_rules.specs.Expression.{AbstractArithmetic}
-use Rattle.rbg_rules.specs.Translation.{changed, operation_of}
+use Rattle.rbg_rules.specs.Meaning.{AbstractArithmetic, changed, operation_of}
 use Rattle.rbg_same.specs.declared.mark.Mark.{Mark}
 use Rattle.rbg_same.specs.internal.Marks.{arithmetic_key}
 use Rattle.rbg_same.proofs.writing.+arithmetic.Given as goal

@@ -1,7 +1,6 @@
 -- One pair is left, and it stands behind all that were tried.
 use Rattle.std.proofs.Common.{◌<◌, ◌-◌, ◌^◌, length}
-use Rattle.rbg_rules.specs.Positions.{inside}
-use Rattle.rbg_rules.specs.Words.{beginning}
+use Rattle.rbg_rules.specs.Meaning.{inside, beginning}
 use Rattle.rbg_pairs.specs.Start.{IsPositionOf}
 use Rattle.rbg_pairs.specs.Closure.{at_vertex}
 use Rattle.rbg_search.specs.internal.Straight.{IsScanning}

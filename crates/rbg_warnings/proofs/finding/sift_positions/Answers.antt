@@ -1,7 +1,7 @@
 -- One number after the other.
 use Rattle.std.proofs.Common.{◌-◌, length, arith}
 use Rattle.rbg_warnings.specs.declared.warning.Warning.TheVariants.{TooGreat}
-use Rattle.rbg_rules.specs.Positions.{positions_of}
+use Rattle.rbg_rules.specs.Meaning.{positions_of}
 use Rattle.rbg_warnings.specs.Warnings.{positions_warned}
 use Rattle.rbg_warnings.proofs.Sifting.{sifts_all, sifts_none, sifts_more}
 use Rattle.rbg_warnings.proofs.finding.sift_positions.Goals as goal

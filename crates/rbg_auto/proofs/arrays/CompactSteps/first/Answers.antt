@@ -1,5 +1,5 @@
 -- The proof of `first` of `arrays::Compact`.
-use Rattle.rbg_rules.specs.Positions.{outermost, inside}
+use Rattle.rbg_rules.specs.Meaning.{outermost, inside}
 use Rattle.rbg_auto.specs.internal.Compacts.{IsCompactOf}
 use Rattle.rbg_auto.proofs.arrays.CompactSteps.first.Goals as goal
 

@@ -1,5 +1,5 @@
 -- The proof of `may_be_empty` of `arrays::Compact`.
-use Rattle.rbg_rules.specs.Positions.{outermost, inside}
+use Rattle.rbg_rules.specs.Meaning.{outermost, inside}
 use Rattle.rbg_auto.specs.internal.Compacts.{IsCompactOf}
 use Rattle.rbg_auto.proofs.arrays.CompactSteps.may_be_empty.Goals as goal
 

@@ -1,6 +1,6 @@
 -- The proof of `first` of `plain::Automaton`.
 use Rattle.std.proofs.Common.{subst}
-use Rattle.rbg_rules.specs.Positions.{outermost, inside}
+use Rattle.rbg_rules.specs.Meaning.{outermost, inside}
 use Rattle.rbg_auto.specs.Steps.{AreFirst}
 use Rattle.rbg_auto.specs.internal.Laying.{Laid}
 use Rattle.rbg_auto.specs.internal.PlainNodes.{IsAutomatonOf}

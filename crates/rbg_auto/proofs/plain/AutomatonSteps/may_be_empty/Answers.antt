@@ -1,8 +1,7 @@
 -- The proof of `may_be_empty` of `plain::Automaton`.
 use Rattle.std.proofs.Common.{[], subst}
 use Rattle.std.specs.Prelude.{IsTrue, ◌↔◌}
-use Rattle.rbg_rules.specs.Positions.{outermost, inside}
-use Rattle.rbg_rules.specs.Words.{beginning, Ends}
+use Rattle.rbg_rules.specs.Meaning.{outermost, inside, beginning, Ends}
 use Rattle.rbg_auto.specs.internal.Laying.{Laid}
 use Rattle.rbg_auto.specs.internal.PlainNodes.{IsAutomatonOf}
 use Rattle.rbg_auto.proofs.PlainNodeLemmas.{laid_there, laid_nowhere}

@@ -1,7 +1,7 @@
 -- The proof of `may_end` of `plain::Automaton`.
 use Rattle.std.proofs.Common.{[], subst}
 use Rattle.std.specs.Prelude.{IsTrue, ◌↔◌}
-use Rattle.rbg_rules.specs.Words.{after, Ends}
+use Rattle.rbg_rules.specs.Meaning.{after, Ends}
 use Rattle.rbg_auto.specs.internal.Laying.{Laid}
 use Rattle.rbg_auto.specs.internal.PlainNodes.{IsAutomatonOf}
 use Rattle.rbg_auto.proofs.PlainNodeLemmas.{laid_nowhere}

@@ -1,7 +1,6 @@
 -- What was found so far is right.
 use Rattle.std.proofs.Common.{ℕ, ◌≤◌}
-use Rattle.rbg_rules.specs.Positions.{IsPatternAt}
-use Rattle.rbg_rules.specs.Words.{Start}
+use Rattle.rbg_rules.specs.Meaning.{IsPatternAt, Start}
 use Rattle.rbg_flat.specs.internal.Begun.{IsBegun}
 use Rattle.rbg_flat.specs.internal.Leading.{AreSizedFor, AreOn}
 use Rattle.rbg_flat.specs.internal.Sets.{IsMarked, IsOpen, IsDone, KeepsDone, weight}

@@ -1,7 +1,6 @@
 use Rattle.std.proofs.Common.{◌≡◌, ℕ, ◌+◌, ◌*◌, ◌/◌, ◌%◌, ◌<◌, refl, subst, arith}
 use Rattle.std.specs.Int.{bit_at}
-use Rattle.rbg_rules.specs.Laws.{IsStart}
-use Rattle.rbg_rules.specs.Words.{after}
+use Rattle.rbg_rules.specs.Meaning.{IsStart, after}
 use Rattle.rbg_leaps.specs.Asked.{AreTargetsFrom}
 use Rattle.rbg_leaps.specs.Leaps.{EndsAcross}
 use Rattle.rbg_flat.specs.internal.Sets.{IsInWord}

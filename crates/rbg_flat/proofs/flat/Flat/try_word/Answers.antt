@@ -1,5 +1,5 @@
 use Rattle.std.proofs.Common.{ℕ, ◌+◌, ◌*◌, subst}
-use Rattle.rbg_rules.specs.Positions.{IsPatternAt}
+use Rattle.rbg_rules.specs.Meaning.{IsPatternAt}
 use Rattle.rbg_flat.specs.internal.Sets.{IsInWord}
 use Rattle.rbg_flat.proofs.Trying.{board_bits, in_open}
 use Rattle.rbg_flat.proofs.flat.Flat.try_word.Goals as goal

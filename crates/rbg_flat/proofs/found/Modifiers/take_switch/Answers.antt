@@ -1,6 +1,6 @@
 use Rattle.std.proofs.Common.{ℕ, List}
 use Rattle.std.specs.Prelude.{Contains}
-use Rattle.rbg_rules.specs.Positions.{IsSwitchAt}
+use Rattle.rbg_rules.specs.Meaning.{IsSwitchAt}
 use Rattle.rbg_flat.specs.Order.{IsBefore}
 use Rattle.rbg_flat.proofs.FirstSwitches.{taken_at}
 use Rattle.rbg_flat.proofs.found.Modifiers.take_switch.Goals as goal

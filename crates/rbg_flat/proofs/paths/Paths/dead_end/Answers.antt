@@ -1,6 +1,5 @@
 use Rattle.std.proofs.lemmas.List.Elements.{Contains-get_or}
-use Rattle.rbg_rules.specs.Positions.{inside}
-use Rattle.rbg_rules.specs.Words.{beginning}
+use Rattle.rbg_rules.specs.Meaning.{inside, beginning}
 use Rattle.rbg_flat.proofs.Endings.{dead_end, filled_targets}
 use Rattle.rbg_flat.proofs.Leaping.{targets_for}
 use Rattle.rbg_flat.proofs.paths.Paths.dead_end.Goals as goal

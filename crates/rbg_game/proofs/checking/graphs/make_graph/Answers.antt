@@ -12,7 +12,7 @@ use Rattle.rbg_board.specs.Written.{Written, directions_of, IsWritten, MakesGrap
 use Rattle.rbg_board.specs.declared.graphs.Cell.{Cell}
 use Rattle.rbg_grammar.specs.Tree.{SpeltVertex, graph}
 use Rattle.rbg_grammar.specs.Views.{vertex_of}
-use Rattle.rbg_rules.specs.LawfulNames.{AreDifferentNames}
+use Rattle.rbg_rules.specs.Meaning.{AreDifferentNames}
 use Rattle.rbg_game.specs.GameErrors.{game_error_of}
 use Rattle.rbg_game.specs.declared.checking.boards.NamedBoard.{NamedBoard}
 use Rattle.rbg_game.specs.declared.game_error.GameError.{GameError}

@@ -1,6 +1,6 @@
 use Rattle.std.proofs.Common.{◌≡◌, map, take}
 use Rattle.rbg_grammar.specs.Views.{vertex_of}
-use Rattle.rbg_rules.specs.LawfulNames.{AreDifferentNames}
+use Rattle.rbg_rules.specs.Meaning.{AreDifferentNames}
 use Rattle.rbg_game.specs.Descriptions.{vertex_names}
 use Rattle.rbg_game.proofs.checking.graphs.name_vertices.Given as goal
 

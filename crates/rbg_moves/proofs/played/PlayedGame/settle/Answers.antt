@@ -2,9 +2,7 @@
 use Rattle.std.proofs.Common.{length, List, ℕ, ◌≡◌, ◌≤◌, inl, ap, ◌∙◌, sym, subst, arith, add-one}
 use Rattle.std.proofs.lemmas.Result.{IfOk-weaker}
 use Rattle.rbg_base.specs.Move.{IsMoveLength}
-use Rattle.rbg_rules.specs.State.{AbstractGame}
-use Rattle.rbg_rules.specs.Moves.{AbstractPlace, IsLegal, Legal}
-use Rattle.rbg_rules.specs.Places.{IsPlaceOf}
+use Rattle.rbg_rules.specs.Meaning.{AbstractGame, AbstractPlace, IsLegal, Legal, IsPlaceOf}
 use Rattle.rbg_moves.specs.Limits.{most_keeper_moves}
 use Rattle.rbg_moves.specs.Settling.{KeeperMoves, Settles, SomeKeeperMoves}
 use Rattle.rbg_moves.specs.Settling.KeeperMoves.{none, more}

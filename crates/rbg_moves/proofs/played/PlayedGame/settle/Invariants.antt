@@ -1,5 +1,5 @@
 -- Moves of the keeper have led here.
-use Rattle.rbg_rules.specs.Places.{IsPlaceOf}
+use Rattle.rbg_rules.specs.Meaning.{IsPlaceOf}
 use Rattle.rbg_moves.specs.Settling.{KeeperMoves}
 use Rattle.rbg_moves.proofs.played.PlayedGame.settle.Given as goal
 

@@ -4,7 +4,7 @@ use Rattle.std.specs.Prelude.{All}
 use Rattle.std.specs.List.Sorted.{IsPermutation}
 use Rattle.std.proofs.lemmas.List.Elements.{All-nil, All-push}
 use Rattle.std.proofs.lemmas.List.Sorted.{IsPermutation-refl}
-use Rattle.rbg_rules.specs.Positions.{IsSwitchAt}
+use Rattle.rbg_rules.specs.Meaning.{IsSwitchAt}
 use Rattle.rbg_pairs.specs.Start.{IsPositionOf}
 use Rattle.rbg_search.proofs.Turns.{turn_moves, turn_after, turn_fewer}
 use Rattle.rbg_moves.specs.internal.Gathering.{AddsMove, ListsSwitches}

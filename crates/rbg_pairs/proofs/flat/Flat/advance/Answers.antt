@@ -2,7 +2,7 @@ use Rattle.std.proofs.Common.{rules, ◌≡◌, ℕ, List, [], ◌∷◌, ◌++�
 use Rattle.std.specs.Prelude.{Contains}
 use Rattle.std.proofs.lemmas.List.Elements.{Contains-append_left}
 use Rattle.std.proofs.lemmas.List.{take_all}
-use Rattle.rbg_rules.specs.Positions.{IsPatternAt}
+use Rattle.rbg_rules.specs.Meaning.{IsPatternAt}
 use Rattle.rbg_pairs.specs.Part.{IsPart, IsTrialAt}
 use Rattle.rbg_pairs.proofs.Parts.{whole_part}
 use Rattle.rbg_pairs.proofs.Takings.{quiet_before}

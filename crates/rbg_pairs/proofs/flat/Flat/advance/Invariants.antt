@@ -1,9 +1,8 @@
 -- Each pair so far is done.
 use Rattle.std.proofs.Common.{ℕ, ◌≤◌, ◌-◌, ◌^◌, length, take}
 use Rattle.std.specs.Prelude.{Contains}
-use Rattle.rbg_rules.specs.Words.{Start}
+use Rattle.rbg_rules.specs.Meaning.{Start, IsPatternAt}
 use Rattle.rbg_pairs.specs.Part.{IsPart, HasMarksOf}
-use Rattle.rbg_rules.specs.Positions.{IsPatternAt}
 use Rattle.rbg_pairs.proofs.flat.Flat.advance.Given as goal
 
 abbrev pub invariant-loop-taken : goal.invariant-loop-taken

@@ -1,6 +1,6 @@
 use Rattle.std.proofs.Common.{ℕ, [], subst}
 use Rattle.std.specs.Prelude.{Decides}
-use Rattle.rbg_rules.specs.Words.{after, Ends}
+use Rattle.rbg_rules.specs.Meaning.{after, Ends}
 use Rattle.rbg_auto.specs.Steps.{AreAllThatFollow}
 use Rattle.rbg_pairs.specs.Meeting.{MeetsAll}
 use Rattle.rbg_pairs.specs.Part.{IsTrialAt}

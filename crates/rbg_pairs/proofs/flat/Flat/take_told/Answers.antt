@@ -1,5 +1,5 @@
 use Rattle.std.proofs.Common.{take, sym, subst}
-use Rattle.rbg_rules.specs.State.{AbstractGame}
+use Rattle.rbg_rules.specs.Meaning.{AbstractGame}
 use Rattle.rbg_pairs.specs.Part.{IsPart}
 use Rattle.rbg_pairs.proofs.flat.Flat.take_told.Goals as goal
 

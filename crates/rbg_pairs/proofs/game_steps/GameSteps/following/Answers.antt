@@ -1,4 +1,4 @@
-use Rattle.rbg_rules.specs.Words.{beginning, after}
+use Rattle.rbg_rules.specs.Meaning.{beginning, after}
 use Rattle.rbg_auto.specs.Steps.{level_of}
 use Rattle.rbg_pairs.proofs.Parts.{followers_within}
 use Rattle.rbg_pairs.proofs.game_steps.GameSteps.following.Goals as goal

@@ -1,6 +1,5 @@
 use Rattle.std.proofs.Common.{◌≤◌, length, sym, subst}
-use Rattle.rbg_rules.specs.Positions.{positions_of}
-use Rattle.rbg_rules.specs.Words.{after}
+use Rattle.rbg_rules.specs.Meaning.{positions_of, after}
 use Rattle.rbg_pairs.proofs.Parts.{followers_within}
 use Rattle.rbg_pairs.proofs.tables.Tables.following.Goals as goal
 

@@ -1,5 +1,5 @@
 use Rattle.std.proofs.Common.{◌≤◌, length, sym, subst}
-use Rattle.rbg_rules.specs.Positions.{positions_of}
+use Rattle.rbg_rules.specs.Meaning.{positions_of}
 use Rattle.rbg_pairs.proofs.tables.Tables.glance.Goals as goal
 
 pub glance-requires : goal.glance-requires

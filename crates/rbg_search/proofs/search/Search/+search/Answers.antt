@@ -1,11 +1,6 @@
 use Rattle.std.proofs.Common.{rules, ◌≡◌, ℕ, ◌^◌, ◌<◌, ◌≤◌, List, length, take, Bool, sym, ap, ◌∙◌, subst, arith, [], ◌∷◌, ◌++◌, ◌-◌, refl, false, true}
 use Rattle.std.specs.Prelude.{IsTrue, ◌↔◌, All, Contains}
-use Rattle.rbg_rules.specs.Positions.{inside, IsPatternAt}
-use Rattle.rbg_rules.specs.Words.{Start, beginning, after}
-use Rattle.rbg_rules.specs.State.{AbstractState, IsStateOf}
-use Rattle.rbg_rules.specs.Actions.{Applies}
-use Rattle.rbg_rules.specs.Questions.{SomeWordRuns, pattern}
-use Rattle.rbg_rules.specs.Laws.{IsStart}
+use Rattle.rbg_rules.specs.Meaning.{inside, IsPatternAt, Start, beginning, after, AbstractState, IsStateOf, Applies, SomeWordRuns, pattern, IsStart}
 use Rattle.rbg_state.specs.History.{History}
 use Rattle.rbg_pairs.specs.Flat.{IsFlatPart}
 use Rattle.rbg_pairs.specs.Start.{start_of}

@@ -1,8 +1,7 @@
 use Rattle.std.proofs.Common.{◌≡◌, ℕ, List, take, sym, ap, subst, arith}
 use Rattle.std.specs.Prelude.{Contains, Option, Some, None, Result, Ok, Err, IfOk, OnOk, IfNone}
 use Rattle.std.proofs.lemmas.List.{take_all}
-use Rattle.rbg_rules.specs.Positions.{IsPatternAt}
-use Rattle.rbg_rules.specs.State.{AbstractGame, AbstractState}
+use Rattle.rbg_rules.specs.Meaning.{IsPatternAt, AbstractGame, AbstractState}
 use Rattle.rbg_pairs.specs.declared.flat.Flat.{Flat}
 use Rattle.rbg_search.specs.Searching.{Searching}
 use Rattle.rbg_pairs.specs.Closure.{Reached}

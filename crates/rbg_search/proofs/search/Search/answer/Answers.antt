@@ -3,11 +3,7 @@ use Rattle.rbg_search.specs.Taken.{most_pairs_of}
 use Rattle.rbg_search.proofs.Fewness.{one_opened}
 use Rattle.rbg_search.proofs.Takings.{takes_nothing, takes_none_yet, takes_own, own_part, not_ok}
 use Rattle.std.specs.Prelude.{IsTrue, ◌↔◌}
-use Rattle.rbg_rules.specs.Positions.{inside}
-use Rattle.rbg_rules.specs.Words.{beginning}
-use Rattle.rbg_rules.specs.Actions.{Applies}
-use Rattle.rbg_rules.specs.Laws.{IsStart}
-use Rattle.rbg_rules.specs.Questions.{SomeWordRuns, pattern}
+use Rattle.rbg_rules.specs.Meaning.{inside, beginning, Applies, IsStart, SomeWordRuns, pattern}
 use Rattle.rbg_search.specs.declared.over.Over.TheVariants.{Deep, Wide}
 use Rattle.rbg_search.proofs.Countings.{none_counted}
 use Rattle.rbg_search.proofs.Counted.{wide_not_deep, ok_not_err, counted_only, opened_one, refused_one}

@@ -1,8 +1,5 @@
 use Rattle.std.proofs.Common.{◌≡◌, sym, ap, ◌∙◌, subst}
-use Rattle.rbg_rules.specs.Positions.{IsModifierAt}
-use Rattle.rbg_rules.specs.State.{AbstractGame, AbstractState}
-use Rattle.rbg_rules.specs.Actions.{Applies}
-use Rattle.rbg_rules.specs.Games.{IsGame}
+use Rattle.rbg_rules.specs.Meaning.{IsModifierAt, AbstractGame, AbstractState, Applies, IsGame}
 use Rattle.rbg_state.specs.History.{History}
 use Rattle.rbg_search.specs.Searching.{Searching}
 use Rattle.rbg_pairs.specs.Closure.{at_vertex}

@@ -1,5 +1,5 @@
 use Rattle.std.proofs.Common.{rules, ◌≡◌, ◌^◌, ◌+◌, ◌<◌, ◌≤◌, sym, ap, subst}
-use Rattle.rbg_rules.specs.State.{AbstractGame}
+use Rattle.rbg_rules.specs.Meaning.{AbstractGame}
 use Rattle.rbg_search.specs.Searching.{Searching}
 use Rattle.rbg_search.specs.Taken.{most_pairs_of}
 use Rattle.rbg_search.specs.internal.Spent.{IsSpentButOne}

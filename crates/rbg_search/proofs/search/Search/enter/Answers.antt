@@ -1,5 +1,5 @@
 use Rattle.std.proofs.Common.{sym, refl, ◌∙◌}
-use Rattle.rbg_rules.specs.Questions.{reach}
+use Rattle.rbg_rules.specs.Meaning.{reach}
 use Rattle.rbg_search.specs.declared.over.Over.TheVariants.{Deep, Wide, Memory}
 use Rattle.rbg_search.proofs.Countings.{none_counted, reach_pairs}
 use Rattle.rbg_search.proofs.Counted.{memory_not_deep, memory_not_wide, wide_not_deep, ok_not_err, counted_only, opened_one, refused_one}

@@ -1,7 +1,6 @@
 use Rattle.std.proofs.Common.{◌≡◌, ◌≤◌, sym, ap, ◌∙◌, subst}
 use Rattle.std.specs.Prelude.{IsTrue, ◌↔◌}
-use Rattle.rbg_rules.specs.Games.{IsGame}
-use Rattle.rbg_rules.specs.State.{AbstractGame}
+use Rattle.rbg_rules.specs.Meaning.{IsGame, AbstractGame}
 use Rattle.rbg_flat.specs.declared.flat.Flat.{Flat}
 use Rattle.rbg_flat.specs.Candidates.{MayEnd}
 use Rattle.rbg_flat.specs.Found.{AreFound, HasCandidates}

@@ -1,11 +1,6 @@
 use Rattle.std.proofs.Common.{◌≡◌, sym, ap, ◌∙◌, subst}
 use Rattle.std.specs.Prelude.{IsTrue, ◌↔◌}
-use Rattle.rbg_rules.specs.Positions.{inside, IsPatternAt}
-use Rattle.rbg_rules.specs.Words.{beginning}
-use Rattle.rbg_rules.specs.State.{AbstractGame}
-use Rattle.rbg_rules.specs.Actions.{Applies}
-use Rattle.rbg_rules.specs.Questions.{SomeWordRuns}
-use Rattle.rbg_rules.specs.Games.{IsGame}
+use Rattle.rbg_rules.specs.Meaning.{inside, IsPatternAt, beginning, AbstractGame, Applies, SomeWordRuns, IsGame}
 use Rattle.rbg_search.specs.Searching.{Searching}
 use Rattle.rbg_search.proofs.Asking.{pattern_position}
 use Rattle.rbg_search.proofs.search.Search.is_valid.Goals as goal

@@ -1,16 +1,12 @@
 use Rattle.std.proofs.Common.{◌≡◌, ℕ, suc, ◌+◌, ◌<◌, ap, ◌∙◌, subst, arith, refl}
 use Rattle.std.specs.Prelude.{IsTrue, ◌↔◌, ◌≤◌, Result}
 use Rattle.rbg_search.proofs.Takings.{takes_nothing, not_ok}
-use Rattle.rbg_rules.specs.Positions.{inside}
-use Rattle.rbg_rules.specs.Words.{Start, beginning}
-use Rattle.rbg_rules.specs.State.{AbstractGame, AbstractState}
-use Rattle.rbg_rules.specs.Actions.{Applies}
+use Rattle.rbg_rules.specs.Meaning.{inside, Start, beginning, AbstractGame, AbstractState, Applies, pattern}
 use Rattle.rbg_state.specs.History.{History}
 use Rattle.rbg_search.specs.Searching.{Searching}
 use Rattle.rbg_pairs.specs.Closure.{at_vertex}
 use Rattle.rbg_pairs.specs.Nesting.{NestsFrom}
 use Rattle.rbg_search.proofs.Asking.{room_twice}
-use Rattle.rbg_rules.specs.Questions.{pattern}
 use Rattle.rbg_search.specs.internal.Asked.{IsAsked}
 use Rattle.rbg_search.specs.declared.over.Over.{Over}
 use Rattle.rbg_search.specs.declared.over.Over.TheVariants.{Deep, Wide, Memory}

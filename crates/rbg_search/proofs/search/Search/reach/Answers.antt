@@ -1,6 +1,6 @@
 use Rattle.std.proofs.Common.{◌≢◌, ℕ, List, sym, subst}
 use Rattle.std.specs.Prelude.{AllPairs}
-use Rattle.rbg_rules.specs.Questions.{reach}
+use Rattle.rbg_rules.specs.Meaning.{reach}
 use Rattle.rbg_search.specs.Searching.{Searching}
 use Rattle.rbg_pairs.specs.Start.{start_of}
 use Rattle.rbg_search.proofs.Orders.{flat_permuted, within_permuted}

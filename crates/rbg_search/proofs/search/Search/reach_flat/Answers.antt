@@ -1,6 +1,6 @@
 use Rattle.std.proofs.Common.{◌≡◌, ℕ, ◌<◌, ap, subst}
 use Rattle.rbg_search.proofs.Takings.{not_ok}
-use Rattle.rbg_rules.specs.State.{AbstractGame}
+use Rattle.rbg_rules.specs.Meaning.{AbstractGame}
 use Rattle.rbg_search.specs.Searching.{Searching}
 use Rattle.rbg_pairs.specs.Start.{start_of}
 use Rattle.rbg_pairs.specs.Nesting.{NestsFrom}

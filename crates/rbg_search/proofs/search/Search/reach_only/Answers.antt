@@ -1,11 +1,8 @@
 use Rattle.std.proofs.Common.{◌≡◌, ℕ, ◌+◌, ◌-◌, ◌*◌, ◌<◌, ◌≤◌, [], ◌∷◌, length, ap, subst, arith}
 use Rattle.std.specs.Prelude.{Bool, Decides}
 use Rattle.std.proofs.lemmas.List.Elements.{All-nil, All-push}
-use Rattle.rbg_rules.specs.Positions.{positions_of, IsNumbered}
-use Rattle.rbg_rules.specs.Words.{Start, Ends}
-use Rattle.rbg_rules.specs.Questions.{reach}
+use Rattle.rbg_rules.specs.Meaning.{positions_of, IsNumbered, Start, Ends, reach, AbstractGame, AbstractState, IsStateOf}
 use Rattle.rbg_auto.specs.Steps.{AreAllThatFollow}
-use Rattle.rbg_rules.specs.State.{AbstractGame, AbstractState, IsStateOf}
 use Rattle.rbg_state.specs.History.{History}
 use Rattle.rbg_search.specs.Searching.{Searching}
 use Rattle.rbg_pairs.specs.Start.{start_of, IsPositionOf}

@@ -1,8 +1,5 @@
 use Rattle.std.proofs.Common.{◌∙◌, ap, sym, subst}
-use Rattle.rbg_rules.specs.Games.{IsGame}
-use Rattle.rbg_rules.specs.Positions.{inside}
-use Rattle.rbg_rules.specs.State.{AbstractGame}
-use Rattle.rbg_rules.specs.Words.{beginning}
+use Rattle.rbg_rules.specs.Meaning.{IsGame, inside, AbstractGame, beginning}
 use Rattle.rbg_pairs.specs.Closure.{at_vertex}
 use Rattle.rbg_search.specs.Searching.{Searching}
 use Rattle.rbg_search.specs.internal.Straight.{IsTold}

@@ -1,8 +1,7 @@
 use Rattle.std.proofs.Common.{◌≡◌, take, sym, ap, subst}
 use Rattle.std.specs.Prelude.{Some, slice_get}
 use Rattle.rbg_pairs.specs.declared.flat.Flat.{Flat}
-use Rattle.rbg_rules.specs.State.{AbstractGame}
-use Rattle.rbg_rules.specs.Games.{IsGame}
+use Rattle.rbg_rules.specs.Meaning.{AbstractGame, IsGame}
 use Rattle.rbg_search.specs.Searching.{Searching}
 use Rattle.rbg_pairs.specs.Part.{IsTrialAt, IsPart, HasMarksOf}
 use Rattle.rbg_search.proofs.search.Search.take.Goals as goal

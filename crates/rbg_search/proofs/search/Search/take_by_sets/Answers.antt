@@ -1,6 +1,5 @@
 use Rattle.std.proofs.Common.{◌≡◌, ap, sym, ◌∙◌, subst}
-use Rattle.rbg_rules.specs.Games.{IsGame}
-use Rattle.rbg_rules.specs.State.{AbstractGame}
+use Rattle.rbg_rules.specs.Meaning.{IsGame, AbstractGame}
 use Rattle.rbg_flat.specs.declared.flat.Flat.{Flat}
 use Rattle.rbg_search.specs.Searching.{Searching}
 use Rattle.rbg_search.specs.internal.BySets.{HasSetsFor, IsToBeAsked, TakesBySets}

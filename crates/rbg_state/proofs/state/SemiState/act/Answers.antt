@@ -1,7 +1,6 @@
 use Rattle.std.proofs.Common.{sym, refl}
 use Rattle.std.proofs.lemmas.Option.{get_or_from_slice_get}
-use Rattle.rbg_rules.specs.Expression.{assignment}
-use Rattle.rbg_rules.specs.Translation.{arithmetic_of}
+use Rattle.rbg_rules.specs.Meaning.{assignment, arithmetic_of}
 use Rattle.rbg_state.proofs.Reading.{assigned_reads, compared_reads}
 use Rattle.rbg_state.proofs.state.SemiState.act.Goals as goal
 

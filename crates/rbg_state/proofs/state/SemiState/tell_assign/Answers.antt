@@ -1,5 +1,5 @@
 use Rattle.std.proofs.Common.{sym, ◌∙◌, refl, subst, ◌≤◌, ℕ, slice_set}
-use Rattle.rbg_rules.specs.Translation.{arithmetic_of}
+use Rattle.rbg_rules.specs.Meaning.{arithmetic_of}
 use Rattle.rbg_state.specs.Trials.{at_vertex}
 use Rattle.rbg_state.proofs.Trying.{same_value}
 use Rattle.rbg_state.proofs.state.SemiState.tell_assign.Goals as goal

@@ -1,5 +1,5 @@
 use Rattle.std.proofs.Common.{refl}
-use Rattle.rbg_rules.specs.Translation.{arithmetic_of}
+use Rattle.rbg_rules.specs.Meaning.{arithmetic_of}
 use Rattle.rbg_state.proofs.Trying.{compares_there, compares_here}
 use Rattle.rbg_state.proofs.state.SemiState.tell_compare.Goals as goal
 
