@@ -2,8 +2,7 @@
 ghost use Rattle.std.specs.Prelude.{◌≡◌, ◌≢◌, IfOk, IfErr, length};
 ghost use Rattle.rbg_grammar.specs.Descriptions.{description_of, description_of_parts};
 ghost use Rattle.rbg_grammar.specs.Formed.{IsWhole};
-ghost use Rattle.rbg_rules.specs.Meaning.{IsGame, positions_of, AbstractGame, rules_of};
-ghost use Rattle.rbg_rules.specs.Texts.{texts};
+ghost use Rattle.rbg_rules.specs.Meaning.{IsGame, positions_of, AbstractGame, rules_of, texts};
 ghost use Rattle.rbg_game.specs.Descriptions.{IsGameOf};
 ghost use Rattle.rbg_game.specs.Faults.{HasFault};
 ghost use Rattle.rbg_game.specs.internal.Things.{game_by_numbers};

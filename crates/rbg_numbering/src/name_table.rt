@@ -1,11 +1,9 @@
 //! Tables of names: the things of a description by their numbers, and the number of a name.
-ghost use Rattle.std.specs.Prelude.{◌≡◌, ◌≤◌, ◌^◌, [], ◌∷◌, ◌++◌, length, map, slice_get, Some, true, Contains};
-ghost use Rattle.std.specs.Prelude.{MatchOption, OnOk, OnErr, IfErr, IfOk, string_bytes};
+ghost use Rattle.std.specs.Prelude.{◌≡◌, ◌≤◌, ◌^◌, [], ◌∷◌, ◌++◌, length, map, slice_get, Some, true, Contains, MatchOption, OnOk, OnErr, IfErr, IfOk, string_bytes};
 ghost use Rattle.std.specs.List.{AllZip};
 ghost use Rattle.rbg_base.specs.Names.{is_name};
 ghost use Rattle.rbg_grammar.specs.Views.{name_of};
-ghost use Rattle.rbg_rules.specs.Texts.{texts};
-ghost use Rattle.rbg_rules.specs.Meaning.{AreLawfulNames};
+ghost use Rattle.rbg_rules.specs.Meaning.{texts, AreLawfulNames};
 ghost use Rattle.rbg_numbering.specs.Names.{IsNumberOf};
 ghost use Rattle.rbg_numbering.specs.NameTables.{HasLookUpFault, HasNameFault};
 

@@ -15,3 +15,4 @@ pub use Rattle.rbg_rules.specs.LawfulNames.{AreDifferentNames, AreLawfulNames, A
 pub use Rattle.rbg_rules.specs.Laws.{IsJoinOfWords, IsStart, SameButVertex}
 pub use Rattle.rbg_rules.specs.Table.{IsWithin, Shows, Stands}
 pub use Rattle.rbg_rules.specs.Values.{Relates, divided, if_fits, on_values, value_of}
+pub use Rattle.rbg_rules.specs.Texts.{texts}

@@ -1,5 +1,5 @@
 use Rattle.std.proofs.Common.{◌≡◌, take}
-use Rattle.rbg_rules.specs.Texts.{texts}
+use Rattle.rbg_rules.specs.Meaning.{texts}
 use Rattle.rbg_numbering.specs.NameTables.{bytes_of}
 use Rattle.rbg_numbering.proofs.name_table.NameTable.to_names.Given as goal
 
