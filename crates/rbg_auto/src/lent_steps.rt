@@ -13,11 +13,11 @@ use rbg_base::Position;
 #[derive(Clone, Copy, Drop)]
 pub(crate) struct Step {
     /// Where the list of what may come next starts among the entries.
-    pub(crate) start: usize,
+    pub start: usize,
     /// How many positions it has.
-    pub(crate) len: usize,
+    pub len: usize,
     /// What is told of the action: nothing where words may end.
-    pub(crate) glance: Glance,
+    pub glance: Glance,
 }
 
 /// What an automaton answers of its positions, lent as slices. A loop that asks for many positions keeps it as a local,

@@ -7,10 +7,10 @@ use rbg_base::Position;
 /// What comes after a position, and how the words of its inside begin.
 #[derive(Drop)]
 pub(crate) struct PlainNode {
-    pub(crate) next: Vec<Position>,
-    pub(crate) may_end: bool,
-    pub(crate) first: Vec<Position>,
-    pub(crate) may_be_empty: bool,
+    pub next: Vec<Position>,
+    pub may_end: bool,
+    pub first: Vec<Position>,
+    pub may_be_empty: bool,
 }
 
 /// The steps of a game's rules, with lists of its own for each position. `Compact` answers the same in less memory, and

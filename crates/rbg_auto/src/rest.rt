@@ -11,8 +11,8 @@ use std::alloc::Global;
 /// What may come directly after a part of the rules, and whether its words may end there.
 #[derive(Drop)]
 pub(crate) struct Rest {
-    pub(crate) positions: Vec<Position>,
-    pub(crate) may_end: bool,
+    pub positions: Vec<Position>,
+    pub may_end: bool,
 }
 
 /// What comes before a part, where the rest comes after it.

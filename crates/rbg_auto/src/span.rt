@@ -5,23 +5,23 @@ use crate::steps::Glance;
 /// A list of the array: where it starts and where it ends.
 #[derive(Clone, Copy, Drop)]
 pub(crate) struct Span {
-    pub(crate) start: usize,
-    pub(crate) end: usize,
+    pub start: usize,
+    pub end: usize,
 }
 
 /// How the words of a level begin.
 #[derive(Clone, Copy, Drop)]
 pub(crate) struct Opening {
-    pub(crate) first: Span,
-    pub(crate) may_be_empty: bool,
+    pub first: Span,
+    pub may_be_empty: bool,
 }
 
 /// What comes after a position, and what is told at once of its action.
 #[derive(Clone, Copy, Drop)]
 pub(crate) struct Node {
-    pub(crate) next: Span,
-    pub(crate) may_end: bool,
-    pub(crate) glance: Glance,
+    pub next: Span,
+    pub may_end: bool,
+    pub glance: Glance,
 }
 
 impl Span {

@@ -12,9 +12,9 @@ use std::alloc::Global;
 /// The array, and what was laid at each position: a node, and in a list beside the nodes how the words of its inside
 /// begin. Nothing is laid at position 0.
 pub(crate) struct Table {
-    pub(crate) entries: Vec<Position>,
-    pub(crate) nodes: Vec<Node>,
-    pub(crate) insides: Vec<Opening>,
+    pub entries: Vec<Position>,
+    pub nodes: Vec<Node>,
+    pub insides: Vec<Opening>,
     ghost within: { All (IsNextWithin (length entries.items)) nodes.items },
     ghost insides_within: { All (IsFirstWithin (length entries.items)) insides.items },
     ghost beside: { length insides.items ≡ length nodes.items },

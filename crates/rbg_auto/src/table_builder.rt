@@ -21,7 +21,7 @@ use std::alloc::Global;
 #[derive(Drop)]
 pub(crate) struct TableBuilder {
     alloc: Global,
-    pub(crate) table: Table,
+    pub table: Table,
     index: SpanIndex,
 }
 

@@ -15,8 +15,8 @@ pub(crate) fn push_made(
 /// A file's name, and its text.
 #[derive(Clone, Copy)]
 pub(crate) struct File<'a> {
-    pub(crate) name: &'a str,
-    pub(crate) text: &'a [u8],
+    pub name: &'a str,
+    pub text: &'a [u8],
 }
 
 /// Adds the place of what is told, as `name:line:column: `.

@@ -35,17 +35,17 @@ pub(crate) enum Kind {
 #[derive(Clone, Copy, Drop)]
 pub(crate) struct Facts {
     /// Whether no shift comes next behind it.
-    pub(crate) still: bool,
+    pub still: bool,
     /// Whether it is an on of one piece. Most of what is met are such ons, and a flag of its own is tested before all
     /// kinds.
-    pub(crate) alone: bool,
+    pub alone: bool,
     /// Whether it is a modifier that is valid everywhere: an off or a switch.
-    pub(crate) sure: bool,
-    pub(crate) kind: Kind,
+    pub sure: bool,
+    pub kind: Kind,
     /// The piece of an on of one, or the first one of two.
-    pub(crate) piece: Piece,
+    pub piece: Piece,
     /// The second piece of an on of two.
-    pub(crate) other: Piece,
+    pub other: Piece,
 }
 
 /// The leaps of a game, with the facts of each position, from 0 on.

@@ -7,7 +7,7 @@ use rbg_state::SemiState;
 /// costs nothing then; what isn't is lent its parts.
 #[derive(Drop)]
 pub(crate) struct Setting<'a> {
-    pub(crate) game: &'a Game,
-    pub(crate) paths: &'a Paths,
-    pub(crate) state: &'a SemiState,
+    pub game: &'a Game,
+    pub paths: &'a Paths,
+    pub state: &'a SemiState,
 }

@@ -10,9 +10,9 @@ use std::alloc::Global;
 /// A position of a list, its direction if it is a shift, and the node after it.
 #[derive(Clone, Copy, Drop)]
 pub(crate) struct Branch {
-    pub(crate) position: Position,
-    pub(crate) direction: Option<Direction>,
-    pub(crate) after: usize,
+    pub position: Position,
+    pub direction: Option<Direction>,
+    pub after: usize,
 }
 
 /// The branches of positions, each with the node after it out of those of all positions.

@@ -9,15 +9,15 @@ use std::collections::HashMap;
 /// A list of positions that come next somewhere in the rules, and whether words may end there.
 #[derive(Clone, Copy, Drop)]
 pub(crate) struct Node {
-    pub(crate) start: usize,
-    pub(crate) end: usize,
-    pub(crate) may_end: bool,
+    pub start: usize,
+    pub end: usize,
+    pub may_end: bool,
 }
 
 /// The lists in one array, and a node for each that differs from the others.
 pub(crate) struct Interner {
-    pub(crate) positions: Vec<Position>,
-    pub(crate) nodes: Vec<Node>,
+    pub positions: Vec<Position>,
+    pub nodes: Vec<Node>,
     /// A node by the hash of its list. Of two nodes with one hash only the later one is known.
     spots: HashMap<u64, usize>,
     ghost within: { All (IsNodeWithin (length positions.items)) nodes.items },

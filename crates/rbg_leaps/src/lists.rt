@@ -13,15 +13,15 @@ use std::alloc::Global;
 /// The nodes of a game's rules, by place.
 #[derive(Drop)]
 pub(crate) struct Lists {
-    pub(crate) interner: Interner,
+    pub interner: Interner,
     /// The node at the beginning of the rules.
-    pub(crate) rules: usize,
+    pub rules: usize,
     /// The node after each position, from 0 on.
-    pub(crate) afters: Vec<usize>,
+    pub afters: Vec<usize>,
     /// The node at the beginning of what is inside each position.
-    pub(crate) insides: Vec<usize>,
+    pub insides: Vec<usize>,
     /// The branches of all lists, one for each of the positions of the interner.
-    pub(crate) branches: Vec<Branch>,
+    pub branches: Vec<Branch>,
 }
 
 impl Lists {

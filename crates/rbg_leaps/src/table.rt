@@ -13,18 +13,18 @@ use std::alloc::{AllocError, Global};
 #[derive(Clone, Copy, Drop)]
 pub(crate) struct Entry {
     /// Where its targets begin among all of them.
-    pub(crate) start: u32,
+    pub start: u32,
     /// How many they are.
-    pub(crate) many: u16,
-    pub(crate) ends: bool,
+    pub many: u16,
+    pub ends: bool,
 }
 
 /// An entry for each node and each vertex, node by node, with targets. Entries may share targets.
 #[derive(Drop)]
 pub(crate) struct Table {
-    pub(crate) vertices: usize,
-    pub(crate) entries: Vec<Entry>,
-    pub(crate) targets: Vec<Target>,
+    pub vertices: usize,
+    pub entries: Vec<Entry>,
+    pub targets: Vec<Target>,
     ghost within: { All (IsWithin (length targets.items)) entries.items },
 }
 

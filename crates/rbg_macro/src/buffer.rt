@@ -13,10 +13,10 @@ use std::marker::Model;
 /// A token whose bytes are in a buffer.
 #[derive(Clone, Copy)]
 pub(crate) struct Span {
-    pub(crate) kind: TokenKind,
-    pub(crate) start: usize,
-    pub(crate) end: usize,
-    pub(crate) at: usize,
+    pub kind: TokenKind,
+    pub start: usize,
+    pub end: usize,
+    pub at: usize,
 }
 
 /// A token that was kept: one of the text, or one that was joined, whose bytes are in the buffer.

@@ -23,9 +23,9 @@ pub(crate) type Arguments<'t, 'j> = SmallVec<&'j [ReadToken<'t, 'j>], 4>;
 
 /// A call of a macro: the macro's body, the arguments, and the number of tokens of the call after the macro's name.
 pub(crate) struct Call<'m, 't, 'j> {
-    pub(crate) body: &'m [BodyItem<'t>],
-    pub(crate) arguments: Arguments<'t, 'j>,
-    pub(crate) len: usize,
+    pub body: &'m [BodyItem<'t>],
+    pub arguments: Arguments<'t, 'j>,
+    pub len: usize,
 }
 
 /// Written out, so that letting a call go is one call in the proofs of those who hold one, not a step for each part.

@@ -24,16 +24,16 @@ use std::alloc::Global;
 /// A section with its own tokens.
 #[derive(Clone, Copy)]
 pub(crate) struct SectionBody<'t, 's> {
-    pub(crate) kind: SectionKind,
-    pub(crate) at: usize,
-    pub(crate) tokens: &'s [Token<'t>],
+    pub kind: SectionKind,
+    pub at: usize,
+    pub tokens: &'s [Token<'t>],
 }
 
 /// The sections in order of the text, and the macros.
 #[derive(Drop)]
 pub(crate) struct Definitions<'t, 's> {
-    pub(crate) sections: Vec<SectionBody<'t, 's>>,
-    pub(crate) macros: Macros<'t>,
+    pub sections: Vec<SectionBody<'t, 's>>,
+    pub macros: Macros<'t>,
 }
 
 /// The next token of a head and what follows it, if the token is a name. A head that ends before is

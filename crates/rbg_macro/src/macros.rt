@@ -27,8 +27,8 @@ pub(crate) enum BodyItem<'t> {
 /// How many parameters a macro has, and its body.
 #[derive(Drop)]
 pub(crate) struct Template<'t> {
-    pub(crate) parameters: usize,
-    pub(crate) body: Vec<BodyItem<'t>>,
+    pub parameters: usize,
+    pub body: Vec<BodyItem<'t>>,
 }
 
 /// The macros by name, in order of the text.

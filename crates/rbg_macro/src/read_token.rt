@@ -15,11 +15,11 @@ pub(crate) enum Bytes<'t, 'j> {
 /// A token that expansion reads.
 #[derive(Clone, Copy)]
 pub(crate) struct ReadToken<'t, 'j> {
-    pub(crate) kind: TokenKind,
-    pub(crate) bytes: Bytes<'t, 'j>,
-    pub(crate) at: usize,
+    pub kind: TokenKind,
+    pub bytes: Bytes<'t, 'j>,
+    pub at: usize,
     /// The number of the macro that it names, once it is marked.
-    pub(crate) macro_number: Option<usize>,
+    pub macro_number: Option<usize>,
 }
 
 impl<'t, 'j> ReadToken<'t, 'j> {

@@ -45,10 +45,10 @@ impl fmt::Display for SectionKind {
 /// Where the tokens of a section are in a list of tokens.
 #[derive(Clone, Copy)]
 pub(crate) struct SectionSpan {
-    pub(crate) kind: SectionKind,
-    pub(crate) at: usize,
-    pub(crate) start: usize,
-    pub(crate) end: usize,
+    pub kind: SectionKind,
+    pub at: usize,
+    pub start: usize,
+    pub end: usize,
 }
 
 /// The sections of a description in order of the text, with their macros expanded. They borrow the text.

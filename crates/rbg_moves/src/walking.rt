@@ -22,9 +22,9 @@ use rbg_state::SemiState;
 /// move are then left in the front.
 #[derive(Drop)]
 pub(crate) struct Found {
-    pub(crate) moves: MoveList,
+    pub moves: MoveList,
     /// How many moves the list may hold.
-    pub(crate) max: usize,
+    pub max: usize,
 }
 
 impl Found {

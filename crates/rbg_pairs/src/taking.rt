@@ -16,9 +16,9 @@ use rbg_state::Trial;
 #[derive(Clone, Copy, Drop)]
 pub(crate) struct QueueCounts {
     /// How many pairs were met.
-    pub(crate) met: usize,
+    pub met: usize,
     /// How many of them were taken.
-    pub(crate) taken: usize,
+    pub taken: usize,
 }
 
 /// Takes pairs, up to the first that is a pattern, of whose action nothing is told, or for which there is no room.

@@ -21,9 +21,9 @@ use rbg_state::{SemiState, Trial};
 #[derive(Drop)]
 pub(crate) struct PatternScan {
     /// Whether a word ends on the way.
-    pub(crate) ends: bool,
+    pub ends: bool,
     /// How many pairs were tried that are no shifts.
-    pub(crate) pairs: usize,
+    pub pairs: usize,
 }
 
 /// Scans along the inside of a pattern, from a vertex up to the first action that isn't valid, or to the last one. None

@@ -21,8 +21,8 @@ use std::alloc::Global;
 /// A board, and the names of its directions in order of their numbers.
 #[derive(Drop)]
 pub(crate) struct NamedBoard {
-    pub(crate) directions: NameTable,
-    pub(crate) board: Board,
+    pub directions: NameTable,
+    pub board: Board,
 }
 
 /// The numbers of the pieces on rows of cells.

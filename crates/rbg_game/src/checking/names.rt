@@ -18,11 +18,11 @@ use std::alloc::Global;
 /// The names of a description, and the bounds of its variables.
 #[derive(Drop)]
 pub(crate) struct Things {
-    pub(crate) players: NameTable,
+    pub players: NameTable,
     /// The players, and then the other variables.
-    pub(crate) variables: NameTable,
-    pub(crate) bounds: Vec<u32>,
-    pub(crate) pieces: NameTable,
+    pub variables: NameTable,
+    pub bounds: Vec<u32>,
+    pub pieces: NameTable,
 }
 
 /// Numbers the players, variables and pieces of a description.

@@ -14,14 +14,14 @@ use std::alloc::Global;
 /// A game that was loaded, and the same game as the slow answers see it.
 #[derive(Drop)]
 pub(crate) struct Asked<'a, S: Steps> {
-    pub(crate) alloc: Global,
-    pub(crate) game: &'a Game,
-    pub(crate) steps: &'a S,
+    pub alloc: Global,
+    pub game: &'a Game,
+    pub steps: &'a S,
     /// The leaps of the game, where the questions go by sets of vertices.
-    pub(crate) paths: Option<&'a Paths>,
+    pub paths: Option<&'a Paths>,
     /// The game, made ready for play.
-    pub(crate) played: &'a PlayedGame,
-    pub(crate) rules: Rules<'a>,
+    pub played: &'a PlayedGame,
+    pub rules: Rules<'a>,
 }
 
 impl<'a, S: Steps> Asked<'a, S> {

@@ -31,36 +31,36 @@ pub(crate) enum Known {
 /// A game: its board and its words.
 #[derive(Clone, Copy)]
 pub(crate) struct Rules<'a> {
-    pub(crate) board: &'a Board,
-    pub(crate) table: &'a Table,
+    pub board: &'a Board,
+    pub table: &'a Table,
 }
 
 /// What is reached without a modifier.
 #[derive(Drop)]
 pub(crate) struct Next {
     /// The modifiers that come next, each once, with the vertex where it is valid.
-    pub(crate) pairs: Vec<Pair>,
+    pub pairs: Vec<Pair>,
     /// Whether a word may end.
-    pub(crate) ends: bool,
+    pub ends: bool,
     /// Whether that is all.
-    pub(crate) whole: bool,
+    pub whole: bool,
 }
 
 /// A legal move, and where it leads.
 #[derive(Drop)]
 pub(crate) struct Played {
-    pub(crate) pairs: Vec<Pair>,
-    pub(crate) world: World,
-    pub(crate) last: Position,
+    pub pairs: Vec<Pair>,
+    pub world: World,
+    pub last: Position,
 }
 
 /// The legal moves.
 #[derive(Drop)]
 pub(crate) struct Moves {
     /// Each once.
-    pub(crate) moves: Vec<Played>,
+    pub moves: Vec<Played>,
     /// Whether that is all.
-    pub(crate) whole: bool,
+    pub whole: bool,
 }
 
 impl Rules<'_> {

@@ -43,24 +43,24 @@ pub(crate) fn expect(holds: bool, odd: Odd) -> Result<(), Odd> {
 #[derive(Clone, Copy, Debug, Default, PartialEq, Eq)]
 pub(crate) struct Tally {
     /// Games that were compared, such with too many words, and such that met the limits of a search.
-    pub(crate) games: u32,
-    pub(crate) skipped: u32,
-    pub(crate) limited: u32,
+    pub games: u32,
+    pub skipped: u32,
+    pub limited: u32,
     /// Legal moves, and those of more than one pair.
-    pub(crate) moves: u32,
-    pub(crate) longer_moves: u32,
+    pub moves: u32,
+    pub longer_moves: u32,
     /// Places whose moves are all known, and such that have none.
-    pub(crate) whole_places: u32,
-    pub(crate) finished: u32,
+    pub whole_places: u32,
+    pub finished: u32,
     /// Lists of pairs that are no moves.
-    pub(crate) illegal: u32,
+    pub illegal: u32,
     /// What is reached: pairs, ends, and starts from which all is known.
-    pub(crate) pairs: u32,
-    pub(crate) ends: u32,
-    pub(crate) whole_starts: u32,
+    pub pairs: u32,
+    pub ends: u32,
+    pub whole_starts: u32,
     /// Patterns that are valid or not.
-    pub(crate) valid: u32,
-    pub(crate) invalid: u32,
+    pub valid: u32,
+    pub invalid: u32,
 }
 
 /// Adds to a count.

@@ -16,18 +16,18 @@ pub(crate) enum Stands {
 /// A position of the rules.
 #[derive(Drop)]
 pub(crate) struct Entry {
-    pub(crate) stands: Stands,
+    pub stands: Stands,
     /// What follows the position to the end of a word, in the rules or the inside of a pattern where it stands.
-    pub(crate) rests: Vec<Word>,
+    pub rests: Vec<Word>,
 }
 
 /// The words of rules.
 #[derive(Drop)]
 pub(crate) struct Table {
     /// From position 1 on.
-    pub(crate) entries: Vec<Entry>,
+    pub entries: Vec<Entry>,
     /// The words of the rules.
-    pub(crate) words: Vec<Word>,
+    pub words: Vec<Word>,
 }
 
 impl Table {

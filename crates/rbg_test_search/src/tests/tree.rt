@@ -21,9 +21,9 @@ pub(crate) enum Operator {
 /// An operation on two operands.
 #[derive(Clone, Copy)]
 pub(crate) struct Sum {
-    pub(crate) first: Operand,
-    pub(crate) operator: Operator,
-    pub(crate) second: Operand,
+    pub first: Operand,
+    pub operator: Operator,
+    pub second: Operand,
 }
 
 /// An action that is no pattern.

@@ -9,11 +9,11 @@ pub(crate) const BOUNDS: [i64; 3] = [4, 4, 2];
 /// A semi-state.
 #[derive(Clone, Copy, PartialEq, Eq)]
 pub(crate) struct World {
-    pub(crate) player: Player,
-    pub(crate) vertex: Vertex,
+    pub player: Player,
+    pub vertex: Vertex,
     /// The pieces of the board's vertices, and no more.
-    pub(crate) pieces: [Piece; MOST_VERTICES],
-    pub(crate) values: [i64; 3],
+    pub pieces: [Piece; MOST_VERTICES],
+    pub values: [i64; 3],
 }
 
 /// How many of the first vertices hold a piece.
