@@ -1,6 +1,11 @@
 -- Texts and what they spell.
 use Rattle.std.specs.Prelude.{◌≡◌, ℕ, List, Option, Some, IfSome}
 
+-- the text is the spelling of a thing that has one
+pub record IsSpelling {T : Type 0} (Has : T → Type 0) (spelling : T → List ℕ) (text : List ℕ) (x : T) : Type 0 where
+  pub has : Has x
+  pub is : text ≡ spelling x
+
 -- a text spells at most one thing
 abbrev pub SpellsOne : {T : Type 0} → (List ℕ → T → Type 0) → Type 0
 SpellsOne {T} Spells = (text : List ℕ) (a b : T) → Spells text a → Spells text b → a ≡ b
