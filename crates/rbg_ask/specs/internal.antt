@@ -5,3 +5,4 @@ pub mod Moving
 pub mod Places
 pub mod Reading
 pub mod Refusing
+pub mod Telling

@@ -11,7 +11,7 @@ use crate::refusal::Refusal;
 use crate::standing::Standing;
 use crate::tally::{Ending, Tally};
 use rbg_base::{Memory, Move, Piece};
-use rbg_wire::{all_or_nothing, write_number, write_pairs};
+use rbg_wire::{all_or_nothing, put_number, write_number, write_pairs};
 
 /// Appends the lines of legal moves. On an error the bytes are unchanged.
 pub fn write_moves(moves: &[Move], cut: bool, out: &mut Vec<u8>) -> Result<(), Memory>
@@ -176,14 +176,6 @@ fn put_pieces(pieces: &[Piece], out: &mut Vec<u8>) -> Result<(), Memory>
         put_number(b" ", u64::from(*piece), out)?;
     }
     Ok(())
-}
-
-/// Appends a head, and then the digits of a number.
-fn put_number(head: &[u8], number: u64, out: &mut Vec<u8>) -> Result<(), Memory>
-    ensures { Appends out.old.items out.new.items (head.now ++ decimal number) result }
-{
-    out.extend_from_slice(head)?;
-    write_number(number, out)
 }
 
 #[tactic(auto, unfolding(crate::specs::Answers::answer_text))]

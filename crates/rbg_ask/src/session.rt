@@ -9,6 +9,7 @@ ghost use Rattle.rbg_ask.specs.Limits.{longest_line};
 ghost use Rattle.rbg_ask.specs.Questions.{QuestionHasSpelling};
 ghost use Rattle.rbg_ask.specs.Sessions.{AbstractSession, HasLedTo, beginning_of};
 ghost use Rattle.rbg_ask.specs.internal.Places.{AreReached};
+ghost use Rattle.rbg_ask.specs.internal.Telling.{Tells};
 
 use crate::answer_writer::{
     write_board, write_matches, write_moves, write_refusal, write_standing, write_values,
@@ -167,10 +168,7 @@ impl Session {
     #[tactic(auto, using(crate::proofs::OutOfMemory::memory_refused))]
     fn list_moves(&self, max: Option<u64>, out: &mut Vec<u8>) -> Result<(), Refusal>
         requires { QuestionHasSpelling (questions.Moves max) }
-        ensures answers { OnOk result (AnswersIn self.now (questions.Moves max) self.now
-            out.old.items out.new.items) }
-        ensures refused { IfErr result (IsRefused self.now (questions.Moves max)) }
-        ensures out { OnErr result (out.new.items ≡ out.old.items) }
+        ensures { Tells self.now (questions.Moves max) out.old.items out.new.items result }
     {
         let listed = self.game.list_moves(&self.place, limit_of(max))?;
         is_in_memory(&listed.moves);
@@ -264,10 +262,7 @@ impl Session {
 
     #[tactic(auto, using(crate::proofs::OutOfMemory::memory_refused))]
     fn tell_values(&self, out: &mut Vec<u8>) -> Result<(), Refusal>
-        ensures answers { OnOk result (AnswersIn self.now questions.Values self.now out.old.items
-            out.new.items) }
-        ensures refused { IfErr result (IsRefused self.now questions.Values) }
-        ensures out { OnErr result (out.new.items ≡ out.old.items) }
+        ensures { Tells self.now questions.Values out.old.items out.new.items result }
     {
         let values = values_at(self.alloc, &self.game, &self.place)?;
         write_values(values.as_slice(), out)?;
@@ -276,10 +271,7 @@ impl Session {
 
     #[tactic(auto, using(crate::proofs::OutOfMemory::memory_refused))]
     fn tell_board(&self, out: &mut Vec<u8>) -> Result<(), Refusal>
-        ensures answers { OnOk result (AnswersIn self.now questions.Board self.now out.old.items
-            out.new.items) }
-        ensures refused { IfErr result (IsRefused self.now questions.Board) }
-        ensures out { OnErr result (out.new.items ≡ out.old.items) }
+        ensures { Tells self.now questions.Board out.old.items out.new.items result }
     {
         write_board(pieces_at(&self.place), out)?;
         Ok(())
@@ -287,10 +279,7 @@ impl Session {
 
     #[tactic(auto, using(crate::proofs::OutOfMemory::memory_refused))]
     fn tell_names(&self, out: &mut Vec<u8>) -> Result<(), Refusal>
-        ensures answers { OnOk result (AnswersIn self.now questions.Names self.now out.old.items
-            out.new.items) }
-        ensures refused { IfErr result (IsRefused self.now questions.Names) }
-        ensures out { OnErr result (out.new.items ≡ out.old.items) }
+        ensures { Tells self.now questions.Names out.old.items out.new.items result }
     {
         write_names(self.game.as_game(), out)?;
         Ok(())

@@ -1,5 +1,5 @@
 -- What the calls find that read a line, and what they leave out.
-use Rattle.std.proofs.Common.{◌≡◌, ℕ, ◌<◌, ◌≤◌, ◌^◌, Option, Some, None, IfSome, IfNone, Result, Ok, Err, IfOk, List, [], ◌∷◌, ◌++◌, length, decimal, codes, All, ap, sym, ◌∙◌, refl, subst}
+use Rattle.std.proofs.Common.{◌≡◌, ℕ, ◌<◌, ◌≤◌, ◌^◌, Some, None, Result, Ok, Err, IfOk, List, [], ◌∷◌, ◌++◌, length, decimal, codes, All, ap, sym, ◌∙◌, refl, subst}
 use Rattle.std.specs.Prelude.{IsTrue}
 use Rattle.std.specs.Result.{result_ok}
 use Rattle.rbg_base.specs.Names.{is_name}
@@ -7,17 +7,18 @@ use Rattle.rbg_wire.specs.declared.error.WireError.{WireError}
 use Rattle.rbg_wire.specs.declared.outcome.Outcome.{Outcome}
 use Rattle.rbg_wire.specs.Messages.{ArePairs, pairs_text}
 use Rattle.rbg_wire.specs.Reading.{SpellsPairs, SpellsOutcome}
-use Rattle.rbg_wire.specs.Words.{words_of}
+use Rattle.rbg_wire.specs.Words.{words_of, BeginsWithNumber}
 use Rattle.rbg_wire.proofs.ByteLemmas.{same_end}
+use Rattle.rbg_wire.proofs.FieldLemmas.{with_rest}
 use Rattle.rbg_lines.specs.declared.entry.Entry.{Entry}
 use Rattle.rbg_lines.specs.declared.entry.Entry.TheVariants.{Move, End}
 use Rattle.rbg_lines.specs.declared.entry.Timed.{Timed}
 use Rattle.rbg_lines.specs.declared.heading.Start.{Start}
 use Rattle.rbg_lines.specs.declared.heading.Version.{Version}
 use Rattle.rbg_lines.specs.declared.heading.Version.TheVariants.{One, Two}
-use Rattle.rbg_lines.specs.Entries.{SpellsEntry, SpellsTimed}
+use Rattle.rbg_lines.specs.Entries.{SpellsEntry, SpellsTimed, entry_text}
 use Rattle.rbg_lines.specs.Heading.{version_text, SpellsPlayers, SpellsStart}
-use Rattle.rbg_lines.proofs.Apart.{move_text, play_text, end_text, start_fields, spells_outcome, one_entry, one_timed, one_start, one_version, spelled_names, names_spelled}
+use Rattle.rbg_lines.proofs.Apart.{move_text, play_text, end_text, timed_fields, start_fields, spells_outcome, one_version, spelled_names, names_spelled}
 
 -- What an entry's fields are.
 pub move_fields : (text : List ℕ) (player : ℕ) (pairs : List (ℕ × ℕ)) → SpellsEntry text (Move player pairs) → text ≡ decimal player ++ 32 ∷ pairs_text pairs
@@ -29,19 +30,8 @@ spells_play text is = record { has = tt; is = is ∙ sym play_text }
 pub spells_end : (text : List ℕ) (outcome : Outcome) → SpellsOutcome text outcome → SpellsEntry text (End (Some outcome))
 spells_end text outcome h = record { has = h.has; is = h.is ∙ sym (end_text outcome) }
 
--- The clause `only`, from the two others.
-only_from : {T : Type 0} (Spells : T → Type 0) → ((a b : T) → Spells a → Spells b → a ≡ b) → (answer : Option T) → IfSome answer Spells → IfNone answer ((x : T) → Spells x → ⊥) → (x : T) → Spells x → answer ≡ Some x
-only_from Spells one (Some found) h none x spelled = ap Some (one found x h spelled)
-only_from Spells one None h none x spelled = absurd (none x spelled)
-
-pub entry_only : (text : List ℕ) (answer : Option Entry) → IfSome answer (SpellsEntry text) → IfNone answer ((entry : Entry) → SpellsEntry text entry → ⊥) → (entry : Entry) → SpellsEntry text entry → answer ≡ Some entry
-entry_only text = only_from (SpellsEntry text) (one_entry text)
-
-pub timed_only : (text : List ℕ) (answer : Option Timed) → IfSome answer (SpellsTimed text) → IfNone answer ((timed : Timed) → SpellsTimed text timed → ⊥) → (timed : Timed) → SpellsTimed text timed → answer ≡ Some timed
-timed_only text = only_from (SpellsTimed text) (one_timed text)
-
-pub start_only : (text : List ℕ) (answer : Option Start) → IfSome answer (SpellsStart text) → IfNone answer ((start : Start) → SpellsStart text start → ⊥) → (start : Start) → SpellsStart text start → answer ≡ Some start
-start_only text = only_from (SpellsStart text) (one_start text)
+pub spells_timed : (text rest : List ℕ) (timed : Timed) → BeginsWithNumber text timed.at rest → SpellsEntry rest timed.entry → SpellsTimed text timed
+spells_timed text rest timed begins h = record { has = (begins.small, h.has); is = with_rest text rest (entry_text timed.entry) timed.at begins h.is ∙ sym (timed_fields timed) }
 
 -- What the reader of pairs answers.
 pub pairs_read : (text : List ℕ) (answer : Result (List (ℕ × ℕ)) WireError) (pairs : List (ℕ × ℕ)) → IfOk answer (λ ps. SpellsPairs text ps × (length ps ≤ 200)) → Some pairs ≡ result_ok answer → SpellsPairs text pairs × (length pairs ≤ 200)
@@ -65,11 +55,6 @@ no_entry text answer error play failed only move (End (Some outcome)) h =
     cc
 no_entry text answer error play failed only move (Move player pairs) h = move player pairs h
 
--- what is left where the answer is none
-pub when_none : {T : Type 0} {P Q : Type 0} (answer : Option T) → IfNone answer P → (P → Q) → IfNone answer Q
-when_none (Some found) h lift = tt
-when_none None h lift = lift h
-
 -- the versions
 pub text_one : version_text One ≡ codes "rbg 1"
 unfolding version_text
@@ -79,8 +64,8 @@ pub text_two : version_text Two ≡ codes "rbg 2"
 unfolding version_text
 text_two = refl
 
-pub version_only : (text : List ℕ) (found : Version) → text ≡ version_text found → (version : Version) → text ≡ version_text version → Some found ≡ Some version
-version_only text found is version h = ap Some (one_version found version (sym is ∙ h))
+pub same_version : (text : List ℕ) (a b : Version) → text ≡ version_text a → text ≡ version_text b → a ≡ b
+same_version text a b h k = one_version a b (sym h ∙ k)
 
 pub no_version : (text : List ℕ) → (text ≡ codes "rbg 1" → ⊥) → (text ≡ codes "rbg 2" → ⊥) → (version : Version) → text ≡ version_text version → ⊥
 no_version text first second One h = first (h ∙ text_one)

@@ -1,7 +1,8 @@
 -- The entries of a record: its moves, and how it ends. Each has one spelling.
-use Rattle.std.specs.Prelude.{◌≡◌, ℕ, ◌<◌, ◌≤◌, ◌^◌, List, [], ◌++◌, length, Option, Some, None, codes, decimal}
+use Rattle.std.specs.Prelude.{ℕ, ◌<◌, ◌≤◌, ◌^◌, List, [], ◌++◌, length, Option, Some, None, codes, decimal}
 use Rattle.rbg_base.specs.Move.{most_pairs}
 use Rattle.rbg_wire.specs.Messages.{ArePairs, pairs_text, OutcomeHasSpelling, outcome_text}
+use Rattle.rbg_wire.specs.Reads.{IsSpelling}
 use Rattle.rbg_lines.specs.declared.entry.Entry.{Entry}
 use Rattle.rbg_lines.specs.declared.entry.Entry.TheVariants.{Move, End}
 use Rattle.rbg_lines.specs.declared.entry.Timed.{Timed}
@@ -31,11 +32,9 @@ abbrev pub TimedHasSpelling : Timed → Type 0
 TimedHasSpelling timed = (timed.at < 2 ^ 64) × EntryHasSpelling timed.entry
 
 -- the text is that of this entry
-pub record SpellsEntry (text : List ℕ) (entry : Entry) : Type 0 where
-  pub has : EntryHasSpelling entry
-  pub is : text ≡ entry_text entry
+abbrev pub SpellsEntry : List ℕ → Entry → Type 0
+SpellsEntry = IsSpelling EntryHasSpelling entry_text
 
 -- the text is that of this entry with its moment
-pub record SpellsTimed (text : List ℕ) (timed : Timed) : Type 0 where
-  pub has : TimedHasSpelling timed
-  pub is : text ≡ timed_text timed
+abbrev pub SpellsTimed : List ℕ → Timed → Type 0
+SpellsTimed = IsSpelling TimedHasSpelling timed_text

@@ -1,7 +1,8 @@
 -- The lines with which a record begins: its version and, in version 2, the names of the players and the start.
-use Rattle.std.specs.Prelude.{◌≡◌, ℕ, ◌<◌, ◌^◌, IsTrue, List, ◌++◌, length, codes, decimal, All}
+use Rattle.std.specs.Prelude.{ℕ, ◌<◌, ◌^◌, IsTrue, List, ◌++◌, length, codes, decimal, All}
 use Rattle.std.specs.List.{flat_map}
 use Rattle.rbg_base.specs.Names.{is_name}
+use Rattle.rbg_wire.specs.Reads.{IsSpelling}
 use Rattle.rbg_lines.specs.declared.heading.Version.{Version}
 use Rattle.rbg_lines.specs.declared.heading.Version.TheVariants.{One, Two}
 use Rattle.rbg_lines.specs.declared.heading.Start.{Start}
@@ -28,11 +29,9 @@ abbrev pub StartHasSpelling : Start → Type 0
 StartHasSpelling start = (start.turn_ms < 2 ^ 64) × (start.now < 2 ^ 64)
 
 -- the text is that of the players with these names
-pub record SpellsPlayers (text : List ℕ) (names : List (List ℕ)) : Type 0 where
-  pub has : HaveNames names
-  pub is : text ≡ players_text names
+abbrev pub SpellsPlayers : List ℕ → List (List ℕ) → Type 0
+SpellsPlayers = IsSpelling HaveNames players_text
 
 -- the text is that of this start
-pub record SpellsStart (text : List ℕ) (start : Start) : Type 0 where
-  pub has : StartHasSpelling start
-  pub is : text ≡ start_text start
+abbrev pub SpellsStart : List ℕ → Start → Type 0
+SpellsStart = IsSpelling StartHasSpelling start_text

@@ -3,6 +3,7 @@ use Rattle.std.specs.Prelude.{◌≡◌, ℕ, List, Option, All}
 use Rattle.rbg_wire.specs.declared.outcome.Outcome.{Outcome}
 use Rattle.rbg_wire.specs.Bytes.{LacksByte}
 use Rattle.rbg_wire.specs.Lines.{line_feed, lines_of}
+use Rattle.rbg_wire.specs.Reads.{SpellsOne}
 use Rattle.rbg_lines.specs.declared.entry.Entry.{Entry}
 use Rattle.rbg_lines.specs.declared.entry.Entry.TheVariants.{Move, End}
 use Rattle.rbg_lines.specs.declared.entry.Timed.{Timed}
@@ -13,8 +14,8 @@ use Rattle.rbg_lines.specs.Heading.{version_text, SpellsPlayers, SpellsStart}
 
 -- A text spells at most one entry, and at most one with a moment. So no move's text is that of an end.
 pub record EntriesAreApart : Type 0 where
-  pub entries : (text : List ℕ) (a b : Entry) → SpellsEntry text a → SpellsEntry text b → a ≡ b
-  pub timed : (text : List ℕ) (a b : Timed) → SpellsTimed text a → SpellsTimed text b → a ≡ b
+  pub entries : SpellsOne SpellsEntry
+  pub timed : SpellsOne SpellsTimed
   pub ends : (text : List ℕ) (player : ℕ) (pairs : List (ℕ × ℕ)) (outcome : Option Outcome)
       → SpellsEntry text (Move player pairs)
       → SpellsEntry text (End outcome)
@@ -23,8 +24,8 @@ pub record EntriesAreApart : Type 0 where
 -- A text spells at most one version, one list of players and one start.
 pub record HeadingsAreApart : Type 0 where
   pub versions : (a b : Version) → version_text a ≡ version_text b → a ≡ b
-  pub players : (text : List ℕ) (a b : List (List ℕ)) → SpellsPlayers text a → SpellsPlayers text b → a ≡ b
-  pub starts : (text : List ℕ) (a b : Start) → SpellsStart text a → SpellsStart text b → a ≡ b
+  pub players : SpellsOne SpellsPlayers
+  pub starts : SpellsOne SpellsStart
 
 -- No spelling has a line feed in it, so each is a line of its own.
 pub record SpellingsAreLines : Type 0 where

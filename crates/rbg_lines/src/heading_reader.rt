@@ -1,25 +1,20 @@
 //! The calls that read the first lines of a record. They allocate nothing.
-ghost use Rattle.std.specs.Prelude.{◌≡◌, ◌↔◌, ℕ, List, IfSome, IfNone, IsTrue, All};
+ghost use Rattle.std.specs.Prelude.{◌≡◌, ◌↔◌, ℕ, List, IfSome, IsTrue, All};
 ghost use Rattle.std.specs.Option.{IsSomeAnd};
 ghost use Rattle.rbg_base.specs.Names.{is_name};
+ghost use Rattle.rbg_wire.specs.Reads.{ReadsOnly};
 ghost use Rattle.rbg_wire.specs.Words.{words_left, words_of};
-ghost use Rattle.rbg_lines.specs.declared.heading.Start.{Start as AnyStart};
-ghost use Rattle.rbg_lines.specs.declared.heading.Version.{Version as AnyVersion};
 ghost use Rattle.rbg_lines.specs.Heading.{version_text, SpellsPlayers, SpellsStart};
 
 use crate::{Start, Version};
 use rbg_base::{is_name, number_of_decimal};
-use rbg_wire::{Words, after_text, cut_at};
+use rbg_wire::{Words, after_text, cut_number};
 
 /// The version of which the whole text is the spelling.
 ///
 /// Returns None if it is that of no version.
 pub fn read_version(line: &[u8]) -> Option<Version>
-    // The text is that of the version that is returned.
-    ensures found { IfSome result (λ version. line.now ≡ version_text version) }
-    // The version is returned whose text this is.
-    ensures only { (version : AnyVersion) → line.now ≡ version_text version
-        → result ≡ Some version }
+    ensures { ReadsOnly (λ version. line.now ≡ version_text version) result }
 {
     if line == b"rbg 1".as_slice() {
         Some(Version::One)
@@ -60,21 +55,10 @@ fn are_names(text: &[u8]) -> bool
 ///
 /// Returns None if it is that of no start.
 pub fn read_start(line: &[u8]) -> Option<Start>
-    // The text is that of the start that is returned.
-    ensures found { IfSome result (SpellsStart line.now) }
-    // The start is returned whose text this is.
-    ensures only { (start : AnyStart) → SpellsStart line.now start → result ≡ Some start }
-{
-    start_in(line)
-}
-
-fn start_in(line: &[u8]) -> Option<Start>
-    ensures found { IfSome result (SpellsStart line.now) }
-    ensures none { IfNone result ((start : AnyStart) → SpellsStart line.now start → ⊥) }
+    ensures { ReadsOnly (SpellsStart line.now) result }
 {
     let fields = after_text(b"start ", line)?;
-    let (turn_ms, now) = cut_at(b' ', fields)?;
-    let turn_ms = number_of_decimal(turn_ms)?;
+    let (turn_ms, now) = cut_number(fields)?;
     let now = number_of_decimal(now)?;
     Some(Start { turn_ms, now })
 }

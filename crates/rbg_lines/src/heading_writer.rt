@@ -6,7 +6,7 @@ ghost use Rattle.rbg_lines.specs.Heading.{players_text, start_text, version_text
 
 use crate::{Start, Version};
 use rbg_base::Memory;
-use rbg_wire::{all_or_nothing, write_number};
+use rbg_wire::{all_or_nothing, put_number};
 
 /// Appends the line of a version. On an error the bytes are unchanged.
 #[tactic(auto, unfolding(crate::specs::Heading::version_text))]
@@ -63,9 +63,7 @@ fn put_name(name: &[u8], out: &mut Vec<u8>) -> Result<(), Memory>
 fn put_start(start: Start, out: &mut Vec<u8>) -> Result<(), Memory>
     ensures { Appends out.old.items out.new.items (line_of (start_text start)) result }
 {
-    out.extend_from_slice(b"start ")?;
-    write_number(start.turn_ms, out)?;
-    out.extend_from_slice(b" ")?;
-    write_number(start.now, out)?;
+    put_number(b"start ", start.turn_ms, out)?;
+    put_number(b" ", start.now, out)?;
     out.extend_from_slice(b"\n")
 }

@@ -64,32 +64,32 @@ pub data AreAlike (game : AbstractGame) (one other : AbstractPlay) (said others 
   one_stops : StopsWithin game one said others → AreAlike game one other said others
   other_stops : StopsWithin game other others said → AreAlike game one other said others
 
+-- what holds of any two transcripts of the same events
+abbrev pub OfTwoTranscripts : (AbstractGame → (one other : AbstractPlay) → (said others : List Delivery) → Type 0) → Type 0
+OfTwoTranscripts Then =
+    (game : AbstractGame) (text : List ℕ) (config : Config) (now : ℕ) (events : List AbstractEvent) →
+    (play play' : AbstractPlay) (said said' : List Delivery) →
+    IsNumbered game.rules →
+    Transcript game text config now events play said →
+    Transcript game text config now events play' said' →
+    Then game play play' said said'
+
 -- The text, the config, the first moment and the events decide everything but the keeper's moves and where a match ends
 -- because a question is above the limits. So where the keeper's moves in two transcripts of them are the first ones of
 -- one list, the transcripts are the same until one of them ends so.
 abbrev pub OneUntilHeavy : Type 0
 OneUntilHeavy =
-    (game : AbstractGame) (text : List ℕ) (config : Config) (now : ℕ) (events : List AbstractEvent) →
-    (play play' : AbstractPlay) (said said' : List Delivery) →
-    IsNumbered game.rules →
-    Transcript game text config now events play said →
-    Transcript game text config now events play' said' →
-    HaveOneKeeper play play' →
-    AreAlike game play play' said said'
+    OfTwoTranscripts (λ game one other said others. HaveOneKeeper one other → AreAlike game one other said others)
 
 -- Two such transcripts are the same if the keeper's moves have the same pairs in both, and neither has ended because a
 -- question was above the limits.
 abbrev pub OneTranscript : Type 0
 OneTranscript =
-    (game : AbstractGame) (text : List ℕ) (config : Config) (now : ℕ) (events : List AbstractEvent) →
-    (play play' : AbstractPlay) (said said' : List Delivery) →
-    IsNumbered game.rules →
-    Transcript game text config now events play said →
-    Transcript game text config now events play' said' →
-    ¬ IsHeavyEnd play →
-    ¬ IsHeavyEnd play' →
-    keeper_pairs play.made ≡ keeper_pairs play'.made →
-    (play ≡ play') × (said ≡ said')
+    OfTwoTranscripts (λ game one other said others.
+    ¬ IsHeavyEnd one →
+    ¬ IsHeavyEnd other →
+    keeper_pairs one.made ≡ keeper_pairs other.made →
+    (one ≡ other) × (said ≡ others))
 
 -- What a match that opens and then handles these events in turn leaves: its state of play is that of a transcript of
 -- them, and each seat has the bytes of what that transcript sends.

@@ -1,12 +1,12 @@
 //! How a referee handles an event: the inputs that the event stands for, in turn.
-ghost use Rattle.std.specs.Prelude.{◌≡◌, ◌≤◌, ◌<◌, ◌&&◌, ◌↔◌, max, min, nat_le, IsTrue, IsOk, length, map, OnOk};
+ghost use Rattle.std.specs.Prelude.{◌≡◌, ◌≤◌, ◌&&◌, ◌↔◌, max, min, nat_le, IsTrue, length, map, OnOk};
 ghost use Rattle.rbg_wire.specs.Streams.{cut};
 ghost use Rattle.rbg_match.specs.Handling.{sent};
-ghost use Rattle.rbg_match.specs.Inputs.{IsTickAlone, event_of, inputs_at, inputs_in, moment_of, rests_after};
+ghost use Rattle.rbg_match.specs.Inputs.{event_of, inputs_at, inputs_in, moment_of};
 ghost use Rattle.rbg_match.specs.Limits.{latest_moment, message_limit};
 ghost use Rattle.rbg_match.specs.Play.{due_of};
 ghost use Rattle.rbg_match.specs.PlayingOn.{seats_of};
-ghost use Rattle.rbg_match.specs.internal.Inboxes.{IsReady, AreReady, rests_of};
+ghost use Rattle.rbg_match.specs.internal.Inboxes.{AreReady, HaveTaken, IsQuiet, IsReady, rests_of};
 ghost use Rattle.rbg_match.specs.internal.InputOf.{IsSeatOf};
 ghost use Rattle.rbg_match.specs.internal.Replies.{HandlesNow, Replies};
 ghost use Rattle.rbg_match.specs.internal.Saying.{Says};
@@ -54,12 +54,10 @@ impl Referee {
         requires ready { AreReady inboxes.old }
         ensures replies { Replies self.old self.new result (λ referee _.
             HandlesNow (inputs_in (rests_of inboxes.old) (event_of event.entry)) referee) }
-        ensures quiet { IsTickAlone (rests_of inboxes.old) (event_of event.entry) →
-            self.old.moment < due_of self.old.config self.old.play →
-            IsOk result }
+        ensures quiet { IsQuiet inboxes.old (event_of event.entry) self.old.moment
+            (due_of self.old.config self.old.play) result }
         ensures ready { OnOk result (AreReady inboxes.new) }
-        ensures rests { OnOk result (rests_of inboxes.new
-            ≡ rests_after (rests_of inboxes.old) (event_of event.entry)) }
+        ensures rests { OnOk result (HaveTaken inboxes.old (event_of event.entry) inboxes.new) }
     {
         match event {
             Event::Piece { seat, bytes, .. } => {
@@ -102,12 +100,10 @@ impl Referee {
             HandlesAll self.old.game self.old.config self.old.play
             (inputs_at self.new.moment (inputs_in (rests_of inboxes.old) (event_of event.entry)))
             self.new.play said) }
-        ensures quiet { IsTickAlone (rests_of inboxes.old) (event_of event.entry) →
-            self.new.moment < due_of self.old.config self.old.play →
-            IsOk result }
+        ensures quiet { IsQuiet inboxes.old (event_of event.entry) self.new.moment
+            (due_of self.old.config self.old.play) result }
         ensures ready { OnOk result (AreReady inboxes.new) }
-        ensures rests { OnOk result (rests_of inboxes.new
-            ≡ rests_after (rests_of inboxes.old) (event_of event.entry)) }
+        ensures rests { OnOk result (HaveTaken inboxes.old (event_of event.entry) inboxes.new) }
     {
         self.count(event.at());
         self.exchange(outbox);

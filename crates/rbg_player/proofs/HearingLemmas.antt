@@ -1,6 +1,6 @@
 -- What a player does where it hears one message.
 use Rattle.std.proofs.Common.{◌≡◌, ℕ, ◌⊎◌, List, [], ◌∷◌, ◌++◌, Some, None, Result, Ok, Err, false, sym, ap, subst, inl, inr, ◌∙◌, refl}
-use Rattle.std.specs.Prelude.{IfErr, IsErrAnd, OnOk}
+use Rattle.std.specs.Prelude.{IfErr, OnOk}
 use Rattle.std.proofs.lemmas.List.{append-nil}
 use Rattle.std.proofs.lemmas.Option.{none-some}
 use Rattle.rbg_wire.specs.declared.message.Reason.{Reason}
@@ -58,11 +58,6 @@ pub hears_no_seat : HasFault unnamed (refusal_message NoSeat) errors.NoSeat
 hears_no_seat = no_seat
 
 pub ruleset hearing = (misplaced, hears_name, hears_limits, hears_refusal, hears_end, hears_no_seat)
-
--- An error that is passed on.
-pub passed_on : {T : Type 0} (result : Result T PlayerError) (error : PlayerError) (P : PlayerError → Type 0) → IsErrAnd result (λ e. e ≡ error) → P error → IfErr result P
-passed_on (Ok x) error P is p = absurd is
-passed_on (Err e) error P is p = subst P (sym is) p
 
 -- the seat of a game that was loaded
 pub sits : (player : ℕ) (text : List ℕ) (game : AbstractGame) (place : AbstractPlace) → Loads text game → IsPlayerOf game player → place ≡ record { state = start_of game; last = None } → Hears (named player) (game_message text) (seated (record { player = player; game = game; place = place })) []

@@ -53,17 +53,9 @@ new_player = record { stage = unnamed; rest = incomplete [] }
 -- what a player tells where it stands: the outcome, once it has heard the end
 abbrev pub heard_at : Stage → Heard
 heard_at (ended outcome) = Ended outcome
-heard_at unnamed = Going
-heard_at (named player) = Going
-heard_at (seated seat) = Going
-heard_at (playing seat) = Going
-heard_at (failed error) = Going
+heard_at _ = Going
 
 -- the error that a player has answered, if it has answered one
 abbrev pub error_at : Stage → Option PlayerError
 error_at (failed error) = Some error
-error_at unnamed = None
-error_at (named player) = None
-error_at (seated seat) = None
-error_at (playing seat) = None
-error_at (ended outcome) = None
+error_at _ = None

@@ -3,7 +3,7 @@ ghost use Rattle.std.specs.Prelude.{◌≡◌, ◌++◌, ℕ, List, [], IfErr, O
 ghost use Rattle.rbg_wire.specs.Messages.{ArePairs, spelling, message_of, who_message, game_message, limits_message, move_message, refusal_message, end_message};
 ghost use Rattle.rbg_player.specs.Players.{unnamed, playing, error_at, heard_at};
 ghost use Rattle.rbg_player.specs.Hearing.{HasFault, Hears};
-ghost use Rattle.rbg_player.specs.internal.Standing.{stage_of, HearsAndSays};
+ghost use Rattle.rbg_player.specs.internal.Standing.{stage_of, HearsOrFails};
 
 use crate::seat::Seat;
 use crate::{Chooser, Heard, PlayerError};
@@ -37,11 +37,7 @@ impl Stage {
     {
         match self {
             Stage::Ended { outcome } => Heard::Ended(*outcome),
-            Stage::Unnamed
-            | Stage::Named { .. }
-            | Stage::Seated { .. }
-            | Stage::Playing { .. }
-            | Stage::Failed { .. } => Heard::Going,
+            _ => Heard::Going,
         }
     }
 
@@ -51,11 +47,7 @@ impl Stage {
     {
         match self {
             Stage::Failed { error } => Some(*error),
-            Stage::Unnamed
-            | Stage::Named { .. }
-            | Stage::Seated { .. }
-            | Stage::Playing { .. }
-            | Stage::Ended { .. } => None,
+            _ => None,
         }
     }
 
@@ -67,11 +59,8 @@ impl Stage {
         chooser: &mut C,
         out: &mut Vec<u8>,
     ) -> Result<(), PlayerError>
-        ensures ok { OnOk result (HearsAndSays
-            (stage_of self.old) (message_of message.entry) (stage_of self.new) out.old.items
-            out.new.items) }
-        ensures fault { IfErr result (HasFault (stage_of self.old) (message_of message.entry)) }
-        ensures out { OnErr result (out.new.items ≡ out.old.items) }
+        ensures { HearsOrFails (stage_of self.old) (message_of message.entry) (stage_of self.new)
+            out.old.items out.new.items result }
     {
         match message {
             Message::Who { player, .. } => self.hear_name(player),
@@ -91,17 +80,11 @@ impl Stage {
         ensures fault { (name : List ℕ)
             → IfErr result (HasFault (stage_of self.old) (who_message player name)) }
     {
-        match self {
-            Stage::Unnamed => {
-                *self = Stage::Named { player };
-                Ok(())
-            }
-            Stage::Named { .. }
-            | Stage::Seated { .. }
-            | Stage::Playing { .. }
-            | Stage::Ended { .. }
-            | Stage::Failed { .. } => Err(PlayerError::BadMessage),
-        }
+        let Stage::Unnamed = self else {
+            return Err(PlayerError::BadMessage);
+        };
+        *self = Stage::Named { player };
+        Ok(())
     }
 
     #[tactic(auto, using(crate::proofs::HearingLemmas::hearing))]
@@ -110,18 +93,12 @@ impl Stage {
             (stage_of self.new) []) }
         ensures fault { IfErr result (HasFault (stage_of self.old) (game_message text.now)) }
     {
-        match self {
-            Stage::Named { player } => {
-                let seat = Seat::new(alloc, *player, text)?;
-                *self = Stage::Seated { seat };
-                Ok(())
-            }
-            Stage::Unnamed
-            | Stage::Seated { .. }
-            | Stage::Playing { .. }
-            | Stage::Ended { .. }
-            | Stage::Failed { .. } => Err(PlayerError::BadMessage),
-        }
+        let Stage::Named { player } = self else {
+            return Err(PlayerError::BadMessage);
+        };
+        let seat = Seat::new(alloc, *player, text)?;
+        *self = Stage::Seated { seat };
+        Ok(())
     }
 
     #[tactic(auto, using(crate::proofs::HearingLemmas::hearing))]
@@ -131,17 +108,11 @@ impl Stage {
         ensures fault { (turn_ms refusals : ℕ) → IfErr result
             (HasFault (stage_of self.old) (limits_message turn_ms refusals)) }
     {
-        match mem::replace(self, Stage::Unnamed) {
-            Stage::Seated { seat } => {
-                *self = Stage::Playing { seat };
-                Ok(())
-            }
-            Stage::Unnamed => Err(PlayerError::BadMessage),
-            Stage::Named { .. } => Err(PlayerError::BadMessage),
-            Stage::Playing { .. } => Err(PlayerError::BadMessage),
-            Stage::Ended { .. } => Err(PlayerError::BadMessage),
-            Stage::Failed { .. } => Err(PlayerError::BadMessage),
-        }
+        let Stage::Seated { seat } = mem::replace(self, Stage::Unnamed) else {
+            return Err(PlayerError::BadMessage);
+        };
+        *self = Stage::Playing { seat };
+        Ok(())
     }
 
     #[tactic(auto, using(crate::proofs::HearingLemmas::hearing))]
@@ -151,20 +122,13 @@ impl Stage {
         chooser: &mut C,
         out: &mut Vec<u8>,
     ) -> Result<(), PlayerError>
-        ensures ok { OnOk result (HearsAndSays
-            (stage_of self.old) (move_message pairs.now) (stage_of self.new) out.old.items
-            out.new.items) }
-        ensures fault { IfErr result (HasFault (stage_of self.old) (move_message pairs.now)) }
-        ensures out { OnErr result (out.new.items ≡ out.old.items) }
+        ensures { HearsOrFails (stage_of self.old) (move_message pairs.now) (stage_of self.new)
+            out.old.items out.new.items result }
     {
-        match self {
-            Stage::Playing { seat } => play(seat, pairs, chooser, out),
-            Stage::Unnamed
-            | Stage::Named { .. }
-            | Stage::Seated { .. }
-            | Stage::Ended { .. }
-            | Stage::Failed { .. } => Err(PlayerError::BadMessage),
-        }
+        let Stage::Playing { seat } = self else {
+            return Err(PlayerError::BadMessage);
+        };
+        play(seat, pairs, chooser, out)
     }
 
     #[tactic(auto, using(crate::proofs::HearingLemmas::hearing))]
@@ -176,10 +140,7 @@ impl Stage {
         match self {
             Stage::Playing { .. } => Ok(()),
             Stage::Unnamed => Err(refused_early(reason)),
-            Stage::Named { .. }
-            | Stage::Seated { .. }
-            | Stage::Ended { .. }
-            | Stage::Failed { .. } => Err(PlayerError::BadMessage),
+            _ => Err(PlayerError::BadMessage),
         }
     }
 
@@ -189,17 +150,11 @@ impl Stage {
             (stage_of self.new) []) }
         ensures fault { IfErr result (HasFault (stage_of self.old) (end_message outcome)) }
     {
-        match self {
-            Stage::Playing { .. } => {
-                *self = Stage::Ended { outcome };
-                Ok(())
-            }
-            Stage::Unnamed
-            | Stage::Named { .. }
-            | Stage::Seated { .. }
-            | Stage::Ended { .. }
-            | Stage::Failed { .. } => Err(PlayerError::BadMessage),
-        }
+        let Stage::Playing { .. } = self else {
+            return Err(PlayerError::BadMessage);
+        };
+        *self = Stage::Ended { outcome };
+        Ok(())
     }
 }
 
@@ -224,11 +179,8 @@ fn play<C: Chooser>(
     chooser: &mut C,
     out: &mut Vec<u8>,
 ) -> Result<(), PlayerError>
-    ensures ok { OnOk result
-        (HearsAndSays (playing seat.old) (move_message pairs.now) (playing seat.new) out.old.items
-        out.new.items) }
-    ensures fault { IfErr result (HasFault (playing seat.old) (move_message pairs.now)) }
-    ensures out { OnErr result (out.new.items ≡ out.old.items) }
+    ensures { HearsOrFails (playing seat.old) (move_message pairs.now) (playing seat.new)
+        out.old.items out.new.items result }
 {
     seat.follow(pairs)?;
     if let Some(pairs) = seat.choose_move(chooser)? {

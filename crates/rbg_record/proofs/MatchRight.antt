@@ -1,6 +1,8 @@
 -- The record of a match is right.
-use Rattle.std.proofs.Common.{◌≡◌, ℕ, List, [], ◌∷◌, ◌++◌, map, Option, Some, None, refl, sym, ap, ◌∙◌, subst, arith}
+use Rattle.std.proofs.Common.{◌≡◌, ℕ, List, [], ◌∷◌, ◌++◌, map, Option, Some, None, Ok, refl, sym, ap, ◌∙◌, subst, arith}
 use Rattle.std.proofs.lemmas.List.{map-append}
+use Rattle.std.specs.declared.alloc.Global.{Global}
+use Rattle.std.specs.declared.vec.Vec.{Vec}
 use Rattle.rbg_wire.specs.declared.outcome.Outcome.{Outcome}
 use Rattle.rbg_wire.specs.declared.outcome.Outcome.TheVariants.{Finished, Time, Refusals, Gone, Heavy}
 use Rattle.rbg_rules.specs.State.{AbstractGame}
@@ -12,8 +14,8 @@ use Rattle.rbg_match.specs.History.{LeadsTo, MadeInTurn, FitsOutcome}
 use Rattle.rbg_match.specs.Matches.{MatchState, HasHistory}
 use Rattle.rbg_match.specs.Play.{AbstractPlay}
 use Rattle.rbg_record.specs.Laws.{MatchesAreRight}
-use Rattle.rbg_record.specs.OfMatch.{record_of, plain_record_of, plain_move}
-use Rattle.rbg_record.specs.Records.{plain, timed}
+use Rattle.rbg_record.specs.OfMatch.{WritesRecord, record_of, plain_record_of, plain_move}
+use Rattle.rbg_record.specs.Records.{AbstractRecord, plain, timed, Spells}
 use Rattle.rbg_record.specs.Right.{turn_config, told_play, made_at, IsRight}
 use Rattle.rbg_record.proofs.Fitting.{fits_place}
 
@@ -62,6 +64,9 @@ one_right state has = record {
   leads = leads_plain has.leads;
   fits = fits_place state.game state.config state.play has.last state.streams.moment state.play.outcome has.fits;
 }
+
+pub writes_record : {E : Type 0} (state : MatchState) (told : AbstractRecord) (bytes : Vec ℕ Global) → (HasHistory state → Spells bytes.items told) → (HasHistory state → IsRight state.game told) → WritesRecord {E = E} state told (Ok bytes)
+writes_record state told bytes spelled right = record { spelled = spelled; right = λ has. record { told = told; spells = spelled has; right = right has } }
 
 pub matches_right : MatchesAreRight
 matches_right = record { two = two_right; one = one_right }

@@ -1,5 +1,5 @@
 -- What the reading of one line tells: what it leads to, or why it leads to nothing.
-use Rattle.std.specs.Prelude.{◌≡◌, ℕ, ◌≤◌, List}
+use Rattle.std.specs.Prelude.{◌≡◌, ℕ, ◌≤◌, List, Result, IfOk, IfErr}
 use Rattle.rbg_rules.specs.State.{AbstractGame}
 use Rattle.rbg_rules.specs.Places.{IsPlaceOf}
 use Rattle.rbg_match.specs.Limits.{latest_moment}
@@ -8,24 +8,15 @@ use Rattle.rbg_record.specs.declared.fault.Fault.{Fault}
 use Rattle.rbg_record.specs.declared.fault.Fault.TheVariants.{Form, Bad, Over, Memory}
 use Rattle.rbg_record.specs.declared.reached.Reached.{Reached as CodeReached}
 use Rattle.rbg_record.specs.declared.reached.Reached.TheVariants as code
-use Rattle.rbg_record.specs.declared.reached.Standing.{Standing as CodeStanding}
 use Rattle.rbg_record.specs.Judged.{FitsUnasked, AsksHeavy}
 use Rattle.rbg_record.specs.Lines.{Standing, Reached, version_next, players_next, start_next, entry_next, nothing_next, HasForm, SpellsIn, EntryLeads, Leads}
 
--- where the code's value says that the moves so far lead
-abbrev pub standing_of : CodeStanding → Standing
-standing_of standing = record {
-  version = standing.version;
-  turn_ms = standing.turn_ms;
-  last = standing.last;
-  place = standing.place;
-}
-
+-- what the code's value says that the lines so far lead to
 abbrev pub reached_of : CodeReached → Reached
 reached_of code.Version = version_next
 reached_of code.Players = players_next
 reached_of code.Start = start_next
-reached_of (code.Entry standing) = entry_next (standing_of standing)
+reached_of (code.Entry standing) = entry_next standing
 reached_of code.Nothing = nothing_next
 
 -- the place that is reached is one of the game
@@ -60,3 +51,10 @@ Refuses game reached text Form = ¬ HasForm reached text
 Refuses game reached text Bad = HasForm reached text × ((to : Reached) → ¬ Leads game reached text to)
 Refuses game reached text Over = IsHeavyText game reached text
 Refuses game reached text Memory = Unit {0}
+
+-- what a call tells that reads one line: what the line leads to, at a place of the game, or why it doesn't lead on
+pub record ReadsLine (game : AbstractGame) (reached : Reached) (text : List ℕ) (result : Result CodeReached Fault) :
+    Type 0 where
+  pub leads : IfOk result (λ to. Leads game reached text (reached_of to))
+  pub in_game : IfOk result (λ to. IsReachedIn game (reached_of to))
+  pub refused : IfErr result (Refuses game reached text)

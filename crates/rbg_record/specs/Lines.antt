@@ -16,6 +16,7 @@ use Rattle.rbg_lines.specs.declared.heading.Version.{Version}
 use Rattle.rbg_lines.specs.declared.heading.Version.TheVariants.{One, Two}
 use Rattle.rbg_lines.specs.Entries.{SpellsEntry, SpellsTimed}
 use Rattle.rbg_lines.specs.Heading.{version_text, SpellsPlayers, SpellsStart}
+use Rattle.rbg_record.specs.declared.reached.Standing.{Standing as CodeStanding}
 use Rattle.rbg_record.specs.Right.{told_play, turn_config}
 
 -- The moment that version 1 leaves out. All that happens does so at moment 0, but a time that is over ends at moment 1:
@@ -35,11 +36,8 @@ SpellsIn Two text timed = SpellsTimed text timed
 
 -- Where the moves so far lead: the version of the record, the time for a turn, the moment of the last move (or of the
 -- beginning), and the place.
-pub record Standing : Type 0 where
-  pub version : Version
-  pub turn_ms : ℕ
-  pub last : ℕ
-  pub place : AbstractPlace
+abbrev pub Standing : Type 0
+Standing = CodeStanding
 
 -- What the lines so far lead to: what comes next is the version, the players, the start, or a move or the end; or
 -- nothing comes after the end.

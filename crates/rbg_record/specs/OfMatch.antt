@@ -1,8 +1,11 @@
 -- The record of a match.
-use Rattle.rbg_match.specs.Matches.{MatchState}
-use Rattle.rbg_record.specs.Records.{PlainRecord, TimedRecord, PlainMove}
+use Rattle.std.specs.Prelude.{ℕ, map, Result, IfOk}
+use Rattle.std.specs.declared.alloc.Global.{Global}
+use Rattle.std.specs.declared.vec.Vec.{Vec}
 use Rattle.rbg_match.specs.declared.made.Made.{Made}
-use Rattle.std.specs.Prelude.{map}
+use Rattle.rbg_match.specs.Matches.{HasHistory, MatchState}
+use Rattle.rbg_record.specs.Records.{AbstractRecord, PlainRecord, TimedRecord, PlainMove, Spells}
+use Rattle.rbg_record.specs.Right.{IsRightRecord}
 
 -- what version 2 tells of a match
 abbrev pub record_of : MatchState → TimedRecord
@@ -21,3 +24,9 @@ plain_move made = record { player = made.player; pairs = made.pairs }
 -- what version 1 tells of a match
 abbrev pub plain_record_of : MatchState → PlainRecord
 plain_record_of state = record { moves = map plain_move state.play.made; outcome = state.play.outcome }
+
+-- what a call tells that writes this record of a match: the bytes spell it, and are those of a right one
+pub record WritesRecord {E : Type 0} (state : MatchState) (told : AbstractRecord) (result : Result (Vec ℕ Global) E) :
+    Type 0 where
+  pub spelled : HasHistory state → IfOk result (λ bytes. Spells bytes.items told)
+  pub right : HasHistory state → IfOk result (λ bytes. IsRightRecord state.game bytes.items)

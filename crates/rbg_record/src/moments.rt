@@ -7,7 +7,6 @@ ghost use Rattle.rbg_lines.specs.declared.entry.Entry.TheVariants.{End as EndEnt
 ghost use Rattle.rbg_record.specs.Lines.{IsMomentFor, unwritten_moment};
 ghost use Rattle.rbg_record.specs.Judged.{FitsUnasked, IsOnTurn};
 ghost use Rattle.rbg_record.specs.Right.{turn_config};
-ghost use Rattle.rbg_record.specs.ByLine.{standing_of};
 
 use crate::reached::Standing;
 use rbg_lines::{Entry, Start, Timed};
@@ -63,14 +62,14 @@ impl Standing {
 
     /// Whether a player is to move, and a moment is in its turn.
     fn is_on_turn(&self, at: u64) -> bool
-        ensures { IsTrue result ↔ IsOnTurn (standing_of self.now) at }
+        ensures { IsTrue result ↔ IsOnTurn self.now at }
     {
         self.mover() != 0 && self.is_in_turn(at)
     }
 
     /// Whether a move of this player may have that moment.
     fn allows(&self, player: u64, at: u64) -> bool
-        ensures { IsTrue result ↔ IsMomentFor (standing_of self.now) player at }
+        ensures { IsTrue result ↔ IsMomentFor self.now player at }
     {
         if player == 0 {
             at == self.last
@@ -82,7 +81,7 @@ impl Standing {
     /// Whether what an entry tells without a question is right in a game.
     pub(crate) fn fits(&self, game: &PlayedGame, told: &Timed) -> bool
         ensures { IsTrue result
-            ↔ FitsUnasked game.now (standing_of self.now) told.now.at told.now.entry }
+            ↔ FitsUnasked game.now self.now told.now.at told.now.entry }
     {
         let at = told.at;
         match &told.entry {
@@ -96,7 +95,7 @@ impl Standing {
 
     fn fits_outcome(&self, game: &PlayedGame, at: u64, outcome: Outcome) -> bool
         ensures { IsTrue result
-            ↔ FitsUnasked game.now (standing_of self.now) at (EndEntry (Some outcome)) }
+            ↔ FitsUnasked game.now self.now at (EndEntry (Some outcome)) }
     {
         match outcome {
             Outcome::Finished { .. } => at == self.last,

@@ -6,8 +6,8 @@ ghost use Rattle.rbg_lines.specs.declared.entry.Entry.TheVariants.{End as EndEnt
 ghost use Rattle.rbg_wire.specs.declared.outcome.Outcome.TheVariants.{Heavy};
 ghost use Rattle.rbg_match.specs.Limits.{latest_moment};
 ghost use Rattle.rbg_record.specs.Judged.{FitsUnasked};
-ghost use Rattle.rbg_record.specs.Lines.{EntryLeads, Leads, SpellsIn, version_next, players_next, start_next, entry_next};
-ghost use Rattle.rbg_record.specs.ByLine.{IsReachedIn, Refuses, RefusesEntry, reached_of, standing_of};
+ghost use Rattle.rbg_record.specs.Lines.{EntryLeads, SpellsIn, version_next, players_next, start_next, entry_next};
+ghost use Rattle.rbg_record.specs.ByLine.{IsReachedIn, ReadsLine, RefusesEntry, reached_of};
 ghost use Rattle.rbg_record.specs.internal.Reading.{EndsSo};
 
 use crate::asking::{are_players, are_scores, is_finished, try_move};
@@ -25,10 +25,7 @@ use rbg_wire::Outcome;
 /// record line by line by this call takes the same ones as `check_record`.
 pub fn read_line(game: &PlayedGame, reached: Reached, text: &[u8]) -> Result<Reached, Fault>
     requires { IsReachedIn game.now (reached_of reached) }
-    ensures leads { IfOk result (λ to.
-        Leads game.now (reached_of reached) text.now (reached_of to)) }
-    ensures in_game { IfOk result (λ to. IsReachedIn game.now (reached_of to)) }
-    ensures refused { IfErr result (Refuses game.now (reached_of reached) text.now) }
+    ensures { ReadsLine game.now (reached_of reached) text.now result }
 {
     match reached {
         Reached::Version => begin(game, text),
@@ -41,9 +38,7 @@ pub fn read_line(game: &PlayedGame, reached: Reached, text: &[u8]) -> Result<Rea
 
 /// Reads the version.
 fn begin(game: &PlayedGame, text: &[u8]) -> Result<Reached, Fault>
-    ensures leads { IfOk result (λ to. Leads game.now version_next text.now (reached_of to)) }
-    ensures in_game { IfOk result (λ to. IsReachedIn game.now (reached_of to)) }
-    ensures refused { IfErr result (Refuses game.now version_next text.now) }
+    ensures { ReadsLine game.now version_next text.now result }
 {
     match read_version(text) {
         None => Err(Fault::Form),
@@ -59,9 +54,7 @@ fn begin(game: &PlayedGame, text: &[u8]) -> Result<Reached, Fault>
 
 /// Reads the players, and compares them with those of the game.
 fn compare_players(game: &PlayedGame, text: &[u8]) -> Result<Reached, Fault>
-    ensures leads { IfOk result (λ to. Leads game.now players_next text.now (reached_of to)) }
-    ensures in_game { IfOk result (λ to. IsReachedIn game.now (reached_of to)) }
-    ensures refused { IfErr result (Refuses game.now players_next text.now) }
+    ensures { ReadsLine game.now players_next text.now result }
 {
     let Some(names) = read_players(text) else {
         return Err(Fault::Form);
@@ -75,9 +68,7 @@ fn compare_players(game: &PlayedGame, text: &[u8]) -> Result<Reached, Fault>
 
 /// Reads the start.
 fn start(game: &PlayedGame, text: &[u8]) -> Result<Reached, Fault>
-    ensures leads { IfOk result (λ to. Leads game.now start_next text.now (reached_of to)) }
-    ensures in_game { IfOk result (λ to. IsReachedIn game.now (reached_of to)) }
-    ensures refused { IfErr result (Refuses game.now start_next text.now) }
+    ensures { ReadsLine game.now start_next text.now result }
 {
     let Some(start) = read_start(text) else {
         return Err(Fault::Form);
@@ -96,10 +87,7 @@ fn start(game: &PlayedGame, text: &[u8]) -> Result<Reached, Fault>
 /// Reads a move or the end.
 fn go_on(game: &PlayedGame, standing: Standing, text: &[u8]) -> Result<Reached, Fault>
     requires { IsPlaceOf game.now standing.place }
-    ensures leads { IfOk result (λ to.
-        Leads game.now (entry_next (standing_of standing)) text.now (reached_of to)) }
-    ensures in_game { IfOk result (λ to. IsReachedIn game.now (reached_of to)) }
-    ensures refused { IfErr result (Refuses game.now (entry_next (standing_of standing)) text.now) }
+    ensures { ReadsLine game.now (entry_next standing) text.now result }
 {
     let Some(told) = read_in(standing.version, text) else {
         return Err(Fault::Form);
@@ -128,9 +116,9 @@ pub fn read_in(version: Version, text: &[u8]) -> Option<Timed>
 fn judge(game: &PlayedGame, standing: Standing, told: &Timed) -> Result<Reached, Fault>
     requires { IsPlaceOf game.now standing.place }
     ensures leads { IfOk result (λ to.
-        EntryLeads game.now (standing_of standing) told.now (reached_of to)) }
+        EntryLeads game.now standing told.now (reached_of to)) }
     ensures in_game { IfOk result (λ to. IsReachedIn game.now (reached_of to)) }
-    ensures refused { IfErr result (RefusesEntry game.now (standing_of standing) told.now) }
+    ensures refused { IfErr result (RefusesEntry game.now standing told.now) }
 {
     if LATEST_MOMENT < told.at || !standing.fits(game, told) {
         return Err(Fault::Bad);
@@ -151,11 +139,11 @@ fn make_move(
 ) -> Result<Reached, Fault>
     requires place { IsPlaceOf game.now standing.place }
     requires counted { at ≤ latest_moment }
-    requires fits { FitsUnasked game.now (standing_of standing) at (MoveEntry player pairs.now) }
-    ensures leads { IfOk result (λ to. EntryLeads game.now (standing_of standing)
+    requires fits { FitsUnasked game.now standing at (MoveEntry player pairs.now) }
+    ensures leads { IfOk result (λ to. EntryLeads game.now standing
         (record { at = at; entry = MoveEntry player pairs.now }) (reached_of to)) }
     ensures in_game { IfOk result (λ to. IsReachedIn game.now (reached_of to)) }
-    ensures refused { IfErr result (RefusesEntry game.now (standing_of standing)
+    ensures refused { IfErr result (RefusesEntry game.now standing
         (record { at = at; entry = MoveEntry player pairs.now })) }
 {
     match try_move(game, &standing.place, pairs)? {
@@ -178,11 +166,11 @@ fn end(
 ) -> Result<Reached, Fault>
     requires place { IsPlaceOf game.now standing.now.place }
     requires counted { at ≤ latest_moment }
-    requires fits { FitsUnasked game.now (standing_of standing.now) at (EndEntry outcome) }
-    ensures leads { IfOk result (λ to. EntryLeads game.now (standing_of standing.now)
+    requires fits { FitsUnasked game.now standing.now at (EndEntry outcome) }
+    ensures leads { IfOk result (λ to. EntryLeads game.now standing.now
         (record { at = at; entry = EndEntry outcome }) (reached_of to)) }
     ensures in_game { IfOk result (λ to. IsReachedIn game.now (reached_of to)) }
-    ensures refused { IfErr result (RefusesEntry game.now (standing_of standing.now)
+    ensures refused { IfErr result (RefusesEntry game.now standing.now
         (record { at = at; entry = EndEntry outcome })) }
 {
     if is_heavy(&outcome) {

@@ -1,11 +1,9 @@
 //! Writing the record of a match.
-ghost use Rattle.std.specs.Prelude.{◌≡◌, ◌++◌, IfOk, OnOk};
+ghost use Rattle.std.specs.Prelude.{◌≡◌, ◌++◌, OnOk};
 ghost use Rattle.std.specs.List.{flat_map};
-ghost use Rattle.rbg_match.specs.Matches.{HasHistory};
 ghost use Rattle.rbg_wire.specs.Lines.{line_of};
-ghost use Rattle.rbg_record.specs.OfMatch.{record_of, plain_record_of};
-ghost use Rattle.rbg_record.specs.Records.{plain, timed, Spells};
-ghost use Rattle.rbg_record.specs.Right.{IsRightRecord};
+ghost use Rattle.rbg_record.specs.OfMatch.{WritesRecord, record_of, plain_record_of};
+ghost use Rattle.rbg_record.specs.Records.{plain, timed};
 ghost use Rattle.rbg_record.specs.internal.Written.{entries_bytes, made_text, told_moment};
 
 use crate::players::write_players;
@@ -16,10 +14,7 @@ use std::alloc::Global;
 
 /// The record of a match, in version 2.
 pub fn write_record(alloc: Global, played: &Match) -> Result<Vec<u8>, Memory>
-    ensures spelled { HasHistory played.now
-        → IfOk result (λ bytes. Spells bytes.items (timed (record_of played.now))) }
-    ensures right { HasHistory played.now
-        → IfOk result (λ bytes. IsRightRecord played.now.game bytes.items) }
+    ensures { WritesRecord played.now (timed (record_of played.now)) result }
 {
     let _players = played.players();
     let mut out = Vec::new(alloc);
@@ -36,10 +31,7 @@ pub fn write_record(alloc: Global, played: &Match) -> Result<Vec<u8>, Memory>
 
 /// The record of a match, in version 1.
 pub fn write_record_1(alloc: Global, played: &Match) -> Result<Vec<u8>, Memory>
-    ensures spelled { HasHistory played.now
-        → IfOk result (λ bytes. Spells bytes.items (plain (plain_record_of played.now))) }
-    ensures right { HasHistory played.now
-        → IfOk result (λ bytes. IsRightRecord played.now.game bytes.items) }
+    ensures { WritesRecord played.now (plain (plain_record_of played.now)) result }
 {
     let _players = played.players();
     let mut out = Vec::new(alloc);

@@ -2,14 +2,13 @@
 use Rattle.std.proofs.Common.{◌≡◌, ℕ, List, refl, sym, ap, ◌∙◌, None, inr}
 use Rattle.rbg_match.specs.declared.config.Config.{Config}
 use Rattle.rbg_match.specs.Inputs.{AbstractEvent}
-use Rattle.rbg_match.specs.Matches.{MatchState, HasHistory, StepsAll}
+use Rattle.rbg_match.specs.Matches.{MatchState, StepsAll}
 use Rattle.rbg_match.specs.Play.{AbstractPlay}
 use Rattle.rbg_match.proofs.AllEvents.{all_handled}
 use Rattle.rbg_match.proofs.WholeMatch.{stepped_is_transcript}
 use Rattle.rbg_referee.specs.declared.error.RefereeError.{RefereeError}
 use Rattle.rbg_referee.specs.declared.error.RefereeError.TheVariants.{Load, Config as ConfigRefused, Memory}
 use Rattle.rbg_referee.specs.Refereed.{IsRefereed, IsRefusedFor, IsStillInPlay, OpensText, StopsMatch}
-use Rattle.rbg_referee.specs.Played.{IsMatchOf}
 
 -- a match that opens and handles these events is refereed: its state of play is that of the transcript, and so is its game
 pub refereed_with : (text : List ℕ) (config : Config) (now : ℕ) (events : List AbstractEvent) (old new : MatchState) (before after : List (List ℕ)) → OpensText text config now old before → StepsAll old before events new after → (refereed : IsRefereed text config now events after) × (refereed.play ≡ new.play) × (refereed.game ≡ new.game)
@@ -27,19 +26,6 @@ refereed_with text config now events old new before after opened steps =
       refl,
       sym ((all_handled steps).same_game ∙ opened.opens.of_game),
     )
-
-pub is_match_of : (text : List ℕ) (config : Config) (now : ℕ) (events : List AbstractEvent) (old new : MatchState) (before after : List (List ℕ)) → OpensText text config now old before → StepsAll old before events new after → HasHistory new → IsMatchOf text config now events new after
-is_match_of text config now events old new before after opened steps history =
-    let (refereed, of_play, of_game) = refereed_with text config now events old new before after opened steps in record {
-      opened = old;
-      greeted = before;
-      opens = opened;
-      steps = steps;
-      refereed = refereed;
-      of_game = of_game;
-      of_play = of_play;
-      history = history;
-    }
 
 pub is_still_in_play : (text : List ℕ) (config : Config) (now : ℕ) (events : List AbstractEvent) (old new : MatchState) (before after : List (List ℕ)) → OpensText text config now old before → StepsAll old before events new after → new.play.outcome ≡ None → IsStillInPlay text config now events after
 is_still_in_play text config now events old new before after opened steps going =

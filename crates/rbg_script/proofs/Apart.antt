@@ -13,11 +13,6 @@ use Rattle.rbg_script.specs.Laws.{SpellingsAreApart}
 use Rattle.rbg_script.proofs.Digits.{one_bytes}
 use Rattle.rbg_script.proofs.Parts.{one_fields, fields_shape, end_shape, tick_shape, config_shape, turn_small, refusals_small}
 
--- The clause `only`, from the two others.
-pub only_from : {T : Type 0} (Spells : T → Type 0) → ((a b : T) → Spells a → Spells b → a ≡ b) → (answer : Option T) → IfSome answer Spells → IfNone answer ((x : T) → Spells x → ⊥) → (x : T) → Spells x → answer ≡ Some x
-only_from Spells one (Some found) h none x spelled = ap Some (one found x h spelled)
-only_from Spells one None h none x spelled = absurd (none x spelled)
-
 -- A config.
 pub one_config : (text : List ℕ) (a b : ScriptConfig) → SpellsConfig text a → SpellsConfig text b → a ≡ b
 one_config text a b h k =
@@ -26,9 +21,6 @@ one_config text a b h k =
     let second = same_fields (decimal a.refusals ++ 32 ∷ decimal a.now) (decimal a.now) (decimal b.now) a.refusals b.refusals (refusals_small a.turn_ms a.refusals h.has.0) (refusals_small b.turn_ms b.refusals k.has.0) refl first.1 in
     let now = decimal_injective a.now b.now h.has.1 k.has.1 second.1 in
     λ i. record { turn_ms = first.0 i; refusals = second.0 i; now = now i }
-
-pub config_only : (text : List ℕ) (answer : Option ScriptConfig) → IfSome answer (SpellsConfig text) → IfNone answer ((config : ScriptConfig) → SpellsConfig text config → ⊥) → (config : ScriptConfig) → SpellsConfig text config → answer ≡ Some config
-config_only text = only_from (SpellsConfig text) (one_config text)
 
 -- the first byte of a text
 abbrev Begins : ℕ → List ℕ → Type 0

@@ -1,7 +1,8 @@
 -- The fields of a line.
 use Rattle.std.proofs.Common.{◌≡◌, ℕ, ◌<◌, ◌^◌, List, ◌∷◌, ◌++◌, decimal, codes, ap, sym, ◌∙◌, arith, append_assoc}
 use Rattle.rbg_wire.proofs.ByteLemmas.{same_end}
-use Rattle.rbg_wire.proofs.FieldLemmas.{same_fields}
+use Rattle.rbg_wire.specs.Words.{BeginsWithNumber}
+use Rattle.rbg_wire.proofs.FieldLemmas.{same_fields, with_rest}
 use Rattle.rbg_script.specs.declared.config.ScriptConfig.{ScriptConfig}
 use Rattle.rbg_script.specs.Config.{AreWithinLimits, SpellsConfig, config_text}
 use Rattle.rbg_script.specs.Events.{HasFields, SpellsEvent, by_end, by_tick, end_event, tick_event, fields_text, end_text, tick_text}
@@ -14,8 +15,8 @@ two_fields word a b rest =
     ∙ (append_assoc (word ++ a) (codes " ") (b ++ 32 ∷ rest) ∙ append_assoc word a (32 ∷ (b ++ 32 ∷ rest))))
 
 -- what is left behind a first field, of a text of numbers
-pub behind_first : (fields rest more : List ℕ) (m n : ℕ) → m < 2 ^ 64 → n < 2 ^ 64 → fields ≡ decimal m ++ 32 ∷ rest → fields ≡ decimal n ++ 32 ∷ more → rest ≡ more
-behind_first fields rest more m n first second is other = (same_fields fields rest more m n first second is other).1
+pub behind_first : (fields rest more : List ℕ) (m n : ℕ) → BeginsWithNumber fields m rest → n < 2 ^ 64 → fields ≡ decimal n ++ 32 ∷ more → rest ≡ more
+behind_first fields rest more m n first second other = (same_fields fields rest more m n first.small second first.parts other).1
 
 -- The fields of a line with a seat and a moment.
 pub fields_shape : (word : List ℕ) (seat at : ℕ) (rest : List ℕ) → fields_text word seat at rest ≡ word ++ (decimal seat ++ 32 ∷ (decimal at ++ 32 ∷ rest))
@@ -25,10 +26,10 @@ fields_shape word seat at rest = two_fields word (decimal seat) (decimal at) res
 pub behind_word : (text word fields : List ℕ) (seat at : ℕ) (rest : List ℕ) → text ≡ word ++ fields → HasFields text word seat at rest → fields ≡ decimal seat ++ 32 ∷ (decimal at ++ 32 ∷ rest)
 behind_word text word fields seat at rest is h = same_end word fields (decimal seat ++ 32 ∷ (decimal at ++ 32 ∷ rest)) (sym is ∙ (h.is ∙ fields_shape word seat at rest))
 
-pub has_fields : (text word fields behind : List ℕ) (seat at : ℕ) (rest : List ℕ) → seat < 2 ^ 64 → at < 2 ^ 64 → text ≡ word ++ fields → fields ≡ decimal seat ++ 32 ∷ behind → behind ≡ decimal at ++ 32 ∷ rest → HasFields text word seat at rest
-has_fields text word fields behind seat at rest first second is parts more = record {
-  numbers = (first, second);
-  is = is ∙ (ap (λ f. word ++ f) parts ∙ (ap (λ b. word ++ (decimal seat ++ 32 ∷ b)) more ∙ sym (fields_shape word seat at rest)));
+pub has_fields : (text word fields behind : List ℕ) (seat at : ℕ) (rest : List ℕ) → text ≡ word ++ fields → BeginsWithNumber fields seat behind → BeginsWithNumber behind at rest → HasFields text word seat at rest
+has_fields text word fields behind seat at rest is first second = record {
+  numbers = (first.small, second.small);
+  is = is ∙ (ap (λ f. word ++ f) (with_rest fields behind _ seat first second.parts) ∙ sym (fields_shape word seat at rest));
 }
 
 pub one_fields : (text word : List ℕ) (s t a b : ℕ) (x y : List ℕ) → HasFields text word s a x → HasFields text word t b y → (s ≡ t) × (a ≡ b) × (x ≡ y)
@@ -61,22 +62,19 @@ turn_small turn refusals h = omega (arith, h.turn)
 pub refusals_small : (turn refusals : ℕ) → AreWithinLimits turn refusals → refusals < 2 ^ 64
 refusals_small turn refusals h = omega (arith, h.few)
 
-pub spells_config : (text fields behind last : List ℕ) (turn refusals now : ℕ) → AreWithinLimits turn refusals → now < 2 ^ 64 → text ≡ codes "config " ++ fields → fields ≡ decimal turn ++ 32 ∷ behind → behind ≡ decimal refusals ++ 32 ∷ last → last ≡ decimal now → SpellsConfig text (record { turn_ms = turn; refusals = refusals; now = now })
+pub spells_config : (text fields behind last : List ℕ) (turn refusals now : ℕ) → AreWithinLimits turn refusals → now < 2 ^ 64 → text ≡ codes "config " ++ fields → BeginsWithNumber fields turn behind → BeginsWithNumber behind refusals last → last ≡ decimal now → SpellsConfig text (record { turn_ms = turn; refusals = refusals; now = now })
 spells_config text fields behind last turn refusals now within small is first second third =
     let config : ScriptConfig = record { turn_ms = turn; refusals = refusals; now = now } in
-    let parts : behind ≡ decimal refusals ++ 32 ∷ decimal now = second ∙ ap (λ l. decimal refusals ++ 32 ∷ l) third in
-    record {
-      has = (within, small);
-      is = is ∙ (ap (λ f. codes "config " ++ f) first ∙ (ap (λ b. codes "config " ++ (decimal turn ++ 32 ∷ b)) parts ∙ sym (config_shape config)));
-    }
+    let parts = with_rest fields behind _ turn first (with_rest behind last (decimal now) refusals second third) in
+    record { has = (within, small); is = is ∙ (ap (λ f. codes "config " ++ f) parts ∙ sym (config_shape config)) }
 
 -- The end of a stream, and a moment, in a text.
 pub end_fields : (text fields : List ℕ) (seat at : ℕ) → text ≡ codes "e " ++ fields → text ≡ end_text seat at → fields ≡ decimal seat ++ 32 ∷ decimal at
 end_fields text fields seat at is end = same_end (codes "e ") fields (decimal seat ++ 32 ∷ decimal at) (sym is ∙ (end ∙ end_shape seat at))
 
-pub spells_end : (text fields last : List ℕ) (seat at : ℕ) → seat < 2 ^ 64 → at < 2 ^ 64 → text ≡ codes "e " ++ fields → fields ≡ decimal seat ++ 32 ∷ last → last ≡ decimal at → SpellsEvent text (end_event seat at)
-spells_end text fields last seat at first second is parts more =
-    by_end seat at (first, second) (is ∙ (ap (λ f. codes "e " ++ f) (parts ∙ ap (λ l. decimal seat ++ 32 ∷ l) more) ∙ sym (end_shape seat at)))
+pub spells_end : (text fields last : List ℕ) (seat at : ℕ) → BeginsWithNumber fields seat last → at < 2 ^ 64 → text ≡ codes "e " ++ fields → last ≡ decimal at → SpellsEvent text (end_event seat at)
+spells_end text fields last seat at first second is more =
+    by_end seat at (first.small, second) (is ∙ (ap (λ f. codes "e " ++ f) (with_rest fields last (decimal at) seat first more) ∙ sym (end_shape seat at)))
 
 pub tick_field : (text field : List ℕ) (at : ℕ) → text ≡ codes "t " ++ field → text ≡ tick_text at → field ≡ decimal at
 tick_field text field at is tick = same_end (codes "t ") field (decimal at) (sym is ∙ (tick ∙ tick_shape at))
@@ -85,10 +83,10 @@ pub spells_tick : (text field : List ℕ) (at : ℕ) → at < 2 ^ 64 → text �
 spells_tick text field at small is more = by_tick at small (is ∙ (ap (λ f. codes "t " ++ f) more ∙ sym (tick_shape at)))
 
 -- the three numbers of a config's text
-pub config_last : (text fields behind last : List ℕ) (turn refusals : ℕ) (config : ScriptConfig) → turn < 2 ^ 64 → refusals < 2 ^ 64 → text ≡ codes "config " ++ fields → fields ≡ decimal turn ++ 32 ∷ behind → behind ≡ decimal refusals ++ 32 ∷ last → SpellsConfig text config → (turn ≡ config.turn_ms) × (refusals ≡ config.refusals) × (last ≡ decimal config.now)
-config_last text fields behind last turn refusals config m n is first second h =
-    let one = same_fields fields behind (decimal config.refusals ++ 32 ∷ decimal config.now) turn config.turn_ms m (turn_small config.turn_ms config.refusals h.has.0) first (config_fields text fields config is h) in
-    let two = same_fields behind last (decimal config.now) refusals config.refusals n (refusals_small config.turn_ms config.refusals h.has.0) second one.1 in
+pub config_last : (text fields behind last : List ℕ) (turn refusals : ℕ) (config : ScriptConfig) → text ≡ codes "config " ++ fields → BeginsWithNumber fields turn behind → BeginsWithNumber behind refusals last → SpellsConfig text config → (turn ≡ config.turn_ms) × (refusals ≡ config.refusals) × (last ≡ decimal config.now)
+config_last text fields behind last turn refusals config is first second h =
+    let one = same_fields fields behind (decimal config.refusals ++ 32 ∷ decimal config.now) turn config.turn_ms first.small (turn_small config.turn_ms config.refusals h.has.0) first.parts (config_fields text fields config is h) in
+    let two = same_fields behind last (decimal config.now) refusals config.refusals second.small (refusals_small config.turn_ms config.refusals h.has.0) second.parts one.1 in
     (one.0, two.0, two.1)
 
 pub other_limits : (turn refusals t r : ℕ) → turn ≡ t → refusals ≡ r → AreWithinLimits t r → AreWithinLimits turn refusals

@@ -1,6 +1,6 @@
 -- Scripts as lists of lines, and the lines that are not of their form.
 use Rattle.std.proofs.Common.{◌≡◌, ℕ, ◌+◌, ◌⊎◌, inl, inr, Bool, true, false, Result, Ok, Err, IfOk, List, [], ◌∷◌, ◌++◌, length, ap, sym, ◌∙◌, refl, subst, append_assoc, append-nil, arith}
-use Rattle.std.specs.Prelude.{IfErr, IsErrAnd, MatchResult, ◌==◌}
+use Rattle.std.specs.Prelude.{IfErr, MatchResult, ◌==◌}
 use Rattle.std.specs.List.{AllZip}
 use Rattle.rbg_base.proofs.CallerLemmas.{AllZip-push_one}
 use Rattle.rbg_script.specs.declared.config.ScriptConfig.{ScriptConfig}
@@ -203,11 +203,7 @@ stopped text left line rest old new is_taken count far begins some takes no_more
     subst (λ n. IsEventReason text (Line (n + 2))) many
     (bad_line line far.lines more.0 old (far.onward (line ∷ more.0) (onward left line rest more.0 begins some more.1)) far.spelled none.0)
 
--- An error that is passed on, and tests for no bytes.
-pub passed_on : {T : Type 0} (result : Result T ScriptError) (error : ScriptError) (P : ScriptError → Type 0) → IsErrAnd result (λ e. e ≡ error) → P error → IfErr result P
-passed_on (Ok x) error P is p = absurd is
-passed_on (Err e) error P is p = subst P (sym is) p
-
+-- Tests for no bytes.
 pub not_empty : (rest : List ℕ) (empty : Bool) → empty ≡ (length rest == 0) → empty ≡ false → rest ≡ [] → ⊥
 not_empty rest empty is fails none =
     let holds : (length rest == 0) ≡ true = ap (λ (left : List ℕ). length left == 0) none in

@@ -1,5 +1,6 @@
 -- The first line of a script: `config <turn> <refusals> <now>`.
-use Rattle.std.specs.Prelude.{◌≡◌, ℕ, ◌<◌, ◌≤◌, ◌^◌, List, ◌++◌, codes, decimal}
+use Rattle.std.specs.Prelude.{ℕ, ◌<◌, ◌≤◌, ◌^◌, List, ◌++◌, codes, decimal}
+use Rattle.rbg_wire.specs.Reads.{IsSpelling}
 use Rattle.rbg_script.specs.declared.config.ScriptConfig.{ScriptConfig}
 use Rattle.rbg_script.specs.Limits.{longest_turn, most_refusals}
 
@@ -19,6 +20,5 @@ abbrev pub ConfigHasSpelling : ScriptConfig → Type 0
 ConfigHasSpelling config = AreWithinLimits config.turn_ms config.refusals × (config.now < 2 ^ 64)
 
 -- the text is that of this config
-pub record SpellsConfig (text : List ℕ) (config : ScriptConfig) : Type 0 where
-  pub has : ConfigHasSpelling config
-  pub is : text ≡ config_text config
+abbrev pub SpellsConfig : List ℕ → ScriptConfig → Type 0
+SpellsConfig = IsSpelling ConfigHasSpelling config_text

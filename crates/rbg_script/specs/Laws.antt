@@ -2,6 +2,7 @@
 use Rattle.std.specs.Prelude.{◌≡◌, ℕ, List}
 use Rattle.rbg_wire.specs.Bytes.{LacksByte}
 use Rattle.rbg_wire.specs.Lines.{line_feed}
+use Rattle.rbg_wire.specs.Reads.{SpellsOne, AreApart}
 use Rattle.rbg_script.specs.declared.config.ScriptConfig.{ScriptConfig}
 use Rattle.rbg_script.specs.Config.{ConfigHasSpelling, SpellsConfig, config_text}
 use Rattle.rbg_script.specs.Events.{AbstractEvent, EventHasSpelling, SpellsBytes, SpellsEvent, event_text}
@@ -11,13 +12,10 @@ use Rattle.rbg_script.specs.Scripts.{AbstractScript, HasMisfit, ScriptHasSpellin
 
 -- A text spells at most one config or one event, and none spells both. Digits spell at most one list of bytes.
 pub record SpellingsAreApart : Type 0 where
-  pub configs : (text : List ℕ) (a b : ScriptConfig) → SpellsConfig text a → SpellsConfig text b → a ≡ b
-  pub events : (text : List ℕ) (a b : AbstractEvent) → SpellsEvent text a → SpellsEvent text b → a ≡ b
-  pub kinds : (text : List ℕ) (config : ScriptConfig) (event : AbstractEvent)
-      → SpellsConfig text config
-      → SpellsEvent text event
-      → ⊥
-  pub bytes : (digits a b : List ℕ) → SpellsBytes digits a → SpellsBytes digits b → a ≡ b
+  pub configs : SpellsOne SpellsConfig
+  pub events : SpellsOne SpellsEvent
+  pub kinds : AreApart SpellsConfig SpellsEvent
+  pub bytes : SpellsOne SpellsBytes
 
 -- What is written of a config or an event is a line, and spells it. So does what is written of a whole script.
 pub record WrittenIsRead : Type 0 where
@@ -30,13 +28,10 @@ pub record WrittenIsRead : Type 0 where
 -- A text has at most one list of lines and spells at most one script. At most one line is the first that isn't of its
 -- form, and then the text spells no script.
 pub record ScriptsAreApart : Type 0 where
-  pub lines : (text : List ℕ) (a b : List (List ℕ)) → HasLines text a → HasLines text b → a ≡ b
-  pub scripts : (text : List ℕ) (a b : AbstractScript) → SpellsScript text a → SpellsScript text b → a ≡ b
-  pub misfits : (text : List ℕ) (m n : ℕ) → HasMisfit text m → HasMisfit text n → m ≡ n
-  pub either : (text : List ℕ) (number : ℕ) (script : AbstractScript)
-      → HasMisfit text number
-      → SpellsScript text script
-      → ⊥
+  pub lines : SpellsOne HasLines
+  pub scripts : SpellsOne SpellsScript
+  pub misfits : SpellsOne HasMisfit
+  pub either : AreApart HasMisfit SpellsScript
 
 -- An input is cut in one way at most.
 abbrev pub InputsAreApart : Type 0

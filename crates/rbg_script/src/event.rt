@@ -11,7 +11,7 @@ pub struct Message<'a> {
 }
 
 /// An event of a match.
-#[derive(Drop)]
+#[derive(PartialEq, Eq, Drop)]
 pub enum ScriptEvent {
     /// The next bytes of a seat's stream have arrived.
     Piece { seat: u64, at: u64, bytes: Vec<u8> },

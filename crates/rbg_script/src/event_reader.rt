@@ -5,22 +5,21 @@ ghost use Rattle.std.specs.Option.{IsSomeAnd};
 ghost use Rattle.hex.specs.declared.error.FromHexError.TheVariants.{OutOfMemory};
 ghost use Rattle.rbg_script.specs.Events.{
   AbstractEvent,
-  AreNumbers,
   HasFields,
   SpellsBytes,
   SpellsEvent,
   SpellsMessage,
-  end_text,
   event_of,
   piece_event,
   tick_text,
 };
+ghost use Rattle.rbg_script.specs.internal.Reading.{IsNoEnd};
 
-use crate::fields::{cut_number, fields_in};
+use crate::fields::fields_in;
 use crate::{Message, ScriptEvent};
 use hex::FromHexError;
 use rbg_base::{Memory, number_of_decimal};
-use rbg_wire::after_text;
+use rbg_wire::{after_text, cut_number};
 use std::alloc::Global;
 
 /// The message of an `m` line that is the whole text. It allocates nothing.
@@ -149,10 +148,7 @@ fn is_memory(error: FromHexError) -> bool
 // The event of a line that has no bytes.
 fn instant_in(line: &[u8]) -> Option<ScriptEvent>
     ensures found { IfSome result (λ event. SpellsEvent line.now (event_of event)) }
-    ensures ended { IfNone result ((seat at : ℕ)
-        → AreNumbers seat at
-        → line.now ≡ end_text seat at
-        → ⊥) }
+    ensures ended { IfNone result (IsNoEnd line.now) }
     ensures ticked { IfNone result ((at : ℕ) → at < 2 ^ 64 → line.now ≡ tick_text at → ⊥) }
 {
     match end_in(line) {
@@ -163,10 +159,7 @@ fn instant_in(line: &[u8]) -> Option<ScriptEvent>
 
 fn end_in(line: &[u8]) -> Option<ScriptEvent>
     ensures found { IfSome result (λ event. SpellsEvent line.now (event_of event)) }
-    ensures none { IfNone result ((seat at : ℕ)
-        → AreNumbers seat at
-        → line.now ≡ end_text seat at
-        → ⊥) }
+    ensures none { IfNone result (IsNoEnd line.now) }
 {
     let fields = after_text(b"e ", line)?;
     let (seat, at) = cut_number(fields)?;

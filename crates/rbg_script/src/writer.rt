@@ -9,7 +9,7 @@ ghost use Rattle.rbg_script.specs.Events.{EventHasSpelling, HasFields, byte_text
 
 use crate::{ScriptConfig, ScriptEvent};
 use rbg_base::Memory;
-use rbg_wire::{all_or_nothing, write_number};
+use rbg_wire::{all_or_nothing, put_number};
 
 /// The hexadecimal digits that are written.
 const DIGITS: &[u8; 16] = b"0123456789abcdef";
@@ -130,12 +130,9 @@ fn put_message_line(seat: u64, at: u64, text: &[u8], out: &mut Vec<u8>) -> Resul
 fn put_config(config: ScriptConfig, out: &mut Vec<u8>) -> Result<(), Memory>
     ensures { Appends out.old.items out.new.items (line_of (config_text config)) result }
 {
-    out.extend_from_slice(b"config ")?;
-    write_number(config.turn_ms, out)?;
-    out.extend_from_slice(b" ")?;
-    write_number(u64::from(config.refusals), out)?;
-    out.extend_from_slice(b" ")?;
-    write_number(config.now, out)?;
+    put_number(b"config ", config.turn_ms, out)?;
+    put_number(b" ", u64::from(config.refusals), out)?;
+    put_number(b" ", config.now, out)?;
     out.extend_from_slice(b"\n")
 }
 
@@ -153,10 +150,8 @@ fn put_head(word: &[u8], seat: u64, at: u64, out: &mut Vec<u8>) -> Result<(), Me
     ensures { Appends out.old.items out.new.items
         (word.now ++ decimal seat ++ codes " " ++ decimal at ++ codes " ") result }
 {
-    out.extend_from_slice(word)?;
-    write_number(seat, out)?;
-    out.extend_from_slice(b" ")?;
-    write_number(at, out)?;
+    put_number(word, seat, out)?;
+    put_number(b" ", at, out)?;
     out.extend_from_slice(b" ")
 }
 
@@ -164,18 +159,15 @@ fn put_head(word: &[u8], seat: u64, at: u64, out: &mut Vec<u8>) -> Result<(), Me
 fn put_end(seat: u64, at: u64, out: &mut Vec<u8>) -> Result<(), Memory>
     ensures { Appends out.old.items out.new.items (end_text seat at) result }
 {
-    out.extend_from_slice(b"e ")?;
-    write_number(seat, out)?;
-    out.extend_from_slice(b" ")?;
-    write_number(at, out)
+    put_number(b"e ", seat, out)?;
+    put_number(b" ", at, out)
 }
 
 #[tactic(auto, unfolding(crate::specs::Events::tick_text))]
 fn put_tick(at: u64, out: &mut Vec<u8>) -> Result<(), Memory>
     ensures { Appends out.old.items out.new.items (tick_text at) result }
 {
-    out.extend_from_slice(b"t ")?;
-    write_number(at, out)
+    put_number(b"t ", at, out)
 }
 
 fn put_digits(bytes: &[u8], out: &mut Vec<u8>) -> Result<(), Memory>

@@ -134,26 +134,11 @@ fn script_event(alloc: Global, event: Event<'_>) -> Result<ScriptEvent, AllocErr
     })
 }
 
-/// The event with its bytes lent.
-fn lent(event: &ScriptEvent) -> Event<'_> {
-    match event {
-        ScriptEvent::Piece { seat, at, bytes } => Event::Piece {
-            seat: *seat,
-            at: *at,
-            bytes: bytes.as_slice(),
-        },
-        ScriptEvent::Ended { seat, at } => Event::Ended {
-            seat: *seat,
-            at: *at,
-        },
-        ScriptEvent::Tick { at } => Event::Tick { at: *at },
-    }
-}
-
 /// Whether the line of an event is this one, and is read as the event.
 fn is_written_and_read(alloc: Global, event: Event<'_>, line: &[u8]) -> Result<bool, Fail> {
     let mut out = Vec::from_slice(alloc, b"kept\n")?;
-    write_event(&script_event(alloc, event)?, &mut out)?;
+    let event = script_event(alloc, event)?;
+    write_event(&event, &mut out)?;
     let Some(written) = out.strip_prefix(b"kept\n") else {
         return Ok(false);
     };
@@ -161,7 +146,7 @@ fn is_written_and_read(alloc: Global, event: Event<'_>, line: &[u8]) -> Result<b
         return Ok(false);
     };
     let read = read_event(alloc, text)?;
-    Ok(written == line && matches!(&read, Some(found) if lent(found) == event))
+    Ok(written == line && matches!(&read, Some(found) if *found == event))
 }
 
 /// Each byte 100 times.
@@ -220,12 +205,12 @@ fn each_event_is_written_and_read(rt: HostRuntime) -> Result<(), Fail> {
 }
 
 /// Whether the script has the config and the events of the table.
-fn is_script_of(script: &Script, config: ScriptConfig) -> bool {
+fn is_script_of(alloc: Global, script: &Script, config: ScriptConfig) -> Result<bool, AllocError> {
     let mut same = script.config == config && script.events.len() == EVENTS.len();
     for (found, (event, _)) in script.events.iter().zip(EVENTS) {
-        same = same && lent(found) == event;
+        same = same && *found == script_event(alloc, event)?;
     }
-    same
+    Ok(same)
 }
 
 /// Whether the line is read as this config, or as none if it doesn't fit.
@@ -243,10 +228,15 @@ fn write_all_events(alloc: Global, out: &mut Vec<u8>) -> Result<(), Fail> {
 }
 
 /// Whether the text is read as the script of this config and all events, or is refused if the config doesn't fit.
-fn is_script_read(alloc: Global, text: &[u8], config: ScriptConfig, fits: bool) -> bool {
+fn is_script_read(
+    alloc: Global,
+    text: &[u8],
+    config: ScriptConfig,
+    fits: bool,
+) -> Result<bool, AllocError> {
     match read_script(alloc, text) {
-        Ok(script) => fits && is_script_of(&script, config),
-        Err(_) => !fits,
+        Ok(script) => Ok(is_script_of(alloc, &script, config)? && fits),
+        Err(_) => Ok(!fits),
     }
 }
 
@@ -261,7 +251,7 @@ fn is_first_line(
     write_config(config, &mut out)?;
     let written = out.as_slice() == line && is_config_read(line, config, fits);
     write_all_events(alloc, &mut out)?;
-    Ok(written && is_script_read(alloc, &out, config, fits))
+    Ok(is_script_read(alloc, &out, config, fits)? && written)
 }
 
 /// Each config is the first line of a script of all the events.

@@ -2,14 +2,4 @@
 #![tactic(auto)]
 
 #[cfg(test)]
-mod list;
-#[cfg(test)]
-mod moves;
-#[cfg(test)]
-mod played;
-#[cfg(test)]
-mod playing;
-#[cfg(test)]
-mod states;
-#[cfg(test)]
-mod values;
+mod tests;

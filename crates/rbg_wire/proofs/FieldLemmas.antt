@@ -2,6 +2,7 @@
 use Rattle.std.proofs.Common.{◌≡◌, ℕ, ◌<◌, ◌^◌, List, ◌∷◌, ◌++◌, decimal, ap, sym, ◌∙◌, subst, arith}
 use Rattle.std.proofs.lemmas.Fmt.{decimal_injective}
 use Rattle.rbg_wire.specs.Bytes.{LacksByte}
+use Rattle.rbg_wire.specs.Words.{BeginsWithNumber}
 use Rattle.rbg_wire.proofs.ByteLemmas.{no_cut, same_cut}
 use Rattle.rbg_wire.proofs.NumberLemmas.{lacks_byte-decimal}
 
@@ -22,5 +23,5 @@ same_fields text x y m n first second h k =
     (decimal_injective m n first second parts.0, parts.1)
 
 -- a number, a space and more
-pub with_number : (text word rest more : List ℕ) (n : ℕ) → text ≡ word ++ 32 ∷ rest → word ≡ decimal n → rest ≡ more → text ≡ decimal n ++ 32 ∷ more
-with_number text word rest more n cut number is = cut ∙ (ap (λ w. w ++ 32 ∷ rest) number ∙ ap (λ r. decimal n ++ 32 ∷ r) is)
+pub with_rest : (text rest more : List ℕ) (n : ℕ) → BeginsWithNumber text n rest → rest ≡ more → text ≡ decimal n ++ 32 ∷ more
+with_rest text rest more n begins is = begins.parts ∙ ap (λ r. decimal n ++ 32 ∷ r) is

@@ -11,6 +11,7 @@ pub mod MessageLemmas
 pub mod NumberLemmas
 pub mod OutcomeLemmas
 pub mod PairLemmas
+pub mod ReadsLemmas
 pub mod ScoreLemmas
 pub mod WholeLemmas
 pub mod WordLemmas

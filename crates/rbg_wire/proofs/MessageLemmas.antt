@@ -11,13 +11,11 @@ use Rattle.std.proofs.lemmas.List.Elements.{All-drop, All-head}
 use Rattle.std.proofs.Math.Seq.{drop-append_seam}
 use Rattle.rbg_wire.specs.declared.message.Reason.TheVariants.{Unreadable, OutOfTurn, NotLegal, MoveTooLong, NoSeat}
 use Rattle.rbg_wire.specs.Bytes.{LacksByte, IsFirstPlace}
-use Rattle.rbg_wire.specs.Words.{words_of}
 use Rattle.rbg_wire.specs.Messages.{AbstractMessage, who_message, game_message, limits_message, move_message, refusal_message, end_message, join_message, message_text, outcome_text, pairs_text, reason_number, message_of}
 use Rattle.rbg_wire.specs.Reading.{SpellsMessage, SpellsMove, SpellsPairs, SpellsOutcome, SpellsWho, SpellsLimits, SpellsTooMany, HasFewPairs, ReadsPairs, ReadsMessage}
-use Rattle.rbg_wire.proofs.NumberLemmas.{lacks_byte-decimal}
+use Rattle.rbg_wire.proofs.FieldLemmas.{same_fields}
 use Rattle.rbg_wire.proofs.OutcomeLemmas.{outcome_text-kind, one_outcome}
 use Rattle.rbg_wire.proofs.PairLemmas.{one_spelled, SpellsMove-pairs}
-use Rattle.rbg_wire.proofs.WordLemmas.{words_after, same_words, some_word}
 
 who_text : (player : ℕ) (name : List ℕ) → message_text (who_message player name) ≡ 87 ∷ (decimal player ++ 32 ∷ name)
 unfolding message_text
@@ -188,23 +186,6 @@ reason_number-small NoSeat = (omega arith, omega arith)
 pub same_reason : (text : List ℕ) (n : ℕ) (reason : Reason) → n < 2 ^ 64 → text ≡ decimal n → text ≡ decimal (reason_number reason) → n ≡ reason_number reason
 same_reason text n reason small is spelled = decimal_injective n (reason_number reason) small (omega (arith, (reason_number-small reason).1)) (sym is ∙ spelled)
 
--- The parts before and after the first space are those of the text that is spelled.
-pub same_parts : (text word rest a b : List ℕ) → words_of text ≡ word ∷ words_of rest → LacksByte 32 a → text ≡ a ++ 32 ∷ b → (word ≡ a) × (rest ≡ b)
-same_parts text word rest a b cut lacks is =
-    let same : word ∷ words_of rest ≡ a ∷ words_of b = sym cut ∙ (ap words_of is ∙ words_after a b lacks) in
-    (cc, same_words rest b cc)
-
-pub no_parts : (text a b : List ℕ) → words_of text ≡ text ∷ [] → LacksByte 32 a → text ≡ a ++ 32 ∷ b → ⊥
-no_parts text a b whole lacks is =
-    let same : text ∷ [] ≡ a ∷ words_of b = sym whole ∙ (ap words_of is ∙ words_after a b lacks) in
-    some_word b (cc)
-
-pub number_lacks_space : (n : ℕ) → n < 2 ^ 64 → LacksByte 32 (decimal n)
-number_lacks_space n small = lacks_byte-decimal 32 n (omega arith) small
-
-pub with_number : (text word rest : List ℕ) (n : ℕ) → text ≡ word ++ 32 ∷ rest → word ≡ decimal n → text ≡ decimal n ++ 32 ∷ rest
-with_number text word rest n parts is = parts ∙ ap (λ w. w ++ 32 ∷ rest) is
-
 -- what reading pairs returns, as what reading the message returns
 pub reads_pairs_err : (text rest : List ℕ) (e : WireError) (answer : Result Message WireError) → text ≡ 77 ∷ rest → answer ≡ Err e → ReadsPairs (SpellsPairs rest) (Err e) → ReadsMessage text answer
 reads_pairs_err text rest TooManyPairs answer parts same h = rw same (record { pairs = h.pairs; spelled = SpellsMove-pairs text rest h.pairs parts h.spelled; more = h.more })
@@ -215,19 +196,13 @@ reads_pairs_ok text rest pairs parts h = let spelled = spells_move rest pairs h.
 
 -- fields of one kind
 same_who : (rest : List ℕ) (p q : ℕ) (m n : List ℕ) → SpellsWho rest p m → SpellsWho rest q n → who_message p m ≡ who_message q n
-same_who rest p q m n h k =
-    let words = ap words_of h.is ∙ words_after (decimal p) m (number_lacks_space p h.has.0) in
-    let parts = same_parts rest (decimal p) m (decimal q) n words (number_lacks_space q k.has.0) k.is in
-    let number : p ≡ q = decimal_injective p q h.has.0 k.has.0 parts.0 in
-    λ i. who_message (number i) (parts.1 i)
+same_who rest p q m n h k = let parts = same_fields rest m n p q h.has.0 k.has.0 h.is k.is in λ i. who_message (parts.0 i) (parts.1 i)
 
 same_limits : (rest : List ℕ) (a b c d : ℕ) → SpellsLimits rest a b → SpellsLimits rest c d → limits_message a b ≡ limits_message c d
 same_limits rest a b c d h k =
-    let words = ap words_of h.is ∙ words_after (decimal a) (decimal b) (number_lacks_space a h.has.0) in
-    let parts = same_parts rest (decimal a) (decimal b) (decimal c) (decimal d) words (number_lacks_space c k.has.0) k.is in
-    let turn : a ≡ c = decimal_injective a c h.has.0 k.has.0 parts.0 in
+    let parts = same_fields rest (decimal b) (decimal d) a c h.has.0 k.has.0 h.is k.is in
     let refusals : b ≡ d = decimal_injective b d h.has.1 k.has.1 parts.1 in
-    λ i. limits_message (turn i) (refusals i)
+    λ i. limits_message (parts.0 i) (refusals i)
 
 -- the reason that has a number
 reason_of : ℕ → Reason

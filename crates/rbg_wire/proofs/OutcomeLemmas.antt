@@ -1,5 +1,5 @@
 -- Outcomes and their texts.
-use Rattle.std.proofs.Common.{◌≡◌, ℕ, ◌+◌, List, [], ◌∷◌, ◌++◌, length, decimal, codes, Option, Some, None, IfSome, IfNone, ap, sym, ◌∙◌, refl, arith}
+use Rattle.std.proofs.Common.{◌≡◌, ◌≢◌, ℕ, ◌+◌, ◌<◌, ◌^◌, List, [], ◌∷◌, ◌++◌, length, decimal, codes, Option, Some, None, IfSome, IfNone, ap, sym, ◌∙◌, refl, subst, arith}
 use Rattle.std.specs.List.{flat_map}
 use Rattle.std.proofs.lemmas.Fmt.{decimal_injective}
 use Rattle.rbg_wire.specs.declared.outcome.Outcome.{Outcome}
@@ -12,21 +12,16 @@ pub spells_finished : (fields scores : List ℕ) → SpellsScores fields scores 
 unfolding outcome_text
 spells_finished fields scores h = record { has = h.has; is = ap (λ f. 69 ∷ 48 ∷ f) h.is }
 
-pub spells_time : (fields : List ℕ) (player : ℕ) → SpellsPlayer fields player → SpellsOutcome (69 ∷ 49 ∷ fields) (Time player)
-unfolding outcome_text
-spells_time fields player h = record { has = h.small; is = ap (λ f. 69 ∷ 49 ∷ f) h.is }
-
-pub spells_refusals : (fields : List ℕ) (player : ℕ) → SpellsPlayer fields player → SpellsOutcome (69 ∷ 50 ∷ fields) (Refusals player)
-unfolding outcome_text
-spells_refusals fields player h = record { has = h.small; is = ap (λ f. 69 ∷ 50 ∷ f) h.is }
-
-pub spells_gone : (fields : List ℕ) (player : ℕ) → SpellsPlayer fields player → SpellsOutcome (69 ∷ 51 ∷ fields) (Gone player)
-unfolding outcome_text
-spells_gone fields player h = record { has = h.small; is = ap (λ f. 69 ∷ 51 ∷ f) h.is }
-
 pub spells_heavy : (fields : List ℕ) → fields ≡ [] → SpellsOutcome (69 ∷ 52 ∷ fields) Heavy
 unfolding outcome_text
 spells_heavy fields none = record { has = tt; is = ap (λ f. 69 ∷ 52 ∷ f) none }
+
+-- the kind and the fields of an outcome with a player
+player_fields : (text : List ℕ) (kind is : ℕ) (fields : List ℕ) (player : ℕ) → text ≡ kind ∷ fields → player < 2 ^ 64 → 69 ∷ text ≡ 69 ∷ is ∷ 32 ∷ decimal player → (kind ≡ is) × SpellsPlayer fields player
+player_fields text kind is fields player parts small whole =
+    let same : 69 ∷ kind ∷ fields ≡ 69 ∷ is ∷ 32 ∷ decimal player = ap (λ t. 69 ∷ t) (sym parts) ∙ whole in
+    let spelled : SpellsPlayer fields player = record { small = small; is = cc } in
+    (cc, spelled)
 
 -- An outcome with this text has one of the five kinds, and the fields of its kind.
 pub outcome_cases : (P : Outcome → Type 0) (text : List ℕ) (kind : ℕ) (fields : List ℕ) → text ≡ kind ∷ fields
@@ -42,17 +37,11 @@ outcome_cases P text kind fields parts finished time refusals gone heavy (Finish
     let spelled : SpellsScores fields scores = record { has = h.has; is = cc } in
     finished scores (cc) spelled
 outcome_cases P text kind fields parts finished time refusals gone heavy (Time player) h =
-    let same : 69 ∷ kind ∷ fields ≡ 69 ∷ 49 ∷ 32 ∷ decimal player = ap (λ t. 69 ∷ t) (sym parts) ∙ h.is in
-    let spelled : SpellsPlayer fields player = record { small = h.has; is = cc } in
-    time player (cc) spelled
+    let same = player_fields text kind 49 fields player parts h.has h.is in time player same.0 same.1
 outcome_cases P text kind fields parts finished time refusals gone heavy (Refusals player) h =
-    let same : 69 ∷ kind ∷ fields ≡ 69 ∷ 50 ∷ 32 ∷ decimal player = ap (λ t. 69 ∷ t) (sym parts) ∙ h.is in
-    let spelled : SpellsPlayer fields player = record { small = h.has; is = cc } in
-    refusals player (cc) spelled
+    let same = player_fields text kind 50 fields player parts h.has h.is in refusals player same.0 same.1
 outcome_cases P text kind fields parts finished time refusals gone heavy (Gone player) h =
-    let same : 69 ∷ kind ∷ fields ≡ 69 ∷ 51 ∷ 32 ∷ decimal player = ap (λ t. 69 ∷ t) (sym parts) ∙ h.is in
-    let spelled : SpellsPlayer fields player = record { small = h.has; is = cc } in
-    gone player (cc) spelled
+    let same = player_fields text kind 51 fields player parts h.has h.is in gone player same.0 same.1
 outcome_cases P text kind fields parts finished time refusals gone heavy Heavy h =
     let same : 69 ∷ kind ∷ fields ≡ 69 ∷ 52 ∷ [] = ap (λ t. 69 ∷ t) (sym parts) ∙ h.is in
     heavy (cc) (cc)
@@ -65,6 +54,16 @@ pub no_outcome : (text : List ℕ) (kind : ℕ) (fields : List ℕ) → text ≡
     → (kind ≡ 52 → fields ≡ [] → ⊥)
     → (outcome : Outcome) → SpellsOutcome (69 ∷ text) outcome → ⊥
 no_outcome = outcome_cases (λ _. ⊥)
+
+-- what is read of the kind and the player is read of the text
+pub of_player_found : (text : List ℕ) (kind : ℕ) (fields : List ℕ) (player : ℕ) (answer : Option Outcome) → text ≡ kind ∷ fields → SpellsPlayer fields player → IfSome answer (SpellsOutcome (69 ∷ kind ∷ 32 ∷ decimal player)) → IfSome answer (SpellsOutcome (69 ∷ text))
+of_player_found text kind fields player answer parts h found =
+    subst (λ t. IfSome answer (SpellsOutcome (69 ∷ t))) (sym (parts ∙ ap (λ f. kind ∷ f) h.is)) found
+
+pub of_player_none : (text : List ℕ) (kind : ℕ) (fields : List ℕ) (answer : Option Outcome) → text ≡ kind ∷ fields → kind ≢ 48 → kind ≢ 52 → IfNone answer ((kind ≢ 49) × (kind ≢ 50) × (kind ≢ 51)) → IfNone answer ((outcome : Outcome) → SpellsOutcome (69 ∷ text) outcome → ⊥)
+of_player_none text kind fields (Some found) parts zero four others = tt
+of_player_none text kind fields None parts zero four others =
+    no_outcome text kind fields parts (λ scores e h. zero e) (λ player e h. others.0 e) (λ player e h. others.1 e) (λ player e h. others.2 e) (λ e h. four e)
 
 -- every text of an outcome begins with its letter and its kind
 pub outcome_text-kind : (outcome : Outcome) → (kind : ℕ) × (fields : List ℕ) × (outcome_text outcome ≡ 69 ∷ kind ∷ fields)

@@ -12,7 +12,7 @@ use Rattle.rbg_wire.specs.Words.{words_of}
 use Rattle.rbg_wire.proofs.NumberLemmas.{lacks_byte-decimal}
 use Rattle.rbg_wire.proofs.WordLemmas.{words_of-spaced, same_words, some_word}
 use Rattle.rbg_wire.specs.Messages.{IsShortPair, pairs_text, pair_text, message_text}
-use Rattle.rbg_wire.specs.Reading.{SpellsPairs, SpellsMove, SpellsTooMany, ReadsPairs, ArePairWords, pair_words}
+use Rattle.rbg_wire.specs.Reading.{SpellsPairs, SpellsMove, SpellsTooMany, ReadsPairs, TellsPairs, ArePairWords, pair_words}
 
 -- where no short number is the first word, or the second, the words are those of no pairs
 pub first_no_number : (word : List ℕ) (rest : List (List ℕ)) → ((n : ℕ) → n < 10 ^ 9 → word ≡ decimal n → ⊥) → (pairs : List (ℕ × ℕ)) → ArePairWords (word ∷ rest) pairs → ⊥
@@ -173,27 +173,28 @@ one_spelled text ps qs h k = same_pairs (words_of text) ps qs (words_from_spelle
 
 -- The clauses of a call that reads pairs, from its result.
 module _ (Spells : List (ℕ × ℕ) → Type 0) (one : (ps qs : List (ℕ × ℕ)) → Spells ps → Spells qs → ps ≡ qs) where
-  pub reads_found : (answer : Result (List (ℕ × ℕ)) WireError) → ReadsPairs Spells answer → IfOk answer (λ pairs. Spells pairs × (length pairs ≤ 200))
-  reads_found (Ok found) h = h
-  reads_found (Err e) h = tt
-
   pub reads_nothing : (answer : Result (List (ℕ × ℕ)) WireError) → answer ≡ Err Malformed → ((pairs : List (ℕ × ℕ)) → Spells pairs → ⊥) → ReadsPairs Spells answer
   reads_nothing answer same none = rw same none
 
-  pub reads_only : (answer : Result (List (ℕ × ℕ)) WireError) → ReadsPairs Spells answer → (pairs : List (ℕ × ℕ)) → Spells pairs → length pairs ≤ 200 → answer ≡ Ok pairs
-  reads_only (Ok found) h pairs spelled few = ap Ok (one found pairs h.0 spelled)
-  reads_only (Err TooManyPairs) h pairs spelled few = absurd (omega (arith, h.more, few, ap length (one h.pairs pairs h.spelled spelled)))
-  reads_only (Err Malformed) h pairs spelled few = absurd (h pairs spelled)
-
-  pub reads_too_many : (answer : Result (List (ℕ × ℕ)) WireError) → ReadsPairs Spells answer → IsErrOf answer TooManyPairs ↔ SpellsTooMany Spells
-  reads_too_many (Ok found) h = (λ apart. cc, λ many. absurd (omega (arith, many.more, h.1, ap length (one many.pairs found many.spelled h.0))))
-  reads_too_many (Err TooManyPairs) h = (λ _. h, λ _. refl)
-  reads_too_many (Err Malformed) h = (λ apart. cc, λ many. absurd (h many.pairs many.spelled))
-
-  pub reads_malformed : (answer : Result (List (ℕ × ℕ)) WireError) → ReadsPairs Spells answer → IsErrOf answer Malformed ↔ ((pairs : List (ℕ × ℕ)) → Spells pairs → ⊥)
-  reads_malformed (Ok found) h = (λ apart. cc, λ none. absurd (none found h.0))
-  reads_malformed (Err TooManyPairs) h = (λ apart. cc, λ none. absurd (none h.pairs h.spelled))
-  reads_malformed (Err Malformed) h = (λ _. h, λ _. refl)
+  pub tells_pairs : (answer : Result (List (ℕ × ℕ)) WireError) → ReadsPairs Spells answer → TellsPairs Spells answer
+  tells_pairs (Ok found) h = record {
+    found = h;
+    only = λ pairs spelled few. ap Ok (one found pairs h.0 spelled);
+    too_many = (λ apart. cc, λ many. absurd (omega (arith, many.more, h.1, ap length (one many.pairs found many.spelled h.0))));
+    malformed = (λ apart. cc, λ none. absurd (none found h.0));
+  }
+  tells_pairs (Err TooManyPairs) h = record {
+    found = tt;
+    only = λ pairs spelled few. absurd (omega (arith, h.more, few, ap length (one h.pairs pairs h.spelled spelled)));
+    too_many = (λ _. h, λ _. refl);
+    malformed = (λ apart. cc, λ none. absurd (none h.pairs h.spelled));
+  }
+  tells_pairs (Err Malformed) h = record {
+    found = tt;
+    only = λ pairs spelled few. absurd (h pairs spelled);
+    too_many = (λ apart. cc, λ many. absurd (h many.pairs many.spelled));
+    malformed = (λ _. h, λ _. refl);
+  }
 
 -- A message of a move is an `M` and the text of its pairs.
 pub SpellsMove-letter : (text rest : List ℕ) (pairs : List (ℕ × ℕ)) → text ≡ 77 ∷ rest → SpellsMove text pairs → SpellsPairs rest pairs

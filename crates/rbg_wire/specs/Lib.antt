@@ -8,6 +8,7 @@ pub mod Limits
 pub mod Lines
 pub mod Messages
 pub mod Reading
+pub mod Reads
 pub mod Scores
 pub mod Streams
 pub mod Whole

@@ -1,5 +1,5 @@
 -- What the calls return that read a text.
-use Rattle.std.specs.Prelude.{◌≡◌, ℕ, ◌<◌, ◌≤◌, ◌^◌, List, [], ◌∷◌, ◌++◌, length, Result, Ok, Err, codes, decimal, All}
+use Rattle.std.specs.Prelude.{◌≡◌, ℕ, ◌<◌, ◌≤◌, ◌^◌, ◌↔◌, IfOk, IsErrOf, List, [], ◌∷◌, ◌++◌, length, Option, Some, None, Result, Ok, Err, codes, decimal, All}
 use Rattle.std.specs.List.{flat_map}
 use Rattle.rbg_base.specs.Move.{most_pairs}
 use Rattle.rbg_wire.specs.Words.{space}
@@ -42,6 +42,13 @@ ReadsPairs Spells (Ok pairs) = Spells pairs × (length pairs ≤ most_pairs)
 ReadsPairs Spells (Err TooManyPairs) = SpellsTooMany Spells
 ReadsPairs Spells (Err Malformed) = (pairs : List (ℕ × ℕ)) → Spells pairs → ⊥
 
+-- what a reader of pairs tells: the pairs that the text spells if a move has as many, and else why there are none
+pub record TellsPairs (Spells : List (ℕ × ℕ) → Type 0) (answer : Result (List (ℕ × ℕ)) WireError) : Type 0 where
+  pub found : IfOk answer (λ pairs. Spells pairs × (length pairs ≤ most_pairs))
+  pub only : (pairs : List (ℕ × ℕ)) → Spells pairs → length pairs ≤ most_pairs → answer ≡ Ok pairs
+  pub too_many : IsErrOf answer TooManyPairs ↔ SpellsTooMany Spells
+  pub malformed : IsErrOf answer Malformed ↔ ((pairs : List (ℕ × ℕ)) → Spells pairs → ⊥)
+
 -- a message of a move has at most as many pairs as a move
 abbrev pub HasFewPairs : AbstractMessage → Type 0
 HasFewPairs (move_message pairs) = length pairs ≤ most_pairs
@@ -52,11 +59,12 @@ HasFewPairs (refusal_message reason) = Unit {0}
 HasFewPairs (end_message outcome) = Unit {0}
 HasFewPairs (join_message table) = Unit {0}
 
--- the letter and the text after it are those of this message
-abbrev pub SpellsAfterLetter : ℕ → List ℕ → AbstractMessage → Type 0
-SpellsAfterLetter letter text message = SpellsMessage (letter ∷ text) message × HasFewPairs message
+-- what a message with this letter is by the text after it: the message, or that there is none
+abbrev pub ReadsAfterLetter : ℕ → List ℕ → Option Message → Type 0
+ReadsAfterLetter letter text (Some message) = SpellsMessage (letter ∷ text) (message_of message) × HasFewPairs (message_of message)
+ReadsAfterLetter letter text None = (message : AbstractMessage) → SpellsMessage (letter ∷ text) message → ⊥
 
--- the same for any message
+-- what a message is by its text: the message, or the error for more pairs, or the error for no message
 abbrev pub ReadsMessage : List ℕ → Result Message WireError → Type 0
 ReadsMessage text (Ok message) = SpellsMessage text (message_of message) × HasFewPairs (message_of message)
 ReadsMessage text (Err TooManyPairs) = SpellsTooMany (SpellsMove text)

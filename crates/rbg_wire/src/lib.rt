@@ -23,9 +23,11 @@ pub use error::WireError;
 pub use inbox::{Inbox, Took};
 pub use message::{Message, Reason};
 pub use message_reader::read_message;
-pub use message_writer::{write_message, write_move, write_number, write_outcome, write_pairs};
+pub use message_writer::{
+    put_number, write_message, write_move, write_number, write_outcome, write_pairs,
+};
 pub use move_reader::{read_move, read_pairs};
-pub use number_reader::read_number;
+pub use number_reader::{cut_number, read_number};
 pub use outcome::Outcome;
 pub use outcome_reader::read_outcome;
 pub use scores::{MAX_SCORES, Scores};

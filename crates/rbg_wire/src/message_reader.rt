@@ -1,13 +1,13 @@
 //! The call that reads a message. It allocates nothing.
-ghost use Rattle.std.specs.Prelude.{◌≡◌, ◌≢◌, ℕ, ◌↔◌, List, ◌∷◌, decimal, IfOk, IfSome, IfNone, IsErrOf, IsOkAnd};
+ghost use Rattle.std.specs.Prelude.{◌≡◌, ◌≢◌, ◌↔◌, decimal, IfOk, IfSome, IfNone, IsErrOf, IsOkAnd};
 ghost use Rattle.rbg_wire.specs.declared.message.Reason.{Reason as AnyReason};
 ghost use Rattle.rbg_wire.specs.Messages.{AbstractMessage, message_of, reason_number, who_letter, game_letter, limits_letter, move_letter};
-ghost use Rattle.rbg_wire.specs.Reading.{SpellsMessage, SpellsMove, SpellsTooMany, HasFewPairs, ReadsMessage, SpellsAfterLetter};
+ghost use Rattle.rbg_wire.specs.Reading.{SpellsMessage, SpellsMove, SpellsTooMany, HasFewPairs, ReadsMessage, ReadsAfterLetter};
 
 use crate::bytes::first_place;
 use crate::move_reader::pairs_of;
+use crate::number_reader::cut_number;
 use crate::outcome_reader::outcome_after_letter;
-use crate::words::cut_at_space;
 use crate::{Message, Reason, WireError};
 use rbg_base::{is_name, number_of_decimal};
 
@@ -47,9 +47,7 @@ fn message_in(text: &[u8]) -> Result<Message<'_>, WireError>
 // Any message but one of a move, by its letter and the text after it.
 fn other_message(letter: u8, text: &[u8]) -> Option<Message<'_>>
     requires { letter ≢ move_letter }
-    ensures found { IfSome result (λ m. SpellsAfterLetter letter text.now (message_of m)) }
-    ensures none { IfNone result ((message : AbstractMessage)
-        → SpellsMessage (letter ∷ text.now) message → ⊥) }
+    ensures { ReadsAfterLetter letter text.now result }
 {
     match letter {
         b'W' => who_in(text),
@@ -69,12 +67,9 @@ fn other_message(letter: u8, text: &[u8]) -> Option<Message<'_>>
 }
 
 fn who_in(text: &[u8]) -> Option<Message<'_>>
-    ensures found { IfSome result (λ m. SpellsAfterLetter who_letter text.now (message_of m)) }
-    ensures none { IfNone result ((message : AbstractMessage)
-        → SpellsMessage (who_letter ∷ text.now) message → ⊥) }
+    ensures { ReadsAfterLetter who_letter text.now result }
 {
-    let (player, name) = cut_at_space(text)?;
-    let player = number_of_decimal(player)?;
+    let (player, name) = cut_number(text)?;
     if !is_name(name) {
         return None;
     }
@@ -82,9 +77,7 @@ fn who_in(text: &[u8]) -> Option<Message<'_>>
 }
 
 fn game_in(text: &[u8]) -> Option<Message<'_>>
-    ensures found { IfSome result (λ m. SpellsAfterLetter game_letter text.now (message_of m)) }
-    ensures none { IfNone result ((message : AbstractMessage)
-        → SpellsMessage (game_letter ∷ text.now) message → ⊥) }
+    ensures { ReadsAfterLetter game_letter text.now result }
 {
     match first_place(0, text) {
         None => Some(Message::Game { text }),
@@ -93,12 +86,9 @@ fn game_in(text: &[u8]) -> Option<Message<'_>>
 }
 
 fn limits_in(text: &[u8]) -> Option<Message<'_>>
-    ensures found { IfSome result (λ m. SpellsAfterLetter limits_letter text.now (message_of m)) }
-    ensures none { IfNone result ((message : AbstractMessage)
-        → SpellsMessage (limits_letter ∷ text.now) message → ⊥) }
+    ensures { ReadsAfterLetter limits_letter text.now result }
 {
-    let (turn_ms, refusals) = cut_at_space(text)?;
-    let turn_ms = number_of_decimal(turn_ms)?;
+    let (turn_ms, refusals) = cut_number(text)?;
     let refusals = number_of_decimal(refusals)?;
     Some(Message::Limits { turn_ms, refusals })
 }

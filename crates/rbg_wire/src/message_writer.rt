@@ -167,8 +167,8 @@ fn put_pair(head: &[u8], pair: Pair, out: &mut Vec<u8>) -> Result<(), Memory>
     put_number(b" ", u64::from(pair.position), out)
 }
 
-// Appends a head, and then the digits of a number.
-fn put_number(head: &[u8], number: u64, out: &mut Vec<u8>) -> Result<(), Memory>
+/// Appends a head, and then the digits of a number. On an error some of that may be there.
+pub fn put_number(head: &[u8], number: u64, out: &mut Vec<u8>) -> Result<(), Memory>
     ensures { Appends out.old.items out.new.items (head.now ++ decimal number) result }
 {
     let mut buffer = Buffer::new();

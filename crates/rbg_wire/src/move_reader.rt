@@ -1,8 +1,7 @@
 //! The calls that read the pairs of a move. They allocate nothing.
-ghost use Rattle.std.specs.Prelude.{◌≡◌, ℕ, ◌<◌, ◌≤◌, ◌↔◌, List, [], ◌∷◌, length, decimal, Ok, IfOk, IfErr, IfSome, IfNone, IsErrOf};
-ghost use Rattle.rbg_base.specs.Move.{most_pairs};
+ghost use Rattle.std.specs.Prelude.{◌≡◌, ℕ, List, [], ◌∷◌, decimal, IfOk, IfErr, IfSome, IfNone};
 ghost use Rattle.rbg_wire.specs.Messages.{IsShortPair};
-ghost use Rattle.rbg_wire.specs.Reading.{SpellsPairs, SpellsMove, SpellsTooMany, ReadsPairs, ArePairWords};
+ghost use Rattle.rbg_wire.specs.Reading.{SpellsPairs, SpellsMove, ReadsPairs, TellsPairs, ArePairWords};
 ghost use Rattle.rbg_wire.specs.Words.{words_left};
 
 use crate::WireError;
@@ -15,16 +14,7 @@ use rbg_base::{Move, Pair};
 /// Returns `TooManyPairs` if the text is the message of more than 200 pairs, and `Malformed` if it is the message of no
 /// move.
 pub fn read_move(text: &[u8]) -> Result<Move, WireError>
-    // The text is the message of the move that is returned.
-    ensures found { IfOk result (λ pairs. SpellsMove text.now pairs × (length pairs ≤ most_pairs)) }
-    // The move is returned whose message the text is.
-    ensures only { (pairs : List (ℕ × ℕ))
-        → SpellsMove text.now pairs
-        → length pairs ≤ most_pairs
-        → result ≡ Ok pairs }
-    ensures too_many { IsErrOf result WireError.TooManyPairs ↔ SpellsTooMany (SpellsMove text.now) }
-    ensures malformed { IsErrOf result WireError.Malformed
-        ↔ ((pairs : List (ℕ × ℕ)) → SpellsMove text.now pairs → ⊥) }
+    ensures { TellsPairs (SpellsMove text.now) result }
 {
     move_of(text)
 }
@@ -34,18 +24,7 @@ pub fn read_move(text: &[u8]) -> Result<Move, WireError>
 /// Returns `TooManyPairs` if the text is the spelling of more than 200 pairs, and `Malformed` if it is that of no
 /// pairs.
 pub fn read_pairs(text: &[u8]) -> Result<Move, WireError>
-    // The text is the spelling of the pairs that are returned.
-    ensures found { IfOk result (λ pairs. SpellsPairs text.now pairs
-        × (length pairs ≤ most_pairs)) }
-    // The pairs are returned whose spelling the text is.
-    ensures only { (pairs : List (ℕ × ℕ))
-        → SpellsPairs text.now pairs
-        → length pairs ≤ most_pairs
-        → result ≡ Ok pairs }
-    ensures too_many { IsErrOf result WireError.TooManyPairs
-        ↔ SpellsTooMany (SpellsPairs text.now) }
-    ensures malformed { IsErrOf result WireError.Malformed
-        ↔ ((pairs : List (ℕ × ℕ)) → SpellsPairs text.now pairs → ⊥) }
+    ensures { TellsPairs (SpellsPairs text.now) result }
 {
     pairs_of(text)
 }

@@ -1,8 +1,10 @@
 //! The calls that read a number: decimal digits, with no sign and no leading zero.
-ghost use Rattle.std.specs.Prelude.{◌≡◌, ℕ, ◌<◌, ◌^◌, Ok, IfOk, IfErr, IfSome, IfNone, decimal};
+ghost use Rattle.std.specs.Prelude.{◌≡◌, ℕ, ◌<◌, ◌^◌, List, Ok, IfOk, IfErr, IfSome, IfNone, decimal};
 ghost use Rattle.rbg_wire.specs.Messages.{most_pair_digits};
+ghost use Rattle.rbg_wire.specs.Words.{BeginsWithNumber};
 
 use crate::WireError;
+use crate::bytes::cut_at;
 use rbg_base::number_of_decimal;
 
 /// The most digits of a vertex or a position in a message.
@@ -19,6 +21,18 @@ pub fn read_number(text: &[u8]) -> Result<u64, WireError>
     ensures err { IfErr result (λ e. e ≡ WireError.Malformed) }
 {
     number_of_decimal(text).ok_or(WireError::Malformed)
+}
+
+/// A number with a space behind it, and the text behind that.
+pub fn cut_number(text: &[u8]) -> Option<(u64, &[u8])>
+    ensures found { IfSome result (λ parts. BeginsWithNumber text.now parts.0 parts.1.now) }
+    ensures none { IfNone result ((number : ℕ) (rest : List ℕ)
+        → BeginsWithNumber text.now number rest
+        → ⊥) }
+{
+    let (digits, rest) = cut_at(b' ', text)?;
+    let number = number_of_decimal(digits)?;
+    Some((number, rest))
 }
 
 /// A vertex or a position: a number of at most nine digits.

@@ -1,5 +1,5 @@
 //! The call that reads an outcome. It allocates nothing.
-ghost use Rattle.std.specs.Prelude.{◌≡◌, ℕ, ◌^◌, ◌<◌, List, ◌∷◌, Ok, IfOk, IfErr, IfSome, IfNone};
+ghost use Rattle.std.specs.Prelude.{◌≡◌, ◌≢◌, ℕ, List, ◌∷◌, decimal, Ok, IfOk, IfErr, IfSome, IfNone};
 ghost use Rattle.rbg_wire.specs.declared.outcome.Outcome.{Outcome as AnyOutcome};
 ghost use Rattle.rbg_wire.specs.Reading.{SpellsOutcome, SpellsPlayer, SpellsScores};
 ghost use Rattle.rbg_wire.specs.Messages.{end_letter};
@@ -41,15 +41,6 @@ pub(crate) fn outcome_after_letter(text: &[u8]) -> Option<Outcome>
         b'0' => Some(Outcome::Finished {
             scores: scores_in(fields)?,
         }),
-        b'1' => Some(Outcome::Time {
-            player: player_in(fields)?,
-        }),
-        b'2' => Some(Outcome::Refusals {
-            player: player_in(fields)?,
-        }),
-        b'3' => Some(Outcome::Gone {
-            player: player_in(fields)?,
-        }),
         b'4' => {
             if fields.is_empty() {
                 Some(Outcome::Heavy)
@@ -57,6 +48,20 @@ pub(crate) fn outcome_after_letter(text: &[u8]) -> Option<Outcome>
                 None
             }
         }
+        _ => of_player(*kind, player_in(fields)?),
+    }
+}
+
+// The outcome of this kind that names this player.
+#[tactic(auto, unfolding(crate::specs::Messages::outcome_text))]
+fn of_player(kind: u8, player: u64) -> Option<Outcome>
+    ensures found { IfSome result (SpellsOutcome (end_letter ∷ kind ∷ space ∷ decimal player)) }
+    ensures none { IfNone result ((kind ≢ 49) × (kind ≢ 50) × (kind ≢ 51)) }
+{
+    match kind {
+        b'1' => Some(Outcome::Time { player }),
+        b'2' => Some(Outcome::Refusals { player }),
+        b'3' => Some(Outcome::Gone { player }),
         _ => None,
     }
 }

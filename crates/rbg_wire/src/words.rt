@@ -44,7 +44,7 @@ impl<'a> Iterator for Words<'a> {
 }
 
 // The text before the first space, and the text after it.
-pub(crate) fn cut_at_space(text: &[u8]) -> Option<(&[u8], &[u8])>
+fn cut_at_space(text: &[u8]) -> Option<(&[u8], &[u8])>
     ensures found { IfSome result (λ parts.
         (words_of text.now ≡ parts.0.now ∷ words_of parts.1.now)
         × (text.now ≡ parts.0.now ++ space ∷ parts.1.now)) }

@@ -8,11 +8,19 @@ use Rattle.rbg_rules.specs.State.{AbstractGame}
 use Rattle.rbg_rules.specs.Moves.{AbstractPlace}
 use Rattle.rbg_rules.specs.Codes.{coded_game}
 use Rattle.rbg_rules.specs.PlaceCodes.{coded_place}
+use Rattle.rbg_match.specs.declared.config.Config.{Config}
 use Rattle.rbg_match.specs.declared.made.Made.{Made}
 use Rattle.rbg_match.specs.Play.{AbstractPlay}
 use Rattle.rbg_match.specs.Inputs.{Streams}
 use Rattle.rbg_match.specs.Matches.{MatchState}
 use Rattle.rbg_match.specs.internal.Replies.{RefereeState}
+
+abbrev coded_config : Coded Config
+coded_config = code_by (ℕ × ℕ)
+    (coded× coded_ℕ coded_ℕ)
+    (λ c. (c.turn_ms, c.refusals))
+    (λ p. record { turn_ms = p.0; refusals = p.1 })
+    (λ _. refl)
 
 abbrev coded_made : Coded Made
 coded_made = code_by (ℕ × (ℕ × List (ℕ × ℕ)))
@@ -38,32 +46,19 @@ coded_streams = code_by (ℕ × List Rest)
     (λ _. refl)
 
 abbrev pub coded_match : Coded MatchState
-coded_match = code_by ((AbstractGame × ((ℕ × ℕ) × ℕ)) × (AbstractPlay × (Streams × Bool)))
+coded_match = code_by ((AbstractGame × (Config × ℕ)) × (AbstractPlay × (Streams × Bool)))
     (coded×
-    (coded× coded_game (coded× (coded× coded_ℕ coded_ℕ) coded_ℕ))
+    (coded× coded_game (coded× coded_config coded_ℕ))
     (coded× coded_play (coded× coded_streams coded_bool)))
-    (λ m. ((m.game, ((m.config.turn_ms, m.config.refusals), m.began)), (m.play, (m.streams, m.failed))))
-    (λ p. record {
-      game = p.0.0;
-      config = record { turn_ms = p.0.1.0.0; refusals = p.0.1.0.1 };
-      began = p.0.1.1;
-      play = p.1.0;
-      streams = p.1.1.0;
-      failed = p.1.1.1;
-    })
+    (λ m. ((m.game, (m.config, m.began)), (m.play, (m.streams, m.failed))))
+    (λ p. record { game = p.0.0; config = p.0.1.0; began = p.0.1.1; play = p.1.0; streams = p.1.1.0; failed = p.1.1.1 })
     (λ _. refl)
 
 abbrev pub coded_referee : Coded RefereeState
-coded_referee = code_by ((AbstractGame × ((ℕ × ℕ) × ℕ)) × (AbstractPlay × List (List ℕ)))
+coded_referee = code_by ((AbstractGame × (Config × ℕ)) × (AbstractPlay × List (List ℕ)))
     (coded×
-    (coded× coded_game (coded× (coded× coded_ℕ coded_ℕ) coded_ℕ))
+    (coded× coded_game (coded× coded_config coded_ℕ))
     (coded× coded_play (coded_list (coded_list coded_ℕ))))
-    (λ r. ((r.game, ((r.config.turn_ms, r.config.refusals), r.moment)), (r.play, r.outbox)))
-    (λ p. record {
-      game = p.0.0;
-      config = record { turn_ms = p.0.1.0.0; refusals = p.0.1.0.1 };
-      moment = p.0.1.1;
-      play = p.1.0;
-      outbox = p.1.1;
-    })
+    (λ r. ((r.game, (r.config, r.moment)), (r.play, r.outbox)))
+    (λ p. record { game = p.0.0; config = p.0.1.0; moment = p.0.1.1; play = p.1.0; outbox = p.1.1 })
     (λ _. refl)

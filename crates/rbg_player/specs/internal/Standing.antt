@@ -1,13 +1,14 @@
 -- Where the code's player stands, and what its calls do to the bytes that it writes.
-use Rattle.std.specs.Prelude.{◌≡◌, ℕ, List, [], ◌++◌}
+use Rattle.std.specs.Prelude.{◌≡◌, ℕ, List, [], ◌++◌, Result, IfErr, OnErr, OnOk}
 use Rattle.std.specs.List.{flat_map}
 use Rattle.rbg_wire.specs.Messages.{AbstractMessage, spelling}
 use Rattle.rbg_wire.specs.Streams.{Item, complete, Stream}
+use Rattle.rbg_player.specs.declared.error.PlayerError.{PlayerError}
 use Rattle.rbg_player.specs.declared.stage.Stage.{Stage as CodeStage}
 use Rattle.rbg_player.specs.declared.stage.Stage.TheVariants.{Unnamed, Named, Seated, Playing, Ended, Failed}
 use Rattle.rbg_player.specs.Limits.{message_limit}
 use Rattle.rbg_player.specs.Players.{Stage, unnamed, named, seated, playing, ended, failed, AbstractPlayer}
-use Rattle.rbg_player.specs.Hearing.{Hears}
+use Rattle.rbg_player.specs.Hearing.{HasFault, Hears}
 use Rattle.rbg_player.specs.Streams.{IsReadAs}
 
 -- where the code's stage stands
@@ -28,6 +29,13 @@ pub record HearsAndSays (old : Stage) (message : AbstractMessage) (new : Stage) 
   pub said : List AbstractMessage
   pub hears : Hears old message new said
   pub told : after ≡ before ++ flat_map spelling said
+
+-- A message is heard so, or there is a fault, and then the bytes are as they were.
+pub record HearsOrFails (old : Stage) (message : AbstractMessage) (new : Stage) (before after : List ℕ)
+    (result : Result (Unit {0}) PlayerError) : Type 0 where
+  pub ok : OnOk result (HearsAndSays old message new before after)
+  pub fault : IfErr result (HasFault old message)
+  pub out : OnErr result (after ≡ before)
 
 -- An item is read as a message that is heard, and what is said stands behind the bytes that were there.
 pub record HearsItem (old : Stage) (item : Item) (new : Stage) (before after : List ℕ) : Type 0 where

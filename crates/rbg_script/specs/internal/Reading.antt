@@ -5,7 +5,7 @@ use Rattle.rbg_wire.specs.Bytes.{LacksByte}
 use Rattle.rbg_wire.specs.Lines.{line_feed}
 use Rattle.rbg_script.specs.declared.error.ScriptError.{ScriptError}
 use Rattle.rbg_script.specs.declared.error.ScriptError.TheVariants.{Line, Memory}
-use Rattle.rbg_script.specs.Events.{AbstractEvent, SpellsEvent}
+use Rattle.rbg_script.specs.Events.{AbstractEvent, AreNumbers, SpellsEvent, end_text}
 use Rattle.rbg_script.specs.Inputs.{mark}
 use Rattle.rbg_script.specs.Lines.{HasLines}
 use Rattle.rbg_script.specs.Scripts.{IsNoEvent}
@@ -15,6 +15,10 @@ use Rattle.rbg_script.specs.internal.Whole.{WholeSoFar}
 pub data BeginsWith (text line rest : List ℕ) : Type 0 where
   ended : LacksByte line_feed line → text ≡ line ++ line_feed ∷ rest → BeginsWith text line rest
   alone : LacksByte line_feed line → text ≡ line → rest ≡ [] → BeginsWith text line rest
+
+-- the text is the line of no end of a stream
+abbrev pub IsNoEnd : List ℕ → Type 0
+IsNoEnd text = (seat at : ℕ) → AreNumbers seat at → text ≡ end_text seat at → ⊥
 
 -- a line spells the event that is added, or it spells none and nothing is added
 pub data TakesLine (line : List ℕ) (old new : List AbstractEvent) : Bool → Type 0 where

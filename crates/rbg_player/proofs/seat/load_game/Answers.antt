@@ -2,7 +2,7 @@ use Rattle.std.proofs.Common.{◌≡◌, true, sym, ◌∙◌}
 use Rattle.std.proofs.lemmas.Bool.{true≢false}
 use Rattle.rbg_player.specs.declared.error.PlayerError.TheVariants.{Memory}
 use Rattle.rbg_player.specs.Hearing.{no_game, memory}
-use Rattle.rbg_player.proofs.HearingLemmas.{passed_on}
+use Rattle.rbg_base.proofs.Errors.{passed_on}
 use Rattle.rbg_player.proofs.seat.load_game.Goals as goal
 
 pub returns-then-is_memory-clause-fault : goal.returns-then-is_memory-clause-fault

@@ -1,12 +1,21 @@
 use Rattle.std.proofs.Common.{map, take}
 use Rattle.std.proofs.lemmas.List.{length-map}
 use Rattle.rbg_match.specs.Inputs.{event_of}
-use Rattle.rbg_referee.proofs.RefereedLemmas.{is_match_of, is_still_in_play}
+use Rattle.rbg_referee.proofs.RefereedLemmas.{refereed_with, is_still_in_play}
 use Rattle.rbg_referee.proofs.refereeing.go_on.Goals as goal
 
 pub returns-in-Ok-clause-played : goal.returns-in-Ok-clause-played
 returns-in-Ok-clause-played c = λ text config now opened.
-    is_match_of text config now (map event_of c.args.events.now) c.args.refereed.now c.handle_all.new.refereed c.args.outbox c.handle_all.new.outbox opened c.in-Ok.ensures.all (c.in-Ok.ensures.history c.requires.history)
+    let (refereed, of_play, of_game) = refereed_with text config now (map event_of c.args.events.now) c.args.refereed.now c.handle_all.new.refereed c.args.outbox c.handle_all.new.outbox opened c.in-Ok.ensures.all in record {
+      opened = c.args.refereed.now;
+      greeted = c.args.outbox;
+      opens = opened;
+      steps = c.in-Ok.ensures.all;
+      refereed = refereed;
+      of_game = of_game;
+      of_play = of_play;
+      history = c.in-Ok.ensures.history c.requires.history;
+    }
 
 pub returns-in-Err-clause-stopped : goal.returns-in-Err-clause-stopped
 returns-in-Err-clause-stopped c = λ text config now opened.

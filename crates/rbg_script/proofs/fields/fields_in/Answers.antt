@@ -8,17 +8,19 @@ returns-in_err-fields-clause-none c = rw c.from_residual.ensures (λ seat at res
 
 pub returns-in_err-seat-clause-none : goal.returns-in_err-seat-clause-none
 returns-in_err-seat-clause-none c =
-    rw c.from_residual-in_err-seat.ensures (λ seat at rest h. c.in_err-seat.ensures.none seat _ h.numbers.0 (behind_word _ _ _ seat at rest c.in_ok-fields.ensures.found h))
+    rw c.from_residual-in_err-seat.ensures (λ seat at rest h. c.in_err-seat.ensures.none seat _ (record { small = h.numbers.0; parts = behind_word _ _ _ seat at rest c.in_ok-fields.ensures.found h }))
 
 pub returns-in_err-at-clause-none : goal.returns-in_err-at-clause-none
 returns-in_err-at-clause-none c =
     let first = c.in_ok-seat.ensures.found in
     rw c.from_residual-in_err-at.ensures (λ seat at rest h.
-    c.in_err-at.ensures.none at rest h.numbers.1
-    (behind_first _ _ _ _ seat first.0 h.numbers.0 first.1 (behind_word _ _ _ seat at rest c.in_ok-fields.ensures.found h)))
+    c.in_err-at.ensures.none at rest (record {
+      small = h.numbers.1;
+      parts = behind_first _ _ _ _ seat first h.numbers.0 (behind_word _ _ _ seat at rest c.in_ok-fields.ensures.found h);
+    }))
 
 pub returns-clause-found : goal.returns-clause-found
 returns-clause-found c =
     let first = c.in_ok-seat.ensures.found in
     let second = c.in_ok-at.ensures.found in
-    has_fields _ _ _ _ _ _ _ first.0 second.0 c.in_ok-fields.ensures.found first.1 second.1
+    has_fields _ _ _ _ _ _ _ c.in_ok-fields.ensures.found first second

@@ -5,7 +5,8 @@ use Rattle.std.proofs.lemmas.List.{length-map, nil_from_length}
 use Rattle.rbg_script.specs.declared.error.ScriptError.TheVariants.{Memory as OutOfMemory}
 use Rattle.rbg_script.specs.Events.{event_of}
 use Rattle.rbg_script.specs.internal.Reading.{out_of_memory}
-use Rattle.rbg_script.proofs.ScriptLemmas.{all_read, passed_on, not_empty, read_more, stopped}
+use Rattle.rbg_base.proofs.Errors.{passed_on}
+use Rattle.rbg_script.proofs.ScriptLemmas.{all_read, not_empty, read_more, stopped}
 use Rattle.rbg_script.proofs.script.read_events.Goals as goal
 
 pub returns-in_err-take_line-clause-line : goal.returns-in_err-take_line-clause-line

@@ -1,6 +1,7 @@
 -- The first line is the config's, and the others are the events'.
 use Rattle.rbg_script.proofs.Apart.{no_config_here}
-use Rattle.rbg_script.proofs.ScriptLemmas.{bad_config, bad_event, passed_on, spells_script}
+use Rattle.rbg_base.proofs.Errors.{passed_on}
+use Rattle.rbg_script.proofs.ScriptLemmas.{bad_config, bad_event, spells_script}
 use Rattle.rbg_script.proofs.script.script_in.Goals as goal
 
 pub returns-in_default-clause-line : goal.returns-in_default-clause-line

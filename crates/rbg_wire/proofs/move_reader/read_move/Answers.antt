@@ -1,12 +1,6 @@
 -- The clauses, from the one result for each text.
-use Rattle.rbg_wire.specs.Reading.{SpellsMove}
-use Rattle.rbg_wire.proofs.PairLemmas.{one_move, reads_found, reads_only, reads_too_many, reads_malformed}
+use Rattle.rbg_wire.proofs.PairLemmas.{one_move, tells_pairs}
 use Rattle.rbg_wire.proofs.move_reader.read_move.Goals as goal
 
 pub returns : goal.returns
-returns c = record {
-  found = reads_found (SpellsMove c.args.text.now) (one_move c.args.text.now) c.move_of.result c.move_of.ensures;
-  only = reads_only (SpellsMove c.args.text.now) (one_move c.args.text.now) c.move_of.result c.move_of.ensures;
-  too_many = reads_too_many (SpellsMove c.args.text.now) (one_move c.args.text.now) c.move_of.result c.move_of.ensures;
-  malformed = reads_malformed (SpellsMove c.args.text.now) (one_move c.args.text.now) c.move_of.result c.move_of.ensures;
-}
+returns c = tells_pairs _ (one_move c.args.text.now) _ c.move_of.ensures

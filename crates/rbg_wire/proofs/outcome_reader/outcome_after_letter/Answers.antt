@@ -2,7 +2,7 @@
 use Rattle.std.proofs.Common.{length, arith, sym, ◌∙◌, ap}
 use Rattle.std.proofs.lemmas.Bool.{eqb-true, eqb-false}
 use Rattle.std.proofs.lemmas.List.{nil_from_length}
-use Rattle.rbg_wire.proofs.OutcomeLemmas.{no_outcome, no_empty_outcome, spells_finished, spells_time, spells_refusals, spells_gone, spells_heavy, spelled_after}
+use Rattle.rbg_wire.proofs.OutcomeLemmas.{no_outcome, no_empty_outcome, spells_finished, spells_heavy, spelled_after, of_player_found, of_player_none}
 use Rattle.rbg_wire.proofs.outcome_reader.outcome_after_letter.Goals as goal
 
 pub returns-in_err-kind-clause-none : goal.returns-in_err-kind-clause-none
@@ -15,39 +15,9 @@ returns-in_err-scores_in-in-48-clause-none c =
     (λ scores e h. c.in_err-scores_in-in-48.ensures.none scores h)
     (λ player e h. absurd (omega arith)) (λ player e h. absurd (omega arith)) (λ player e h. absurd (omega arith)) (λ e h. absurd (omega arith)))
 
-pub returns-in_err-player_in-in-49-clause-none : goal.returns-in_err-player_in-in-49-clause-none
-returns-in_err-player_in-in-49-clause-none c =
-    let is = c.in-49.is in
-    rw c.from_residual-in_err-player_in-in-49.ensures (no_outcome _ _ _ c.in_ok-kind.ensures.cases.0
-    (λ scores e h. absurd (omega arith)) (λ player e h. c.in_err-player_in-in-49.ensures.none player h) (λ player e h. absurd (omega arith)) (λ player e h. absurd (omega arith)) (λ e h. absurd (omega arith)))
-
-pub returns-in_err-player_in-in-50-clause-none : goal.returns-in_err-player_in-in-50-clause-none
-returns-in_err-player_in-in-50-clause-none c =
-    let is = c.in-50.is in
-    rw c.from_residual-in_err-player_in-in-50.ensures (no_outcome _ _ _ c.in_ok-kind.ensures.cases.0
-    (λ scores e h. absurd (omega arith)) (λ player e h. absurd (omega arith)) (λ player e h. c.in_err-player_in-in-50.ensures.none player h) (λ player e h. absurd (omega arith)) (λ e h. absurd (omega arith)))
-
-pub returns-in_err-player_in-in-51-clause-none : goal.returns-in_err-player_in-in-51-clause-none
-returns-in_err-player_in-in-51-clause-none c =
-    let is = c.in-51.is in
-    rw c.from_residual-in_err-player_in-in-51.ensures (no_outcome _ _ _ c.in_ok-kind.ensures.cases.0
-    (λ scores e h. absurd (omega arith)) (λ player e h. absurd (omega arith)) (λ player e h. absurd (omega arith)) (λ player e h. c.in_err-player_in-in-51.ensures.none player h) (λ e h. absurd (omega arith)))
-
 pub returns-in_ok-scores_in-in-48-clause-found : goal.returns-in_ok-scores_in-in-48-clause-found
 returns-in_ok-scores_in-in-48-clause-found c =
     spelled_after _ _ _ _ _ c.in_ok-kind.ensures.cases.0 c.in-48.is (spells_finished _ _ c.in_ok-scores_in-in-48.ensures.found)
-
-pub returns-in_ok-player_in-in-49-clause-found : goal.returns-in_ok-player_in-in-49-clause-found
-returns-in_ok-player_in-in-49-clause-found c =
-    spelled_after _ _ _ _ _ c.in_ok-kind.ensures.cases.0 c.in-49.is (spells_time _ _ c.in_ok-player_in-in-49.ensures.found)
-
-pub returns-in_ok-player_in-in-50-clause-found : goal.returns-in_ok-player_in-in-50-clause-found
-returns-in_ok-player_in-in-50-clause-found c =
-    spelled_after _ _ _ _ _ c.in_ok-kind.ensures.cases.0 c.in-50.is (spells_refusals _ _ c.in_ok-player_in-in-50.ensures.found)
-
-pub returns-in_ok-player_in-in-51-clause-found : goal.returns-in_ok-player_in-in-51-clause-found
-returns-in_ok-player_in-in-51-clause-found c =
-    spelled_after _ _ _ _ _ c.in_ok-kind.ensures.cases.0 c.in-51.is (spells_gone _ _ c.in_ok-player_in-in-51.ensures.found)
 
 pub returns-then-is_empty-clause-found : goal.returns-then-is_empty-clause-found
 returns-then-is_empty-clause-found c =
@@ -60,8 +30,18 @@ returns-else-is_empty-clause-none c =
     (λ scores e h. absurd (omega arith)) (λ player e h. absurd (omega arith)) (λ player e h. absurd (omega arith)) (λ player e h. absurd (omega arith))
     (λ e h. eqb-false _ _ (sym c.is_empty.ensures ∙ c.if-is_empty.false) (ap length h))
 
-pub returns-in_default-clause-none : goal.returns-in_default-clause-none
-returns-in_default-clause-none c =
+pub returns-in_err-player_in-in_default-clause-none : goal.returns-in_err-player_in-in_default-clause-none
+returns-in_err-player_in-in_default-clause-none c =
     let others = c.in_default in
-    no_outcome _ _ _ c.in_ok-kind.ensures.cases.0
-    (λ scores e h. absurd (omega arith)) (λ player e h. absurd (omega arith)) (λ player e h. absurd (omega arith)) (λ player e h. absurd (omega arith)) (λ e h. absurd (omega arith))
+    let none = c.in_err-player_in-in_default.ensures.none in
+    rw c.from_residual-in_err-player_in-in_default.ensures (no_outcome _ _ _ c.in_ok-kind.ensures.cases.0
+    (λ scores e h. absurd (omega arith)) (λ player e h. none player h) (λ player e h. none player h) (λ player e h. none player h) (λ e h. absurd (omega arith)))
+
+pub returns-in_ok-player_in-in_default-clause-found : goal.returns-in_ok-player_in-in_default-clause-found
+returns-in_ok-player_in-in_default-clause-found c =
+    of_player_found _ _ _ _ _ c.in_ok-kind.ensures.cases.0 c.in_ok-player_in-in_default.ensures.found c.of_player.ensures.found
+
+pub returns-in_ok-player_in-in_default-clause-none : goal.returns-in_ok-player_in-in_default-clause-none
+returns-in_ok-player_in-in_default-clause-none c =
+    let others = c.in_default in
+    of_player_none _ _ _ _ c.in_ok-kind.ensures.cases.0 (λ e. absurd (omega arith)) (λ e. absurd (omega arith)) c.of_player.ensures.none

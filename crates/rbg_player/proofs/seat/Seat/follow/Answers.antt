@@ -1,6 +1,7 @@
 use Rattle.rbg_player.specs.Hearing.{illegal}
 use Rattle.rbg_player.specs.internal.Sitting.{error_of}
-use Rattle.rbg_player.proofs.HearingLemmas.{passed_on, try_fault}
+use Rattle.rbg_base.proofs.Errors.{passed_on}
+use Rattle.rbg_player.proofs.HearingLemmas.{try_fault}
 use Rattle.rbg_player.proofs.seat.Seat.follow.Goals as goal
 
 pub returns-in_err-to-clause-fault : goal.returns-in_err-to-clause-fault

@@ -1,5 +1,6 @@
 use Rattle.rbg_player.specs.internal.Sitting.{error_of}
-use Rattle.rbg_player.proofs.HearingLemmas.{passed_on, unanswered}
+use Rattle.rbg_base.proofs.Errors.{passed_on}
+use Rattle.rbg_player.proofs.HearingLemmas.{unanswered}
 use Rattle.rbg_player.proofs.seat.Seat.list_moves.Goals as goal
 
 pub returns-in_err-listed-clause-fault : goal.returns-in_err-listed-clause-fault

@@ -2,7 +2,8 @@ use Rattle.std.proofs.Common.{refl}
 use Rattle.std.proofs.lemmas.Bool.{false≢true}
 use Rattle.rbg_player.specs.declared.error.PlayerError.TheVariants.{Memory}
 use Rattle.rbg_player.specs.Hearing.{no_player, memory}
-use Rattle.rbg_player.proofs.HearingLemmas.{passed_on, sits}
+use Rattle.rbg_base.proofs.Errors.{passed_on}
+use Rattle.rbg_player.proofs.HearingLemmas.{sits}
 use Rattle.rbg_player.proofs.seat.Seat.new.Goals as goal
 
 pub returns-then-not-has_player-clause-fault : goal.returns-then-not-has_player-clause-fault

@@ -1,7 +1,7 @@
 //! Arithmetic in actions: values, bounds, counts of pieces, and both ends of 64 bits.
 ghost use Rattle.rbg_rules.specs.State.{IsStateOf};
 
-use rbg_base::Position;
+use crate::tests::states::act;
 use rbg_game::load;
 use rbg_rules::Game;
 use rbg_state::{Applied, SemiState};
@@ -50,18 +50,7 @@ const RULES: [(&[u8], &[bool]); 8] = [
     ),
 ];
 
-/// Applies the action at a position of the game, and tells whether it is valid.
-fn is_valid(rt: &impl Abort, state: &mut SemiState, game: &Game, position: Position) -> bool
-    requires { IsStateOf game.now state.old.state }
-    ensures { IsStateOf game.now state.new.state }
-{
-    assert!(rt; 0 < position && (position as usize) <= game.positions());
-    assert!(rt; !game.is_pattern(position));
-    assert!(rt; 0 < state.room());
-    state.apply(game, position) == Applied::Valid
-}
-
-/// Applies the actions of the game one after the other.
+/// Applies the actions of the game one after the other, and compares which of them are valid.
 fn apply_all(rt: &impl Abort, state: &mut SemiState, game: &Game, valid: &[bool])
     requires { IsStateOf game.now state.old.state }
 {
@@ -70,7 +59,7 @@ fn apply_all(rt: &impl Abort, state: &mut SemiState, game: &Game, valid: &[bool]
         assert!(rt; position < 100);
         position += 1;
         assert_eq!(rt;
-            is_valid(rt, state, game, position),
+            act(rt, state, game, position) == Applied::Valid,
             *expected,
             "at {position}"
         );

@@ -1,6 +1,7 @@
 //! Which moves are listed of small games, in which order, and where the list is cut.
 ghost use Rattle.std.specs.Prelude.{◌<◌};
 
+use crate::tests::playing::ENDLESS;
 use rbg_auto::compact;
 use rbg_base::{Position, Vertex};
 use rbg_game::load;
@@ -23,14 +24,7 @@ const ROW: &[u8] = b"#players = white(100), black(100)
 #rules = ({e} [w] right)* ->white
 ";
 
-/// An off that may be repeated for ever, and a switch.
-const ENDLESS: &[u8] = b"#players = white(100), black(100)
-#pieces = e, w
-#board = rectangle(up,down,left,right,[e])
-#rules = [w]* ->white
-";
-
-/// The same once white is to move, and then no move at all.
+/// An off that may be repeated for ever once white is to move, and then no move at all.
 const DEEPEST: &[u8] = b"#players = white(100), black(100)
 #pieces = e, w
 #board = rectangle(up,down,left,right,[e])

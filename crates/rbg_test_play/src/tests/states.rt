@@ -23,7 +23,12 @@ const ENDS: &[u8] = b"#players = white(100), black(100)
 ";
 
 /// Applies the action at a position of the game.
-fn act(rt: &impl Abort, state: &mut SemiState, game: &Game, position: Position) -> Applied
+pub(crate) fn act(
+    rt: &impl Abort,
+    state: &mut SemiState,
+    game: &Game,
+    position: Position,
+) -> Applied
     requires { IsStateOf game.now state.old.state }
     ensures { IsStateOf game.now state.new.state }
 {

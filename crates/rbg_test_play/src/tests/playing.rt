@@ -8,7 +8,7 @@ use std::process::Abort;
 use std::test::Fail;
 
 /// An off that may be repeated for ever (position 1), and a switch (2).
-const ENDLESS: &[u8] = b"#players = white(100), black(100)
+pub(crate) const ENDLESS: &[u8] = b"#players = white(100), black(100)
 #pieces = e, w
 #board = rectangle(up,down,left,right,[e])
 #rules = [w]* ->white

@@ -1,0 +1,7 @@
+//! The tests, by subject.
+mod list;
+mod moves;
+mod played;
+mod playing;
+mod states;
+mod values;
