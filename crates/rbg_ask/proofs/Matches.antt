@@ -5,10 +5,7 @@ use Rattle.std.proofs.lemmas.Option.{slice_get_within, get_or_from_slice_get}
 use Rattle.std.proofs.lemmas.List.{length-append}
 use Rattle.std.proofs.lemmas.List.Elements.{All-head, All-tail}
 use Rattle.std.proofs.lemmas.List.Sums.{sum_by-append}
-use Rattle.rbg_rules.specs.State.{AbstractGame}
-use Rattle.rbg_rules.specs.Moves.{AbstractPlace, Legal, IsLegal, Finished}
-use Rattle.rbg_rules.specs.Questions.{list_moves}
-use Rattle.rbg_rules.specs.Heavy.{IsTooHard}
+use Rattle.rbg_rules.specs.Meaning.{AbstractGame, AbstractPlace, Legal, IsLegal, Finished, list_moves, IsTooHard}
 use Rattle.rbg_search.specs.declared.over.Over.{Over as AnyOver}
 use Rattle.rbg_search.specs.declared.over.Over.TheVariants.{Deep, Wide, Memory as OverMemory}
 use Rattle.rbg_moves.specs.Listing.{IsGathered}

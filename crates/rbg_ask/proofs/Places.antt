@@ -3,9 +3,7 @@ use Rattle.std.proofs.Common.{◌≡◌, ℕ, ◌+◌, ◌-◌, ◌<◌, ◌⊎�
 use Rattle.std.proofs.lemmas.List.{take-append-drop, length-drop}
 use Rattle.std.proofs.lemmas.List.Elements.{All-head, All-tail, All-nil, All-cons, All-append}
 use Rattle.rbg_base.proofs.CallerLemmas.{slice_get-append_right}
-use Rattle.rbg_rules.specs.State.{AbstractGame}
-use Rattle.rbg_rules.specs.Moves.{AbstractPlace, Legal, Finished}
-use Rattle.rbg_rules.specs.Places.{IsPlaceOf}
+use Rattle.rbg_rules.specs.Meaning.{AbstractGame, AbstractPlace, Legal, Finished, IsPlaceOf}
 use Rattle.rbg_moves.specs.Settling.{Settles}
 use Rattle.rbg_ask.specs.Sessions.{HasLedTo, at_start, by_move, Leads, beginning_of, AbstractSession}
 use Rattle.rbg_ask.specs.Answering.{GoesBack}

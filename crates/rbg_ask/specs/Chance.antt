@@ -1,10 +1,7 @@
 -- Matches that are played by chance from a place, and how many of them end in which way.
 use Rattle.std.specs.Prelude.{◌≡◌, ◌≢◌, ℕ, ◌<◌, List, [], ◌∷◌, ◌++◌, length, take, map, All, AllPairs, Option, Some, None}
 use Rattle.std.specs.List.{sum_by}
-use Rattle.rbg_rules.specs.State.{AbstractGame}
-use Rattle.rbg_rules.specs.Moves.{AbstractPlace, Legal, Finished}
-use Rattle.rbg_rules.specs.Heavy.{IsTooHard}
-use Rattle.rbg_rules.specs.Questions.{list_moves}
+use Rattle.rbg_rules.specs.Meaning.{AbstractGame, AbstractPlace, Legal, Finished, IsTooHard, list_moves}
 use Rattle.rbg_moves.specs.Settling.{IsEndless, MeetsHeavy}
 use Rattle.rbg_ask.specs.declared.refusal.Refusal.{Refusal}
 use Rattle.rbg_ask.specs.declared.refusal.Refusal.TheVariants.{Over, Keeper, Memory}

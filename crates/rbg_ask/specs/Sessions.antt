@@ -1,7 +1,6 @@
 -- A session: the places that play has reached.
 use Rattle.std.specs.Prelude.{ℕ, List, [], ◌∷◌, ◌++◌, None}
-use Rattle.rbg_rules.specs.State.{AbstractGame, start_of}
-use Rattle.rbg_rules.specs.Moves.{AbstractPlace, Legal}
+use Rattle.rbg_rules.specs.Meaning.{AbstractGame, start_of, AbstractPlace, Legal}
 use Rattle.rbg_moves.specs.Settling.{Settles}
 
 -- A session: its game, the place that play has reached, and the places before it, from each of which a move of a player

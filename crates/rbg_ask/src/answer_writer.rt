@@ -133,7 +133,8 @@ fn put_standing(standing: &Standing, out: &mut Vec<u8>) -> Result<(), Memory>
     }
 }
 
-fn put_scores(scores: &[u64], out: &mut Vec<u8>) -> Result<(), Memory>
+/// Appends each score, with a space before it.
+pub fn put_scores(scores: &[u64], out: &mut Vec<u8>) -> Result<(), Memory>
     ensures { Appends out.old.items out.new.items (numbers_text scores.now) result }
 {
     for score in scores {

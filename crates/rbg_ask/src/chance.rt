@@ -1,6 +1,6 @@
 //! Matches that are played by chance.
 ghost use Rattle.std.specs.Prelude.{◌≡◌, ◌<◌, IfErr, IfOk, OnOk, map};
-ghost use Rattle.rbg_rules.specs.Places.{IsPlaceOf};
+ghost use Rattle.rbg_rules.specs.Meaning.{IsPlaceOf};
 ghost use Rattle.rbg_ask.specs.Chance.{AreTallied, Ends, IsUnmoved, IsUnplayed, counted_by, scores_of};
 ghost use Rattle.rbg_ask.specs.Limits.{IsCount};
 ghost use Rattle.rbg_ask.specs.internal.Moving.{IsPlayedTo, MovesOn};

@@ -14,7 +14,8 @@ mod stepping;
 mod tally;
 
 pub use answer_writer::{
-    write_board, write_matches, write_moves, write_refusal, write_standing, write_values,
+    put_scores, write_board, write_matches, write_moves, write_refusal, write_standing,
+    write_values,
 };
 pub use chance::{MAX_PLAYED, play_matches};
 pub use names_writer::write_names;

@@ -8,6 +8,7 @@ ghost use Rattle.rbg_ask.specs.Answers.{standing_answer, to_move};
 ghost use Rattle.rbg_ask.specs.Limits.{longest_line};
 ghost use Rattle.rbg_ask.specs.Questions.{QuestionHasSpelling};
 ghost use Rattle.rbg_ask.specs.Sessions.{AbstractSession, HasLedTo, beginning_of};
+ghost use Rattle.rbg_ask.specs.internal.Codes.{coded_session};
 ghost use Rattle.rbg_ask.specs.internal.Places.{AreReached};
 ghost use Rattle.rbg_ask.specs.internal.Telling.{Tells};
 
@@ -40,6 +41,16 @@ pub struct Session {
     workspace: Workspace,
 }
 
+impl Model for Session {
+    ghost Value = { AbstractSession };
+
+    ghost coded = { coded_session };
+
+    ghost view = { λ s. record { game = s.game; before = s.before.items; place = s.place } };
+
+    ghost invariant = { λ s. AreReached s.game s.before.items s.place };
+}
+
 /// Written out, so that letting a session go is one call in the proofs of those who hold one, not a step for each part.
 impl Drop for Session {
     fn drop(self) {
@@ -51,22 +62,6 @@ impl Drop for Session {
             workspace: _,
         } = self;
     }
-}
-
-impl Model for Session {
-    ghost use Rattle.rbg_ask.specs.Sessions.{AbstractSession};
-
-    ghost Value = { AbstractSession };
-
-    ghost use Rattle.rbg_ask.specs.internal.Codes.{coded_session};
-
-    ghost coded = { coded_session };
-
-    ghost view = { λ s. record { game = s.game; before = s.before.items; place = s.place } };
-
-    ghost use Rattle.rbg_ask.specs.internal.Places.{AreReached};
-
-    ghost invariant = { λ s. AreReached s.game s.before.items s.place };
 }
 
 /// The place to which the keeper's first moves lead.

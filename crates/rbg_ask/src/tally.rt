@@ -21,9 +21,9 @@ pub enum Ending {
 #[derive(Drop)]
 pub(crate) struct Played {
     /// How it ended.
-    pub(crate) ending: Ending,
+    pub ending: Ending,
     /// How many moves the players made.
-    pub(crate) moves: u64,
+    pub moves: u64,
 }
 
 /// How many matches ended in one way.

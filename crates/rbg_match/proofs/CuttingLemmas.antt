@@ -7,7 +7,7 @@ use Rattle.std.proofs.Math.Nat.{max-eq_left, le-max_right}
 use Rattle.std.proofs.lemmas.List.{append-nil, length-set, get_or-set_same, map-append}
 use Rattle.rbg_wire.specs.Streams.{Rest, incomplete, Cut, cut, after_items}
 use Rattle.rbg_wire.proofs.CutLemmas.{cut-append}
-use Rattle.rbg_rules.specs.State.{AbstractGame}
+use Rattle.rbg_rules.specs.Meaning.{AbstractGame}
 use Rattle.rbg_match.specs.declared.config.Config.{Config}
 use Rattle.rbg_match.specs.Deliveries.{Delivery}
 use Rattle.rbg_match.specs.Handling.{AbstractInput, tick, sent}

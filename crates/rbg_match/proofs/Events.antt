@@ -3,7 +3,7 @@ use Rattle.std.proofs.Common.{◌≡◌, ℕ, ◌-◌, ◌<◌, Bool, true, fals
 use Rattle.std.specs.Prelude.{◌&&◌, nat_le}
 use Rattle.std.proofs.lemmas.List.{append-nil, get_or-map, map-set, length-map}
 use Rattle.rbg_wire.specs.Streams.{Rest, Stream, incomplete, Cut, cut}
-use Rattle.rbg_rules.specs.State.{AbstractGame}
+use Rattle.rbg_rules.specs.Meaning.{AbstractGame}
 use Rattle.rbg_match.specs.declared.config.Config.{Config}
 use Rattle.rbg_match.specs.Limits.{message_limit}
 use Rattle.rbg_match.specs.Deliveries.{Delivery}

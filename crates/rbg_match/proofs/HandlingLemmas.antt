@@ -4,7 +4,7 @@ use Rattle.std.proofs.lemmas.Bool.{false≢true, true≢false}
 use Rattle.rbg_wire.specs.declared.message.Reason.{Reason}
 use Rattle.rbg_wire.specs.declared.outcome.Outcome.TheVariants.{Refusals}
 use Rattle.rbg_wire.specs.Messages.{end_message, refusal_message}
-use Rattle.rbg_rules.specs.State.{AbstractGame}
+use Rattle.rbg_rules.specs.Meaning.{AbstractGame}
 use Rattle.rbg_match.specs.declared.config.Config.{Config}
 use Rattle.rbg_match.specs.Deliveries.{Delivery, to_each, to_seat}
 use Rattle.rbg_match.specs.Play.{AbstractPlay, ended, refusals_of, refused}

@@ -10,9 +10,7 @@ use Rattle.rbg_wire.specs.declared.outcome.Outcome.{Outcome}
 use Rattle.rbg_wire.specs.declared.outcome.Outcome.TheVariants.{Heavy}
 use Rattle.rbg_wire.specs.Messages.{move_message, end_message}
 use Rattle.rbg_wire.proofs.PairLemmas.{one_move}
-use Rattle.rbg_rules.specs.Positions.{IsNumbered}
-use Rattle.rbg_rules.specs.State.{AbstractGame}
-use Rattle.rbg_rules.specs.Moves.{AbstractPlace, Legal}
+use Rattle.rbg_rules.specs.Meaning.{IsNumbered, AbstractGame, AbstractPlace, Legal}
 use Rattle.rbg_rules.proofs.PlaceLemmas.{one_place_law}
 use Rattle.rbg_match.specs.declared.config.Config.{Config}
 use Rattle.rbg_match.specs.declared.made.Made.{Made}

@@ -1,7 +1,7 @@
 -- What one event changes in a match.
 use Rattle.std.proofs.Common.{◌≡◌, ℕ, true, false, List, [], ◌∷◌, is_some, refl, sym, ◌∙◌}
 use Rattle.std.proofs.lemmas.Option.{none-some}
-use Rattle.rbg_rules.specs.State.{AbstractGame}
+use Rattle.rbg_rules.specs.Meaning.{AbstractGame}
 use Rattle.rbg_match.specs.declared.config.Config.{Config}
 use Rattle.rbg_match.specs.Play.{AbstractPlay}
 use Rattle.rbg_match.specs.Inputs.{TimedInput, AbstractEvent, timed_inputs_in}

@@ -1,6 +1,6 @@
 -- Other inputs that are handled the same have the same transcript.
 use Rattle.std.proofs.Common.{ℕ, List}
-use Rattle.rbg_rules.specs.State.{AbstractGame}
+use Rattle.rbg_rules.specs.Meaning.{AbstractGame}
 use Rattle.rbg_match.specs.declared.config.Config.{Config}
 use Rattle.rbg_match.specs.Deliveries.{Delivery}
 use Rattle.rbg_match.specs.Inputs.{TimedInput}

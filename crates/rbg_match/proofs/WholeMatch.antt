@@ -1,7 +1,7 @@
 -- A match that opens and handles events in turn has a transcript.
 use Rattle.std.proofs.Common.{◌≡◌, ℕ, List, [], ◌++◌, length, refl, sym, ap, ◌∙◌, subst, replicate}
 use Rattle.std.proofs.lemmas.List.{length-replicate}
-use Rattle.rbg_rules.specs.State.{AbstractGame}
+use Rattle.rbg_rules.specs.Meaning.{AbstractGame}
 use Rattle.rbg_match.specs.declared.config.Config.{Config}
 use Rattle.rbg_match.specs.Deliveries.{Delivery, queued, delivered}
 use Rattle.rbg_match.specs.PlayingOn.{seats_of}

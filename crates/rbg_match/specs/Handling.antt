@@ -7,11 +7,9 @@ use Rattle.rbg_wire.specs.declared.outcome.Outcome.TheVariants.{Time, Refusals, 
 use Rattle.rbg_wire.specs.Messages.{move_message, refusal_message, end_message}
 use Rattle.rbg_wire.specs.Reading.{SpellsMove}
 use Rattle.rbg_wire.specs.Streams.{Item, complete, too_long}
-use Rattle.rbg_rules.specs.State.{AbstractGame}
-use Rattle.rbg_rules.specs.Moves.{AbstractPlace, Legal}
+use Rattle.rbg_rules.specs.Meaning.{AbstractGame, AbstractPlace, Legal, IsHeavyToTry}
 use Rattle.rbg_match.specs.declared.config.Config.{Config}
 use Rattle.rbg_match.specs.Deliveries.{Delivery, to_seat, to_each, to_others}
-use Rattle.rbg_rules.specs.Heavy.{IsHeavyToTry}
 use Rattle.rbg_base.specs.Move.{most_pairs}
 use Rattle.rbg_match.specs.Play.{AbstractPlay, mover_of, due_of, refusals_of, ended, moved, refused}
 use Rattle.rbg_match.specs.PlayingOn.{PlaysOn, seats_of}

@@ -17,8 +17,7 @@ use Rattle.std.specs.Prelude.{
   None,
 }
 use Rattle.rbg_wire.specs.declared.outcome.Outcome.{Outcome}
-use Rattle.rbg_rules.specs.State.{AbstractGame, start_of}
-use Rattle.rbg_rules.specs.Moves.{AbstractPlace}
+use Rattle.rbg_rules.specs.Meaning.{AbstractGame, start_of, AbstractPlace}
 use Rattle.rbg_match.specs.declared.config.Config.{Config}
 use Rattle.rbg_match.specs.declared.made.Made.{Made}
 

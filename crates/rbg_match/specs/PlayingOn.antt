@@ -2,11 +2,9 @@
 use Rattle.std.specs.Prelude.{◌≡◌, ◌≢◌, ℕ, suc, ◌<◌, ◌≤◌, List, [], ◌++◌, length}
 use Rattle.rbg_wire.specs.declared.outcome.Outcome.TheVariants.{Finished, Heavy}
 use Rattle.rbg_wire.specs.Messages.{move_message, end_message}
-use Rattle.rbg_rules.specs.State.{AbstractGame}
-use Rattle.rbg_rules.specs.Moves.{AbstractPlace, Legal}
+use Rattle.rbg_rules.specs.Meaning.{AbstractGame, AbstractPlace, Legal, IsHeavyToFind}
 use Rattle.rbg_rules.specs.Moves as moves
 use Rattle.rbg_match.specs.Deliveries.{Delivery, to_each}
-use Rattle.rbg_rules.specs.Heavy.{IsHeavyToFind}
 use Rattle.rbg_moves.specs.Limits.{most_keeper_moves}
 use Rattle.rbg_base.specs.Move.{most_pairs}
 use Rattle.rbg_match.specs.Play.{AbstractPlay, mover_of, scores_of, ended, moved, turn_begun}

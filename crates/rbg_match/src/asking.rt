@@ -1,9 +1,7 @@
 //! The questions that play asks of the rules.
 ghost use Rattle.std.specs.Prelude.{◌≡◌, ◌⊎◌, length, IfErr, IfNone, IfOk, IfSome};
 ghost use Rattle.rbg_base.specs.Move.{IsMoveLength};
-ghost use Rattle.rbg_rules.specs.Heavy.{IsHeavyToFind, IsHeavyToTry};
-ghost use Rattle.rbg_rules.specs.Moves.{AbstractPlace, Finished, IsLegal, Legal};
-ghost use Rattle.rbg_rules.specs.Places.{IsPlaceOf};
+ghost use Rattle.rbg_rules.specs.Meaning.{IsHeavyToFind, IsHeavyToTry, AbstractPlace, Finished, IsLegal, Legal, IsPlaceOf};
 ghost use Rattle.rbg_wire.specs.Messages.{ArePairs};
 
 use rbg_base::Pair;

@@ -30,18 +30,6 @@ pub struct Match {
     failed: bool,
 }
 
-/// Written out, so that letting a match go is one call in the proofs of those who hold one, not a step for each part.
-impl Drop for Match {
-    fn drop(self) {
-        let Match {
-            referee: _,
-            began: _,
-            inboxes: _,
-            failed: _,
-        } = self;
-    }
-}
-
 impl Model for Match {
     ghost use Rattle.rbg_match.specs.Matches.{MatchState};
 
@@ -65,6 +53,18 @@ impl Model for Match {
     ghost use Rattle.rbg_match.specs.internal.Playable.{IsMatch};
 
     ghost invariant = { λ m. IsMatch m.referee.game m.inboxes.items m.failed };
+}
+
+/// Written out, so that letting a match go is one call in the proofs of those who hold one, not a step for each part.
+impl Drop for Match {
+    fn drop(self) {
+        let Match {
+            referee: _,
+            began: _,
+            inboxes: _,
+            failed: _,
+        } = self;
+    }
 }
 
 impl Match {
@@ -91,8 +91,7 @@ impl Match {
     ghost use Rattle.rbg_match.specs.Inputs.{IsTickAlone, counted, moment_of};
     ghost use Rattle.rbg_moves.specs.Answers.{ListsMoves};
     ghost use Rattle.rbg_moves.specs.Listing.{IsListed};
-    ghost use Rattle.rbg_rules.specs.Games.{IsGame};
-    ghost use Rattle.rbg_rules.specs.Places.{IsPlaceOf};
+    ghost use Rattle.rbg_rules.specs.Meaning.{IsGame, IsPlaceOf};
     ghost use Rattle.rbg_match.specs.Play.{due_of, refusals_of};
     ghost use Rattle.rbg_match.specs.Matches.{HasHistory, Opens, Steps};
     ghost use Rattle.rbg_wire.specs.declared.outcome.Outcome.{Outcome};

@@ -7,19 +7,32 @@ use rbg_wire::Outcome;
 use std::mem::replace;
 
 /// The state of play. Contracts see it by `play_of`.
-#[derive(Drop)]
 pub(crate) struct Play {
-    pub(crate) place: Place,
+    pub place: Place,
     /// The moment when the turn began.
-    pub(crate) turn_began: u64,
+    pub turn_began: u64,
     /// How many messages of each seat were refused, seat 1 first.
-    pub(crate) refusals: Vec<u32>,
+    pub refusals: Vec<u32>,
     /// The moves so far.
-    pub(crate) made: Vec<Made>,
+    pub made: Vec<Made>,
     /// How the match ended, once it has.
-    pub(crate) outcome: Option<Outcome>,
+    pub outcome: Option<Outcome>,
     /// What the questions of play leave to later ones. Contracts don't see it.
-    pub(crate) workspace: Workspace,
+    pub workspace: Workspace,
+}
+
+/// Written out, so that letting a state of play go is one call in the proofs of those who hold one, not a step for each part.
+impl Drop for Play {
+    fn drop(self) {
+        let Play {
+            place: _,
+            turn_began: _,
+            refusals: _,
+            made: _,
+            outcome: _,
+            workspace: _,
+        } = self;
+    }
 }
 
 impl Play {

@@ -10,15 +10,14 @@ use std::marker::Model;
 use std::mem::swap;
 
 /// The referee of a match: what it judges by, how play stands, and what it has to say.
-#[derive(Drop)]
 pub(crate) struct Referee {
-    pub(crate) game: PlayedGame,
-    pub(crate) config: Config,
+    pub game: PlayedGame,
+    pub config: Config,
     /// The greatest counted moment, in milliseconds.
-    pub(crate) moment: u64,
-    pub(crate) play: Play,
+    pub moment: u64,
+    pub play: Play,
     /// The outbox of the call at hand. Between two calls it is one in which nothing is queued.
-    pub(crate) outbox: Outbox,
+    pub outbox: Outbox,
 }
 
 impl Model for Referee {
@@ -41,6 +40,19 @@ impl Model for Referee {
     } };
 
     ghost invariant = { λ r. IsReferee r.game r.config r.moment (play_of r.play) r.outbox };
+}
+
+/// Written out, so that letting a referee go is one call in the proofs of those who hold one, not a step for each part.
+impl Drop for Referee {
+    fn drop(self) {
+        let Referee {
+            game: _,
+            config: _,
+            moment: _,
+            play: _,
+            outbox: _,
+        } = self;
+    }
 }
 
 impl Referee {

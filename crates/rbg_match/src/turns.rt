@@ -1,8 +1,7 @@
 //! How play goes on, until a player is to move or the match has ended.
 ghost use Rattle.std.specs.Prelude.{◌≡◌, ◌⊎◌, length, take};
 ghost use Rattle.rbg_base.specs.Move.{IsMoveLength};
-ghost use Rattle.rbg_rules.specs.Moves.{IsLegal, Legal};
-ghost use Rattle.rbg_rules.specs.Places.{IsPlaceOf};
+ghost use Rattle.rbg_rules.specs.Meaning.{IsLegal, Legal, IsPlaceOf};
 ghost use Rattle.rbg_wire.specs.Messages.{ArePairs, OutcomeHasSpelling, end_message};
 ghost use Rattle.rbg_match.specs.Deliveries.{to_others};
 ghost use Rattle.rbg_match.specs.Play.{ended, scores_of, turn_begun};

@@ -2,10 +2,7 @@
 use Rattle.std.proofs.Common.{◌≡◌, ℕ, List, [], length, subst, arith, Bool, true, false, refl, sym, Option, Some, None}
 use Rattle.std.specs.Prelude.{Contains, IfSome, IfNone}
 use Rattle.std.proofs.lemmas.List.Elements.{All-nil, All-contains}
-use Rattle.rbg_rules.specs.State.{AbstractGame}
-use Rattle.rbg_rules.specs.Games.{IsGame}
-use Rattle.rbg_rules.specs.Moves.{AbstractPlace, IsLegal, Finished}
-use Rattle.rbg_rules.specs.Places.{IsPlaceOf}
+use Rattle.rbg_rules.specs.Meaning.{AbstractGame, IsGame, AbstractPlace, IsLegal, Finished, IsPlaceOf}
 use Rattle.rbg_moves.specs.Listing.{IsListed}
 use Rattle.rbg_base.specs.Move.{IsMoveLength}
 use Rattle.rbg_spelling.proofs.LegalPairs.{legal_spelled}

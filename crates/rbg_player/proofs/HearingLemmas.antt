@@ -9,10 +9,7 @@ use Rattle.rbg_wire.specs.declared.outcome.Outcome.{Outcome}
 use Rattle.rbg_wire.specs.Messages.{AbstractMessage, who_message, game_message, limits_message, move_message, refusal_message, end_message, join_message, spelling}
 use Rattle.rbg_wire.specs.Reading.{SpellsMessage, HasFewPairs}
 use Rattle.rbg_wire.specs.Streams.{complete}
-use Rattle.rbg_rules.specs.State.{AbstractGame, start_of}
-use Rattle.rbg_rules.specs.Moves.{AbstractPlace, IsLegal}
-use Rattle.rbg_rules.specs.Questions.{list_moves}
-use Rattle.rbg_rules.specs.Heavy.{IsHeavyToTry, IsTooHard}
+use Rattle.rbg_rules.specs.Meaning.{AbstractGame, start_of, AbstractPlace, IsLegal, list_moves, IsHeavyToTry, IsTooHard}
 use Rattle.rbg_search.specs.declared.over.Over.{Over}
 use Rattle.rbg_search.specs.declared.over.Over.TheVariants.{Deep, Wide, Memory}
 use Rattle.rbg_game.specs.Loading.{Loads}

@@ -2,8 +2,7 @@
 use Rattle.std.specs.Prelude.{ℕ, [], Option, Some, None}
 use Rattle.rbg_wire.specs.declared.outcome.Outcome.{Outcome}
 use Rattle.rbg_wire.specs.Streams.{Rest, incomplete}
-use Rattle.rbg_rules.specs.State.{AbstractGame, start_of}
-use Rattle.rbg_rules.specs.Moves.{AbstractPlace}
+use Rattle.rbg_rules.specs.Meaning.{AbstractGame, start_of, AbstractPlace}
 use Rattle.rbg_player.specs.declared.error.PlayerError.{PlayerError}
 use Rattle.rbg_player.specs.declared.heard.Heard.{Heard}
 use Rattle.rbg_player.specs.declared.heard.Heard.TheVariants.{Going, Ended}

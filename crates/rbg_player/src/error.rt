@@ -40,8 +40,7 @@ impl From<OverLimits> for PlayerError {
 
     fn from(over: OverLimits) -> PlayerError {
         match over {
-            OverLimits::Deep => PlayerError::Over,
-            OverLimits::Wide => PlayerError::Over,
+            OverLimits::Deep | OverLimits::Wide => PlayerError::Over,
             OverLimits::Memory => PlayerError::Memory,
         }
     }

@@ -1,10 +1,10 @@
 //! A player: it hears the stream of its seat in pieces.
 ghost use Rattle.std.specs.Prelude.{◌≡◌, IfErr, OnErr, OnOk, length, take};
 ghost use Rattle.rbg_wire.specs.Inboxes.{item_of};
-ghost use Rattle.rbg_player.specs.Players.{failed};
+ghost use Rattle.rbg_player.specs.Players.{AbstractPlayer, failed};
 ghost use Rattle.rbg_player.specs.Streams.{Fails, HasItemFault, HearsPiece};
-ghost use Rattle.rbg_player.specs.internal.Standing.{stage_of, player_of, IsReady};
-ghost use Rattle.rbg_player.specs.internal.Standing.{HearsItem};
+ghost use Rattle.rbg_player.specs.internal.Codes.{coded_player};
+ghost use Rattle.rbg_player.specs.internal.Standing.{stage_of, player_of, IsReady, HearsItem};
 
 use crate::stage::Stage;
 use crate::{Chooser, Heard, PlayerError};
@@ -23,6 +23,16 @@ pub struct Player {
     stage: Stage,
 }
 
+impl Model for Player {
+    ghost Value = { AbstractPlayer };
+
+    ghost coded = { coded_player };
+
+    ghost view = { λ p. record { stage = stage_of p.stage; rest = p.inbox.rest } };
+
+    ghost invariant = { λ p. IsReady p.inbox };
+}
+
 /// Written out, so that letting a player go is one call in the proofs of those who hold one, not a step for each part.
 impl Drop for Player {
     fn drop(self) {
@@ -34,28 +44,11 @@ impl Drop for Player {
     }
 }
 
-impl Model for Player {
-    ghost use Rattle.rbg_player.specs.Players.{AbstractPlayer};
-
-    ghost Value = { AbstractPlayer };
-
-    ghost use Rattle.rbg_player.specs.internal.Codes.{coded_player};
-
-    ghost coded = { coded_player };
-
-    ghost use Rattle.rbg_player.specs.internal.Standing.{stage_of, IsReady};
-
-    ghost view = { λ p. record { stage = stage_of p.stage; rest = p.inbox.rest } };
-
-    ghost invariant = { λ p. IsReady p.inbox };
-}
-
 impl Player {
     ghost use Rattle.std.specs.Prelude.{◌≡◌, ◌++◌, Err, IfErr, IfOk, OnErr, OnOk};
     ghost use Rattle.rbg_wire.specs.Messages.{join_message, spelling};
     ghost use Rattle.rbg_player.specs.declared.error.PlayerError.{PlayerError as AnyError};
     ghost use Rattle.rbg_player.specs.Players.{failed, heard_at, new_player};
-    ghost use Rattle.rbg_player.specs.Players.{failed};
     ghost use Rattle.rbg_player.specs.Streams.{Fails, HearsPiece};
 
     /// A player that has heard nothing. It takes no memory.

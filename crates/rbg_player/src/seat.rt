@@ -2,11 +2,11 @@
 ghost use Rattle.std.specs.Prelude.{◌≡◌, ◌==◌, ℕ, [], length, Contains, IfErr, IfNone, IfOk, IfSome, OnOk};
 ghost use Rattle.rbg_base.specs.Move.{IsMoveLength};
 ghost use Rattle.rbg_game.specs.Loading.{Loads};
-ghost use Rattle.rbg_rules.specs.Games.{IsGame};
-ghost use Rattle.rbg_rules.specs.Places.{IsPlaceOf};
+ghost use Rattle.rbg_rules.specs.Meaning.{IsGame, IsPlaceOf};
 ghost use Rattle.rbg_wire.specs.Messages.{game_message, move_message};
-ghost use Rattle.rbg_player.specs.Players.{named, playing, seated};
+ghost use Rattle.rbg_player.specs.Players.{AbstractSeat, named, playing, seated};
 ghost use Rattle.rbg_player.specs.Hearing.{HasFault, HasMoveToMake, Hears, IsMover};
+ghost use Rattle.rbg_player.specs.internal.Codes.{coded_seat};
 ghost use Rattle.rbg_player.specs.internal.Sitting.{Follows, IsAnswer, IsUnanswered, Lists};
 
 use crate::{Chooser, PlayerError};
@@ -25,6 +25,16 @@ pub(crate) struct Seat {
     place: Place,
 }
 
+impl Model for Seat {
+    ghost Value = { AbstractSeat };
+
+    ghost coded = { coded_seat };
+
+    ghost view = { λ s. record { player = s.player; game = s.game; place = s.place } };
+
+    ghost invariant = { λ s. IsPlaceOf s.game s.place };
+}
+
 /// Written out, so that letting a seat go is one call in the proofs of those who hold one, not a step for each part.
 impl Drop for Seat {
     fn drop(self) {
@@ -34,22 +44,6 @@ impl Drop for Seat {
             place: _,
         } = self;
     }
-}
-
-impl Model for Seat {
-    ghost use Rattle.rbg_player.specs.Players.{AbstractSeat};
-
-    ghost Value = { AbstractSeat };
-
-    ghost use Rattle.rbg_player.specs.internal.Codes.{coded_seat};
-
-    ghost coded = { coded_seat };
-
-    ghost view = { λ s. record { player = s.player; game = s.game; place = s.place } };
-
-    ghost use Rattle.rbg_rules.specs.Places.{IsPlaceOf};
-
-    ghost invariant = { λ s. IsPlaceOf s.game s.place };
 }
 
 impl Seat {

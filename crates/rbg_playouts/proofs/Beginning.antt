@@ -1,7 +1,6 @@
 -- Why no matches are played, and how many there are.
 use Rattle.std.proofs.Common.{◌≡◌, ℕ, ◌++◌, List, [], map, Result, Err, refl, ap, ◌∙◌, subst, arith}
-use Rattle.rbg_rules.specs.State.{AbstractGame}
-use Rattle.rbg_rules.specs.Moves.{AbstractPlace}
+use Rattle.rbg_rules.specs.Meaning.{AbstractGame, AbstractPlace}
 use Rattle.rbg_moves.specs.Settling.{IsEndless, MeetsHeavy, Settles}
 use Rattle.rbg_moves.specs.declared.unsettled.Unsettled.{Unsettled}
 use Rattle.rbg_moves.specs.declared.unsettled.Unsettled.TheVariants.{Heavy, Endless, Memory}

@@ -1,7 +1,6 @@
 -- Matches that are played by chance from the beginning of play.
 use Rattle.std.specs.Prelude.{◌≡◌, ℕ, List}
-use Rattle.rbg_rules.specs.State.{AbstractGame}
-use Rattle.rbg_rules.specs.Moves.{AbstractPlace}
+use Rattle.rbg_rules.specs.Meaning.{AbstractGame, AbstractPlace}
 use Rattle.rbg_moves.specs.Settling.{IsEndless, MeetsHeavy, Settles}
 use Rattle.rbg_ask.specs.declared.refusal.Refusal.{Refusal}
 use Rattle.rbg_ask.specs.declared.refusal.Refusal.TheVariants.{Over, Keeper, Memory}

@@ -10,7 +10,7 @@ ghost use Rattle.rbg_playouts.specs.Summary.{ended_line, finished_in, hundredths
 ghost use Rattle.rbg_playouts.specs.internal.Bounds.{AreFew, highest};
 
 use crate::sums::{Counting, add_scores, sum_of};
-use rbg_ask::{Ending, Tally};
+use rbg_ask::{Ending, Tally, put_scores};
 use rbg_base::{Memory, Player};
 use rbg_rules::Game;
 use rbg_wire::write_number;
@@ -152,21 +152,4 @@ fn put_ended(matches: u64, scores: &[u64], out: &mut Vec<u8>) -> Result<(), Memo
     write_number(matches, out)?;
     put_scores(scores, out)?;
     out.extend_from_slice(b"\n")
-}
-
-/// Appends each score, with a space before it.
-fn put_scores(scores: &[u64], out: &mut Vec<u8>) -> Result<(), Memory>
-    ensures { Appends out.old.items out.new.items (numbers_text scores.now) result }
-{
-    for score in scores {
-        put_score(*score, out)?;
-    }
-    Ok(())
-}
-
-fn put_score(score: u64, out: &mut Vec<u8>) -> Result<(), Memory>
-    ensures { Appends out.old.items out.new.items (codes " " ++ decimal score) result }
-{
-    out.extend_from_slice(b" ")?;
-    write_number(score, out)
 }

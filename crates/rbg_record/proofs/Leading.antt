@@ -5,8 +5,7 @@ use Rattle.std.proofs.lemmas.List.Elements.{All-nil, All-cons, All-head, All-tai
 use Rattle.rbg_wire.specs.Bytes.{LacksByte}
 use Rattle.rbg_wire.specs.declared.outcome.Outcome.{Outcome}
 use Rattle.rbg_wire.specs.declared.outcome.Outcome.TheVariants.{Finished, Time, Refusals, Gone, Heavy}
-use Rattle.rbg_rules.specs.State.{AbstractGame}
-use Rattle.rbg_rules.specs.Moves.{AbstractPlace}
+use Rattle.rbg_rules.specs.Meaning.{AbstractGame, AbstractPlace}
 use Rattle.rbg_lines.specs.declared.entry.Entry.TheVariants.{Move, End}
 use Rattle.rbg_lines.specs.declared.entry.Timed.{Timed}
 use Rattle.rbg_lines.specs.declared.heading.Version.TheVariants.{One, Two}

@@ -7,10 +7,7 @@ use Rattle.rbg_base.specs.Names.{is_name}
 use Rattle.rbg_wire.specs.declared.outcome.Outcome.{Outcome}
 use Rattle.rbg_wire.specs.declared.outcome.Outcome.TheVariants.{Finished, Time, Refusals, Gone, Heavy}
 use Rattle.rbg_wire.specs.Messages.{ArePairs, OutcomeHasSpelling}
-use Rattle.rbg_rules.specs.State.{AbstractGame, AbstractState, IsStateOf}
-use Rattle.rbg_rules.specs.Games.{IsGame}
-use Rattle.rbg_rules.specs.Moves.{AbstractPlace, RunPairs, stay, modify, pass, Legal}
-use Rattle.rbg_rules.specs.Places.{IsLastOf, IsPlaceOf}
+use Rattle.rbg_rules.specs.Meaning.{AbstractGame, AbstractState, IsStateOf, IsGame, AbstractPlace, RunPairs, stay, modify, pass, Legal, IsLastOf, IsPlaceOf}
 use Rattle.rbg_rules.proofs.StateLemmas.{state_law}
 use Rattle.rbg_moves.proofs.Steps.{legal_some, switch_modifies, modifier_position}
 use Rattle.rbg_match.specs.declared.config.Config.{Config}

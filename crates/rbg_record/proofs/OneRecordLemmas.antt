@@ -13,7 +13,7 @@ use Rattle.rbg_match.specs.declared.made.Made.{Made}
 use Rattle.rbg_record.specs.Laws.{OneRecord}
 use Rattle.rbg_record.specs.Records.{PlainMove, AbstractRecord, plain, timed, plain_entry, made_entry, plain_entries, timed_entries, texts_of, HasSpelling}
 use Rattle.std.specs.Prelude.{◌↔◌}
-use Rattle.rbg_rules.specs.State.{AbstractGame}
+use Rattle.rbg_rules.specs.Meaning.{AbstractGame}
 use Rattle.rbg_record.specs.Migration.{IsMigrated, migrated}
 use Rattle.rbg_record.specs.Right.{IsRight, IsRightRecord}
 use Rattle.rbg_record.proofs.Leading.{whole_texts}

@@ -5,9 +5,7 @@ use Rattle.std.proofs.lemmas.Bool.{true≢false}
 use Rattle.std.proofs.lemmas.List.{length-append}
 use Rattle.std.proofs.lemmas.List.Elements.{All-nil, All-push}
 use Rattle.rbg_wire.specs.Bytes.{LacksByte}
-use Rattle.rbg_rules.specs.Moves.{AbstractPlace}
-use Rattle.rbg_rules.specs.Places.{IsPlaceOf}
-use Rattle.rbg_rules.specs.State.{AbstractGame}
+use Rattle.rbg_rules.specs.Meaning.{AbstractPlace, IsPlaceOf, AbstractGame}
 use Rattle.rbg_lines.specs.Lines.{IsFirstLine}
 use Rattle.rbg_wire.specs.Lines.{line_feed, lines_of}
 use Rattle.rbg_record.specs.declared.fault.Fault.{Fault}

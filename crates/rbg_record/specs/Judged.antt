@@ -2,8 +2,7 @@
 use Rattle.std.specs.Prelude.{◌≡◌, ◌≢◌, ℕ, ◌+◌, ◌≤◌, List, [], ◌∷◌, ◌++◌, length, All, Some, None, Result, Ok, Err}
 use Rattle.rbg_wire.specs.declared.outcome.Outcome.TheVariants.{Finished, Time, Refusals, Gone, Heavy}
 use Rattle.rbg_wire.specs.Bytes.{LacksByte}
-use Rattle.rbg_rules.specs.Heavy.{IsHeavyToFind, IsHeavyToTry}
-use Rattle.rbg_rules.specs.State.{AbstractGame}
+use Rattle.rbg_rules.specs.Meaning.{IsHeavyToFind, IsHeavyToTry, AbstractGame}
 use Rattle.rbg_match.specs.History.{IsInTurn}
 use Rattle.rbg_match.specs.Limits.{latest_moment}
 use Rattle.rbg_match.specs.PlayingOn.{seats_of}

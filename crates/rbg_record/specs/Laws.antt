@@ -1,7 +1,6 @@
 -- Laws of records.
 use Rattle.std.specs.Prelude.{◌≡◌, ◌↔◌, ℕ, List, Result, Ok, Err}
-use Rattle.rbg_rules.specs.Positions.{IsNumbered}
-use Rattle.rbg_rules.specs.State.{AbstractGame}
+use Rattle.rbg_rules.specs.Meaning.{IsNumbered, AbstractGame}
 use Rattle.rbg_match.specs.Matches.{MatchState, HasHistory}
 use Rattle.rbg_record.specs.declared.checked.Checked.{Checked}
 use Rattle.rbg_record.specs.declared.error.RecordError.{RecordError}

@@ -2,8 +2,7 @@
 use Rattle.std.specs.Prelude.{◌≡◌, ◌≢◌, ℕ, ◌≤◌, List, [], ◌∷◌, ◌++◌, Option, Some}
 use Rattle.rbg_wire.specs.declared.outcome.Outcome.{Outcome}
 use Rattle.rbg_wire.specs.declared.outcome.Outcome.TheVariants.{Time}
-use Rattle.rbg_rules.specs.State.{AbstractGame}
-use Rattle.rbg_rules.specs.Moves.{AbstractPlace, Legal}
+use Rattle.rbg_rules.specs.Meaning.{AbstractGame, AbstractPlace, Legal}
 use Rattle.rbg_match.specs.Config.{IsWithinLimits}
 use Rattle.rbg_match.specs.History.{start_place, IsInTurn, FitsOutcome}
 use Rattle.rbg_match.specs.Limits.{latest_moment}

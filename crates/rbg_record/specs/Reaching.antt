@@ -1,5 +1,5 @@
 -- The place that play has reached in a record.
-use Rattle.rbg_rules.specs.Moves.{AbstractPlace}
+use Rattle.rbg_rules.specs.Meaning.{AbstractPlace}
 use Rattle.rbg_record.specs.Lines.{Reached, version_next, players_next, start_next, entry_next, nothing_next}
 
 -- the place to which a line leads, or else the one before it

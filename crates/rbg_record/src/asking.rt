@@ -13,9 +13,7 @@ ghost use Rattle.std.specs.Prelude.{
   IfNone,
   IsTrue,
 };
-ghost use Rattle.rbg_rules.specs.Heavy.{IsHeavyToFind, IsHeavyToTry};
-ghost use Rattle.rbg_rules.specs.Moves.{AbstractPlace, Finished, Legal};
-ghost use Rattle.rbg_rules.specs.Places.{IsPlaceOf};
+ghost use Rattle.rbg_rules.specs.Meaning.{IsHeavyToFind, IsHeavyToTry, AbstractPlace, Finished, Legal, IsPlaceOf};
 ghost use Rattle.rbg_wire.specs.Words.{words_left};
 ghost use Rattle.rbg_record.specs.internal.Faults.{IsOverOrMemory};
 ghost use Rattle.rbg_record.specs.internal.Reading.{SomeIsLegal};

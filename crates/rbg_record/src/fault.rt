@@ -39,8 +39,7 @@ impl From<OverLimits> for Fault {
 
     fn from(over: OverLimits) -> Fault {
         match over {
-            OverLimits::Deep => Fault::Over,
-            OverLimits::Wide => Fault::Over,
+            OverLimits::Deep | OverLimits::Wide => Fault::Over,
             OverLimits::Memory => Fault::Memory,
         }
     }

@@ -2,7 +2,7 @@
 ghost use Rattle.std.specs.Prelude.{◌≡◌, ◌++◌, ◌↔◌, ℕ, Err, IfOk, IfSome, IfNone, OnOk, IsTrue};
 ghost use Rattle.rbg_lines.specs.Entries.{timed_text};
 ghost use Rattle.rbg_wire.specs.Lines.{line_of, lines_of};
-ghost use Rattle.rbg_rules.specs.State.{AbstractGame};
+ghost use Rattle.rbg_rules.specs.Meaning.{AbstractGame};
 ghost use Rattle.rbg_record.specs.Lines.{with_moment};
 ghost use Rattle.rbg_record.specs.Migration.{HasPlainForm, IsMigrated, IsPlainFault, behind_end};
 ghost use Rattle.rbg_record.specs.Right.{IsRightRecord};

@@ -2,8 +2,7 @@
 ghost use Rattle.std.specs.Prelude.{◌≡◌, ◌++◌, ◌-◌, ◌<◌, ◌≤◌, OnOk, Some, codes, length, slice_get};
 ghost use Rattle.std.specs.List.{flat_map};
 ghost use Rattle.rbg_wire.specs.Lines.{line_of};
-ghost use Rattle.rbg_rules.specs.Games.{IsGame};
-ghost use Rattle.rbg_rules.specs.State.{AbstractGame};
+ghost use Rattle.rbg_rules.specs.Meaning.{IsGame, AbstractGame};
 ghost use Rattle.rbg_lines.specs.Heading.{players_text};
 
 use rbg_base::Memory;

@@ -1,6 +1,6 @@
 //! The lines of a record in turn: each is read, and then judged behind those before it.
 ghost use Rattle.std.specs.Prelude.{◌≡◌, ◌↔◌, ◌≤◌, Some, IfErr, IfOk, IfSome, IfNone, IsTrue};
-ghost use Rattle.rbg_rules.specs.Places.{IsPlaceOf};
+ghost use Rattle.rbg_rules.specs.Meaning.{IsPlaceOf};
 ghost use Rattle.rbg_lines.specs.declared.entry.Timed.{Timed as AnyTimed};
 ghost use Rattle.rbg_lines.specs.declared.entry.Entry.TheVariants.{End as EndEntry, Move as MoveEntry};
 ghost use Rattle.rbg_wire.specs.declared.outcome.Outcome.TheVariants.{Heavy};

@@ -4,7 +4,7 @@ use Rattle.std.specs.Prelude.{IsTrue, All}
 use Rattle.rbg_base.specs.Names.{is_name}
 use Rattle.rbg_tokens.proofs.ZeroBytes.{text_has_no_zero_byte}
 use Rattle.rbg_wire.specs.Bytes.{LacksByte}
-use Rattle.rbg_rules.specs.State.{AbstractGame}
+use Rattle.rbg_rules.specs.Meaning.{AbstractGame}
 use Rattle.rbg_game.specs.Loading.{Loads}
 use Rattle.rbg_match.proofs.Greeting.{players_named}
 

@@ -1,7 +1,7 @@
 -- A text, a config, a first moment and events have one outbox.
 use Rattle.std.proofs.Common.{List, sym, ap, ◌∙◌, subst}
 use Rattle.rbg_game.proofs.OneGame.{one_game_law}
-use Rattle.rbg_rules.specs.State.{AbstractGame}
+use Rattle.rbg_rules.specs.Meaning.{AbstractGame}
 use Rattle.rbg_match.specs.Deliveries.{Delivery, queued}
 use Rattle.rbg_match.specs.PlayingOn.{seats_of}
 use Rattle.rbg_match.specs.Transcript.{Transcript}

@@ -1,6 +1,6 @@
 -- A whole match, from the text of its game and the events to the bytes of each seat.
 use Rattle.std.specs.Prelude.{◌≡◌, ℕ, ◌<◌, ◌⊎◌, List, [], length, take, None}
-use Rattle.rbg_rules.specs.State.{AbstractGame}
+use Rattle.rbg_rules.specs.Meaning.{AbstractGame}
 use Rattle.rbg_game.specs.Loading.{Loads, IsRefused, IsMemory}
 use Rattle.rbg_match.specs.declared.config.Config.{Config}
 use Rattle.rbg_referee.specs.declared.error.RefereeError.{RefereeError}

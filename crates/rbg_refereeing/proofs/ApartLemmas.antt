@@ -3,7 +3,7 @@ use Rattle.std.proofs.Common.{◌≡◌, ℕ, List, ap, refl, sym, subst}
 use Rattle.rbg_console.specs.declared.status.Status.TheVariants.{Success, Refused, BadInput}
 use Rattle.rbg_game.specs.Loading.{Loads, IsRefused, IsMemory}
 use Rattle.rbg_game.specs.declared.error.LoadError.{LoadError}
-use Rattle.rbg_rules.specs.State.{AbstractGame}
+use Rattle.rbg_rules.specs.Meaning.{AbstractGame}
 use Rattle.rbg_script.proofs.Marks.{inputs_apart}
 use Rattle.rbg_script.proofs.ScriptLemmas.{scripts_apart}
 use Rattle.rbg_script.specs.Inputs.{IsInput}

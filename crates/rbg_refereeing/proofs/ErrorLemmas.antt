@@ -1,7 +1,7 @@
 -- Lemmas on why a match has no lines.
 use Rattle.std.proofs.Common.{ℕ, List, sym, subst}
 use Rattle.rbg_game.specs.Loading.{Loads}
-use Rattle.rbg_rules.specs.State.{AbstractGame}
+use Rattle.rbg_rules.specs.Meaning.{AbstractGame}
 use Rattle.rbg_script.specs.declared.error.ScriptError.{ScriptError}
 use Rattle.rbg_script.specs.declared.error.ScriptError.TheVariants.{Line, Memory as NoMemory}
 use Rattle.rbg_script.specs.Scripts.{HasMisfit, IsReason, misfit}

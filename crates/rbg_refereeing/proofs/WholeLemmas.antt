@@ -19,7 +19,7 @@ use Rattle.rbg_match.specs.PlayingOn.PlaysOn.{endless, heavy, finished, keeper, 
 use Rattle.rbg_referee.specs.Refereed.{IsRefereed}
 use Rattle.rbg_match.specs.Transcript.{HandlesAll, greeting, greetings}
 use Rattle.rbg_match.specs.Transcript.HandlesAll.{none, more}
-use Rattle.rbg_rules.specs.State.{AbstractGame}
+use Rattle.rbg_rules.specs.Meaning.{AbstractGame}
 use Rattle.rbg_wire.proofs.ByteLemmas.{no_cut, same_cut}
 use Rattle.rbg_wire.specs.Bytes.{LacksByte}
 use Rattle.rbg_wire.specs.Messages.{AbstractMessage, who_message, game_message, limits_message, move_message, refusal_message, end_message, message_text, spelling}

@@ -5,7 +5,7 @@ use Rattle.rbg_console.specs.declared.status.Status.{Status}
 use Rattle.rbg_console.specs.declared.status.Status.TheVariants.{Success, Refused, BadInput}
 use Rattle.rbg_game.specs.Loading.{Loads, IsRefused, IsMemory}
 use Rattle.rbg_game.specs.declared.error.LoadError.{LoadError}
-use Rattle.rbg_rules.specs.State.{AbstractGame}
+use Rattle.rbg_rules.specs.Meaning.{AbstractGame}
 use Rattle.rbg_script.specs.Inputs.{IsInput}
 use Rattle.rbg_script.specs.Scripts.{HasMisfit}
 use Rattle.rbg_refereeing.specs.Matches.{IsInputsMatch}

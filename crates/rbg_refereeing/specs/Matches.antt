@@ -4,7 +4,7 @@ use Rattle.rbg_game.specs.Loading.{Loads, IsRefused, IsMemory}
 use Rattle.rbg_match.specs.Matches.{MatchState}
 use Rattle.rbg_referee.specs.Played.{IsMatchOf}
 use Rattle.rbg_referee.specs.Refereed.{IsRefereed}
-use Rattle.rbg_rules.specs.State.{AbstractGame}
+use Rattle.rbg_rules.specs.Meaning.{AbstractGame}
 use Rattle.rbg_script.specs.Inputs.{IsInput}
 use Rattle.rbg_script.specs.Scripts.{AbstractScript, SpellsScript, HasMisfit}
 use Rattle.rbg_refereeing.specs.declared.error.RefereeingError.{RefereeingError}

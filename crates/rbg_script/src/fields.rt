@@ -7,9 +7,9 @@ use rbg_wire::{after_text, cut_number};
 /// The seat, the moment and the rest of a line.
 #[derive(Clone, Copy)]
 pub(crate) struct Fields<'a> {
-    pub(crate) seat: u64,
-    pub(crate) at: u64,
-    pub(crate) rest: &'a [u8],
+    pub seat: u64,
+    pub at: u64,
+    pub rest: &'a [u8],
 }
 
 /// The seat, the moment and the rest of a line that begins with a word.

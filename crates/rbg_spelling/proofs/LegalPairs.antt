@@ -3,11 +3,7 @@ use Rattle.std.proofs.Common.{ℕ, zero, suc, ◌+◌, ◌<◌, ◌≤◌, List,
 use Rattle.std.specs.Prelude.{All}
 use Rattle.std.specs.List.{range_with_len}
 use Rattle.std.proofs.lemmas.List.Elements.{All-nil, All-cons}
-use Rattle.rbg_rules.specs.Expression.{AbstractAction, Expression}
-use Rattle.rbg_rules.specs.Positions.{HasAction, positions_of, IsNumbered}
-use Rattle.rbg_rules.specs.State.{AbstractGame, AbstractState, IsStateOf}
-use Rattle.rbg_rules.specs.Games.{IsGame}
-use Rattle.rbg_rules.specs.Moves.{RunPairs, stay, modify, pass}
+use Rattle.rbg_rules.specs.Meaning.{AbstractAction, Expression, HasAction, positions_of, IsNumbered, AbstractGame, AbstractState, IsStateOf, IsGame, RunPairs, stay, modify, pass}
 use Rattle.rbg_rules.proofs.PositionLemmas.{Among, has_position}
 use Rattle.rbg_rules.proofs.StateLemmas.{state_law}
 use Rattle.rbg_wire.specs.Messages.{IsShortPair}

@@ -2,10 +2,7 @@
 use Rattle.std.specs.Prelude.{ℕ, List, length}
 use Rattle.rbg_base.specs.Move.{IsMoveLength}
 use Rattle.rbg_wire.specs.Messages.{ArePairs}
-use Rattle.rbg_rules.specs.State.{AbstractGame}
-use Rattle.rbg_rules.specs.Games.{IsGame}
-use Rattle.rbg_rules.specs.Moves.{AbstractPlace, IsLegal}
-use Rattle.rbg_rules.specs.Places.{IsPlaceOf}
+use Rattle.rbg_rules.specs.Meaning.{AbstractGame, IsGame, AbstractPlace, IsLegal, IsPlaceOf}
 
 -- A legal move that is no longer than a move may be has a spelling: the number of each vertex and of each position has
 -- no more digits than a message may tell.

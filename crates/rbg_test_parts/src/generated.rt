@@ -8,7 +8,7 @@ use std::alloc::{AllocError, Global};
 pub(crate) struct Generator {
     state: u64,
     /// The last position that was handed out.
-    pub(crate) positions: Position,
+    pub positions: Position,
 }
 
 impl Generator {

@@ -10,11 +10,11 @@ use crate::bytes::first_place;
 #[derive(Clone, Copy)]
 pub(crate) struct Cursor {
     // The index of the first byte that is not taken.
-    pub(crate) start: usize,
+    pub start: usize,
     // No byte from `start` up to here is zero.
-    pub(crate) looked: usize,
+    pub looked: usize,
     // Whether the bytes at `start` belong to a message that is too long.
-    pub(crate) dropping: bool,
+    pub dropping: bool,
 }
 
 /// An item in the buffer.

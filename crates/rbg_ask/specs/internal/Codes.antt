@@ -1,8 +1,7 @@
 -- Sessions as pairs, one to one. Proofs tell sessions apart by them.
 use Rattle.std.specs.Prelude.{List, refl}
 use Rattle.std.specs.Coded.{Coded, coded_list, coded×, code_by}
-use Rattle.rbg_rules.specs.State.{AbstractGame}
-use Rattle.rbg_rules.specs.Moves.{AbstractPlace}
+use Rattle.rbg_rules.specs.Meaning.{AbstractGame, AbstractPlace}
 use Rattle.rbg_rules.specs.Codes.{coded_game}
 use Rattle.rbg_rules.specs.PlaceCodes.{coded_place}
 use Rattle.rbg_ask.specs.Sessions.{AbstractSession}

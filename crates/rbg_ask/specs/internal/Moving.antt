@@ -1,7 +1,6 @@
 -- One move of a match that is played by chance.
 use Rattle.std.specs.Prelude.{◌≡◌, ℕ, List, length, Bool, true, false, Option}
-use Rattle.rbg_rules.specs.State.{AbstractGame}
-use Rattle.rbg_rules.specs.Moves.{AbstractPlace, Finished}
+use Rattle.rbg_rules.specs.Meaning.{AbstractGame, AbstractPlace, Finished}
 use Rattle.rbg_ask.specs.Sessions.{Leads}
 use Rattle.rbg_ask.specs.Chance.{Ends}
 

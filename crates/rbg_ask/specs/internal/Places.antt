@@ -1,9 +1,6 @@
 -- What holds of the places of each session.
 use Rattle.std.specs.Prelude.{ℕ, List, All}
-use Rattle.rbg_rules.specs.State.{AbstractGame}
-use Rattle.rbg_rules.specs.Moves.{AbstractPlace, Legal}
-use Rattle.rbg_rules.specs.Places.{IsPlaceOf}
-use Rattle.rbg_rules.specs.Heavy.{IsHeavyToFind, IsHeavyToTry}
+use Rattle.rbg_rules.specs.Meaning.{AbstractGame, AbstractPlace, Legal, IsPlaceOf, IsHeavyToFind, IsHeavyToTry}
 use Rattle.rbg_moves.specs.Settling.{IsEndless, MeetsHeavy}
 use Rattle.rbg_ask.specs.declared.refusal.Refusal.{Refusal}
 use Rattle.rbg_ask.specs.declared.refusal.Refusal.TheVariants.{Illegal, Over, Keeper, Memory}

@@ -1,7 +1,7 @@
 -- What a match is made of: its referee before play goes on, and its streams around the referee.
 use Rattle.std.specs.Prelude.{ℕ, List, [], replicate, false}
 use Rattle.rbg_wire.specs.Streams.{incomplete}
-use Rattle.rbg_rules.specs.State.{AbstractGame}
+use Rattle.rbg_rules.specs.Meaning.{AbstractGame}
 use Rattle.rbg_match.specs.declared.config.Config.{Config}
 use Rattle.rbg_match.specs.Deliveries.{delivered}
 use Rattle.rbg_match.specs.Matches.{MatchState}

@@ -1,10 +1,9 @@
 -- What a match keeps of the state of play and of its streams.
 use Rattle.std.specs.Prelude.{◌≡◌, ◌≤◌, List, length, None, Bool, false, All}
-use Rattle.rbg_rules.specs.State.{AbstractGame}
+use Rattle.rbg_rules.specs.Meaning.{AbstractGame, IsPlaceOf}
 use Rattle.rbg_wire.specs.Streams.{Stream}
 use Rattle.rbg_match.specs.Limits.{latest_moment, most_refusals}
 use Rattle.rbg_match.specs.internal.Inboxes.{AreReady}
-use Rattle.rbg_rules.specs.Places.{IsPlaceOf}
 use Rattle.rbg_match.specs.Play.{AbstractPlay}
 
 -- The state of play is one of the game: its place is, the turn began at a counted moment, and each seat has a count of

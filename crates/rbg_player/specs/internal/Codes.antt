@@ -6,8 +6,7 @@ use Rattle.std.specs.Coded.{Coded, coded_ℕ, coded×, coded⊎, code_by}
 use Rattle.rbg_wire.specs.declared.outcome.Outcome.{Outcome}
 use Rattle.rbg_wire.specs.Codes.{coded_outcome, coded_rest}
 use Rattle.rbg_wire.specs.Streams.{Rest}
-use Rattle.rbg_rules.specs.State.{AbstractGame}
-use Rattle.rbg_rules.specs.Moves.{AbstractPlace}
+use Rattle.rbg_rules.specs.Meaning.{AbstractGame, AbstractPlace}
 use Rattle.rbg_rules.specs.Codes.{coded_game}
 use Rattle.rbg_rules.specs.PlaceCodes.{coded_place}
 use Rattle.rbg_player.specs.declared.error.PlayerError.{PlayerError}

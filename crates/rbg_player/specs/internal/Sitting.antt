@@ -2,9 +2,7 @@
 use Rattle.std.specs.Prelude.{◌≡◌, ℕ, ◌≤◌, List, length, Bool}
 use Rattle.rbg_base.specs.Move.{most_pairs}
 use Rattle.rbg_wire.specs.Messages.{ArePairs}
-use Rattle.rbg_rules.specs.Moves.{Legal, IsLegal}
-use Rattle.rbg_rules.specs.Questions.{list_moves}
-use Rattle.rbg_rules.specs.Heavy.{IsTooHard}
+use Rattle.rbg_rules.specs.Meaning.{Legal, IsLegal, list_moves, IsTooHard}
 use Rattle.rbg_search.specs.declared.over.Over.{Over}
 use Rattle.rbg_search.specs.declared.over.Over.TheVariants.{Deep, Wide, Memory}
 use Rattle.rbg_player.specs.declared.error.PlayerError.{PlayerError}

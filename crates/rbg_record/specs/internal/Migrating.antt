@@ -1,7 +1,7 @@
 -- What was migrated of a record.
 use Rattle.std.specs.Prelude.{◌≡◌, ℕ, ◌+◌, List, [], ◌∷◌, ◌++◌, map, All, Option}
 use Rattle.rbg_wire.specs.declared.outcome.Outcome.{Outcome}
-use Rattle.rbg_rules.specs.State.{AbstractGame}
+use Rattle.rbg_rules.specs.Meaning.{AbstractGame}
 use Rattle.rbg_lines.specs.declared.entry.Entry.{Entry}
 use Rattle.rbg_lines.specs.declared.entry.Entry.TheVariants.{Move, End}
 use Rattle.rbg_lines.specs.declared.heading.Version.TheVariants.{One, Two}

@@ -2,8 +2,7 @@
 use Rattle.std.specs.Prelude.{◌≡◌, ℕ, Bool, true, false, List, length, take, Option, Some, None}
 use Rattle.rbg_wire.specs.declared.outcome.Outcome.{Outcome}
 use Rattle.rbg_wire.specs.declared.outcome.Outcome.TheVariants.{Finished, Time, Refusals, Gone, Heavy}
-use Rattle.rbg_rules.specs.State.{AbstractGame}
-use Rattle.rbg_rules.specs.Moves.{AbstractPlace, IsLegal}
+use Rattle.rbg_rules.specs.Meaning.{AbstractGame, AbstractPlace, IsLegal}
 
 -- some move is legal at the place
 abbrev pub SomeIsLegal : AbstractGame → AbstractPlace → Type 0

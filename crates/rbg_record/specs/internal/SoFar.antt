@@ -1,6 +1,6 @@
 -- What was read of a record.
 use Rattle.std.specs.Prelude.{◌≡◌, ℕ, ◌+◌, ◌≤◌, List, length}
-use Rattle.rbg_rules.specs.State.{AbstractGame}
+use Rattle.rbg_rules.specs.Meaning.{AbstractGame}
 use Rattle.rbg_record.specs.Judged.{BeginsWith}
 use Rattle.rbg_record.specs.Lines.{Reached, LeadTo}
 use Rattle.rbg_record.specs.ByLine.{IsReachedIn}

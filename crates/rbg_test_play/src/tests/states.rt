@@ -1,5 +1,5 @@
 //! Semi-states of small games, changed by their actions and taken back.
-ghost use Rattle.rbg_rules.specs.State.{IsStateOf};
+ghost use Rattle.rbg_rules.specs.Meaning.{IsStateOf};
 
 use rbg_base::{Player, Position, Vertex};
 use rbg_game::load;

@@ -1,5 +1,5 @@
 //! Arithmetic in actions: values, bounds, counts of pieces, and both ends of 64 bits.
-ghost use Rattle.rbg_rules.specs.State.{IsStateOf};
+ghost use Rattle.rbg_rules.specs.Meaning.{IsStateOf};
 
 use crate::tests::states::act;
 use rbg_game::load;

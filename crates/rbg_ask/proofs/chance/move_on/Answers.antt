@@ -1,6 +1,6 @@
 -- A move is made, or there is none, or the question or the keeper's moves behind it were given up.
 use Rattle.std.proofs.Common.{◌∙◌, false, sym, subst, arith}
-use Rattle.rbg_rules.specs.Moves.{AbstractPlace, IsLegal, Legal}
+use Rattle.rbg_rules.specs.Meaning.{AbstractPlace, IsLegal, Legal}
 use Rattle.rbg_ask.specs.declared.refusal.Refusal.TheVariants.{Memory}
 use Rattle.rbg_ask.specs.Chance.{no_memory}
 use Rattle.rbg_ask.specs.internal.Moving.{MovesOn}

@@ -1,7 +1,6 @@
 -- The moves so far have led here, and the match ends, goes on, or isn't played on.
 use Rattle.std.proofs.Common.{Bool, arith, subst, sym}
-use Rattle.rbg_rules.specs.Moves.{AbstractPlace}
-use Rattle.rbg_rules.specs.Places.{IsPlaceOf}
+use Rattle.rbg_rules.specs.Meaning.{AbstractPlace, IsPlaceOf}
 use Rattle.rbg_ask.specs.declared.refusal.Refusal.TheVariants.{Memory}
 use Rattle.rbg_ask.specs.internal.Moving.{MovesOn}
 use Rattle.rbg_base.proofs.Errors.{passed_on}

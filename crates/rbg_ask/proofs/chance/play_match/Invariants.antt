@@ -1,5 +1,5 @@
 -- So many moves were made from the first place.
-use Rattle.rbg_rules.specs.Places.{IsPlaceOf}
+use Rattle.rbg_rules.specs.Meaning.{IsPlaceOf}
 use Rattle.rbg_ask.proofs.Matches.{PlayedSo}
 use Rattle.rbg_ask.proofs.chance.play_match.Given as goal
 

@@ -3,7 +3,7 @@ use Rattle.std.proofs.Common.{rules, length, replicate, [], ap, ◌∙◌, sym}
 use Rattle.std.proofs.lemmas.List.{length-replicate}
 use Rattle.rbg_match.specs.PlayingOn.{seats_of}
 use Rattle.rbg_match.proofs.Delivering.{length-delivered}
-use Rattle.rbg_rules.specs.Games.{IsGame}
+use Rattle.rbg_rules.specs.Meaning.{IsGame}
 use Rattle.rbg_match.proofs.Greeting.{players_named}
 use Rattle.rbg_match.proofs.opening.referee_at_start.Goals as goal
 
