@@ -84,6 +84,9 @@ waited (tables.is_moment_for_none nowhere) waits = (waits, sends)
 waited (tables.is_unheard nowhere) waits = (waits, is_unheard nowhere)
 waited (tables.goes_unheard nowhere) waits = (waits, goes_unheard nowhere)
 
+pub waited_before : {old new : TableState} {event : OwnEvent} {told : List Telling} → Hears old event new told → new.begun ≡ None → old.begun ≡ None
+waited_before hears waits = (waited hears waits).0
+
 -- there is one first free seat
 one_free : (seats : List (Option ℕ)) (one other : ℕ) → IsFirstFree seats one → IsFirstFree seats other → one ≡ other
 one_free seats one other first first' = elim (cases_lt one other) [

@@ -7,6 +7,7 @@ use Rattle.std.proofs.lemmas.Option.{none-some}
 use Rattle.std.specs.Prelude.{◌==◌, slice_get, slice_set, if◌then◌else◌}
 use Rattle.std.specs.List.{flat_map}
 use Rattle.rbg_wire.specs.declared.message.Reason.TheVariants.{NoSeat}
+use Rattle.rbg_wire.specs.declared.outcome.Outcome.{Outcome}
 use Rattle.rbg_wire.specs.Messages.{refusal_message, spelling}
 use Rattle.rbg_rules.specs.State.{AbstractGame}
 use Rattle.rbg_match.specs.declared.config.Config.{Config}
@@ -28,18 +29,22 @@ use Rattle.rbg_hall.proofs.Places.{there_within}
 use Rattle.rbg_hall.proofs.Seats.{SitsNowhere, SeatsDiffer, all_differ, differ_taken, none_on, own_on}
 use Rattle.rbg_hall.proofs.Telling.{bytes_to-append, bytes_to-other, extended_at}
 
--- The match of a table that has begun: when it began, what it was handed and stepped through since, and what the lines
--- were told.
-pub record Began (game : AbstractGame) (text : List ℕ) (config : Config) (events : List OwnEvent) (seats : List (Option ℕ)) (playing : MatchState) (told : List Telling) : Type 0 where
-  pub beginning : Beginning game text config events seats
+-- The course of a match that was opened at this moment: what it was handed since, and stepped through.
+pub record Course (game : AbstractGame) (text : List ℕ) (config : Config) (at : ℕ) (playing : MatchState) : Type 0 where
   pub handed : List AbstractEvent
-  pub hands : HandsEach seats beginning.after handed
   pub opened : MatchState
   pub first : List (List ℕ)
   pub last : List (List ℕ)
-  pub opens : Opens game text config beginning.at opened first
+  pub opens : Opens game text config at opened first
   pub steps : StepsAll opened first handed playing last
   pub count : length last ≡ seats_of game
+
+-- The match of a table that has begun: when it began, its course since, and what the lines were told.
+pub record Began (game : AbstractGame) (text : List ℕ) (config : Config) (events : List OwnEvent) (seats : List (Option ℕ)) (playing : MatchState) (told : List Telling) : Type 0 where
+  pub beginning : Beginning game text config events seats
+  pub course : Course game text config beginning.at playing
+  pub open course use *
+  pub hands : HandsEach seats beginning.after handed
   pub on_seats : (index one : ℕ) → slice_get seats index ≡ Some (Some one) → bytes_to one told ≡ bytes_to one beginning.early ++ get_or last index []
   pub elsewhere : (one : ℕ) → SitsNowhere one seats → bytes_to one told ≡ bytes_to one beginning.early ++ flat_map (late_refusal one) beginning.after
 
@@ -65,23 +70,14 @@ from_nothing n index said within =
     delivered_at 1 (replicate n []) said index (subst (λ count. index < count) (sym (length-replicate {A = List ℕ} n [])) within)
     ∙ ap (λ had. had ++ bytes_for (1 + index) said) (nothing_at n index)
 
+-- a match that has ended says nothing, whatever the seats had
+silent_on : {old new : MatchState} {event : AbstractEvent} {before after : List (List ℕ)} (others : List (List ℕ)) (step : Steps old event new before after) (outcome : Outcome) → old.play.outcome ≡ Some outcome → delivered others step.said ≡ others
+silent_on {old = old} {new = new} {event = event} others step outcome is =
+    ap (delivered others) (ended_play_stays old.game old.config old.play new.play outcome (timed_inputs_in old.streams event) step.said is step.handles).1 ∙ delivered-none others
+
 -- a step says the same, whatever the seats had
 pub step_on : {old new : MatchState} {event : AbstractEvent} {before after : List (List ℕ)} (others : List (List ℕ)) → (step : Steps old event new before after) → Steps old event new others (delivered others step.said)
-step_on {old = old} {new = new} {event = event} others step = record {
-  worked = step.worked;
-  works = step.works;
-  same_game = step.same_game;
-  same_config = step.same_config;
-  same_begin = step.same_begin;
-  said = step.said;
-  handles = step.handles;
-  told = refl;
-  moment = step.moment;
-  streams = step.streams;
-  stays = step.stays;
-  silent = λ outcome is.
-      ap (delivered others) (ended_play_stays old.game old.config old.play new.play outcome (timed_inputs_in old.streams event) step.said is step.handles).1 ∙ delivered-none others;
-}
+step_on others step = search (silent_on others step)
 
 -- what is told behind what a line was told
 behind : (one : ℕ) (told next : List Telling) (before more : List ℕ) → bytes_to one told ≡ before → bytes_to one next ≡ more → bytes_to one (told ++ next) ≡ before ++ more
@@ -119,14 +115,8 @@ module _ (game : AbstractGame) (text : List ℕ) (config : Config) (events : Lis
   passed : (seats : List (Option ℕ)) (playing : MatchState) (told next : List Telling) → Hands seats event [] → ((index one : ℕ) → slice_get seats index ≡ Some (Some one) → bytes_to one next ≡ []) → ((one : ℕ) → SitsNowhere one seats → bytes_to one next ≡ late_refusal one event) → Began game text config events seats playing told → Began game text config (events ++ event ∷ []) seats playing (told ++ next)
   passed seats playing told next hands seated others began = record {
     beginning = seen_later event began.beginning;
-    handed = began.handed;
+    course = began.course;
     hands = subst (λ one. HandsEach seats (began.beginning.after ++ event ∷ []) one) (append-nil began.handed) (laws.more began.hands hands);
-    opened = began.opened;
-    first = began.first;
-    last = began.last;
-    opens = began.opens;
-    steps = began.steps;
-    count = began.count;
     on_seats = λ index one there.
         behind one told next (bytes_to one began.beginning.early ++ get_or began.last index []) [] (began.on_seats index one there) (seated index one there)
         ∙ append-nil (bytes_to one began.beginning.early ++ get_or began.last index []);
@@ -137,14 +127,16 @@ module _ (game : AbstractGame) (text : List ℕ) (config : Config) (events : Lis
   stepped : (seats : List (Option ℕ)) (playing after : MatchState) (told : List Telling) (handed : AbstractEvent) (queues : List (List ℕ)) → length seats ≡ seats_of game → SeatsDiffer seats → ((one : ℕ) → late_refusal one event ≡ []) → Hands seats event (handed ∷ []) → Steps playing handed after (replicate (seats_of game) []) queues → Began game text config events seats playing told → Began game text config (events ++ event ∷ []) seats after (told ++ to_lines seats queues)
   stepped seats playing next told handed queues seated differ quiet hands step began = record {
     beginning = seen_later event began.beginning;
-    handed = began.handed ++ handed ∷ [];
+    course = record {
+      handed = began.handed ++ handed ∷ [];
+      opened = began.opened;
+      first = began.first;
+      last = delivered began.last step.said;
+      opens = began.opens;
+      steps = matches.more began.steps (step_on began.last step);
+      count = length-delivered began.last step.said ∙ began.count;
+    };
     hands = laws.more began.hands hands;
-    opened = began.opened;
-    first = began.first;
-    last = delivered began.last step.said;
-    opens = began.opens;
-    steps = matches.more began.steps (step_on began.last step);
-    count = length-delivered began.last step.said ∙ began.count;
     on_seats = λ index one there. on_seat index one there;
     elsewhere = λ one nowhere. further one began.beginning.early told (to_lines seats queues) began.beginning.after (began.elsewhere one nowhere) (none_on one seats queues nowhere ∙ sym (quiet one));
   }
@@ -218,14 +210,16 @@ opened_here game text config events line at old told seats opened queues run non
       subst (λ (one : MatchState). Began game text config (events ++ joins line at ∷ []) seats one (told ++ to_lines seats queues)) (same_match opened playing is)
       (record {
         beginning = record { before = events; line = line; at = at; after = []; whole = refl; gathering = old; early = told; gathers = run; waits = none; takes = takes };
-        handed = [];
+        course = record {
+          handed = [];
+          opened = opened;
+          first = queues;
+          last = queues;
+          opens = own_opens;
+          steps = matches.none;
+          count = seats_of_opened game text config at opened queues own_opens ∙ ap seats_of own_opens.of_game;
+        };
         hands = laws.none;
-        opened = opened;
-        first = queues;
-        last = queues;
-        opens = own_opens;
-        steps = matches.none;
-        count = seats_of_opened game text config at opened queues own_opens ∙ ap seats_of own_opens.of_game;
         on_seats = λ index one there. behind one told (to_lines seats queues) (bytes_to one told) (get_or queues index []) refl (own_on one seats queues index differ there);
         elsewhere = λ one nowhere. behind one told (to_lines seats queues) (bytes_to one told) [] refl (none_on one seats queues nowhere);
       });

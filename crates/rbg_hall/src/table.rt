@@ -154,7 +154,7 @@ impl HallTable {
                 None => Ok(()),
             },
             TableInput::Leaves { line, at } => match self.seat_of(line) {
-                Some(index) => self.leave_seat(index, line, at, out, marks),
+                Some(index) => self.leave_seat(index, at, out, marks),
                 None => Ok(()),
             },
         }
@@ -197,7 +197,7 @@ impl HallTable {
         }
     }
 
-    /// A line that has no seat asks for one. With the last one the match begins.
+    /// A line that has no seat asks for one, and gets the first that is free. With the last one the match begins.
     fn seat(
         &mut self,
         line: u64,
@@ -212,9 +212,13 @@ impl HallTable {
         if !self.is_waiting() {
             return out.refuse(line, Reason::NoSeat, marks);
         }
+        let Some(index) = self.free_seat() else {
+            return out.refuse(line, Reason::NoSeat, marks);
+        };
+        self.take_seat(index, Some(line));
         match self.free_seat() {
-            Some(index) => self.sit(index, line, at, out, marks),
-            None => out.refuse(line, Reason::NoSeat, marks),
+            Some(_) => Ok(()),
+            None => self.begin(at, out, marks),
         }
     }
 
@@ -224,28 +228,6 @@ impl HallTable {
         ensures none { IfNone result (AreTaken self.now.seats) }
     {
         first_index(&self.seats, None)
-    }
-
-    /// A line gets the first free seat. With the last one the match begins.
-    fn sit(
-        &mut self,
-        index: usize,
-        line: u64,
-        at: u64,
-        out: &mut HallOut,
-        marks: &mut Vec<Mark>,
-    ) -> Result<(), Memory>
-        requires waits { self.old.begun ≡ None }
-        requires none { HasNoSeat self.old line }
-        requires first { IsFirstAt self.old.seats None index }
-        ensures hears { OnOk result (HearsFor self.old (joins line at) self.new out.old out.new) }
-        ensures undone { undone out.new marks.new.items ≡ undone out.old marks.old.items }
-    {
-        self.take_seat(index, Some(line));
-        match self.free_seat() {
-            Some(_) => Ok(()),
-            None => self.begin(at, out, marks),
-        }
     }
 
     /// A line takes a seat, or leaves it.
@@ -310,14 +292,14 @@ impl HallTable {
     fn leave_seat(
         &mut self,
         index: usize,
-        line: u64,
         at: u64,
         out: &mut HallOut,
         marks: &mut Vec<Mark>,
     ) -> Result<(), Memory>
-        requires sits { SitsAt self.old line index }
+        requires there { index < length self.old.seats }
         requires small { index + 1 < 2 ^ 64 }
-        ensures hears { OnOk result (HearsFor self.old (leaves line at) self.new out.old out.new) }
+        ensures hears { (line : ℕ) → SitsAt self.old line index →
+            OnOk result (HearsFor self.old (leaves line at) self.new out.old out.new) }
         ensures undone { undone out.new marks.new.items ≡ undone out.old marks.old.items }
     {
         if self.is_waiting() {

@@ -10,12 +10,13 @@ use Rattle.rbg_record.specs.Judged.{BeginsWith}
 use Rattle.rbg_record.specs.Lines.{Reached, version_next, players_next, start_next, entry_next, nothing_next, Leads, LeadTo}
 use Rattle.rbg_record.specs.Lines as lines
 use Rattle.rbg_record.specs.Reaching.{place_in}
+use Rattle.rbg_record.specs.Right.{IsRightRecord}
 use Rattle.rbg_record.specs.internal.SoFar.{IsReadSoFar}
 use Rattle.rbg_rules.specs.Moves.{AbstractPlace}
 use Rattle.rbg_rules.specs.Places.{IsPlaceOf}
 use Rattle.rbg_rules.specs.State.{AbstractGame}
 use Rattle.rbg_listing.specs.Behind.{IsPlaceBehind}
-use Rattle.rbg_listing.specs.internal.Following.{EndsAt, IsAt}
+use Rattle.rbg_listing.specs.internal.Following.{EndsAt, ends_at, IsAt}
 
 -- The lines before the rest are right in turn, and lead to this place.
 pub record IsFollowed (game : AbstractGame) (bytes : List ℕ) (reached : Reached) (rest : List ℕ) (line : ℕ) (place : AbstractPlace) : Type 0 where
@@ -33,14 +34,7 @@ at_next game texts text from to place led (lines.version_2 is) at = tt
 at_next game texts text from to place led (lines.players spells) at = tt
 at_next game texts text from to place led (lines.start spells lawful counted) at = refl
 at_next game texts text from to place led (lines.entry spells (lines.move mover moment counted legal)) at = refl
-at_next game texts text from to place led (lines.entry {standing = standing} spells (lines.end fits counted)) at = record {
-  before = texts;
-  last = text;
-  parts = refl;
-  standing = standing;
-  leads = led;
-  here = at;
-}
+at_next game texts text from to place led (lines.entry spells (lines.end fits counted)) at = subst (EndsAt game (texts ++ text ∷ [])) at (ends_at text led)
 
 pub followed_next : (game : AbstractGame) (bytes : List ℕ) (reached to : Reached) (rest text later : List ℕ) (line : ℕ) (place new : AbstractPlace) → IsFollowed game bytes reached rest line place → IsFirstLine rest text later → Leads game reached text to → IsReachedIn game to → new ≡ place_in to place → IsFollowed game bytes to later (line + 1) new
 followed_next game bytes reached to rest text later line place new before first leads reached_in is =
@@ -62,17 +56,14 @@ something_left rest answer is fails = λ none.
     let holds : (length rest == 0) ≡ true = ap (λ left. length left == 0) none in
     true≢false (sym holds ∙ (sym is ∙ fails))
 
+-- the record's bytes are those of lines of which the last is the end
+behind_end : {game : AbstractGame} {bytes : List ℕ} {texts : List (List ℕ)} {place : AbstractPlace} → IsRightRecord game bytes → BeginsWith bytes texts [] → EndsAt game texts place → IsPlaceBehind game bytes place
+behind_end right begins (ends_at {before} {standing} last leads) =
+    record { right = right; texts = before; last = last; begins = begins; standing = standing; leads = leads; here = refl }
+
 -- no line is left, and the record has ended
 pub followed_whole : (game : AbstractGame) (bytes : List ℕ) (reached : Reached) (rest : List ℕ) (line : ℕ) (place : AbstractPlace) → IsFollowed game bytes reached rest line place → reached ≡ nothing_next → rest ≡ [] → IsPlaceBehind game bytes place
 followed_whole game bytes reached rest line place followed over none =
     let texts = followed.so_far.texts in
-    let ends : EndsAt game texts place = subst (λ to. IsAt game texts to place) over followed.at in
-    record {
-      right = (good_by_lines game bytes).0 (read_good game bytes reached rest line followed.so_far over none);
-      texts = ends.before;
-      last = ends.last;
-      begins = subst (λ all. BeginsWith bytes all []) ends.parts (subst (λ left. BeginsWith bytes texts left) none followed.so_far.cut.begins);
-      standing = ends.standing;
-      leads = ends.leads;
-      here = ends.here;
-    }
+    behind_end ((good_by_lines game bytes).0 (read_good game bytes reached rest line followed.so_far over none))
+    (subst (λ left. BeginsWith bytes texts left) none followed.so_far.cut.begins) (subst (λ to. IsAt game texts to place) over followed.at)

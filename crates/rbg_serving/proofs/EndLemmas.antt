@@ -351,9 +351,7 @@ begins {told = told} {failure_count = failure_count} {clock_told = clock_told} s
   moments = [];
   clock_tells = subst (clock_told clock) (sym (append-nil start.asked)) clock_tells;
   holds = record {
-    heard = [];
-    timed = heard.nothing;
-    live = heard.nothing;
+    course = record { heard = []; timed = heard.nothing; live = heard.nothing };
     count = refl;
     since = [];
     handles = passing.nothing;

@@ -1,5 +1,5 @@
 -- Lemmas on what is heard of a seat's line.
-use Rattle.std.proofs.Common.{◌≡◌, ◌≢◌, ℕ, ◌+◌, List, [], ◌∷◌, ◌++◌, Bool, true, false, ◌==◌, if◌then◌else◌, ap, ◌∙◌, refl, arith, Decides, ◌⊎◌, inl, inr, append-nil}
+use Rattle.std.proofs.Common.{◌≡◌, ◌≢◌, ℕ, ◌+◌, List, [], ◌∷◌, ◌++◌, Bool, true, false, ◌==◌, if◌then◌else◌, ap, ◌∙◌, refl, arith, Decides, append-nil}
 use Rattle.std.proofs.lemmas.Bool.Decides.{Decides-eqb}
 use Rattle.std.proofs.lemmas.Grind.{flat_map-append}
 use Rattle.std.proofs.lemmas.List.Sums.{sum_by-append}
@@ -7,17 +7,6 @@ use Rattle.std.specs.List.{count_by}
 use Rattle.rbg_serving.specs.Heard.{Heard, gave, ended, failed_to_give, failed_to_take, round_over, seat_of, bytes_of, is_end_of, is_failure_of, given_by, ends_of, failures_of}
 use Rattle.rbg_serving.specs.Told.{Told}
 use Rattle.rbg_serving.specs.internal.Lines.{has_said}
-
--- two numbers are the same or not
-pub same_or_not : (a b : ℕ) → (a ≡ b) ⊎ (a ≢ b)
-same_or_not a b = by_test (a == b) (Decides-eqb a b)
-  where
-    false_not_true : false ≡ true → ⊥
-    false_not_true e = cc
-
-    by_test : (r : Bool) → Decides r (a ≡ b) → (a ≡ b) ⊎ (a ≢ b)
-    by_test true decides = inl (decides.0 refl)
-    by_test false decides = inr (λ e. false_not_true (decides.1 e))
 
 -- the test of two numbers that differ
 pub different : (a b : ℕ) → a ≢ b → (a == b) ≡ false

@@ -2,7 +2,7 @@
 use Rattle.std.proofs.Common.{◌≡◌, ◌≢◌, ℕ, ◌+◌, ◌<◌, ◌≤◌, List, [], ◌∷◌, ◌++◌, length, true, false, sym, refl, subst, arith, append_assoc, Result, Ok, Err, IsErrAnd, MatchResult, ◌⊎◌, inl, inr}
 use Rattle.rbg_match.specs.Inputs.{AbstractEvent, end_of_stream, moment_alone}
 use Rattle.rbg_serving.specs.declared.line_state.LineState.{LineState}
-use Rattle.rbg_serving.specs.Heard.{Heard, failed_to_take, round_over, is_round_over, IsLive, asked, heard_alone, heard_with_it, of_line, of_clock}
+use Rattle.rbg_serving.specs.Heard.{Heard, failed_to_take, round_over, is_round_over, IsLive, IsTimed, asked, heard_alone, heard_with_it, of_line, of_clock}
 use Rattle.rbg_serving.specs.Passing.{Behaviour, Intake, intake_at, queued_at, ComeBefore, ExtendAll, MayComeNext, Handles, more}
 use Rattle.rbg_serving.specs.Told.{Told}
 use Rattle.rbg_serving.specs.internal.InCall.{Start, InCall, Passed, HeardLast, LacksMemoryInCall, WithMoments}
@@ -70,9 +70,7 @@ module _ {L S : Type 0} {told : L → Told → Type 0} {failure_count : L → �
       ExtendAll queued now →
       InCall told failure_count engine start moments rounds lines states new now
   handled {lines = lines} {states = states} {state = state} {new = new} {queued = queued} {now = now} last step extends = record {
-    heard = last.before ++ last.one ∷ [];
-    timed = last.timed;
-    live = last.live;
+    course = record { heard = last.before ++ last.one ∷ []; timed = last.timed; live = last.live };
     count = last.count;
     since = last.intakes;
     handles = more last.handles last.intakes last.one last.may
@@ -91,9 +89,7 @@ module _ {L S : Type 0} {told : L → Told → Type 0} {failure_count : L → �
       engine.lacks state new →
       LacksMemoryInCall told failure_count engine start moments rounds lines states new now
   refused {lines = lines} {states = states} {state = state} last same lacks = record {
-    heard = last.before ++ last.one ∷ [];
-    timed = last.timed;
-    live = last.live;
+    course = record { heard = last.before ++ last.one ∷ []; timed = last.timed; live = last.live };
     count = omega (arith, last.count);
     intakes = last.intakes;
     served = subst (λ bytes. AreServed told failure_count start.told (last.before ++ last.one ∷ []) bytes lines states last.intakes) (sym same) last.served;
@@ -166,23 +162,30 @@ module _ {L S : Type 0} {told : L → Told → Type 0} {failure_count : L → �
     fits = fits;
   }
 
+  -- Nothing more is heard, whatever the clock and the lines told.
+  abbrev unheard : {moments later : List ℕ} {rounds : ℕ} {lines used : List L} {states come : List LineState} {state : S}
+      {queued : List (List ℕ)}
+      (call : InCall told failure_count engine start moments rounds lines states state queued) →
+      IsTimed later call.heard → (intakes : List Intake) → ComeBefore call.since intakes →
+      AreServed told failure_count start.told call.heard queued used come intakes →
+      InCall told failure_count engine start later rounds used come state queued
+  unheard call timed intakes later served = record {
+    course = record { heard = call.heard; timed = timed; live = call.live };
+    count = call.count;
+    since = call.since;
+    handles = call.handles;
+    intakes = intakes;
+    later = later;
+    served = served;
+  }
+
   -- The clock is asked, and nothing is heard, whatever the lines told.
   abbrev pub asked_alone : (at : ℕ) {moments : List ℕ} {rounds : ℕ} {lines used : List L} {states come : List LineState} {state : S}
       {queued : List (List ℕ)}
       (call : InCall told failure_count engine start moments rounds lines states state queued) →
       AreServed told failure_count start.told call.heard queued used come call.intakes →
       InCall told failure_count engine start (moments ++ at ∷ []) rounds used come state queued
-  asked_alone at call served = record {
-    heard = call.heard;
-    timed = asked call.timed at;
-    live = call.live;
-    count = call.count;
-    since = call.since;
-    handles = call.handles;
-    intakes = call.intakes;
-    later = call.later;
-    served = served;
-  }
+  asked_alone at call served = unheard call (asked call.timed at) call.intakes call.later served
 
   -- the same, with no line asked
   pub asked_once : (at : ℕ) {moments : List ℕ} {rounds : ℕ} {lines : List L} {states : List LineState} {state : S}
@@ -200,17 +203,9 @@ module _ {L S : Type 0} {told : L → Told → Type 0} {failure_count : L → �
       ArePassed told failure_count before heard queued used come since (length lines)) →
       Passed told failure_count engine start moments rounds used come state queued
   all_passed {lines = lines} {used = used} {come = come} {queued = queued} call passes = record {
-    call = record {
-      heard = call.heard;
-      timed = call.timed;
-      live = call.live;
-      count = call.count;
-      since = call.since;
-      handles = call.handles;
-      intakes = found.from.intakes;
-      later = before_both call.since call.intakes found.from.intakes call.later found.from.later;
-      served = found.from.served;
-    };
+    call =
+        unheard call call.timed found.from.intakes
+        (before_both call.since call.intakes found.from.intakes call.later found.from.later) found.from.served;
     offered = λ index within live. longer index (found.offered index (omega (arith, within, call.served.as_many_before)) live);
   }
     where
@@ -234,9 +229,7 @@ module _ {L S : Type 0} {told : L → Told → Type 0} {failure_count : L → �
     moments = call.moments;
     clock_tells = call.clock_tells;
     holds = record {
-      heard = call.holds.heard;
-      timed = call.holds.timed;
-      live = call.holds.live;
+      course = call.holds.course;
       count = omega (arith, call.holds.count);
       intakes = call.holds.intakes;
       served = call.holds.served;

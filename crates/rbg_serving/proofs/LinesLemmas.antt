@@ -1,5 +1,6 @@
 -- Lemmas on lines in the middle of a call.
 use Rattle.std.proofs.Common.{◌≡◌, ◌≢◌, ℕ, ◌+◌, ◌<◌, ◌≤◌, List, [], ◌∷◌, ◌++◌, length, take, set, get_or, ap, sym, ◌∙◌, refl, subst, arith, ◌⊎◌, inl, inr, length-append, append-nil, zero, suc}
+use Rattle.std.proofs.lemmas.Bool.{cases_eq}
 use Rattle.std.proofs.lemmas.Grind.{get_or-set_at}
 use Rattle.std.proofs.lemmas.List.{get_or-set_other, length-set, take-append-le}
 use Rattle.rbg_match.specs.Deliveries.{Delivery, bytes_for, delivered_from}
@@ -10,7 +11,7 @@ use Rattle.rbg_serving.specs.Heard.{Heard}
 use Rattle.rbg_serving.specs.Passing.{Intake, no_intake, queued_at, intake_at, Extends, ExtendAll}
 use Rattle.rbg_serving.specs.Told.{Told, Tells, told_at}
 use Rattle.rbg_serving.specs.internal.Lines.{has_taken, has_said, IsLineServed, AreServed, absent}
-use Rattle.rbg_serving.proofs.HeardLemmas.{SameOf, said_the_same, same_or_not}
+use Rattle.rbg_serving.proofs.HeardLemmas.{SameOf, said_the_same}
 
 -- what each seat has after messages to the seats
 pub extended : (seat : ℕ) (queued : List (List ℕ)) (said : List Delivery) (index : ℕ) →
@@ -110,7 +111,7 @@ one_used {L} told failure_count before heard now queued lines states intakes ind
   as_many_before = are.as_many_before ∙ sym (length-set lines index line);
   as_many_states = length-set states index one ∙ are.as_many_states ∙ sym (length-set lines index line);
   as_many_intakes = length-set intakes index intake ∙ are.as_many_intakes ∙ sym (length-set lines index line);
-  each = λ other d within. at other d (omega (arith, within, length-set lines index line)) (same_or_not other index);
+  each = λ other d within. at other d (omega (arith, within, length-set lines index line)) (cases_eq other index);
 }
   where
     swap_all : (other : ℕ) (used used' : L) (come come' : LineState) (took took' : Intake) →

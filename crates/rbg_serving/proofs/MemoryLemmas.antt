@@ -1,5 +1,5 @@
 -- Lemmas on lines over memory.
-use Rattle.std.proofs.Common.{◌≡◌, ◌<◌, ◌≤◌, ℕ, ◌+◌, ◌-◌, List, [], ◌∷◌, ◌++◌, length, take, drop, get_or, ap, sym, ◌∙◌, arith, append_assoc, append-nil, refl, zero, suc, false, min}
+use Rattle.std.proofs.Common.{◌≡◌, ◌<◌, ◌≤◌, ℕ, ◌+◌, ◌-◌, List, [], ◌∷◌, ◌++◌, length, take, drop, get_or, ap, sym, ◌∙◌, arith, append_assoc, append-nil, refl, zero, suc, true, false, min}
 use Rattle.std.specs.List.{flat_map, count_by}
 use Rattle.std.proofs.Math.Seq.{take-add}
 use Rattle.std.proofs.lemmas.Grind.{flat_map-append}
@@ -9,9 +9,10 @@ use Rattle.rbg_serving.specs.declared.give.Give.{Give}
 use Rattle.rbg_serving.specs.declared.give.Give.TheVariants.{Nothing, Ended, Failed}
 use Rattle.rbg_serving.specs.Answers.{with_failure}
 use Rattle.rbg_serving.specs.declared.answer.Polled.{Polled}
+use Rattle.rbg_serving.specs.declared.answer.Polled.TheVariants.{Got}
 use Rattle.rbg_serving.specs.declared.answer.Put.{Put}
 use Rattle.rbg_serving.specs.declared.memory_line.MemoryLine.{MemoryLine}
-use Rattle.rbg_serving.specs.MemoryLines.{bytes_in, is_end, memory_told, GivesNext, IsPolled, TakesNext, IsPut}
+use Rattle.rbg_serving.specs.MemoryLines.{bytes_in, is_bytes, is_end, memory_told, GivesNext, gives_part, gives_rest, IsPolled, TakesNext, IsPut}
 use Rattle.rbg_serving.specs.Told.{Told}
 use Rattle.rbg_serving.proofs.HeardLemmas.{one_if}
 
@@ -171,3 +172,21 @@ told_failure gives whole offset taken stalls failures so_far there is told =
 -- all of a list
 pub take_most : (bytes : List ℕ) (count room : ℕ) → count ≡ min (length bytes) room → length bytes ≤ count → take count bytes ≡ bytes
 take_most bytes count room is all = take_all count bytes all
+
+-- the give at hand
+pub give_at : {gives items : List Give} {found give : Give} (whole : ℕ) (default : Give) →
+    found ≡ get_or items whole default → items ≡ gives → found ≡ give → get_or gives whole default ≡ give
+give_at whole default first list is = sym (first ∙ ap (λ items. get_or items whole default) list) ∙ is
+
+-- a poll that gives a part of the bytes at hand, and one that gives the rest of them
+module _ (gives : List Give) (whole offset n : ℕ) (buffer rest : List ℕ) (give : Give) (is : get_or gives whole Nothing ≡ give)
+    (has : is_bytes give ≡ true) (from : rest ≡ drop offset (bytes_in give)) (most : n ≡ min (length rest) (length buffer))
+    (copied : take n buffer ≡ take n rest) where
+  pub part_given : n < length rest → GivesNext gives whole offset (Got n) buffer whole (offset + n)
+  part_given short =
+      gives_part (ap is_bytes is ∙ has) rest (from ∙ ap (λ one. drop offset (bytes_in one)) (sym is)) (omega (arith, most, short)) short copied
+
+  pub rest_given : length rest ≤ n → GivesNext gives whole offset (Got n) buffer (whole + 1) 0
+  rest_given all =
+      gives_rest (ap is_bytes is ∙ has) rest (from ∙ ap (λ one. drop offset (bytes_in one)) (sym is)) (omega (arith, most, all))
+      (copied ∙ take_most rest n (length buffer) most all)

@@ -1,5 +1,6 @@
 -- Lemmas on bytes that are passed on.
 use Rattle.std.proofs.Common.{◌≡◌, ◌≢◌, ◌⊎◌, inl, inr, ◌<◌, ◌≤◌, ◌==◌, zero, suc, length, ℕ, List, [], ◌∷◌, ◌+◌, ◌-◌, ◌++◌, take, drop, set, get_or, Bool, true, false, if◌then◌else◌, ap, sym, ◌∙◌, refl, subst, arith, length-drop, append_assoc, append-nil}
+use Rattle.std.proofs.lemmas.Bool.{cases_eq}
 use Rattle.std.proofs.lemmas.Grind.{get_or-set_at}
 use Rattle.std.proofs.Math.Seq.{take-add}
 use Rattle.std.proofs.lemmas.List.{take_all, get_or-set_same, get_or-set_other}
@@ -11,7 +12,7 @@ use Rattle.rbg_serving.specs.Heard.{Heard, failed_to_take, is_failure_of, IsLive
 use Rattle.rbg_serving.specs.Passing.{Intake, no_intake, intake_at, queued_at, ComeBefore}
 use Rattle.rbg_serving.specs.Told.{Told, Tells, told_at}
 use Rattle.rbg_serving.specs.internal.Lines.{has_taken, has_said, stall_of, passed_on, absent, IsLineServed, AreServed, AreServedFrom, ArePassed, live_lines}
-use Rattle.rbg_serving.proofs.HeardLemmas.{of_another, count_more, same_or_not, different, itself, one_if}
+use Rattle.rbg_serving.proofs.HeardLemmas.{of_another, count_more, different, itself, one_if}
 use Rattle.rbg_serving.proofs.LinesLemmas.{item_at, one_used, same_of, other_seat}
 use Rattle.rbg_serving.proofs.SaidLemmas.{said_one, says_failed_to_take}
 
@@ -110,7 +111,7 @@ grown_at : (measure : Intake → ℕ) (since intakes : List Intake) (index : ℕ
     ((other : ℕ) → measure (intake_at since other) ≤ measure (intake_at intakes other)) →
     measure (intake_at intakes index) ≤ measure intake →
     (other : ℕ) → measure (intake_at since other) ≤ measure (intake_at (set intakes index intake) other)
-grown_at measure since intakes index intake there before more other = at (same_or_not other index)
+grown_at measure since intakes index intake there before more other = at (cases_eq other index)
   where
     at : (other ≡ index) ⊎ (other ≢ index) → measure (intake_at since other) ≤ measure (intake_at (set intakes index intake) other)
     at (inl e) =
@@ -190,7 +191,7 @@ module _ {L : Type 0} (told : L → Told → Type 0) (failure_count : L → ℕ)
             over = λ over. true_or_false (sym live ∙ over);
           };
     };
-    offered = λ other within live. offered_at other within live (same_or_not other index);
+    offered = λ other within live. offered_at other within live (cases_eq other index);
   }
     where
       intakes : List Intake
@@ -225,7 +226,7 @@ module _ {L : Type 0} (told : L → Told → Type 0) (failure_count : L → ℕ)
 
       here : (intake.taken ≡ length (queued_at queued index)) ⊎ ((intake_at since index).stalls < intake.stalls)
       here = subst (λ all. (intake.taken ≡ length all) ⊎ ((intake_at since index).stalls < intake.stalls)) is
-          (all_or_stall (same_or_not one.taken (length bytes)))
+          (all_or_stall (cases_eq one.taken (length bytes)))
 
       Offered : (place : ℕ) → Intake → Type 0
       Offered place now = (now.taken ≡ length (queued_at queued place)) ⊎ ((intake_at since place).stalls < now.stalls)
@@ -292,7 +293,7 @@ pub one_left : {L : Type 0} (told : L → Told → Type 0) (failure_count : L �
     ArePassed told failure_count before heard queued lines states since (index + 1)
 one_left told failure_count before heard queued lines states since index there over passed = record {
   from = passed.from;
-  offered = λ other within live. offered_at other within live (same_or_not other index);
+  offered = λ other within live. offered_at other within live (cases_eq other index);
 }
   where
     offered_at : (other : ℕ) → other < index + 1 → IsLive (other + 1) heard → (other ≡ index) ⊎ (other ≢ index) →

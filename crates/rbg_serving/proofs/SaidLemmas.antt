@@ -39,38 +39,22 @@ said_one seat heard one stalls before queued taken = λ i. record {
 plus_nothing : (n : ℕ) → n + 0 ≡ n
 plus_nothing n = omega arith
 
+-- two that told the same in each of these
+told_alike : (so_far : Told) {given given' : List ℕ} {ends ends' failures failures' : ℕ} → given ≡ given' → ends ≡ ends' → failures ≡ failures' →
+    record so_far { given = given; ends = ends; failures = failures } ≡ record so_far { given = given'; ends = ends'; failures = failures' }
+told_alike so_far given ends failures = λ i. record so_far { given = given i; ends = ends i; failures = failures i }
+
 pub says_gave : (seat at : ℕ) (bytes : List ℕ) (so_far : Told) → says seat (gave seat at bytes) so_far ≡ record so_far { given = so_far.given ++ bytes }
-says_gave seat at bytes so_far = λ i. record {
-  given = so_far.given ++ ap (λ test. if test then bytes else []) (itself seat) i;
-  ends = plus_nothing so_far.ends i;
-  taken = so_far.taken;
-  stalls = so_far.stalls;
-  failures = plus_nothing so_far.failures i;
-}
+says_gave seat at bytes so_far =
+    told_alike so_far (ap (λ test. so_far.given ++ (if test then bytes else [])) (itself seat)) (plus_nothing so_far.ends) (plus_nothing so_far.failures)
 
 pub says_ended : (seat at : ℕ) (so_far : Told) → says seat (ended seat at) so_far ≡ record so_far { ends = so_far.ends + 1 }
-says_ended seat at so_far = λ i. record {
-  given = append-nil so_far.given i;
-  ends = so_far.ends + ap one_if (itself seat) i;
-  taken = so_far.taken;
-  stalls = so_far.stalls;
-  failures = plus_nothing so_far.failures i;
-}
+says_ended seat at so_far =
+    told_alike so_far (append-nil so_far.given) (ap (λ test. so_far.ends + one_if test) (itself seat)) (plus_nothing so_far.failures)
 
-pub says_failed_to_give : (seat at : ℕ) (so_far : Told) → says seat (failed_to_give seat at) so_far ≡ record so_far { failures = so_far.failures + 1 }
-says_failed_to_give seat at so_far = λ i. record {
-  given = append-nil so_far.given i;
-  ends = plus_nothing so_far.ends i;
-  taken = so_far.taken;
-  stalls = so_far.stalls;
-  failures = so_far.failures + ap one_if (itself seat) i;
-}
+pub says_failed_to_give : (seat at : ℕ) (so_far : Told) → says seat (failed_to_give seat at) so_far ≡ with_failure so_far
+says_failed_to_give seat at so_far =
+    told_alike so_far (append-nil so_far.given) (plus_nothing so_far.ends) (ap (λ test. so_far.failures + one_if test) (itself seat))
 
 pub says_failed_to_take : (seat at : ℕ) (so_far : Told) → says seat (failed_to_take seat at) so_far ≡ with_failure so_far
-says_failed_to_take seat at so_far = λ i. record {
-  given = append-nil so_far.given i;
-  ends = plus_nothing so_far.ends i;
-  taken = so_far.taken;
-  stalls = so_far.stalls;
-  failures = so_far.failures + ap one_if (itself seat) i;
-}
+says_failed_to_take = says_failed_to_give

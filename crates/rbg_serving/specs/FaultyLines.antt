@@ -41,19 +41,23 @@ abbrev pub counted_put : (failures : ℕ) → Put → Put
 counted_put failures (Took n) = Took n
 counted_put failures PutFailed = if failures == most_failures then Took 0 else PutFailed
 
--- The line changes as a poll with this answer may change it, and the answer is passed back. A line that keeps no record
--- may not have been asked.
-pub record PollsOn {L : Type 0} (told : L → Told → Type 0) (failure_count : L → ℕ) (failures : ℕ) (old new : L)
-    (result : Polled) (buffer : List ℕ) : Type 0 where
-  pub answer : Polled
-  pub is : result ≡ counted_poll failures answer
+-- The line changes as a call with this answer may change it, and the answer is passed back, as it is counted. A line that
+-- keeps no record may not have been asked.
+pub record AnswersOn {L A : Type 0} (told : L → Told → Type 0) (failure_count : L → ℕ) (counted : A → A)
+    (after : Told → A → Told) (old new : L) (result : A) : Type 0 where
+  pub answer : A
+  pub is : result ≡ counted answer
   pub tells : (so_far : Told) →
-      Tells told failure_count old so_far → Tells told failure_count new (after_poll so_far answer buffer)
+      Tells told failure_count old so_far → Tells told failure_count new (after so_far answer)
 
--- The line changes as a put with this answer may change it, and the answer is passed back.
-pub record PutsOn {L : Type 0} (told : L → Told → Type 0) (failure_count : L → ℕ) (failures : ℕ) (old new : L)
-    (result : Put) (bytes : List ℕ) : Type 0 where
-  pub answer : Put
-  pub is : result ≡ counted_put failures answer
-  pub tells : (so_far : Told) →
-      Tells told failure_count old so_far → Tells told failure_count new (after_put so_far answer bytes)
+-- a poll is passed on so, where so many failures were counted
+abbrev pub PollsOn : {L : Type 0} → (L → Told → Type 0) → (L → ℕ) → (failures : ℕ) → (old new : L) → Polled →
+    (buffer : List ℕ) → Type 0
+PollsOn told failure_count failures old new result buffer =
+    AnswersOn told failure_count (counted_poll failures) (λ so_far answer. after_poll so_far answer buffer) old new result
+
+-- a put is passed on so
+abbrev pub PutsOn : {L : Type 0} → (L → Told → Type 0) → (L → ℕ) → (failures : ℕ) → (old new : L) → Put →
+    (bytes : List ℕ) → Type 0
+PutsOn told failure_count failures old new result bytes =
+    AnswersOn told failure_count (counted_put failures) (λ so_far answer. after_put so_far answer bytes) old new result

@@ -1,5 +1,5 @@
 -- What a line over memory has told, and what it answers.
-use Rattle.std.specs.Prelude.{◌≡◌, ◌⊎◌, ◌<◌, ◌≤◌, ◌+◌, ◌-◌, ℕ, zero, suc, List, [], ◌++◌, Bool, true, false, take, drop, length, min, slice_index_or}
+use Rattle.std.specs.Prelude.{◌≡◌, ◌⊎◌, ◌<◌, ◌≤◌, ◌+◌, ◌-◌, ℕ, zero, List, [], ◌++◌, Bool, true, false, take, drop, length, min, slice_index_or}
 use Rattle.std.specs.List.{flat_map, count_by}
 use Rattle.rbg_serving.specs.declared.answer.Polled.{Polled}
 use Rattle.rbg_serving.specs.declared.answer.Polled.TheVariants.{Got, Nothing as PolledNothing, Ended as PolledEnded, Failed as PollFailed}
@@ -15,41 +15,32 @@ use Rattle.rbg_serving.specs.Told.{Told}
 -- the bytes that are given
 abbrev pub bytes_in : Give → List ℕ
 bytes_in (Bytes bytes) = bytes.items
-bytes_in Nothing = []
-bytes_in Ended = []
-bytes_in Failed = []
+bytes_in other = []
 
 -- whether bytes are given
 abbrev pub is_bytes : Give → Bool
 is_bytes (Bytes bytes) = true
-is_bytes Nothing = false
-is_bytes Ended = false
-is_bytes Failed = false
+is_bytes other = false
 
 -- whether the line is to answer that it has ended
 abbrev pub is_end : Give → Bool
-is_end (Bytes bytes) = false
-is_end Nothing = false
 is_end Ended = true
-is_end Failed = false
+is_end other = false
 
 -- whether the line is to fail at the poll
 abbrev pub is_failing_give : Give → Bool
-is_failing_give (Bytes bytes) = false
-is_failing_give Nothing = false
-is_failing_give Ended = false
 is_failing_give Failed = true
+is_failing_give other = false
 
 -- whether the line is to fail at the put
 abbrev pub is_failing_take : Take → Bool
-is_failing_take (UpTo most) = false
 is_failing_take Fail = true
+is_failing_take other = false
 
 -- whether the line is to take nothing at the put
 abbrev pub is_empty_take : Take → Bool
 is_empty_take (UpTo zero) = true
-is_empty_take (UpTo (suc most)) = false
-is_empty_take Fail = false
+is_empty_take other = false
 
 -- What a line has told that has given so many gives whole and so many bytes of the next, has taken these bytes, and has
 -- taken none and failed so often.

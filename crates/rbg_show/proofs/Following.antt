@@ -1,6 +1,5 @@
 -- Lines that are followed, and lines that stop, from what their parts do.
-use Rattle.std.proofs.Common.{◌≡◌, ◌≢◌, ℕ, List, [], ◌∷◌, ◌++◌, Bool, Option, Some, None, Result, Ok, Err, IfErr, inl, inr, subst, sym, refl, ◌∙◌}
-use Rattle.std.specs.Result.{IsErrAnd}
+use Rattle.std.proofs.Common.{◌≡◌, ◌≢◌, ℕ, List, [], Bool, Option, Some, None, Result, Ok, Err, IfErr, inl, inr, subst, sym, refl, ◌∙◌}
 use Rattle.rbg_moves.specs.declared.unsettled.Unsettled.{Unsettled}
 use Rattle.rbg_moves.specs.declared.unsettled.Unsettled.TheVariants.{Heavy as HeavyQuestion, Endless, Memory as NoMemory}
 use Rattle.rbg_lines.specs.declared.heading.Version.{Version}
@@ -13,9 +12,9 @@ use Rattle.rbg_show.specs.declared.showing.Showing.{Showing}
 use Rattle.rbg_show.specs.declared.stop.Stop.{Stop}
 use Rattle.rbg_show.specs.declared.stop.Stop.TheVariants.{NotLegal, NoMove, Mark, BehindEnd, Heavy, Keeper, Memory}
 use Rattle.rbg_show.specs.Following.{BeginsWithMark, Follows, IsMessageLine, IsMoveLine, Standing, Stops, played_on}
-use Rattle.rbg_show.specs.Following.Follows.{head, ends, made, refused}
+use Rattle.rbg_show.specs.Following.Follows.{head, made, refused}
 use Rattle.rbg_show.specs.Following.Stops.{behind_end, no_move, mark, not_legal, keeper, heavy}
-use Rattle.rbg_show.specs.Lines.{HasNoMessage, IsEnd, IsLine, IsOther, IsSilent, SaysMessage, by_event}
+use Rattle.rbg_show.specs.Lines.{HasNoMessage, IsLine, IsOther, IsSilent, SaysMessage}
 use Rattle.rbg_show.specs.Moving.{MakesNone, MakesOne, MeetsHeavy, TiresKeeper}
 use Rattle.rbg_show.specs.Playing.{Playing}
 use Rattle.rbg_show.specs.Readings.{AreReadings, IsSaid, lead_of}

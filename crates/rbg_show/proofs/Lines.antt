@@ -1,11 +1,11 @@
 -- What lines are, from what the readers of lines find.
-use Rattle.std.proofs.Common.{◌≡◌, ◌↔◌, ◌==◌, ℕ, List, [], ◌∷◌, ◌++◌, codes, length, Bool, true, false, IsTrue, Option, Some, None, IfSome, IfNone, Result, Ok, Err, IfOk, ap, subst, ◌∙◌, refl}
+use Rattle.std.proofs.Common.{◌≡◌, ◌↔◌, ◌==◌, ℕ, List, [], ◌++◌, codes, length, Bool, true, false, IsTrue, Option, Some, None, IfSome, IfNone, ap, subst, ◌∙◌, refl}
 use Rattle.std.proofs.lemmas.Bool.{eq-eqb}
 use Rattle.rbg_script.specs.declared.config.ScriptConfig.{ScriptConfig}
 use Rattle.rbg_script.specs.Config.{SpellsConfig}
 use Rattle.std.specs.Option.{IsSomeAnd}
 use Rattle.rbg_script.specs.declared.event.ScriptEvent.{ScriptEvent}
-use Rattle.rbg_script.specs.Events.{AbstractEvent, SpellsEvent, event_of, piece_event}
+use Rattle.rbg_script.specs.Events.{AbstractEvent, SpellsEvent, event_of}
 use Rattle.rbg_lines.specs.declared.entry.Entry.TheVariants.{End as EndEntry}
 use Rattle.rbg_lines.specs.declared.entry.Timed.{Timed}
 use Rattle.rbg_lines.specs.declared.heading.Start.{Start}

@@ -1,5 +1,5 @@
 -- Lists of lines that are followed so far, or whole, or up to a line that stops.
-use Rattle.std.proofs.Common.{◌≡◌, ◌≢◌, ◌<◌, ◌≤◌, ◌+◌, ℕ, List, [], ◌∷◌, ◌++◌, length, All, Bool, true, false, Option, Some, None, inl, inr, subst, sym, refl, ap, ◌∙◌, arith}
+use Rattle.std.proofs.Common.{◌≡◌, ◌<◌, ◌≤◌, ◌+◌, ℕ, List, [], ◌∷◌, ◌++◌, length, Bool, true, false, Option, inl, inr, subst, sym, refl, ap, ◌∙◌, arith}
 use Rattle.std.proofs.lemmas.List.{append_assoc, flat_map_more, length-append, length_push, append-nil}
 use Rattle.std.proofs.lemmas.List.Elements.{All-push}
 use Rattle.rbg_rules.specs.State.{AbstractGame}
@@ -11,14 +11,14 @@ use Rattle.rbg_show.specs.declared.showing.Showing.{Showing}
 use Rattle.rbg_show.specs.declared.showing.Shown.{Shown}
 use Rattle.rbg_show.specs.declared.stop.Stop.{Stop}
 use Rattle.rbg_show.specs.Endings.{EndsWith, ended_text, stopped_text, unsettled_text}
-use Rattle.rbg_show.specs.Following.{AreLinesOf, FollowsLines, FollowsList, IsBare, IsLineEnd, Standing, Stops, StopsAtEnd, StopsAtLine, StopsBehind, first_standing, outcome_of}
+use Rattle.rbg_show.specs.Following.{AreLinesOf, FollowsList, IsBare, IsLineEnd, Standing, Stops, StopsAtEnd, StopsAtLine, StopsBehind, StopsLine, first_standing, outcome_of}
 use Rattle.rbg_show.specs.Following.EndsWell.{settled, at_limit}
 use Rattle.rbg_show.specs.Following.FollowsLines.{none, more}
 use Rattle.rbg_show.specs.Playing.{Playing}
 use Rattle.rbg_show.specs.Showing.{IsShown}
 use Rattle.rbg_show.specs.Showing.IsShown.{whole, at_line, at_end}
 use Rattle.rbg_show.specs.Moving.{Settles}
-use Rattle.rbg_show.specs.internal.Standing.{FollowsLine, IsFollowedSoFar, StopsLine, TellsEnd, TellsLimit, TellsLine, TellsList, standing_of}
+use Rattle.rbg_show.specs.internal.Standing.{FollowsLine, IsFollowedSoFar, TellsEnd, TellsLimit, TellsLine, TellsList, standing_of}
 
 -- a line more, with its line feed
 text_more : (before : List (List ℕ)) (line behind : List ℕ) → lines_of (before ++ line ∷ []) ++ behind ≡ lines_of before ++ (line ++ line_feed ∷ behind)
@@ -71,10 +71,8 @@ stops_at from at to list rest line behind number so_far cut ended lacks stop tol
   counted = so_far.counted;
   middle = at;
   follows = so_far.follows;
-  bare = told.bare;
-  is_bare = told.is_bare;
   at = to;
-  stops = told.stops;
+  stops = told;
   is = refl;
 }
 

@@ -1,5 +1,5 @@
 -- What comes of moves that are tried.
-use Rattle.std.proofs.Common.{◌≡◌, ◌≢◌, ◌<◌, ◌≤◌, ◌+◌, ◌⊎◌, ℕ, List, [], ◌∷◌, ◌++◌, length, take, drop, get_or, Bool, true, false, IfSome, Contains, Option, Some, None, Result, Ok, Err, inl, inr, subst, sym, refl, ap, ◌∙◌, arith}
+use Rattle.std.proofs.Common.{◌≡◌, ◌≢◌, ◌<◌, ◌≤◌, ◌+◌, ◌⊎◌, ℕ, List, [], ◌∷◌, ◌++◌, length, take, drop, get_or, Bool, true, false, IfSome, Contains, Option, Some, None, Result, Ok, Err, inl, inr, subst, sym, ap, ◌∙◌, arith}
 use Rattle.std.proofs.lemmas.List.{take-append-drop, drop_more, length-append, take_all}
 use Rattle.std.proofs.lemmas.List.Elements.{All-more, All-same, Contains-get_or}
 use Rattle.std.specs.Prelude.{IfNone, is_some}
@@ -10,11 +10,11 @@ use Rattle.rbg_rules.specs.Heavy.{IsHeavyToFind}
 use Rattle.rbg_moves.specs.declared.unsettled.Unsettled.{Unsettled}
 use Rattle.rbg_moves.specs.Limits.{most_keeper_moves}
 use Rattle.rbg_show.specs.declared.reading.Reading.{Reading}
-use Rattle.rbg_show.specs.Moving.{CanMakeNone, IsHeavyAt, IsOfMover, KeeperMoves, Makes, MakesFirst, MakesNone, MakesOne, MeetsHeavy, Moves, Settles, TiresKeeper, Waits}
+use Rattle.rbg_show.specs.Moving.{CanMakeNone, IsHeavyAt, IsOfMover, KeeperMoves, Makes, MakesFirst, MakesNone, MakesOne, MeetsHeavy, Settles, TiresKeeper, Waits}
 use Rattle.rbg_show.specs.Moving.IsHeavyAt.{to_try, to_find}
 use Rattle.rbg_show.specs.Moving.Waits.{longer}
 use Rattle.rbg_show.specs.Playing.{Playing}
-use Rattle.rbg_show.specs.internal.Trying.{IsHeavyReading, TellsFirst, TellsMade, TellsMoved, TellsOne}
+use Rattle.rbg_show.specs.internal.Trying.{IsHeavyReading, TellsMade, TellsMoved, TellsOne}
 
 -- the move of a reading, from its pairs
 pub tells_made : (reading : Reading) (from to : Playing) → IsOfMover from reading → (made : Bool) → TellsMoved reading.pairs from to made → TellsMade reading from to made

@@ -1,5 +1,5 @@
 -- What it means to follow the lines of a list of moves.
-use Rattle.std.specs.Prelude.{◌≡◌, ◌≢◌, ℕ, ◌+◌, ◌⊎◌, List, [], ◌∷◌, ◌++◌, length, Option, Some, None, All, Bool, true, false}
+use Rattle.std.specs.Prelude.{◌≡◌, ◌≢◌, ℕ, ◌+◌, ◌⊎◌, List, [], ◌∷◌, ◌++◌, length, Option, Some, None, All, Bool, true}
 use Rattle.rbg_wire.specs.Bytes.{LacksByte}
 use Rattle.rbg_wire.specs.Lines.{line_feed, lines_of}
 use Rattle.rbg_wire.specs.declared.outcome.Outcome.{Outcome}
@@ -179,6 +179,12 @@ pub record FollowsList (from : Standing) (list : List ℕ) (to : Playing) (told 
 abbrev pub IsLineEnd : List ℕ → Type 0
 IsLineEnd behind = (behind ≡ []) ⊎ ((rest : List ℕ) × (behind ≡ line_feed ∷ rest))
 
+-- A line stops, as what it holds does.
+pub record StopsLine (line : List ℕ) (from : Standing) (stop : Stop) (to : Standing) : Type 0 where
+  pub bare : List ℕ
+  pub is_bare : IsBare line bare
+  pub stops : Stops bare from stop to
+
 -- The lines before one are followed, and that line stops. This is its number, counted from 1.
 pub record StopsAtLine (from : Standing) (list : List ℕ) (number : ℕ) (stop : Stop) (to : Playing) : Type 0 where
   pub before : List (List ℕ)
@@ -190,10 +196,8 @@ pub record StopsAtLine (from : Standing) (list : List ℕ) (number : ℕ) (stop 
   pub counted : number ≡ length before + 1
   pub middle : Standing
   pub follows : FollowsLines from before middle
-  pub bare : List ℕ
-  pub is_bare : IsBare line bare
   pub at : Standing
-  pub stops : Stops bare middle stop at
+  pub stops : StopsLine line middle stop at
   pub is : to ≡ at.playing
 
 -- All lines of the list are followed, and what comes behind them stops.

@@ -1,7 +1,5 @@
 -- What a line of a list of moves is, and the moves that it may mean.
-use Rattle.std.specs.Prelude.{◌≡◌, ℕ, ◌<◌, ◌≤◌, ◌^◌, List, [], ◌∷◌, ◌++◌, length, Option, Some, None, codes, decimal}
-use Rattle.rbg_base.specs.Move.{most_pairs}
-use Rattle.rbg_wire.specs.Reading.{SpellsPairs}
+use Rattle.std.specs.Prelude.{◌≡◌, ℕ, List, [], ◌∷◌, ◌++◌, codes}
 use Rattle.rbg_script.specs.declared.config.ScriptConfig.{ScriptConfig}
 use Rattle.rbg_script.specs.Config.{SpellsConfig}
 use Rattle.rbg_script.specs.Events.{AbstractEvent, SpellsEvent, piece_event}

@@ -5,13 +5,10 @@ use Rattle.rbg_rules.specs.Moves.{AbstractPlace}
 use Rattle.rbg_rules.specs.State.{AbstractGame}
 
 -- the last of these lines is the end, and the others lead to this place
-pub record EndsAt (game : AbstractGame) (texts : List (List ℕ)) (place : AbstractPlace) : Type 0 where
-  pub before : List (List ℕ)
-  pub last : List ℕ
-  pub parts : texts ≡ before ++ last ∷ []
-  pub standing : Standing
-  pub leads : LeadTo game before (entry_next standing)
-  pub here : standing.place ≡ place
+pub data EndsAt (game : AbstractGame) : (texts : List (List ℕ)) → (place : AbstractPlace) → Type 0 where
+  ends_at : {before : List (List ℕ)} {standing : Standing} (last : List ℕ) →
+      LeadTo game before (entry_next standing) →
+      EndsAt game (before ++ last ∷ []) standing.place
 
 -- the moves of these lines, which lead there, lead to this place; before the first move nothing is said
 abbrev pub IsAt : AbstractGame → (texts : List (List ℕ)) → Reached → AbstractPlace → Type 0

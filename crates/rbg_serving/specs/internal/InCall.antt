@@ -17,13 +17,18 @@ pub record Start (S : Type 0) : Type 0 where
   pub state : S
   pub queued : List (List ℕ)
 
+-- What was heard in the call, with these moments, and of no line that had ended.
+pub record Course {S : Type 0} (start : Start S) (moments : List ℕ) : Type 0 where
+  pub heard : List Heard
+  pub timed : IsTimed moments heard
+  pub live : IsOfLiveLines (length start.told) heard
+
 -- The call has come so far, with these moments and after so many rounds. All that was heard is handled.
 pub record InCall {L S : Type 0} (told : L → Told → Type 0) (failure_count : L → ℕ) (engine : Behaviour S)
     (start : Start S) (moments : List ℕ) (rounds : ℕ) (lines : List L) (states : List LineState) (state : S)
     (queued : List (List ℕ)) : Type 0 where
-  pub heard : List Heard
-  pub timed : IsTimed moments heard
-  pub live : IsOfLiveLines (length start.told) heard
+  pub course : Course start moments
+  pub open course use *
   pub count : rounds_of heard ≡ rounds
   pub since : List Intake
   pub handles : Handles engine (length start.told) start.state start.queued heard state queued since
@@ -59,9 +64,8 @@ pub record HeardLast {L S : Type 0} (told : L → Told → Type 0) (failure_coun
 pub record LacksMemoryInCall {L S : Type 0} (told : L → Told → Type 0) (failure_count : L → ℕ) (engine : Behaviour S)
     (start : Start S) (moments : List ℕ) (rounds : ℕ) (lines : List L) (states : List LineState) (state : S)
     (queued : List (List ℕ)) : Type 0 where
-  pub heard : List Heard
-  pub timed : IsTimed moments heard
-  pub live : IsOfLiveLines (length start.told) heard
+  pub course : Course start moments
+  pub open course use *
   pub count : rounds_of heard ≤ rounds
   pub intakes : List Intake
   pub served : AreServed told failure_count start.told heard queued lines states intakes
@@ -113,14 +117,17 @@ IsSameCall old new =
     × (new.clock.ghost_name ≡ old.clock.ghost_name)
     × (length new.lines.now ≡ length old.lines.now)
 
--- A part of the call leaves this as it was, and keeps what holds as long as there is memory.
+-- A part of the call leaves this as it was.
+abbrev pub Stays : {L S Q C Fixed : Type 0} → (served : S → ℕ) → (Q → List (List ℕ)) → (fixed : S → Fixed) →
+    (old new : Call L S C Q) → Type 0
+Stays served queued fixed old new =
+    Fits served queued new × IsSameCall old new × (fixed new.engine.now ≡ fixed old.engine.now)
+
+-- the same, and what holds is kept as long as there is memory
 abbrev pub Keeps : {L S Q C Fixed E : Type 0} → (served : S → ℕ) → (Q → List (List ℕ)) → (fixed : S → Fixed) → (valid : S → Type 0) →
     (old new : Call L S C Q) → Result (Unit {0}) E → Type 0
 Keeps served queued fixed valid old new result =
-    Fits served queued new
-    × IsSameCall old new
-    × (fixed new.engine.now ≡ fixed old.engine.now)
-    × OnOk result (valid old.engine.now → valid new.engine.now)
+    Stays served queued fixed old new × OnOk result (valid old.engine.now → valid new.engine.now)
 
 -- All that is queued was offered, or there was no memory for the last that was heard, after so many rounds.
 abbrev pub PassesOrLacks : {L S Q C E : Type 0} → (L → Told → Type 0) → (L → ℕ) → Behaviour S → (Q → List (List ℕ)) →

@@ -11,11 +11,10 @@ use Rattle.rbg_show.specs.declared.showing.Showing.{Showing}
 use Rattle.rbg_show.specs.declared.stop.Stop.{Stop}
 use Rattle.rbg_show.specs.declared.stop.Stop.TheVariants.{NotLegal, NoMove, Mark, BehindEnd, Heavy, Keeper, Memory}
 use Rattle.rbg_show.specs.Endings.{EndsWith, ended_text, stopped_text, unsettled_text}
-use Rattle.rbg_show.specs.Following.{BeginsWithMark, EndsWell, Follows, FollowsLines, FollowsList, IsBare, Standing, Stops, StopsAtEnd, StopsAtLine, StopsBehind, outcome_of}
+use Rattle.rbg_show.specs.Following.{BeginsWithMark, EndsWell, Follows, FollowsLines, FollowsList, IsBare, Standing, StopsAtEnd, StopsAtLine, StopsBehind, StopsLine, outcome_of}
 use Rattle.rbg_show.specs.Moving.{MakesNone, MakesOne, MeetsHeavy, TiresKeeper}
 use Rattle.rbg_show.specs.Playing.{Playing}
 use Rattle.rbg_show.specs.Readings.{AreReadings, IsSaid}
-use Rattle.rbg_show.specs.internal.Stopping.{IsNoMove}
 
 -- where one stands
 abbrev pub standing_of : Showing → Standing
@@ -66,12 +65,6 @@ pub record FollowsLine (line : List ℕ) (from to : Standing) : Type 0 where
   pub bare : List ℕ
   pub is_bare : IsBare line bare
   pub follows : Follows bare from to
-
--- a line that stops
-pub record StopsLine (line : List ℕ) (from : Standing) (stop : Stop) (to : Standing) : Type 0 where
-  pub bare : List ℕ
-  pub is_bare : IsBare line bare
-  pub stops : Stops bare from stop to
 
 -- whether a line is followed; if not, this is told at last
 abbrev pub TellsLine : List ℕ → (number : ℕ) → (from : Standing) → (new : Showing) → Bool → Type 0

@@ -13,8 +13,8 @@ use Rattle.rbg_listing.proofs.run.answer_file.Goals as goal
 
 pub returns-in-Whole : goal.returns-in-Whole
 returns-in-Whole g c =
-    let reading = subst (IsFileReading longest_text _) c.in-Whole.is c.in_ok-text.ensures.read in
-    IfOk-weaker c.answer_moves.result _ _ (λ answer is. of_file c.in-Whole.text.items reading.1 (subst (λ text. IsMovesAnswer text answer.text.items answer.status) c.as_slice.ensures.value is)) c.answer_moves.ensures
+    IfOk-weaker c.answer_moves.result _ _
+    (λ answer is. of_file c.in-Whole.text.items (subst (IsFileReading longest_text _) c.in-Whole.is c.in_ok-text.ensures.read).1 (subst (λ text. IsMovesAnswer text answer.text.items answer.status) c.as_slice.ensures.value is)) c.answer_moves.ensures
 
 pub returns-in-TooLong : goal.returns-in-TooLong
 returns-in-TooLong g c =

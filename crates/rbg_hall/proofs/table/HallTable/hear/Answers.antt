@@ -1,5 +1,7 @@
 -- What each kind of input is to a line with a seat, and to one without.
+use Rattle.std.proofs.Common.{Some}
 use Rattle.rbg_wire.specs.Inboxes.{item_of}
+use Rattle.rbg_hall.proofs.Places.{there_within}
 use Rattle.rbg_hall.proofs.Seated.{clock_heard, ok_so, piece_heard, stayed, unheard_end, unheard_item, unheard_piece}
 use Rattle.rbg_hall.proofs.table.HallTable.hear.Goals as goal
 
@@ -25,6 +27,12 @@ returns-in-None-seat_of-clause-hears c =
 pub returns-in-None-seat_of-2-clause-hears : goal.returns-in-None-seat_of-2-clause-hears
 returns-in-None-seat_of-2-clause-hears c =
     rw c.in-Says.is (unheard_item c.args.self.now c.in-Says.line c.in-Says.at (item_of c.in-Says.took) c.args.out.now c.in-None-seat_of-2.ensures.none)
+
+pub leave_seat-requires-clause-there : goal.leave_seat-requires-clause-there
+leave_seat-requires-clause-there c = there_within c.args.self.now.seats c.in-Some-seat_of-3.index (Some c.in-Leaves.line) c.in-Some-seat_of-3.ensures.sits
+
+pub returns-in-Some-seat_of-3-clause-hears : goal.returns-in-Some-seat_of-3-clause-hears
+returns-in-Some-seat_of-3-clause-hears c = rw c.in-Leaves.is (c.leave_seat.ensures.hears c.in-Leaves.line c.in-Some-seat_of-3.ensures.sits)
 
 pub returns-in-None-seat_of-3-clause-hears : goal.returns-in-None-seat_of-3-clause-hears
 returns-in-None-seat_of-3-clause-hears c =

@@ -1,18 +1,14 @@
-use Rattle.std.proofs.Common.{rules, ◌≡◌, true, false, Some}
+use Rattle.std.proofs.Common.{rules, ◌≡◌, true, false}
 use Rattle.std.specs.Prelude.{is_none}
-use Rattle.rbg_hall.proofs.Places.{there_within}
 use Rattle.rbg_hall.proofs.Seated.{ok_so, freed, gone_by}
 use Rattle.rbg_hall.proofs.table.HallTable.leave_seat.Goals as goal
-
-pub take_seat-requires : goal.take_seat-requires
-take_seat-requires c = there_within c.args.self.now.seats c.args.index (Some c.args.line) c.requires.sits
 
 pub returns-then-is_waiting-clause-hears : goal.returns-then-is_waiting-clause-hears
 returns-then-is_waiting-clause-hears c =
     let waits : is_none c.args.self.now.begun ≡ true = search rules in
-    freed c.args.self.now c.take_seat.new.self c.args.line c.args.at c.args.index c.args.out.now waits c.requires.sits c.take_seat.ensures
+    λ line sits. freed c.args.self.now c.take_seat.new.self line c.args.at c.args.index c.args.out.now waits sits c.take_seat.ensures
 
 pub returns-clause-hears : goal.returns-clause-hears
 returns-clause-hears c =
     let begun : is_none c.args.self.now.begun ≡ false = search rules in
-    ok_so c.play.result c.play.ensures.plays (λ play. gone_by c.args.self.now c.play.new.self c.args.line c.args.at c.args.index c.args.out.now c.play.new.out begun c.requires.sits play)
+    λ line sits. ok_so c.play.result c.play.ensures.plays (λ play. gone_by c.args.self.now c.play.new.self line c.args.at c.args.index c.args.out.now c.play.new.out begun sits play)

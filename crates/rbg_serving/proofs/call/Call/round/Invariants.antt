@@ -1,12 +1,10 @@
 use Rattle.std.proofs.Common.{◌≡◌, length, ℕ}
-use Rattle.rbg_serving.specs.internal.InCall.{Start, PassedOf, Fits, IsSameCall}
+use Rattle.rbg_serving.specs.internal.InCall.{Start, PassedOf, Stays}
 use Rattle.rbg_serving.proofs.call.Call.round.Given as goal
 
 abbrev pub invariant-loop-index : goal.invariant-loop-index
 invariant-loop-index g l =
-    Fits (λ engine. g.E.Engine.lines (g.E.Engine.fixed engine)) g.E.Engine.queued l.self
-    × IsSameCall l.fn.self l.self
-    × (g.E.Engine.fixed l.self.engine.now ≡ g.E.Engine.fixed l.fn.self.engine.now)
+    Stays (λ engine. g.E.Engine.lines (g.E.Engine.fixed engine)) g.E.Engine.queued g.E.Engine.fixed l.fn.self l.self
     × (g.E.Engine.valid l.fn.self.engine.now → g.E.Engine.valid l.self.engine.now)
     × (length l.self.lines.now ≡ l.index-end)
     × ((start : Start _) (rounds : ℕ) →

@@ -10,8 +10,8 @@ returns-in_err-begin-clause-serves g c = λ before asked lines_tell clock_tells.
 
 pub returns-then-done-rounds-clause-serves : goal.returns-then-done-rounds-clause-serves
 returns-then-done-rounds-clause-serves g c = λ before asked lines_tell clock_tells.
-    ends_late (omega (arith, c.if-done-rounds.true, c.loop-buffer.invariant.4))
-    (c.loop-buffer.invariant.5 _
+    ends_late (omega (arith, c.if-done-rounds.true, c.loop-buffer.invariant.2))
+    (c.loop-buffer.invariant.3 _
     (begins (start_at before asked c.args.self.now.engine.now (g.E.Engine.queued c.args.self.now.outbox.now)) lines_tell clock_tells c.requires.fits.0 c.requires.first))
     (fails c.is_over.result c.is_over.ensures c.loop-buffer-test.true)
 
@@ -20,14 +20,14 @@ returns-in_err-round-clause-serves g c = λ before asked lines_tell clock_tells.
     ends_short c.from_residual-in_err-round.result c.from_residual-in_err-round.ensures.1
     (omega (arith, c.if-done-rounds.false))
     (c.in_err-round.ensures.goes_on _ c.loop-buffer.done
-    (c.loop-buffer.invariant.5 _
+    (c.loop-buffer.invariant.3 _
     (begins (start_at before asked c.args.self.now.engine.now (g.E.Engine.queued c.args.self.now.outbox.now)) lines_tell clock_tells c.requires.fits.0 c.requires.first)))
 
 pub returns-clause-serves : goal.returns-clause-serves
 returns-clause-serves g c = λ before asked lines_tell clock_tells.
     ends_well
-    (c.loop-buffer.invariant.5 _
+    (c.loop-buffer.invariant.3 _
     (begins (start_at before asked c.args.self.now.engine.now (g.E.Engine.queued c.args.self.now.outbox.now)) lines_tell clock_tells c.requires.fits.0 c.requires.first))
-    c.loop-buffer.invariant.4
+    c.loop-buffer.invariant.2
     (holds c.is_over.result c.is_over.ensures c.loop-buffer-test.false)
     c.has_whole-whole.ensures

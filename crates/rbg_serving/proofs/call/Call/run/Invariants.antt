@@ -1,12 +1,10 @@
-use Rattle.std.proofs.Common.{◌≡◌, ◌≤◌, ◌-◌}
-use Rattle.rbg_serving.specs.internal.InCall.{Start, InCallOf, PassedOf, Fits, IsSameCall}
+use Rattle.std.proofs.Common.{◌≤◌, ◌-◌}
+use Rattle.rbg_serving.specs.internal.InCall.{Start, InCallOf, PassedOf, Stays}
 use Rattle.rbg_serving.proofs.call.Call.run.Given as goal
 
 abbrev pub invariant-loop-buffer : goal.invariant-loop-buffer
 invariant-loop-buffer g l =
-    Fits (λ engine. g.E.Engine.lines (g.E.Engine.fixed engine)) g.E.Engine.queued l.self
-    × IsSameCall l.fn.self l.self
-    × (g.E.Engine.fixed l.self.engine.now ≡ g.E.Engine.fixed l.fn.self.engine.now)
+    Stays (λ engine. g.E.Engine.lines (g.E.Engine.fixed engine)) g.E.Engine.queued g.E.Engine.fixed l.fn.self l.self
     × (g.E.Engine.valid l.fn.self.engine.now → g.E.Engine.valid l.self.engine.now)
     × (l.done ≤ l.rounds)
     × ((start : Start _) →

@@ -1,8 +1,6 @@
 -- Each line that holds this is followed, or stops.
-use Rattle.std.proofs.Common.{◌≢◌, ℕ, List, subst, sym}
+use Rattle.std.proofs.Common.{subst, sym}
 use Rattle.std.proofs.lemmas.Result.{IfOk-weaker}
-use Rattle.rbg_show.specs.declared.stop.Stop.TheVariants.{Memory}
-use Rattle.rbg_show.specs.Following.{Follows, Stops}
 use Rattle.rbg_show.specs.Following.Follows.{ends}
 use Rattle.rbg_show.specs.Lines.{IsLine, SaysMessage}
 use Rattle.rbg_show.specs.internal.Standing.{standing_of}
@@ -19,54 +17,24 @@ returns-in-End-clause-follows c =
 
 pub returns-in-Said-clause-follows : goal.returns-in-Said-clause-follows
 returns-in-Said-clause-follows c =
-    IfOk-weaker c.show_message.result _
-    (λ _. (line : List ℕ) → IsLine line c.args.held.now → Follows line (standing_of c.args.self.now) (standing_of c.show_message.new.self))
-    (λ _ shown. λ line is.
-    message_shown c.args.self.now c.show_message.new.self c.in-Said.seat c.in-Said.text.now c.show_message.ensures.kept c.requires.goes_on shown line
-    (subst (IsLine line) c.in-Said.is is))
-    c.show_message.ensures.follows
+    IfOk-weaker c.show_message.result _ _ (λ _ shown line is. message_shown c.args.self.now c.show_message.new.self c.in-Said.seat c.in-Said.text.now c.show_message.ensures.kept c.requires.goes_on shown line (subst (IsLine line) c.in-Said.is is)) c.show_message.ensures.follows
 
 pub returns-in-Said-clause-stops : goal.returns-in-Said-clause-stops
 returns-in-Said-clause-stops c =
-    err_weaker c.show_message.result _
-    (λ stop. stop ≢ Memory → (line : List ℕ) → IsLine line c.args.held.now → Stops line (standing_of c.args.self.now) stop (standing_of c.show_message.new.self))
-    (λ stop told. λ other line is.
-    message_stopped c.args.self.now c.show_message.new.self c.in-Said.seat c.in-Said.text.now c.show_message.ensures.kept c.requires.goes_on stop told other line
-    (subst (IsLine line) c.in-Said.is is))
-    c.show_message.ensures.stops
+    err_weaker c.show_message.result _ _ (λ stop told other line is. message_stopped c.args.self.now c.show_message.new.self c.in-Said.seat c.in-Said.text.now c.show_message.ensures.kept c.requires.goes_on stop told other line (subst (IsLine line) c.in-Said.is is)) c.show_message.ensures.stops
 
 pub returns-in-Sent-clause-follows : goal.returns-in-Sent-clause-follows
 returns-in-Sent-clause-follows c =
-    IfOk-weaker c.show_message-in-Sent.result _
-    (λ _. (line : List ℕ) → IsLine line c.args.held.now → Follows line (standing_of c.args.self.now) (standing_of c.show_message-in-Sent.new.self))
-    (λ _ shown. λ line is.
-    message_shown c.args.self.now c.show_message-in-Sent.new.self c.in-Sent.seat c.as_slice.result.now c.show_message-in-Sent.ensures.kept c.requires.goes_on shown line
-    (subst (SaysMessage line c.in-Sent.seat) (sym c.as_slice.ensures.value) (subst (IsLine line) c.in-Sent.is is)))
-    c.show_message-in-Sent.ensures.follows
+    IfOk-weaker c.show_message-in-Sent.result _ _ (λ _ shown line is. message_shown c.args.self.now c.show_message-in-Sent.new.self c.in-Sent.seat c.as_slice.result.now c.show_message-in-Sent.ensures.kept c.requires.goes_on shown line (subst (SaysMessage line c.in-Sent.seat) (sym c.as_slice.ensures.value) (subst (IsLine line) c.in-Sent.is is))) c.show_message-in-Sent.ensures.follows
 
 pub returns-in-Sent-clause-stops : goal.returns-in-Sent-clause-stops
 returns-in-Sent-clause-stops c =
-    err_weaker c.show_message-in-Sent.result _
-    (λ stop. stop ≢ Memory → (line : List ℕ) → IsLine line c.args.held.now → Stops line (standing_of c.args.self.now) stop (standing_of c.show_message-in-Sent.new.self))
-    (λ stop told. λ other line is.
-    message_stopped c.args.self.now c.show_message-in-Sent.new.self c.in-Sent.seat c.as_slice.result.now c.show_message-in-Sent.ensures.kept c.requires.goes_on stop told other line
-    (subst (SaysMessage line c.in-Sent.seat) (sym c.as_slice.ensures.value) (subst (IsLine line) c.in-Sent.is is)))
-    c.show_message-in-Sent.ensures.stops
+    err_weaker c.show_message-in-Sent.result _ _ (λ stop told other line is. message_stopped c.args.self.now c.show_message-in-Sent.new.self c.in-Sent.seat c.as_slice.result.now c.show_message-in-Sent.ensures.kept c.requires.goes_on stop told other line (subst (SaysMessage line c.in-Sent.seat) (sym c.as_slice.ensures.value) (subst (IsLine line) c.in-Sent.is is))) c.show_message-in-Sent.ensures.stops
 
 pub returns-in-Other-clause-follows : goal.returns-in-Other-clause-follows
 returns-in-Other-clause-follows c =
-    IfOk-weaker c.show_move.result _
-    (λ _. (line : List ℕ) → IsLine line c.args.held.now → Follows line (standing_of c.args.self.now) (standing_of c.show_move.new.self))
-    (λ _ shown. λ line is.
-    move_shown c.args.self.now c.show_move.new.self c.in-Other.text.now c.show_move.ensures.kept c.requires.goes_on shown line
-    (subst (IsLine line) c.in-Other.is is))
-    c.show_move.ensures.follows
+    IfOk-weaker c.show_move.result _ _ (λ _ shown line is. move_shown c.args.self.now c.show_move.new.self c.in-Other.text.now c.show_move.ensures.kept c.requires.goes_on shown line (subst (IsLine line) c.in-Other.is is)) c.show_move.ensures.follows
 
 pub returns-in-Other-clause-stops : goal.returns-in-Other-clause-stops
 returns-in-Other-clause-stops c =
-    err_weaker c.show_move.result _
-    (λ stop. stop ≢ Memory → (line : List ℕ) → IsLine line c.args.held.now → Stops line (standing_of c.args.self.now) stop (standing_of c.show_move.new.self))
-    (λ stop told. λ other line is.
-    move_stopped c.args.self.now c.show_move.new.self c.in-Other.text.now c.show_move.ensures.kept c.requires.goes_on stop told other line
-    (subst (IsLine line) c.in-Other.is is))
-    c.show_move.ensures.stops
+    err_weaker c.show_move.result _ _ (λ stop told other line is. move_stopped c.args.self.now c.show_move.new.self c.in-Other.text.now c.show_move.ensures.kept c.requires.goes_on stop told other line (subst (IsLine line) c.in-Other.is is)) c.show_move.ensures.stops
