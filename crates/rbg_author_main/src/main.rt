@@ -2,29 +2,16 @@
 #![tactic(auto)]
 
 use rbg_author::{print, run};
-use rbg_console::{Status, SystemFiles, words};
+use rbg_console::{SystemFiles, words};
 use std::io;
 use std::process::ExitCode;
 
-/// Runs the program on the system's files, and returns its status.
-fn run_on_system(rt: &HostRuntime, words: &[String]) -> Status {
-    run(
-        rt.alloc(),
-        words,
-        &mut SystemFiles::new(rt),
-        &mut rt.stdin(),
-        &mut io::writer(rt),
-    )
-}
-
 fn main(rt: HostRuntime) -> ExitCode {
+    let mut files = SystemFiles::new(&rt);
+    let mut output = io::writer(&rt);
     let status = match words(&rt) {
-        Ok(words) => run_on_system(&rt, words.as_slice()),
-        Err(error) => print(
-            &mut SystemFiles::new(&rt),
-            &mut io::writer(&rt),
-            &Err(error),
-        ),
+        Ok(words) => run(rt.alloc(), &words, &mut files, &mut rt.stdin(), &mut output),
+        Err(error) => print(&mut files, &mut output, &Err(error)),
     };
     ExitCode::from(status.code())
 }

@@ -74,6 +74,25 @@ pub struct Case<'a> {
     pub output_fails: bool,
 }
 
+/// How a case is run or shown.
+#[derive(Clone, Copy)]
+enum Setting {
+    /// It is one of the author's program.
+    Author,
+    /// What it is told on standard error is shown.
+    News,
+    /// What its logs hold is shown.
+    Logs,
+    /// What its connections were sent is shown.
+    Sent,
+    /// What it prints can't be written.
+    OutputFails,
+    /// What its standard input gives behind its bytes.
+    Behind(Behind),
+    /// How many of its lines are shown, from the end.
+    Last(usize),
+}
+
 /// What the bytes are of that lines add.
 #[derive(Clone, Copy)]
 enum Target<'a> {
@@ -142,8 +161,8 @@ impl<'a> Reader<'a> {
         if let Some(moments) = line.strip_prefix(b"clock ") {
             return self.add_moments(moments);
         }
-        if let Some(is_read) = self.read_option(line) {
-            return Ok(is_read);
+        if let Some(setting) = setting_of(line) {
+            return Ok(self.set(setting));
         }
         self.end_part(alloc)?;
         if let Some(name) = line.strip_prefix(b"case ") {
@@ -160,33 +179,6 @@ impl<'a> Reader<'a> {
             return Ok(false);
         }
         Ok(true)
-    }
-
-    /// Reads a line that says how a case is run or shown. None where it is no such line, false where there is no case, or it
-    /// is not of its form.
-    fn read_option(&mut self, line: &[u8]) -> Option<bool> {
-        if line == b"author".as_slice() {
-            return Some(self.run_author());
-        }
-        if line == b"news".as_slice() {
-            return Some(self.show_news());
-        }
-        if line == b"logs".as_slice() {
-            return Some(self.show_logs());
-        }
-        if line == b"sent".as_slice() {
-            return Some(self.show_sent());
-        }
-        if line == b"output fails".as_slice() {
-            return Some(self.close_output());
-        }
-        if let Some(word) = line.strip_prefix(b"input ") {
-            return Some(self.change_input(word));
-        }
-        if let Some(count) = line.strip_prefix(b"last ") {
-            return Some(self.show_last(count));
-        }
-        None
     }
 
     /// A case begins, and its standard input.
@@ -225,26 +217,21 @@ impl<'a> Reader<'a> {
         Ok(())
     }
 
-    /// The case is one of the author's program.
-    fn run_author(&mut self) -> bool {
-        match self.cases.last_mut() {
-            Some(case) => {
-                case.program = Program::RbgAuthor;
-                true
-            }
-            None => false,
+    /// The case is run or shown so.
+    fn set(&mut self, setting: Setting) -> bool {
+        let Some(case) = self.cases.last_mut() else {
+            return false;
+        };
+        match setting {
+            Setting::Author => case.program = Program::RbgAuthor,
+            Setting::News => case.news = true,
+            Setting::Logs => case.logs = true,
+            Setting::Sent => case.sent = true,
+            Setting::OutputFails => case.output_fails = true,
+            Setting::Behind(behind) => case.behind = behind,
+            Setting::Last(count) => case.shown = count,
         }
-    }
-
-    /// What the case is told on standard error is shown.
-    fn show_news(&mut self) -> bool {
-        match self.cases.last_mut() {
-            Some(case) => {
-                case.news = true;
-                true
-            }
-            None => false,
-        }
+        true
     }
 
     /// The file that the case makes by this name is shown.
@@ -255,55 +242,6 @@ impl<'a> Reader<'a> {
                 Ok(true)
             }
             _ => Ok(false),
-        }
-    }
-
-    /// What the logs of the case hold is shown.
-    fn show_logs(&mut self) -> bool {
-        match self.cases.last_mut() {
-            Some(case) => {
-                case.logs = true;
-                true
-            }
-            None => false,
-        }
-    }
-
-    /// What the connections of the case were sent is shown.
-    fn show_sent(&mut self) -> bool {
-        match self.cases.last_mut() {
-            Some(case) => {
-                case.sent = true;
-                true
-            }
-            None => false,
-        }
-    }
-
-    /// What the case's standard input gives behind its bytes.
-    fn change_input(&mut self, word: &[u8]) -> bool {
-        let behind = match word {
-            b"endless" => Behind::Zeros,
-            b"fails" => Behind::Failure,
-            _ => return false,
-        };
-        match self.cases.last_mut() {
-            Some(case) => {
-                case.behind = behind;
-                true
-            }
-            None => false,
-        }
-    }
-
-    /// What the case prints can't be written.
-    fn close_output(&mut self) -> bool {
-        match self.cases.last_mut() {
-            Some(case) => {
-                case.output_fails = true;
-                true
-            }
-            None => false,
         }
     }
 
@@ -345,17 +283,6 @@ impl<'a> Reader<'a> {
         Ok(true)
     }
 
-    /// Shows no more lines of the case than the number says.
-    fn show_last(&mut self, count: &[u8]) -> bool {
-        match (self.cases.last_mut(), read_count(count)) {
-            (Some(case), Some(count)) => {
-                case.shown = count;
-                true
-            }
-            _ => false,
-        }
-    }
-
     /// `<count> <text>`: adds the text that many times.
     fn add_repeated(&mut self, fields: &[u8]) -> Result<bool, AllocError> {
         let Some(end) = fields.iter().position(|byte| *byte == b' ') else {
@@ -391,6 +318,23 @@ impl<'a> Reader<'a> {
             Err(hex::FromHexError::OutOfMemory) => Err(AllocError),
             Err(_) => Ok(false),
         }
+    }
+}
+
+/// What a line says of how a case is run or shown, if it says that.
+fn setting_of(line: &[u8]) -> Option<Setting> {
+    if let Some(count) = line.strip_prefix(b"last ") {
+        return Some(Setting::Last(read_count(count)?));
+    }
+    match line {
+        b"author" => Some(Setting::Author),
+        b"news" => Some(Setting::News),
+        b"logs" => Some(Setting::Logs),
+        b"sent" => Some(Setting::Sent),
+        b"output fails" => Some(Setting::OutputFails),
+        b"input endless" => Some(Setting::Behind(Behind::Zeros)),
+        b"input fails" => Some(Setting::Behind(Behind::Failure)),
+        _ => None,
     }
 }
 

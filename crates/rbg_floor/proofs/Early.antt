@@ -17,6 +17,7 @@ use Rattle.rbg_hall.specs.Limits.{lines_in_all}
 use Rattle.rbg_hall.specs.Tables.{TableState, TableRun, OwnEvent, clock, joins, arrives, says, leaves, Plays, Hears, waits, ticks, sits, begins, is_full, comes_late, stays, waits_too, stirs, is_early, plays, frees, goes, is_moment_for_none, is_unheard, goes_unheard, SitsAt}
 use Rattle.rbg_hall.specs.Tables as tables
 use Rattle.rbg_hall.specs.Tellings.{Telling, bytes_to, telling}
+use Rattle.rbg_hall.proofs.Alike.{waited_before}
 use Rattle.rbg_hall.proofs.Places.{set_cases}
 use Rattle.rbg_hall.proofs.Seats.{SitsNowhere}
 use Rattle.rbg_hall.proofs.Telling.{bytes_to-append, bytes_to-other}
@@ -273,25 +274,6 @@ module _ (line : ℕ) {game : AbstractGame} {text : List ℕ} {config : Config} 
   one_early (is_moment_for_none nowhere) still first index there = both_more _ [] (before index there) refl
   one_early (is_unheard {line = other} {at} {item} nowhere) still first index there = unheard_now other at index item nowhere there
   one_early (goes_unheard nowhere) still first index there = both_more _ [] (before index there) refl
-
--- a table that waits after an event waited before
-waited_before : {old new : TableState} {event : OwnEvent} {told : List Telling} → Hears old event new told → new.begun ≡ None → old.begun ≡ None
-waited_before (waits none) still = none
-waited_before (ticks play) still = play_begun play still
-waited_before (sits index other none nowhere first free) still = none
-waited_before (begins index none nowhere first taken opens) still = none
-waited_before (is_full nowhere taken) still = still
-waited_before (comes_late nowhere begun) still = still
-waited_before (stays seat) still = still
-waited_before (waits_too none) still = none
-waited_before (stirs index seat play) still = play_begun play still
-waited_before (is_early index seat none) still = none
-waited_before (plays index seat play) still = play_begun play still
-waited_before (frees index seat none) still = none
-waited_before (goes index seat play) still = play_begun play still
-waited_before (is_moment_for_none nowhere) still = still
-waited_before (is_unheard nowhere) still = still
-waited_before (goes_unheard nowhere) still = still
 
 -- Before the match begins, a line that has a seat was told for each of its items that it is out of turn, and nothing else.
 pub early_told : {game : AbstractGame} {text : List ℕ} {config : Config} {heard : List OwnEvent} {state : TableState} {told : List Telling} (line : ℕ) → TableRun game text config heard state told → state.begun ≡ None → JoinsFirst line heard → (index : ℕ) → SitsAt state line index → bytes_to line told ≡ flat_map (early_refusal line) heard

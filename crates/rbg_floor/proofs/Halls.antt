@@ -1,5 +1,5 @@
 -- What an event leads to in a hall.
-use Rattle.std.proofs.Common.{◌≡◌, ℕ, zero, suc, ◌+◌, ◌<◌, ◌≤◌, List, [], ◌∷◌, ◌++◌, length, set, get_or, refl, sym, ap, ◌∙◌, subst}
+use Rattle.std.proofs.Common.{◌≡◌, ℕ, zero, suc, ◌+◌, ◌<◌, ◌≤◌, List, [], ◌∷◌, ◌++◌, length, set, get_or, refl, sym, ap, ◌∙◌, subst, Option, Some, None}
 use Rattle.std.proofs.lemmas.List.{get_or_past, set_past, length-map, map-set, get_or-map}
 use Rattle.std.specs.List.{flat_map}
 use Rattle.rbg_hall.specs.Tables.{OwnEvent, clock}
@@ -15,7 +15,7 @@ use Rattle.rbg_floor.specs.Lines.{HallLine, over}
 use Rattle.rbg_floor.specs.Own.{heard_of_piece, heard_of_end}
 use Rattle.rbg_floor.specs.Ledgers.{EachBecomes, EachWrites, HallStops, HallWrites, KeptHearsEach}
 use Rattle.rbg_floor.specs.Ledgers as ledgers
-use Rattle.rbg_floor.specs.internal.Hearing.{EachKeptHears, PieceHeard, TablesHear, TablesStop}
+use Rattle.rbg_floor.specs.internal.Hearing.{EachKeptHears, PieceHeard, TablesHear, TablesStop, said_by}
 use Rattle.rbg_floor.specs.internal.Hearing as hearing
 use Rattle.rbg_floor.specs.internal.Parts.{hall_of, ledgers_of, line_of, lines_of, states_of}
 use Rattle.rbg_floor.proofs.Ticking.{silence, silent as nobody_tells, none_hear}
@@ -94,6 +94,10 @@ module _ {W : Type 0} (tells : W → List ℕ → Type 0) (tables : List (KeptSt
     };
     each = all_write none_ended;
   }
+
+  pub past_said : (said : Option (List ℕ)) → HallWrites tells (hall_of tables lines) (ledgers_of tables) (said_by line at said) (hall_of tables lines) (ledgers_of tables) queues queues
+  past_said (Some bytes) = past_sends bytes
+  past_said None = past_ends
 
 -- a line that is there
 module _ {W : Type 0} (tells : W → List ℕ → Type 0) (tables news : List (KeptState W)) (lines : List Line) (line at : ℕ) (one : Line) (within : line < length lines) (found : one ≡ get_or lines line one) (before after : List (List ℕ)) where

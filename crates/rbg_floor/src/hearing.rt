@@ -4,13 +4,13 @@ ghost use Rattle.rbg_hall.specs.Hearing.{input_of};
 ghost use Rattle.rbg_hall.specs.Tables.{clock, says};
 ghost use Rattle.rbg_hall.specs.Undoing.{undone};
 ghost use Rattle.rbg_floor.specs.Ledgers.{Becomes};
-ghost use Rattle.rbg_floor.specs.Lines.{asks, silent};
+ghost use Rattle.rbg_floor.specs.Lines.{silent};
 ghost use Rattle.rbg_floor.specs.Own.{heard_of_end};
 ghost use Rattle.rbg_floor.specs.internal.First.{IsFirst};
 ghost use Rattle.rbg_floor.specs.internal.Hearing.{HearsEachFor, PieceHeard, TablesHear, TablesStop};
 ghost use Rattle.rbg_floor.specs.internal.Parts.{IsEmptied, IsReady, line_of};
 
-use crate::line::Line;
+use crate::line::{Line, Speaker};
 use crate::request::table_of;
 use rbg_base::Memory;
 use rbg_hall::{HallOut, Mark, TableInput};
@@ -46,19 +46,23 @@ fn take_first(inbox: &mut Inbox, tables: usize) -> First
 fn say_each<W: Log>(
     table: &mut KeptTable<W>,
     inbox: &mut Inbox,
-    line: u64,
-    at: u64,
+    by: Speaker,
     out: &mut HallOut,
     marks: &mut Vec<Mark>,
 ) -> Result<(), Memory>
-    ensures hears { OnOk result (HearsEachFor W.told table.old (map (says line at) inbox.old.items) table.new
+    ensures hears { OnOk result (HearsEachFor W.told table.old (map (says by.line by.at) inbox.old.items) table.new
         out.old out.new) }
     ensures stops { OnErr result (Becomes W.told table.old table.new) }
     ensures inbox { OnOk result (inbox.new ≡ record inbox.old { items = [] }) }
     ensures undone { undone out.new marks.new.items ≡ undone out.old marks.old.items }
 {
     while let Some(took) = inbox.take() {
-        table.hear(TableInput::Says { line, at, took }, out, marks)?;
+        let says = TableInput::Says {
+            line: by.line,
+            at: by.at,
+            took,
+        };
+        table.hear(says, out, marks)?;
     }
     Ok(())
 }
@@ -68,33 +72,31 @@ fn hear_from<W: Log>(
     table: &mut KeptTable<W>,
     first: TableInput<'_>,
     inbox: &mut Inbox,
-    line: u64,
-    at: u64,
+    by: Speaker,
     out: &mut HallOut,
     marks: &mut Vec<Mark>,
 ) -> Result<(), Memory>
-    ensures hears { OnOk result (HearsEachFor W.told table.old (input_of first.entry ∷ map (says line at) inbox.old.items)
+    ensures hears { OnOk result (HearsEachFor W.told table.old (input_of first.entry ∷ map (says by.line by.at) inbox.old.items)
         table.new out.old out.new) }
     ensures stops { OnErr result (Becomes W.told table.old table.new) }
     ensures inbox { OnOk result (inbox.new ≡ record inbox.old { items = [] }) }
     ensures undone { undone out.new marks.new.items ≡ undone out.old marks.old.items }
 {
     table.hear(first, out, marks)?;
-    say_each(table, inbox, line, at, out, marks)
+    say_each(table, inbox, by, out, marks)
 }
 
 /// A piece of a line none of whose messages has come.
 fn hear_first<W: Log>(
     tables: &mut [KeptTable<W>],
     mut inbox: Inbox,
-    line: u64,
-    at: u64,
+    by: Speaker,
     bytes: &[u8],
     out: &mut HallOut,
     marks: &mut Vec<Mark>,
 ) -> Result<Line, Memory>
     requires { IsEmptied inbox }
-    ensures hears { IfOk result (λ next. PieceHeard W.told tables.old (silent inbox.rest) line at bytes.now tables.new
+    ensures hears { IfOk result (λ next. PieceHeard W.told tables.old (silent inbox.rest) by.line by.at bytes.now tables.new
         (line_of next) out.old out.new) }
     ensures stops { OnErr result (TablesStop W.told tables.old tables.new) }
     ensures ready { IfOk result (IsReady (length tables.old)) }
@@ -105,63 +107,31 @@ fn hear_first<W: Log>(
     match take_first(&mut inbox, tables.len()) {
         First::Nothing => Ok(Line::Silent(inbox)),
         First::NoTable => {
-            out.refuse(line, Reason::NoSeat, marks)?;
+            out.refuse(by.line, Reason::NoSeat, marks)?;
             Ok(Line::Over)
         }
         First::Table(index) => {
-            let joins = TableInput::Joins { line, at };
-            hear_from(&mut tables[index], joins, &mut inbox, line, at, out, marks)?;
+            let joins = TableInput::Joins {
+                line: by.line,
+                at: by.at,
+            };
+            hear_from(&mut tables[index], joins, &mut inbox, by, out, marks)?;
             Ok(Line::Asks { index, inbox })
         }
     }
-}
-
-/// A piece of a line that asked for the table at this index.
-fn hear_next<W: Log>(
-    tables: &mut [KeptTable<W>],
-    index: usize,
-    mut inbox: Inbox,
-    line: u64,
-    at: u64,
-    bytes: &[u8],
-    out: &mut HallOut,
-    marks: &mut Vec<Mark>,
-) -> Result<Line, Memory>
-    requires emptied { IsEmptied inbox }
-    requires there { index < length tables.old }
-    ensures hears { IfOk result (λ next. PieceHeard W.told tables.old (asks (index + 1) inbox.rest) line at bytes.now tables.new
-        (line_of next) out.old out.new) }
-    ensures stops { OnErr result (TablesStop W.told tables.old tables.new) }
-    ensures ready { IfOk result (IsReady (length tables.old)) }
-    ensures count { length tables.new ≡ length tables.old }
-    ensures undone { undone out.new marks.new.items ≡ undone out.old marks.old.items }
-{
-    inbox.feed(bytes)?;
-    let arrives = TableInput::Arrives { line, at };
-    hear_from(
-        &mut tables[index],
-        arrives,
-        &mut inbox,
-        line,
-        at,
-        out,
-        marks,
-    )?;
-    Ok(Line::Asks { index, inbox })
 }
 
 /// The tables hear a line that sends bytes. Returns what stands of the line then.
 pub(crate) fn hear_piece<W: Log>(
     tables: &mut [KeptTable<W>],
     one: Line,
-    line: u64,
-    at: u64,
+    by: Speaker,
     bytes: &[u8],
     out: &mut HallOut,
     marks: &mut Vec<Mark>,
 ) -> Result<Line, Memory>
     requires { IsReady (length tables.old) one }
-    ensures hears { IfOk result (λ next. PieceHeard W.told tables.old (line_of one) line at bytes.now tables.new
+    ensures hears { IfOk result (λ next. PieceHeard W.told tables.old (line_of one) by.line by.at bytes.now tables.new
         (line_of next) out.old out.new) }
     ensures stops { OnErr result (TablesStop W.told tables.old tables.new) }
     ensures ready { IfOk result (IsReady (length tables.old)) }
@@ -169,9 +139,15 @@ pub(crate) fn hear_piece<W: Log>(
     ensures undone { undone out.new marks.new.items ≡ undone out.old marks.old.items }
 {
     match one {
-        Line::Silent(inbox) => hear_first(tables, inbox, line, at, bytes, out, marks),
-        Line::Asks { index, inbox } => {
-            hear_next(tables, index, inbox, line, at, bytes, out, marks)
+        Line::Silent(inbox) => hear_first(tables, inbox, by, bytes, out, marks),
+        Line::Asks { index, mut inbox } => {
+            inbox.feed(bytes)?;
+            let arrives = TableInput::Arrives {
+                line: by.line,
+                at: by.at,
+            };
+            hear_from(&mut tables[index], arrives, &mut inbox, by, out, marks)?;
+            Ok(Line::Asks { index, inbox })
         }
         Line::Over => Ok(Line::Over),
     }
@@ -181,13 +157,12 @@ pub(crate) fn hear_piece<W: Log>(
 pub(crate) fn hear_end<W: Log>(
     tables: &mut [KeptTable<W>],
     one: Line,
-    line: u64,
-    at: u64,
+    by: Speaker,
     out: &mut HallOut,
     marks: &mut Vec<Mark>,
 ) -> Result<(), Memory>
     requires { IsReady (length tables.old) one }
-    ensures hears { OnOk result (TablesHear W.told (λ table. heard_of_end table (line_of one) line at) tables.old tables.new
+    ensures hears { OnOk result (TablesHear W.told (λ table. heard_of_end table (line_of one) by.line by.at) tables.old tables.new
         out.old out.new) }
     ensures stops { OnErr result (TablesStop W.told tables.old tables.new) }
     ensures count { length tables.new ≡ length tables.old }
@@ -196,7 +171,11 @@ pub(crate) fn hear_end<W: Log>(
     match one {
         Line::Silent(_) => Ok(()),
         Line::Asks { index, .. } => {
-            tables[index].hear(TableInput::Leaves { line, at }, out, marks)
+            let leaves = TableInput::Leaves {
+                line: by.line,
+                at: by.at,
+            };
+            tables[index].hear(leaves, out, marks)
         }
         Line::Over => Ok(()),
     }

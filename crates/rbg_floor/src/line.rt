@@ -2,6 +2,13 @@
 
 use rbg_wire::Inbox;
 
+/// A line that is heard, and when.
+#[derive(Clone, Copy)]
+pub(crate) struct Speaker {
+    pub(crate) line: u64,
+    pub(crate) at: u64,
+}
+
 /// What stands of a line. Of a line that is over nothing is kept.
 #[derive(Drop)]
 pub(crate) enum Line {

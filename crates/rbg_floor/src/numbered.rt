@@ -1,5 +1,5 @@
 //! The table of a number: its match and its log. Tables are numbered from 1.
-ghost use Rattle.std.specs.Prelude.{◌≡◌, ℕ, ◌+◌, ◌≤◌, [], false, length, option_copied, option_map, IfNone, IfSome};
+ghost use Rattle.std.specs.Prelude.{◌≡◌, ℕ, ◌+◌, ◌<◌, ◌≤◌, [], false, length, option_copied, option_map, IfNone, IfSome};
 ghost use Rattle.rbg_match.specs.Matches.{HasHistory};
 ghost use Rattle.rbg_floor.specs.Halls.{begun_at};
 ghost use Rattle.rbg_floor.specs.Ledgers.{IsLogAt, given_to, log_at};
@@ -12,6 +12,7 @@ use rbg_match::Match;
 /// The index of the table of a number, if there is one.
 fn place_of(table: u64, tables: usize) -> Option<usize>
     ensures found { IfSome result (IsPlaced table tables) }
+    ensures within { IfSome result (λ index. index < tables) }
     ensures none { IfNone result ((index : ℕ) → table ≡ index + 1 → tables ≤ index) }
 {
     if table < 1 {

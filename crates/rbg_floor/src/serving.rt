@@ -1,8 +1,7 @@
 //! The serving of a hall over lines.
-ghost use Rattle.std.specs.Prelude.{◌≡◌, ◌≤◌, ℕ, List, false, length, IsErrOf};
+ghost use Rattle.std.specs.Prelude.{◌≡◌, ◌≤◌, false, length, IsErrOf};
 ghost use Rattle.rbg_hall.specs.Limits.{lines_in_all};
-ghost use Rattle.rbg_serving.specs.Told.{Told, TellEach};
-ghost use Rattle.rbg_serving.specs.Serving.{ServesOver};
+ghost use Rattle.rbg_serving.specs.Serving.{ServesLines};
 ghost use Rattle.rbg_floor.specs.Serving.{of_hall};
 
 use crate::Hall;
@@ -28,12 +27,8 @@ impl<W: Log> Hall<W> {
         rounds: u64,
     ) -> Result<Served, ServeError>
         requires { length lines.old ≤ lines_in_all }
-        ensures serves { (before : List Told) (asked : List ℕ) →
-            TellEach L.told L.failure_count lines.old before →
-            C.told clock.old asked →
-            ServesOver L.told L.failure_count C.told (of_hall W.told) lines.new clock.new rounds before asked
-            self.old self.new
-            out.old out.new result }
+        ensures serves { ServesLines L.told L.failure_count C.told (of_hall W.told) lines.old lines.new clock.old clock.new
+            rounds self.old self.new out.old out.new result }
         ensures works { (¬ IsErrOf result ServeError.Memory) → self.old.failed ≡ false → self.new.failed ≡ false }
     {
         let _lines = out.lines();

@@ -29,31 +29,17 @@ fn words_of(alloc: Global, texts: &[&str]) -> Result<Vec<String>, AllocError> {
     Ok(words)
 }
 
-/// Runs `rbg` with these words and this input, and says whether all went well.
-fn run_rbg(
-    rt: &HostRuntime,
-    texts: &[&str],
-    input: &[u8],
-    output: &mut Vec<u8>,
-) -> Result<bool, AllocError> {
-    let words = words_of(rt.alloc(), texts)?;
-    let mut files = GameFiles::new(rt);
-    let mut network = SystemNetwork::new(rt);
-    let mut input = input;
-    let status = rbg_program::run(
-        rt.alloc(),
-        words.as_slice(),
-        &mut files,
-        &mut network,
-        &mut input,
-        output,
-    );
-    Ok(status == Status::Success)
+/// A program.
+#[derive(Clone, Copy)]
+enum Program {
+    Rbg,
+    RbgAuthor,
 }
 
-/// Runs `rbg_author` with these words and this input, and says whether all went well.
-fn run_author(
+/// Runs a program with these words and this input, and says whether all went well.
+fn run(
     rt: &HostRuntime,
+    program: Program,
     texts: &[&str],
     input: &[u8],
     output: &mut Vec<u8>,
@@ -61,7 +47,19 @@ fn run_author(
     let words = words_of(rt.alloc(), texts)?;
     let mut files = GameFiles::new(rt);
     let mut input = input;
-    let status = rbg_author::run(rt.alloc(), words.as_slice(), &mut files, &mut input, output);
+    let status = match program {
+        Program::Rbg => rbg_program::run(
+            rt.alloc(),
+            words.as_slice(),
+            &mut files,
+            &mut SystemNetwork::new(rt),
+            &mut input,
+            output,
+        ),
+        Program::RbgAuthor => {
+            rbg_author::run(rt.alloc(), words.as_slice(), &mut files, &mut input, output)
+        }
+    };
     Ok(status == Status::Success)
 }
 
@@ -72,8 +70,8 @@ fn check_and_count(
     depth: &str,
     output: &mut Vec<u8>,
 ) -> Result<bool, AllocError> {
-    let is_game = run_rbg(rt, &["check", name], &[], output)?;
-    Ok(is_game && run_author(rt, &["perft", name, depth], &[], output)?)
+    let is_game = run(rt, Program::Rbg, &["check", name], &[], output)?;
+    Ok(is_game && run(rt, Program::RbgAuthor, &["perft", name, depth], &[], output)?)
 }
 
 /// Follows the match that a file has, and says whether all went well.
@@ -86,10 +84,17 @@ fn follow_match(
     let Input::Whole(lines) = SystemFiles::new(rt).read_file(rt.alloc(), file, MAX_INPUT)? else {
         return Ok(false);
     };
+    let lines = lines.as_slice();
     if file.ends_with(".script") {
-        run_rbg(rt, &["referee", name], lines.as_slice(), output)
+        run(rt, Program::Rbg, &["referee", name], lines, output)
     } else {
-        run_author(rt, &["show", "--last", name], lines.as_slice(), output)
+        run(
+            rt,
+            Program::RbgAuthor,
+            &["show", "--last", name],
+            lines,
+            output,
+        )
     }
 }
 

@@ -3,7 +3,7 @@ ghost use Rattle.std.specs.Prelude.{◌≡◌, ℕ, List, length, IsErrOf};
 ghost use Rattle.rbg_match.specs.Matches.{HasHistory};
 ghost use Rattle.rbg_match.specs.PlayingOn.{seats_of};
 ghost use Rattle.rbg_serving.specs.Told.{Told, TellEach};
-ghost use Rattle.rbg_serving.specs.Serving.{ServesOver};
+ghost use Rattle.rbg_serving.specs.Serving.{ServesLines};
 ghost use Rattle.rbg_log.specs.Logs.{IsLog};
 ghost use Rattle.rbg_log.specs.Serving.{LeavesLog, of_log};
 
@@ -26,12 +26,8 @@ impl<W: Log> LoggedMatch<W> {
     ) -> Result<Served, ServeError>
         requires lines { length lines.old ≡ seats_of self.old.played.game }
         requires seats { length outbox.old ≡ seats_of self.old.played.game }
-        ensures serves { (before : List Told) (asked : List ℕ) →
-            TellEach L.told L.failure_count lines.old before →
-            C.told clock.old asked →
-            ServesOver L.told L.failure_count C.told (of_log W.told) lines.new clock.new rounds before asked
-            self.old self.new
-            outbox.old outbox.new result }
+        ensures serves { ServesLines L.told L.failure_count C.told (of_log W.told) lines.old lines.new clock.old clock.new
+            rounds self.old self.new outbox.old outbox.new result }
         ensures logs { (before : List Told) (asked : List ℕ) →
             TellEach L.told L.failure_count lines.old before →
             C.told clock.old asked →

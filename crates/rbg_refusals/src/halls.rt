@@ -13,33 +13,30 @@ use rbg_log::MemoryLog;
 use std::alloc::Global;
 use std::io::{self, Write};
 
-/// A line asks for a table that there is not.
-const STRANGER: HallEvent<'static> = HallEvent::Piece {
-    line: 2,
-    at: 0,
-    bytes: b"H2\0",
-};
-
-/// A line takes the first seat.
-const FIRST: HallEvent<'static> = HallEvent::Piece {
-    line: 0,
-    at: 0,
-    bytes: b"H1\0",
-};
-
-/// A line takes the second seat, so that the match begins.
-const SECOND: HallEvent<'static> = HallEvent::Piece {
-    line: 1,
-    at: 5,
-    bytes: b"H1\0",
-};
-
-/// White moves.
-const MOVE: HallEvent<'static> = HallEvent::Piece {
-    line: 0,
-    at: 10,
-    bytes: b"M0 3 0 4 0 5\0",
-};
+/// What the hall hears: a line asks for a table that there is not, two lines take the seats, so that the match begins, and
+/// white moves.
+const EVENTS: [HallEvent<'static>; 4] = [
+    HallEvent::Piece {
+        line: 2,
+        at: 0,
+        bytes: b"H2\0",
+    },
+    HallEvent::Piece {
+        line: 0,
+        at: 0,
+        bytes: b"H1\0",
+    },
+    HallEvent::Piece {
+        line: 1,
+        at: 5,
+        bytes: b"H1\0",
+    },
+    HallEvent::Piece {
+        line: 0,
+        at: 10,
+        bytes: b"M0 3 0 4 0 5\0",
+    },
+];
 
 /// How many lines say something.
 const LINES: u64 = 3;
@@ -51,8 +48,8 @@ const ROOM: usize = 1000;
 pub fn run<W: Write>(alloc: Global, name: &str, output: &mut W) -> Result<bool, Stop> {
     let told = match name {
         "hall" => make(alloc, output),
-        "hall-begin" => step(alloc, &[STRANGER, FIRST], SECOND, output),
-        "hall-step" => step(alloc, &[STRANGER, FIRST, SECOND], MOVE, output),
+        "hall-begin" => step(alloc, &EVENTS[..2], EVENTS[2], output),
+        "hall-step" => step(alloc, &EVENTS[..3], EVENTS[3], output),
         _ => return Ok(false),
     };
     told?;

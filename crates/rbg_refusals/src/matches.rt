@@ -261,20 +261,9 @@ fn two_lines(alloc: Global) -> Result<[MemoryLine; 2], Stop> {
 
 /// Serves the small game over lines in memory.
 fn serve_lines<W: Write>(alloc: Global, output: &mut W) -> Result<(), Stop> {
-    let (mut opened, mut outbox) = new_match(alloc)?;
-    serve_match(alloc, &mut opened, &mut outbox, output)
-}
-
-fn serve_match<W: Write>(
-    alloc: Global,
-    opened: &mut Match,
-    outbox: &mut Outbox,
-    output: &mut W,
-) -> Result<(), Stop>
-    requires { length outbox.old ≡ seats_of opened.old.game }
-{
     let mut lines = two_lines(alloc)?;
-    serve_over(alloc, &mut lines, opened, outbox, output)
+    let (mut opened, mut outbox) = new_match(alloc)?;
+    serve_over(alloc, &mut lines, &mut opened, &mut outbox, output)
 }
 
 fn serve_over<W: Write>(

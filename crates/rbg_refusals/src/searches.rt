@@ -241,29 +241,38 @@ fn ask_by<W: Write>(
     requires { ⟦<Compact as Steps>⟧.of_rules steps.now game.now.rules }
 {
     let mut place = Place::start(alloc, game)?;
-    match question {
-        Question::Reach => reach_from(alloc, game, steps, &mut place.state, output),
-        Question::Pattern => ask_pattern(alloc, game, steps, &mut place.state, output),
-    }
+    ask_from(alloc, game, steps, question, &mut place.state, output)
 }
 
-/// Asks what is reached, and compares the semi-state that is lent with a copy taken before.
-fn reach_from<W: Write>(
+/// Asks the question, and compares the semi-state that is lent with a copy taken before.
+fn ask_from<W: Write>(
     alloc: Global,
     game: &Game,
     steps: &Compact,
+    question: Question,
     state: &mut SemiState,
     output: &mut W,
 ) -> Result<(), Stop>
     requires steps { ⟦<Compact as Steps>⟧.of_rules steps.now game.now.rules }
     requires state { IsStateOf game.now state.old.state }
 {
-    let _positions = game.positions();
+    if game.positions() < ASKED as usize || !game.is_pattern(ASKED) {
+        return Err(Stop::Wrong);
+    }
     let copy = state.try_clone()?;
     let mut buffers = Buffers::new(alloc);
     let mut search = Search::new(alloc, game, steps, BUDGET, &mut buffers);
-    let answer = search.reach(state, Origin::Begin(Expr::Rules));
-    Ok(tell_answer(&answer, *state == copy, output)?)
+    let told = match question {
+        Question::Reach => {
+            let answer = search.reach(state, Origin::Begin(Expr::Rules));
+            tell_answer(&answer, *state == copy, output)
+        }
+        Question::Pattern => {
+            let answer = search.pattern(state, ASKED);
+            tell_valid(answer, *state == copy, output)
+        }
+    };
+    Ok(told?)
 }
 
 fn tell_answer<W: Write>(
@@ -283,27 +292,6 @@ fn tell_reached<W: Write>(reached: &FlatPart, output: &mut W) -> io::Result<()> 
         writeln!(output, "reached {} {}", pair.vertex, pair.position)?;
     }
     writeln!(output, "ends {}", reached.ends)
-}
-
-/// Asks a pattern, and compares the semi-state that is lent with a copy taken before.
-fn ask_pattern<W: Write>(
-    alloc: Global,
-    game: &Game,
-    steps: &Compact,
-    state: &mut SemiState,
-    output: &mut W,
-) -> Result<(), Stop>
-    requires steps { ⟦<Compact as Steps>⟧.of_rules steps.now game.now.rules }
-    requires state { IsStateOf game.now state.old.state }
-{
-    if game.positions() < ASKED as usize || !game.is_pattern(ASKED) {
-        return Err(Stop::Wrong);
-    }
-    let copy = state.try_clone()?;
-    let mut buffers = Buffers::new(alloc);
-    let mut search = Search::new(alloc, game, steps, BUDGET, &mut buffers);
-    let answer = search.pattern(state, ASKED);
-    Ok(tell_valid(answer, *state == copy, output)?)
 }
 
 fn tell_valid<W: Write>(answer: Result<bool, Over>, kept: bool, output: &mut W) -> io::Result<()> {

@@ -2,12 +2,4 @@
 #![tactic(auto)]
 
 #[cfg(test)]
-mod cases;
-#[cfg(test)]
-mod halls;
-#[cfg(test)]
-mod lines;
-#[cfg(test)]
-mod serving;
-#[cfg(test)]
-mod tables;
+mod tests;

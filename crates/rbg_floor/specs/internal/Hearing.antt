@@ -1,13 +1,16 @@
 -- What a hall does in parts, and what is queued for the lines then.
-use Rattle.std.specs.Prelude.{◌≡◌, ℕ, suc, List, [], ◌∷◌, ◌++◌, length}
+use Rattle.std.specs.Prelude.{◌≡◌, ℕ, suc, List, [], ◌∷◌, ◌++◌, length, Option, Some, None}
 use Rattle.std.specs.List.{flat_map}
 use Rattle.rbg_hall.specs.Tables.{OwnEvent}
 use Rattle.rbg_hall.specs.Tellings.{Telling, told_to}
 use Rattle.rbg_ledger.specs.Kept.{KeptState}
+use Rattle.rbg_floor.specs.declared.line.Line.{Line}
+use Rattle.rbg_floor.specs.Events.{AbstractHallEvent, sends, ends}
 use Rattle.rbg_floor.specs.Halls.{line_behind, refused_in}
-use Rattle.rbg_floor.specs.Ledgers.{Becomes, KeptHearsEach}
+use Rattle.rbg_floor.specs.Ledgers.{Becomes, HallStops, HallWrites, KeptHearsEach}
 use Rattle.rbg_floor.specs.Lines.{HallLine}
 use Rattle.rbg_floor.specs.Own.{heard_of_piece}
+use Rattle.rbg_floor.specs.internal.Parts.{hall_of, ledgers_of, states_of}
 
 -- A table hears these events in turn.
 pub record HearsEachFor {W : Type 0} (tells : W → List ℕ → Type 0) (old : KeptState W) (events : List OwnEvent) (new : KeptState W) (before after : List (List ℕ)) : Type 0 where
@@ -48,3 +51,17 @@ pub record PieceHeard {W : Type 0} (tells : W → List ℕ → Type 0) (olds : L
   pub tables : EachKeptHears tells (λ table. heard_of_piece (length olds) table one line at bytes) 1 olds news told
   pub stands : next ≡ line_behind (length olds) one bytes
   pub queued : after ≡ told_to before (refused_in (length olds) one line bytes ++ flat_map (λ one. one) told)
+
+-- what is heard of a line: bytes that it sends, or its end
+abbrev pub said_by : (line at : ℕ) → Option (List ℕ) → AbstractHallEvent
+said_by line at (Some bytes) = sends line at bytes
+said_by line at None = ends line at
+
+-- what a hall of these tables and lines writes, and where it stops
+abbrev pub KeptWrites : {W : Type 0} → (W → List ℕ → Type 0) → (tables : List (KeptState W)) → (lines : List Line) → AbstractHallEvent →
+    (tables' : List (KeptState W)) → (lines' : List Line) → (before after : List (List ℕ)) → Type 0
+KeptWrites told tables lines event tables' lines' before after =
+    HallWrites told (hall_of tables lines) (ledgers_of tables) event (hall_of tables' lines') (ledgers_of tables') before after
+
+abbrev pub KeptStops : {W : Type 0} → (W → List ℕ → Type 0) → (old new : List (KeptState W)) → Type 0
+KeptStops told old new = HallStops told (states_of old) (ledgers_of old) (states_of new) (ledgers_of new)

@@ -7,18 +7,18 @@ use Rattle.rbg_floor.proofs.hearing.hear_first.Goals as goal
 pub returns-in-Nothing-clause-hears : goal.returns-in-Nothing-clause-hears
 returns-in-Nothing-clause-hears g c =
     let fills = fed_by c.args.inbox c.feed.new.self c.args.bytes.now c.requires c.in_ok-feed.ensures.ok in
-    heard_nothing c.args.tables.now c.args.line c.args.at c.args.inbox.rest c.args.bytes.now c.take_first.new.inbox c.feed.new.self c.args.out.now fills (asks_nothing c.take_first.ensures c.in-Nothing.is)
+    heard_nothing c.args.tables.now c.args.by.line c.args.by.at c.args.inbox.rest c.args.bytes.now c.take_first.new.inbox c.feed.new.self c.args.out.now fills (asks_nothing c.take_first.ensures c.in-Nothing.is)
 
 pub returns-in_ok-refuse-in-NoTable-clause-hears : goal.returns-in_ok-refuse-in-NoTable-clause-hears
 returns-in_ok-refuse-in-NoTable-clause-hears g c =
     let fills = fed_by c.args.inbox c.feed.new.self c.args.bytes.now c.requires c.in_ok-feed.ensures.ok in
-    heard_no_table c.args.tables.now c.args.line c.args.at c.args.inbox.rest c.args.bytes.now c.take_first.new.inbox c.feed.new.self c.args.out.now c.refuse.new.self fills (asks_none c.take_first.ensures c.in-NoTable.is) c.in_ok-refuse-in-NoTable.ensures.told
+    heard_no_table c.args.tables.now c.args.by.line c.args.by.at c.args.inbox.rest c.args.bytes.now c.take_first.new.inbox c.feed.new.self c.args.out.now c.refuse.new.self fills (asks_none c.take_first.ensures c.in-NoTable.is) c.in_ok-refuse-in-NoTable.ensures.told
 
 pub returns-in_ok-hear_from-in-Table-clause-hears : goal.returns-in_ok-hear_from-in-Table-clause-hears
 returns-in_ok-hear_from-in-Table-clause-hears g c =
     let fills = fed_by c.args.inbox c.feed.new.self c.args.bytes.now c.requires c.in_ok-feed.ensures.ok in
     let tables = c.args.tables.now in
-    heard_table tables c.args.line c.args.at c.args.inbox.rest c.args.bytes.now c.in-Table.index c.take_first.new.inbox c.hear_from.new.inbox c.feed.new.self (get_or tables c.in-Table.index c.index-tables-index.result) c.hear_from.new.table c.args.out.now c.hear_from.new.out fills (asks_table c.in-Table.index c.take_first.ensures c.in-Table.is) (ap (get_or tables c.in-Table.index) c.index-tables-index.is) c.in_ok-hear_from-in-Table.ensures.hears c.in_ok-hear_from-in-Table.ensures.inbox
+    heard_table tables c.args.by.line c.args.by.at c.args.inbox.rest c.args.bytes.now c.in-Table.index c.take_first.new.inbox c.hear_from.new.inbox c.feed.new.self (get_or tables c.in-Table.index c.index-tables-index.result) c.hear_from.new.table c.args.out.now c.hear_from.new.out fills (asks_table c.in-Table.index c.take_first.ensures c.in-Table.is) (ap (get_or tables c.in-Table.index) c.index-tables-index.is) c.in_ok-hear_from-in-Table.ensures.hears c.in_ok-hear_from-in-Table.ensures.inbox
 
 pub bounds-tables-index : goal.bounds-tables-index
 bounds-tables-index g c = (asks_table c.in-Table.index c.take_first.ensures c.in-Table.is).within

@@ -3,9 +3,6 @@ use Rattle.std.proofs.Common.{ap, get_or}
 use Rattle.rbg_floor.proofs.Logs.{kept_nowhere, kept_there}
 use Rattle.rbg_floor.proofs.numbered.keep_log.Goals as goal
 
-pub bounds-tables-index : goal.bounds-tables-index
-bounds-tables-index g c = c.in-Some.ensures.found.within
-
 pub returns-in-Some-clause-states : goal.returns-in-Some-clause-states
 returns-in-Some-clause-states g c =
     let tables = c.args.tables.now in

@@ -3,9 +3,6 @@ use Rattle.std.proofs.Common.{sym, ◌∙◌}
 use Rattle.rbg_floor.proofs.Logs.{is_log_there, told_nowhere, told_there}
 use Rattle.rbg_floor.proofs.numbered.log_of.Goals as goal
 
-pub bounds-tables-index : goal.bounds-tables-index
-bounds-tables-index g c = c.in-Some.ensures.found.within
-
 pub returns-in-Some-clause-is : goal.returns-in-Some-clause-is
 returns-in-Some-clause-is g c = c.log.ensures.is ∙ sym (told_there c.args.tables.now c.args.table c.in-Some.index c.index-tables-index.result c.in-Some.ensures.found c.index-tables-index.is)
 

@@ -3,9 +3,6 @@ use Rattle.std.proofs.Common.{sym, ◌∙◌}
 use Rattle.rbg_floor.proofs.Logs.{begun_nowhere, begun_there}
 use Rattle.rbg_floor.proofs.numbered.match_of.Goals as goal
 
-pub bounds-tables-index : goal.bounds-tables-index
-bounds-tables-index g c = c.in-Some.ensures.found.within
-
 pub returns-in-Some-clause-is : goal.returns-in-Some-clause-is
 returns-in-Some-clause-is g c = c.begun.ensures.is ∙ sym (begun_there c.args.tables.now c.args.table c.in-Some.index c.index-tables-index.result c.in-Some.ensures.found c.index-tables-index.is)
 

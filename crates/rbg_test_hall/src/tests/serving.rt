@@ -1,7 +1,7 @@
 //! Halls that are served over lines in memory.
-use crate::cases::{BLACK, Told, WHITE};
-use crate::lines::wanted;
-use crate::tables::{CONFIG, TWO, tables};
+use crate::tests::cases::{BLACK, Told, WHITE};
+use crate::tests::lines::wanted;
+use crate::tests::tables::{CONFIG, TWO, tables};
 use rbg_floor::Hall;
 use rbg_hall::LINES;
 use rbg_log::MemoryLog;

@@ -1,5 +1,5 @@
 //! Which halls are made, and what a hall tells of its matches.
-use crate::tables::{CONFIG, TWO, tables};
+use crate::tests::tables::{CONFIG, TWO, tables};
 use rbg_floor::{Hall, HallError, HallEvent, whole_hall};
 use rbg_log::MemoryLog;
 use rbg_match::Config;

@@ -1,6 +1,6 @@
 //! What each line of a hall has after a list of events, whether they are heard at once or in turn.
-use crate::cases::{CASES, Heard, Told};
-use crate::tables::{CONFIG, EIGHT, TWO, sent, tables};
+use crate::tests::cases::{CASES, Heard, Told};
+use crate::tests::tables::{CONFIG, EIGHT, TWO, sent, tables};
 use rbg_floor::{Hall, HallEvent, whole_hall};
 use rbg_hall::{HallOut, LINES};
 use rbg_log::MemoryLog;
