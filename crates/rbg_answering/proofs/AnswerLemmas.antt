@@ -12,7 +12,7 @@ use Rattle.rbg_refereeing.specs.Faults.{AnswersFault}
 use Rattle.rbg_refereeing.specs.Matches.{IsScriptsMatch, IsNoMatch}
 use Rattle.rbg_refereeing.specs.declared.error.RefereeingError.{RefereeingError}
 use Rattle.rbg_refereeing.specs.declared.error.RefereeingError.TheVariants.{Load, Script, Memory}
-use Rattle.rbg_rules.specs.State.{AbstractGame}
+use Rattle.rbg_rules.specs.Meaning.{AbstractGame}
 use Rattle.rbg_tokens.specs.Limits.{longest_text}
 use Rattle.rbg_tokens.specs.declared.error.TextError.TheVariants.{TooLong, Memory as TextMemory}
 use Rattle.rbg_tasks.specs.declared.task.Command.{Command}

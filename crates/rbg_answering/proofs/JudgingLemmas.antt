@@ -13,7 +13,7 @@ use Rattle.rbg_record.specs.declared.error.RecordError.TheVariants.{Form, Over, 
 use Rattle.rbg_record.specs.declared.fault.Fault.{Fault}
 use Rattle.rbg_record.specs.declared.fault.Fault.TheVariants as faults
 use Rattle.rbg_record.specs.internal.Faults.{told_at}
-use Rattle.rbg_rules.specs.State.{AbstractGame}
+use Rattle.rbg_rules.specs.Meaning.{AbstractGame}
 use Rattle.rbg_tasks.specs.declared.task.Command.{Command}
 use Rattle.rbg_tasks.specs.declared.task.Command.TheVariants.{Replay, Migrate, Moves}
 use Rattle.rbg_answering.specs.Answers.{IsGamesAnswer, good_line, bad_line, form_line, over_line}

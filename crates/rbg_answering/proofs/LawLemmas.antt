@@ -12,8 +12,7 @@ use Rattle.rbg_record.specs.declared.checked.Checked.TheVariants.{Good, Bad}
 use Rattle.rbg_record.specs.declared.error.RecordError.{RecordError}
 use Rattle.rbg_record.specs.declared.error.RecordError.TheVariants.{Form, Over, Memory}
 use Rattle.rbg_refereeing.specs.Answers.{script_line}
-use Rattle.rbg_rules.specs.Positions.{IsNumbered}
-use Rattle.rbg_rules.specs.State.{AbstractGame}
+use Rattle.rbg_rules.specs.Meaning.{IsNumbered, AbstractGame}
 use Rattle.rbg_script.specs.Laws.{ScriptsAreApart}
 use Rattle.rbg_tasks.specs.declared.task.Command.{Command}
 use Rattle.rbg_tasks.specs.declared.task.Command.TheVariants.{Check, Referee, Replay, Migrate, Moves}

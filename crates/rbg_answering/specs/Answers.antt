@@ -12,7 +12,7 @@ use Rattle.rbg_record.specs.Migration.{IsMigrated, IsPlainFault}
 use Rattle.rbg_record.specs.Right.{IsRightRecord}
 use Rattle.rbg_refereeing.specs.Answers.{refused_line, script_line}
 use Rattle.rbg_refereeing.specs.Matches.{IsScriptsMatch}
-use Rattle.rbg_rules.specs.State.{AbstractGame}
+use Rattle.rbg_rules.specs.Meaning.{AbstractGame}
 use Rattle.rbg_script.specs.Scripts.{HasMisfit}
 use Rattle.rbg_tasks.specs.declared.task.Command.{Command}
 use Rattle.rbg_tasks.specs.declared.task.Command.TheVariants.{Check, Referee, Replay, Migrate, Moves}

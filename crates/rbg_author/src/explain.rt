@@ -11,8 +11,8 @@ use std::alloc::{AllocError, Global};
 /// What `explain` lists besides the names.
 #[derive(Clone, Copy)]
 pub(crate) struct Lists {
-    pub(crate) vertices: bool,
-    pub(crate) positions: bool,
+    pub vertices: bool,
+    pub positions: bool,
 }
 
 /// What the game of a file has, or why its text is refused.

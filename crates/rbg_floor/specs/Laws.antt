@@ -3,7 +3,7 @@ use Rattle.std.specs.Prelude.{◌≡◌, ◌+◌, ◌==◌, ◌++◌, ℕ, true,
 use Rattle.std.specs.List.{flat_map}
 use Rattle.rbg_wire.specs.declared.message.Reason.TheVariants.{OutOfTurn}
 use Rattle.rbg_wire.specs.Messages.{refusal_message, spelling}
-use Rattle.rbg_rules.specs.Positions.{IsNumbered}
+use Rattle.rbg_rules.specs.Meaning.{IsNumbered}
 use Rattle.rbg_game.specs.Loading.{Loads}
 use Rattle.rbg_match.specs.Deliveries as deliveries
 use Rattle.rbg_match.specs.Matches.{MatchState}

@@ -5,8 +5,8 @@ use rbg_wire::Inbox;
 /// A line that is heard, and when.
 #[derive(Clone, Copy)]
 pub(crate) struct Speaker {
-    pub(crate) line: u64,
-    pub(crate) at: u64,
+    pub line: u64,
+    pub at: u64,
 }
 
 /// What stands of a line. Of a line that is over nothing is kept.

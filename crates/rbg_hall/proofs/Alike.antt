@@ -7,8 +7,7 @@ use Rattle.std.specs.List.{flat_map}
 use Rattle.rbg_wire.specs.declared.message.Reason.TheVariants.{OutOfTurn, NoSeat}
 use Rattle.rbg_wire.specs.Streams.{Item}
 use Rattle.rbg_wire.specs.Whole.{whole_item}
-use Rattle.rbg_rules.specs.Positions.{IsNumbered}
-use Rattle.rbg_rules.specs.State.{AbstractGame}
+use Rattle.rbg_rules.specs.Meaning.{IsNumbered, AbstractGame}
 use Rattle.rbg_match.specs.declared.config.Config.{Config}
 use Rattle.rbg_match.specs.Deliveries.{bytes_for}
 use Rattle.rbg_match.specs.Inputs.{AbstractEvent, piece, end_of_stream}

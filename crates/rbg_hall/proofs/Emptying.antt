@@ -1,6 +1,6 @@
 -- A match that has begun, between steps.
 use Rattle.std.proofs.Common.{◌≡◌, ℕ, zero, suc, List, [], ◌++◌, length, replicate, get_or, refl, sym, ap, ◌∙◌}
-use Rattle.rbg_rules.specs.State.{AbstractGame}
+use Rattle.rbg_rules.specs.Meaning.{AbstractGame}
 use Rattle.rbg_match.specs.declared.config.Config.{Config}
 use Rattle.rbg_match.specs.Deliveries.{AreMarks, Delivery, delivered, queued}
 use Rattle.rbg_match.specs.Matches.{MatchState, HasHistory, Opens}

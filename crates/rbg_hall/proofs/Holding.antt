@@ -9,7 +9,7 @@ use Rattle.std.specs.List.{flat_map}
 use Rattle.rbg_wire.specs.declared.message.Reason.TheVariants.{NoSeat}
 use Rattle.rbg_wire.specs.declared.outcome.Outcome.{Outcome}
 use Rattle.rbg_wire.specs.Messages.{refusal_message, spelling}
-use Rattle.rbg_rules.specs.State.{AbstractGame}
+use Rattle.rbg_rules.specs.Meaning.{AbstractGame}
 use Rattle.rbg_match.specs.declared.config.Config.{Config}
 use Rattle.rbg_match.specs.Deliveries.{Delivery, bytes_for, delivered, delivered_from}
 use Rattle.rbg_match.specs.Inputs.{AbstractEvent, timed_inputs_in}

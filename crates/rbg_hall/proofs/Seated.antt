@@ -3,7 +3,7 @@ use Rattle.std.proofs.Common.{◌≡◌, ℕ, List, [], ◌++◌, replicate, ◌
 use Rattle.rbg_match.specs.Inputs.{AbstractEvent, moment_alone, piece, end_of_stream}
 use Rattle.rbg_match.specs.Matches.{MatchState, Steps}
 use Rattle.rbg_match.specs.PlayingOn.{seats_of}
-use Rattle.rbg_rules.specs.State.{AbstractGame}
+use Rattle.rbg_rules.specs.Meaning.{AbstractGame}
 use Rattle.std.specs.Prelude.{slice_get, is_none, OnOk, IfOk}
 use Rattle.std.proofs.lemmas.Bool.{true≢false}
 use Rattle.rbg_wire.specs.declared.message.Reason.TheVariants.{OutOfTurn, NoSeat}

@@ -47,18 +47,6 @@ pub struct HallTable {
     phase: Phase,
 }
 
-/// Written out, so that letting a table go is one call in the proofs of those who hold one, not a step for each part.
-impl Drop for HallTable {
-    fn drop(self) {
-        let HallTable {
-            text: _,
-            config: _,
-            seats: _,
-            phase: _,
-        } = self;
-    }
-}
-
 impl Model for HallTable {
     ghost use Rattle.rbg_hall.specs.Tables.{TableState};
     ghost use Rattle.rbg_hall.specs.internal.Codes.{coded_table};
@@ -78,6 +66,18 @@ impl Model for HallTable {
     } };
 
     ghost invariant = { λ t. IsSeated t.text.items t.config t.seats.items t.phase };
+}
+
+/// Written out, so that letting a table go is one call in the proofs of those who hold one, not a step for each part.
+impl Drop for HallTable {
+    fn drop(self) {
+        let HallTable {
+            text: _,
+            config: _,
+            seats: _,
+            phase: _,
+        } = self;
+    }
 }
 
 impl HallTable {

@@ -4,7 +4,7 @@ use Rattle.rbg_floor.specs.Halls.{AbstractTable}
 use Rattle.rbg_game.specs.Loading.{Loads, IsRefused, IsMemory}
 use Rattle.rbg_game.specs.declared.error.LoadError.{LoadError}
 use Rattle.rbg_match.specs.declared.config.Config.{Config}
-use Rattle.rbg_rules.specs.State.{AbstractGame}
+use Rattle.rbg_rules.specs.Meaning.{AbstractGame}
 use Rattle.std.specs.Global.{Vec}
 
 -- the bytes of each description

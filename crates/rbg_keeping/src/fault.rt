@@ -1,7 +1,8 @@
 //! Why matches aren't played to their ends.
 
 use rbg_game::LoadError;
-use rbg_log::{LogFailure, OpenError, Stop};
+use rbg_log::{LogFailure, OpenError, Stop, WriteError};
+use rbg_match::MatchError;
 use rbg_network::GatherError;
 use rbg_refereeing::RefereeingError;
 use rbg_script::ScriptError;
@@ -43,9 +44,11 @@ impl From<LoadError> for ServingFault {
 impl From<OpenError> for ServingFault {
     fn from(error: OpenError) -> ServingFault {
         match error {
-            OpenError::Config => ServingFault::Config,
-            OpenError::Log => ServingFault::Device,
-            OpenError::Memory => ServingFault::Memory(AllocError),
+            OpenError::Match(MatchError::Config) => ServingFault::Config,
+            OpenError::Write(WriteError::Log) => ServingFault::Device,
+            OpenError::Match(MatchError::Memory) | OpenError::Write(WriteError::Memory) => {
+                ServingFault::Memory(AllocError)
+            }
         }
     }
 }

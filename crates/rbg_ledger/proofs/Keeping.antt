@@ -4,7 +4,7 @@ use Rattle.std.specs.Prelude.{slice_set, option_copied, IfSome, OnErr, OnOk, Res
 use Rattle.std.proofs.lemmas.Bool.{true≢false}
 use Rattle.std.proofs.lemmas.List.Elements.{All-nil}
 use Rattle.std.proofs.lemmas.Option.{none-some}
-use Rattle.rbg_rules.specs.State.{AbstractGame}
+use Rattle.rbg_rules.specs.Meaning.{AbstractGame}
 use Rattle.rbg_match.specs.declared.config.Config.{Config}
 use Rattle.rbg_match.specs.Deliveries.{delivered}
 use Rattle.rbg_match.specs.Inputs.{AbstractEvent, piece, end_of_stream}

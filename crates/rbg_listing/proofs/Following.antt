@@ -12,9 +12,7 @@ use Rattle.rbg_record.specs.Lines as lines
 use Rattle.rbg_record.specs.Reaching.{place_in}
 use Rattle.rbg_record.specs.Right.{IsRightRecord}
 use Rattle.rbg_record.specs.internal.SoFar.{IsReadSoFar}
-use Rattle.rbg_rules.specs.Moves.{AbstractPlace}
-use Rattle.rbg_rules.specs.Places.{IsPlaceOf}
-use Rattle.rbg_rules.specs.State.{AbstractGame}
+use Rattle.rbg_rules.specs.Meaning.{AbstractPlace, IsPlaceOf, AbstractGame}
 use Rattle.rbg_listing.specs.Behind.{IsPlaceBehind}
 use Rattle.rbg_listing.specs.internal.Following.{EndsAt, ends_at, IsAt}
 

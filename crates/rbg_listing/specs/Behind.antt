@@ -6,10 +6,7 @@ use Rattle.rbg_record.specs.Judged.{BeginsWith, IsJudged}
 use Rattle.rbg_record.specs.Lines.{Standing, entry_next, LeadTo}
 use Rattle.rbg_record.specs.Right.{IsRightRecord}
 use Rattle.rbg_record.specs.internal.Faults.{told_at}
-use Rattle.rbg_rules.specs.Heavy.{IsTooHard}
-use Rattle.rbg_rules.specs.Moves.{AbstractPlace, Finished}
-use Rattle.rbg_rules.specs.Questions.{list_moves}
-use Rattle.rbg_rules.specs.State.{AbstractGame}
+use Rattle.rbg_rules.specs.Meaning.{IsTooHard, AbstractPlace, Finished, list_moves, AbstractGame}
 use Rattle.rbg_listing.specs.Lines.{move_line, cut_text, numbers_text}
 use Rattle.rbg_listing.specs.Openings.{most_listed}
 use Rattle.rbg_listing.specs.declared.behind.Misfit.{Misfit}

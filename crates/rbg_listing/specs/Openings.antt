@@ -6,9 +6,7 @@ use Rattle.rbg_match.specs.Matches.{MatchState, HasHistory, Opens}
 use Rattle.rbg_match.specs.Play.{mover_of}
 use Rattle.rbg_match.specs.declared.config.Config.{Config}
 use Rattle.rbg_moves.specs.Listing.{IsListed}
-use Rattle.rbg_rules.specs.Heavy.{IsTooHard}
-use Rattle.rbg_rules.specs.Questions.{list_moves}
-use Rattle.rbg_rules.specs.State.{AbstractGame}
+use Rattle.rbg_rules.specs.Meaning.{IsTooHard, list_moves, AbstractGame}
 use Rattle.rbg_wire.specs.declared.outcome.Outcome.{Outcome}
 use Rattle.rbg_listing.specs.Lines.{made_line, move_line, cut_text, end_text}
 

@@ -1,7 +1,7 @@
 //! The place to which the moves of a record lead, and how play can go on there.
 ghost use Rattle.std.specs.Prelude.{◌≡◌, IfErr, IfOk};
 ghost use Rattle.rbg_record.specs.declared.fault.Fault.TheVariants.{Memory as OutOfMemory};
-ghost use Rattle.rbg_rules.specs.Places.{IsPlaceOf};
+ghost use Rattle.rbg_rules.specs.Meaning.{IsPlaceOf};
 ghost use Rattle.rbg_listing.specs.Behind.{IsMisfit, IsMovesBehind, IsPlaceBehind};
 
 use crate::place::place_lines;

@@ -1,6 +1,6 @@
 //! The lines of the moves with which play can go on at a place.
 ghost use Rattle.std.specs.Prelude.{◌≡◌, ◌++◌, ℕ, List, codes, length, take, IfOk, OnOk};
-ghost use Rattle.rbg_rules.specs.Places.{IsPlaceOf};
+ghost use Rattle.rbg_rules.specs.Meaning.{IsPlaceOf};
 ghost use Rattle.rbg_moves.specs.Listing.{IsListed};
 ghost use Rattle.rbg_listing.specs.Behind.{GoesOnAt};
 ghost use Rattle.rbg_listing.specs.Lines.{numbers_text};

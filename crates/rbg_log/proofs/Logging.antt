@@ -5,7 +5,7 @@ use Rattle.std.proofs.lemmas.List.{map-append, take_all}
 use Rattle.std.proofs.lemmas.List.Elements.{All-nil, All-append}
 use Rattle.std.proofs.lemmas.Grind.{flat_map-append}
 use Rattle.rbg_game.specs.Loading.{Loads}
-use Rattle.rbg_rules.specs.State.{AbstractGame}
+use Rattle.rbg_rules.specs.Meaning.{AbstractGame}
 use Rattle.rbg_match.specs.declared.config.Config.{Config}
 use Rattle.rbg_match.specs.Inputs.{AbstractEvent, piece, end_of_stream, moment_alone, moment_of}
 use Rattle.rbg_match.specs.Matches.{MatchState, Opens, Steps, StepsAll}

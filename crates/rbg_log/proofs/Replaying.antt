@@ -5,7 +5,7 @@ use Rattle.std.proofs.lemmas.Bool.{ltb-true, false≢true}
 use Rattle.std.proofs.lemmas.Option.{none-some}
 use Rattle.rbg_wire.specs.Streams.{Rest}
 use Rattle.rbg_wire.specs.declared.outcome.Outcome.{Outcome}
-use Rattle.rbg_rules.specs.State.{AbstractGame}
+use Rattle.rbg_rules.specs.Meaning.{AbstractGame}
 use Rattle.rbg_match.specs.declared.config.Config.{Config}
 use Rattle.rbg_match.specs.Deliveries.{Delivery, delivered}
 use Rattle.rbg_match.specs.Handling.{AbstractInput, tick, HandlesInTime, Handles}

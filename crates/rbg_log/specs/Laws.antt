@@ -1,6 +1,6 @@
 -- Laws of what is written of a match.
 use Rattle.std.specs.Prelude.{ℕ, List}
-use Rattle.rbg_rules.specs.State.{AbstractGame}
+use Rattle.rbg_rules.specs.Meaning.{AbstractGame}
 use Rattle.rbg_match.specs.declared.config.Config.{Config}
 use Rattle.rbg_match.specs.Inputs.{AbstractEvent}
 use Rattle.rbg_match.specs.Matches.{MatchState, Opens, StepsAll}

@@ -7,7 +7,7 @@ use rbg_serving::Engine;
 impl<W: Log> Engine for LoggedMatch<W> {
     ghost use Rattle.rbg_match.specs.Matches.{HasHistory};
     ghost use Rattle.rbg_match.specs.PlayingOn.{seats_of};
-    ghost use Rattle.rbg_rules.specs.State.{AbstractGame};
+    ghost use Rattle.rbg_rules.specs.Meaning.{AbstractGame};
     ghost use Rattle.rbg_log.specs.Serving.{of_log};
 
     type Outbox = Outbox;

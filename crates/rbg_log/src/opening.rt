@@ -6,7 +6,6 @@ ghost use Rattle.rbg_match.specs.PlayingOn.{seats_of};
 ghost use Rattle.rbg_log.specs.Logs.{Appends, AppendsFront, IsLog, first_line};
 
 use crate::{Log, LoggedMatch, WriteError};
-use rbg_base::Memory;
 use rbg_match::{Config, Match, MatchError, Outbox};
 use rbg_rules::Game;
 use rbg_script::{ScriptConfig, write_config};
@@ -16,39 +15,12 @@ use thiserror::Error;
 /// Why a match doesn't begin.
 #[derive(Clone, Copy, Debug, PartialEq, Eq, Error)]
 pub enum OpenError {
-    /// A number of the config is outside its limits.
-    #[error("a number of the config is outside its limits")]
-    Config,
-    /// A request for memory failed.
-    #[error("out of memory")]
-    Memory,
-    /// The log failed.
-    #[error("the log failed")]
-    Log,
-}
-
-impl From<Memory> for OpenError {
-    fn from(_memory: Memory) -> OpenError {
-        OpenError::Memory
-    }
-}
-
-impl From<MatchError> for OpenError {
-    fn from(error: MatchError) -> OpenError {
-        match error {
-            MatchError::Config => OpenError::Config,
-            MatchError::Memory => OpenError::Memory,
-        }
-    }
-}
-
-impl From<WriteError> for OpenError {
-    fn from(error: WriteError) -> OpenError {
-        match error {
-            WriteError::Memory => OpenError::Memory,
-            WriteError::Log => OpenError::Log,
-        }
-    }
+    /// The match isn't made.
+    #[error(transparent)]
+    Match(#[from] MatchError),
+    /// The first line of its log isn't written.
+    #[error(transparent)]
+    Write(#[from] WriteError),
 }
 
 /// Writes the first line of the log of a match that begins at this moment. `line` is a buffer: what it held is lost.

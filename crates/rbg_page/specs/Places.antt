@@ -2,7 +2,7 @@
 -- all is told, and of each later one what has changed since the place before.
 use Rattle.std.specs.Prelude.{ℕ, ◌+◌, ◌==◌, nat_lt, if◌then◌else◌, List, [], ◌∷◌, ◌++◌, set, codes, decimal}
 use Rattle.std.specs.List.{flat_map}
-use Rattle.rbg_rules.specs.Moves.{AbstractPlace}
+use Rattle.rbg_rules.specs.Meaning.{AbstractPlace}
 
 -- A piece, or what a variable holds: a letter for each of the first 26 numbers, then the number with a point behind it.
 unfoldable pub piece_text : ℕ → List ℕ

@@ -1,7 +1,6 @@
 -- What the lines of a record tell a page.
 use Rattle.std.specs.Prelude.{◌≡◌, ◌≢◌, ℕ, List, [], ◌∷◌, ◌++◌, Option, Some, None, unwrap_or}
-use Rattle.rbg_rules.specs.State.{AbstractGame, start_of}
-use Rattle.rbg_rules.specs.Moves.{AbstractPlace}
+use Rattle.rbg_rules.specs.Meaning.{AbstractGame, start_of, AbstractPlace}
 use Rattle.rbg_wire.specs.Lines.{line_of}
 use Rattle.rbg_lines.specs.declared.entry.Entry.{Entry}
 use Rattle.rbg_lines.specs.declared.entry.Entry.TheVariants.{Move}

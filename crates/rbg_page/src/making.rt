@@ -1,6 +1,6 @@
 //! The page of a record.
 ghost use Rattle.std.specs.Prelude.{◌≡◌, ◌++◌, IfErr, IfOk, OnOk};
-ghost use Rattle.rbg_rules.specs.Places.{IsPlaceOf};
+ghost use Rattle.rbg_rules.specs.Meaning.{IsPlaceOf};
 ghost use Rattle.rbg_page.specs.Pages.{IsPage, IsRefused, lines_part, names_part, page_text, place_part, values_part};
 
 use crate::drawing::put_drawing;

@@ -1,6 +1,6 @@
 //! What is told of a place, and the calls that write it at the end of a list of bytes.
 ghost use Rattle.std.specs.Prelude.{◌≡◌, ◌++◌, IfOk, OnOk, length};
-ghost use Rattle.rbg_rules.specs.Places.{IsPlaceOf};
+ghost use Rattle.rbg_rules.specs.Meaning.{IsPlaceOf};
 ghost use Rattle.std.specs.List.{flat_map};
 ghost use Rattle.rbg_page.specs.Places.{change_at, change_text, changes_text, piece_text, pieces_text, place_text, whole_text};
 

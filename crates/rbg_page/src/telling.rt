@@ -1,6 +1,6 @@
 //! What the lines of a record tell a page, and the reading of them.
 ghost use Rattle.std.specs.Prelude.{◌≡◌, ℕ, List, [], ◌++◌, IfErr, IfNone, IfOk, IfSome, OnOk, unwrap_or};
-ghost use Rattle.rbg_rules.specs.Places.{IsPlaceOf};
+ghost use Rattle.rbg_rules.specs.Meaning.{IsPlaceOf};
 ghost use Rattle.rbg_record.specs.ByLine.{IsReachedIn, reached_of};
 ghost use Rattle.rbg_page.specs.Pages.{IsRefused};
 ghost use Rattle.rbg_wire.specs.Lines.{line_of};
@@ -20,7 +20,6 @@ use std::alloc::Global;
 use std::marker::Model;
 
 /// What the lines of a record tell. Contracts see the lines of a page, the last place and the last move of a player.
-#[derive(Drop)]
 pub struct Telling {
     /// The lines with their places.
     lines: Vec<u8>,
@@ -37,6 +36,17 @@ impl Model for Telling {
     ghost Value = { Told };
 
     ghost view = { λ t. record { lines = t.lines.items; place = t.place; marked = unwrap_or t.moved [] } };
+}
+
+/// Written out, so that letting a telling go is one call in the proofs of those who hold one, not a step for each part.
+impl Drop for Telling {
+    fn drop(self) {
+        let Telling {
+            lines: _,
+            place: _,
+            moved: _,
+        } = self;
+    }
 }
 
 impl Telling {

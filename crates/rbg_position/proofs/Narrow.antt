@@ -7,7 +7,7 @@ use Rattle.rbg_board.specs.Written.{Written, directions_in, directions_of}
 use Rattle.rbg_grammar.specs.Tree.{SpeltEdge, SpeltVertex, SpeltBoard, rectangle, hexagon, graph}
 use Rattle.rbg_game.specs.Descriptions.{NamedBoard, BoardIs, EdgeIs, VertexIs, board_in}
 use Rattle.rbg_game.specs.Loading.{Loads}
-use Rattle.rbg_rules.specs.State.{AbstractGame}
+use Rattle.rbg_rules.specs.Meaning.{AbstractGame}
 use Rattle.rbg_same.specs.Same.{IsNarrow}
 use Rattle.rbg_same.proofs.Boards.{as_wide}
 

@@ -12,7 +12,7 @@ use Rattle.rbg_macro.specs.declared.source.SectionKind.TheVariants.{Board}
 use Rattle.rbg_macro.specs.Expansion.{HasSections}
 use Rattle.rbg_macro.specs.Sections.{SectionTokens}
 use Rattle.rbg_macro.proofs.OneExpansion.{sections_once}
-use Rattle.rbg_rules.specs.State.{AbstractGame}
+use Rattle.rbg_rules.specs.Meaning.{AbstractGame}
 use Rattle.rbg_tokens.specs.Token.{Lexeme}
 use Rattle.rbg_tokens.proofs.OneReading.{tokens_once}
 use Rattle.rbg_position.specs.Laws.{NamesAreOfVerticesLaw, names_of_pieces}

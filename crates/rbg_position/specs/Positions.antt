@@ -1,7 +1,6 @@
 -- The description of a place to which a record leads: that of the same game, with the board as it stands there.
 use Rattle.std.specs.Prelude.{◌≡◌, ℕ, List, None}
-use Rattle.rbg_rules.specs.State.{AbstractGame, start_of}
-use Rattle.rbg_rules.specs.Moves.{AbstractPlace}
+use Rattle.rbg_rules.specs.Meaning.{AbstractGame, start_of, AbstractPlace}
 use Rattle.rbg_moves.specs.Settling.{Settles}
 use Rattle.rbg_game.specs.Loading.{Loads}
 use Rattle.rbg_page.specs.Telling.{Told, IsTelling}

@@ -6,7 +6,7 @@ use Rattle.rbg_grammar.specs.Spells.{HasSection}
 use Rattle.rbg_macro.specs.Expansion.{HasSections}
 use Rattle.rbg_macro.specs.Sections.{SectionTokens}
 use Rattle.rbg_macro.specs.declared.source.SectionKind.TheVariants.{Board}
-use Rattle.rbg_rules.specs.State.{AbstractGame}
+use Rattle.rbg_rules.specs.Meaning.{AbstractGame}
 use Rattle.rbg_tokens.specs.Kinds.{is_name_kind}
 use Rattle.rbg_tokens.specs.Text.{HasTokens}
 use Rattle.rbg_tokens.specs.Token.{Lexeme}

@@ -1,6 +1,6 @@
 //! The beginning of a game, compared with a place.
 ghost use Rattle.std.specs.Prelude.{◌≡◌, IfErr, IfOk, length};
-ghost use Rattle.rbg_rules.specs.Places.{IsPlaceOf};
+ghost use Rattle.rbg_rules.specs.Meaning.{IsPlaceOf};
 ghost use Rattle.rbg_moves.specs.Settling.{Settles};
 ghost use Rattle.rbg_position.specs.Positions.{BeginsAs};
 ghost use Rattle.rbg_position.specs.Refusals.{BeginsOtherwise, IsUnsettled};

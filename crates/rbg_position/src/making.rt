@@ -1,8 +1,7 @@
 //! The description of a place.
 ghost use Rattle.std.specs.Prelude.{◌≡◌, ℕ, List, IfErr, IfOk};
 ghost use Rattle.rbg_game.specs.Loading.{IsRefused, Loads};
-ghost use Rattle.rbg_rules.specs.Places.{IsPlaceOf};
-ghost use Rattle.rbg_rules.specs.State.{AbstractGame};
+ghost use Rattle.rbg_rules.specs.Meaning.{IsPlaceOf, AbstractGame};
 ghost use Rattle.rbg_same.specs.Same.{IsNarrow};
 ghost use Rattle.rbg_tokens.specs.Text.{HasTokens};
 ghost use Rattle.rbg_position.specs.internal.Texts.{IsNoBeginning, IsNoText};

@@ -1,7 +1,6 @@
 //! Runs of questions about moves, and of the counting of their sequences.
 ghost use Rattle.std.specs.Prelude.{IfOk};
-ghost use Rattle.rbg_rules.specs.Places.{IsPlaceOf};
-ghost use Rattle.rbg_rules.specs.State.{IsStateOf};
+ghost use Rattle.rbg_rules.specs.Meaning.{IsPlaceOf, IsStateOf};
 
 use crate::games::{PATTERN, SQUARES, STAR, WALK, played};
 use crate::stop::Stop;

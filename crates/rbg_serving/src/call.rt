@@ -9,11 +9,11 @@ use crate::{Clock, Line};
 /// clock.
 #[derive(Drop)]
 pub(crate) struct Call<'a, L: Line, E: Engine, C: Clock> {
-    pub(crate) lines: &'a mut [L],
-    pub(crate) states: &'a mut [LineState],
-    pub(crate) engine: &'a mut E,
-    pub(crate) outbox: &'a mut E::Outbox,
-    pub(crate) clock: &'a mut C,
+    pub lines: &'a mut [L],
+    pub states: &'a mut [LineState],
+    pub engine: &'a mut E,
+    pub outbox: &'a mut E::Outbox,
+    pub clock: &'a mut C,
 }
 
 impl<'a, L: Line, E: Engine, C: Clock> Call<'a, L, E, C> {

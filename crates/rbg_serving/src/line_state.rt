@@ -4,7 +4,7 @@
 #[derive(Clone, Copy)]
 pub(crate) struct LineState {
     /// How many of the bytes queued for its seat it has taken.
-    pub(crate) taken: usize,
+    pub taken: usize,
     /// Whether it has neither ended nor failed.
-    pub(crate) live: bool,
+    pub live: bool,
 }

@@ -4,7 +4,8 @@ use Rattle.rbg_wire.proofs.FieldLemmas.{same_fields}
 use Rattle.rbg_show.specs.declared.reading.Lead.{Lead}
 use Rattle.rbg_show.specs.declared.reading.Lead.TheVariants.{Nothing, Player, MomentAndPlayer}
 use Rattle.rbg_show.specs.declared.reading.Reading.{Reading}
-use Rattle.rbg_show.specs.Readings.{AreReadings, BeginsWithNumber, IsMoveText, IsPlayersMove, IsSaid, MayMean, Means, SpellsMovePairs, of_player, with_letter}
+use Rattle.rbg_wire.specs.Words.{BeginsWithNumber}
+use Rattle.rbg_show.specs.Readings.{AreReadings, IsMoveText, IsPlayersMove, IsSaid, MayMean, Means, SpellsMovePairs, of_player, with_letter}
 use Rattle.rbg_show.specs.Readings.AreReadings.{told, untold}
 use Rattle.rbg_show.specs.Readings.IsSaid.{one, none}
 use Rattle.rbg_show.specs.internal.Holding.{AddsMeaning}

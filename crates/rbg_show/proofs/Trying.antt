@@ -5,8 +5,7 @@ use Rattle.std.proofs.lemmas.List.Elements.{All-more, All-same, Contains-get_or}
 use Rattle.std.specs.Prelude.{IfNone, is_some}
 use Rattle.std.specs.Result.{IsErrAnd}
 use Rattle.std.proofs.lemmas.Bool.{false≢true}
-use Rattle.rbg_rules.specs.Moves.{Finished, IsLegal}
-use Rattle.rbg_rules.specs.Heavy.{IsHeavyToFind}
+use Rattle.rbg_rules.specs.Meaning.{Finished, IsLegal, IsHeavyToFind}
 use Rattle.rbg_moves.specs.declared.unsettled.Unsettled.{Unsettled}
 use Rattle.rbg_moves.specs.Limits.{most_keeper_moves}
 use Rattle.rbg_show.specs.declared.reading.Reading.{Reading}

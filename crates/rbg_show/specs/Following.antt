@@ -4,7 +4,7 @@ use Rattle.rbg_wire.specs.Bytes.{LacksByte}
 use Rattle.rbg_wire.specs.Lines.{line_feed, lines_of}
 use Rattle.rbg_wire.specs.declared.outcome.Outcome.{Outcome}
 use Rattle.rbg_wire.specs.declared.outcome.Outcome.TheVariants.{Heavy as HeavyEnd}
-use Rattle.rbg_rules.specs.State.{AbstractGame, start_of}
+use Rattle.rbg_rules.specs.Meaning.{AbstractGame, start_of}
 use Rattle.rbg_lines.specs.declared.heading.Version.{Version}
 use Rattle.rbg_lines.specs.Heading.{version_text}
 use Rattle.rbg_show.specs.declared.line.RecordEnd.{RecordEnd}

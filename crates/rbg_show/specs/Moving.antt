@@ -1,7 +1,6 @@
 -- How a game that is followed goes on: by the moves that lines may mean, and by the keeper's between them.
 use Rattle.std.specs.Prelude.{◌≡◌, ◌≢◌, ◌==◌, ℕ, ◌+◌, ◌<◌, ◌⊎◌, min, if◌then◌else◌, List, [], ◌∷◌, ◌++◌, IfSome, All, Contains, Bool, true, false}
-use Rattle.rbg_rules.specs.Moves.{AbstractPlace, Legal, IsLegal, Finished}
-use Rattle.rbg_rules.specs.Heavy.{IsHeavyToFind, IsHeavyToTry}
+use Rattle.rbg_rules.specs.Meaning.{AbstractPlace, Legal, IsLegal, Finished, IsHeavyToFind, IsHeavyToTry}
 use Rattle.rbg_moves.specs.Limits.{most_keeper_moves}
 use Rattle.rbg_show.specs.declared.reading.Reading.{Reading}
 use Rattle.rbg_show.specs.Playing.{Playing}

@@ -1,8 +1,7 @@
 -- Where a game that is followed stands.
 use Rattle.std.specs.Prelude.{ℕ, List, Option, refl}
 use Rattle.std.specs.Coded.{Coded, coded_ℕ, coded_list, coded_option, coded×, code_by}
-use Rattle.rbg_rules.specs.State.{AbstractGame}
-use Rattle.rbg_rules.specs.Moves.{AbstractPlace}
+use Rattle.rbg_rules.specs.Meaning.{AbstractGame, AbstractPlace}
 use Rattle.rbg_rules.specs.Codes.{coded_game}
 
 -- A game, the place that play has reached in it, and how many moves the keeper has made in a row, which are not counted

@@ -2,6 +2,7 @@
 use Rattle.std.specs.Prelude.{◌≡◌, ℕ, ◌<◌, ◌≤◌, ◌^◌, List, [], ◌∷◌, ◌++◌, length, Option, Some, None, codes, decimal}
 use Rattle.rbg_base.specs.Move.{most_pairs}
 use Rattle.rbg_wire.specs.Reading.{SpellsPairs}
+use Rattle.rbg_wire.specs.Words.{BeginsWithNumber}
 use Rattle.rbg_lines.specs.declared.heading.Version.{Version}
 use Rattle.rbg_lines.specs.declared.heading.Version.TheVariants.{One, Two}
 use Rattle.rbg_show.specs.declared.reading.Lead.{Lead}
@@ -22,11 +23,6 @@ pub record SpellsMovePairs (text : List ℕ) (pairs : List (ℕ × ℕ)) : Type 
 pub data IsMoveText (text : List ℕ) (pairs : List (ℕ × ℕ)) : Type 0 where
   with_letter : (behind : List ℕ) → text ≡ codes "M" ++ behind → SpellsMovePairs behind pairs → IsMoveText text pairs
   without_letter : ((behind : List ℕ) → text ≡ codes "M" ++ behind → ⊥) → SpellsMovePairs text pairs → IsMoveText text pairs
-
--- a number, a space and the rest
-pub record BeginsWithNumber (text : List ℕ) (number : ℕ) (rest : List ℕ) : Type 0 where
-  pub small : number < 2 ^ 64
-  pub parts : text ≡ decimal number ++ 32 ∷ rest
 
 -- the player's number, a space and a move
 pub data IsPlayersMove (text : List ℕ) : Option ℕ → List (ℕ × ℕ) → Type 0 where

@@ -1,6 +1,6 @@
 -- What is shown of a list.
 use Rattle.std.specs.Prelude.{◌≡◌, ℕ, List, true, false}
-use Rattle.rbg_rules.specs.State.{AbstractGame}
+use Rattle.rbg_rules.specs.Meaning.{AbstractGame}
 use Rattle.rbg_show.specs.declared.showing.Shown.{Shown}
 use Rattle.rbg_show.specs.declared.stop.Stop.{Stop}
 use Rattle.rbg_show.specs.Endings.{EndsWith, stopped_text, unsettled_text}

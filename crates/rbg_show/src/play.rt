@@ -1,13 +1,9 @@
 //! A game that is played move by move.
 ghost use Rattle.std.specs.Prelude.{◌≡◌, ◌⊎◌, ◌<◌, Err, None, IfOk, IfSome, IfNone, IsTrue, OnOk, OnErr};
-ghost use Rattle.rbg_rules.specs.Heavy.{IsHeavyToFind, IsHeavyToTry};
-ghost use Rattle.rbg_rules.specs.State.{start_of};
-ghost use Rattle.rbg_rules.specs.Moves.{AbstractPlace, Legal, IsLegal, Finished};
+ghost use Rattle.rbg_rules.specs.Meaning.{IsHeavyToFind, IsHeavyToTry, start_of, AbstractPlace, Legal, IsLegal, Finished, IsGame, IsPlaceOf};
 ghost use Rattle.rbg_moves.specs.Limits.{most_keeper_moves};
 ghost use Rattle.rbg_show.specs.Endings.{mover_text};
 ghost use Rattle.rbg_show.specs.Moving.{Moves, moved_to};
-ghost use Rattle.rbg_rules.specs.Games.{IsGame};
-ghost use Rattle.rbg_rules.specs.Places.{IsPlaceOf};
 
 use rbg_base::{Memory, Pair, Piece, Player, Variable, Vertex};
 use rbg_moves::{MAX_KEEPER_MOVES, Move, Over, Place, PlayedGame, Workspace};
@@ -38,7 +34,7 @@ impl<'a> Model for Play<'a> {
     ghost view = { λ p. record { game = p.game.now; place = p.place; in_a_row = p.in_a_row } };
 
     ghost use Rattle.std.specs.Prelude.{◌≤◌};
-    ghost use Rattle.rbg_rules.specs.Places.{IsPlaceOf};
+    ghost use Rattle.rbg_rules.specs.Meaning.{IsPlaceOf};
 
     ghost invariant = { λ p. IsPlaceOf p.game.now p.place × (p.in_a_row ≤ 1000) };
 }

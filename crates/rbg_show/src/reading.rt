@@ -2,12 +2,12 @@
 ghost use Rattle.std.specs.Prelude.{◌≡◌, ◌≤◌, ℕ, ◌<◌, ◌^◌, List, [], ◌∷◌, ◌++◌, Option, Some, None, IfOk, IfSome, IfNone, OnOk, decimal, length};
 ghost use Rattle.rbg_lines.specs.declared.heading.Version.TheVariants.{One, Two};
 ghost use Rattle.rbg_show.specs.declared.reading.Lead.{Lead as AnyLead};
-ghost use Rattle.rbg_show.specs.Readings.{AreReadings, BeginsWithNumber, IsMoveText, IsPlayersMove, IsSaid, MayMean, SpellsMovePairs, lead_of};
+ghost use Rattle.rbg_show.specs.Readings.{AreReadings, IsMoveText, IsPlayersMove, IsSaid, MayMean, SpellsMovePairs, lead_of};
 ghost use Rattle.rbg_show.specs.internal.Holding.{AddsMeaning};
 
-use rbg_base::{Move, number_of_decimal};
+use rbg_base::Move;
 use rbg_lines::Version;
-use rbg_wire::{after_text, cut_at, read_pairs};
+use rbg_wire::{after_text, cut_number, read_pairs};
 use std::alloc::{AllocError, Global};
 
 /// What stands before the pairs of a move.
@@ -152,16 +152,4 @@ fn pairs_of(text: &[u8]) -> Option<Move>
     ensures none { IfNone result ((pairs : List (ℕ × ℕ)) → SpellsMovePairs text.now pairs → ⊥) }
 {
     read_pairs(text).ok()
-}
-
-/// A number with a space behind it, and what is left.
-fn cut_number(text: &[u8]) -> Option<(u64, &[u8])>
-    ensures found { IfSome result (λ parts. BeginsWithNumber text.now parts.0 parts.1.now) }
-    ensures none { IfNone result ((number : ℕ) (rest : List ℕ)
-        → BeginsWithNumber text.now number rest
-        → ⊥) }
-{
-    let (digits, rest) = cut_at(b' ', text)?;
-    let number = number_of_decimal(digits)?;
-    Some((number, rest))
 }

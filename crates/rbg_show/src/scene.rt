@@ -1,7 +1,6 @@
 //! A game that is followed on its board: the moves that lines may mean, and the keeper's between them.
 ghost use Rattle.std.specs.Prelude.{◌≡◌, ◌≢◌, ◌↔◌, [], Some, Err, IfOk, IfSome, IsTrue, OnOk};
-ghost use Rattle.rbg_rules.specs.Moves.{IsLegal};
-ghost use Rattle.rbg_rules.specs.Heavy.{IsHeavyToFind};
+ghost use Rattle.rbg_rules.specs.Meaning.{IsLegal, IsHeavyToFind};
 ghost use Rattle.rbg_moves.specs.Limits.{most_keeper_moves};
 ghost use Rattle.rbg_show.specs.declared.stop.Stop.TheVariants.{Memory as NoMemory};
 ghost use Rattle.rbg_show.specs.Endings.{EndsWith, ended_text, stopped_text};

@@ -1,8 +1,7 @@
 -- What a table of the code stands for.
 use Rattle.std.specs.Prelude.{◌≡◌, ℕ, List, [], length, Option, Some, None}
 use Rattle.rbg_wire.specs.Bytes.{LacksByte}
-use Rattle.rbg_rules.specs.Expression.{skip}
-use Rattle.rbg_rules.specs.State.{AbstractGame}
+use Rattle.rbg_rules.specs.Meaning.{skip, AbstractGame}
 use Rattle.rbg_match.specs.declared.config.Config.{Config}
 use Rattle.rbg_match.specs.Config.{IsWithinLimits}
 use Rattle.rbg_match.specs.Matches.{MatchState}

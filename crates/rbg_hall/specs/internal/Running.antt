@@ -1,6 +1,6 @@
 -- A match that has begun at a table.
 use Rattle.std.specs.Prelude.{◌≡◌, ℕ, List, [], Option, replicate, false}
-use Rattle.rbg_rules.specs.State.{AbstractGame}
+use Rattle.rbg_rules.specs.Meaning.{AbstractGame}
 use Rattle.rbg_match.specs.declared.config.Config.{Config}
 use Rattle.rbg_match.specs.Inputs.{AbstractEvent}
 use Rattle.rbg_match.specs.Matches.{MatchState, HasHistory, Opens, Steps}

@@ -1,8 +1,7 @@
 -- The lines of a record, followed to the place to which they lead.
 use Rattle.std.specs.Prelude.{◌≡◌, ℕ, List, [], ◌∷◌, ◌++◌}
 use Rattle.rbg_record.specs.Lines.{Standing, Reached, version_next, players_next, start_next, entry_next, nothing_next, LeadTo}
-use Rattle.rbg_rules.specs.Moves.{AbstractPlace}
-use Rattle.rbg_rules.specs.State.{AbstractGame}
+use Rattle.rbg_rules.specs.Meaning.{AbstractPlace, AbstractGame}
 
 -- the last of these lines is the end, and the others lead to this place
 pub data EndsAt (game : AbstractGame) : (texts : List (List ℕ)) → (place : AbstractPlace) → Type 0 where

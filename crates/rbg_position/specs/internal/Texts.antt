@@ -1,7 +1,6 @@
 -- Why a new text is no description.
 use Rattle.std.specs.Prelude.{◌≢◌, ℕ, List}
-use Rattle.rbg_rules.specs.State.{AbstractGame}
-use Rattle.rbg_rules.specs.Moves.{AbstractPlace}
+use Rattle.rbg_rules.specs.Meaning.{AbstractGame, AbstractPlace}
 use Rattle.rbg_moves.specs.declared.unsettled.Unsettled.{Unsettled as Why}
 use Rattle.rbg_moves.specs.declared.unsettled.Unsettled.TheVariants as whys
 use Rattle.rbg_game.specs.Loading.{Loads, IsMemory, IsRefused}

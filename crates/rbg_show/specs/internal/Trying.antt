@@ -1,7 +1,6 @@
 -- What the calls tell that try moves.
 use Rattle.std.specs.Prelude.{◌≡◌, ◌≢◌, ℕ, ◌⊎◌, List, Bool, true, false}
-use Rattle.rbg_rules.specs.Moves.{Finished}
-use Rattle.rbg_rules.specs.Heavy.{IsHeavyToTry}
+use Rattle.rbg_rules.specs.Meaning.{Finished, IsHeavyToTry}
 use Rattle.rbg_show.specs.declared.reading.Reading.{Reading}
 use Rattle.rbg_show.specs.Moving.{CanMakeNone, IsOfMover, KeeperMoves, Makes, MakesFirst, MakesNone, MakesOne, Moves}
 use Rattle.rbg_show.specs.Playing.{Playing}

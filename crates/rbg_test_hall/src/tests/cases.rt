@@ -26,9 +26,9 @@ pub(crate) type Told = (u64, &'static [u8], &'static [u8], &'static [u8]);
 
 /// Events at that many tables, and what lines have then. A line that isn't named has nothing.
 pub(crate) struct Case {
-    pub(crate) tables: usize,
-    pub(crate) events: &'static [Heard],
-    pub(crate) told: &'static [Told],
+    pub tables: usize,
+    pub events: &'static [Heard],
+    pub told: &'static [Told],
 }
 
 /// The names of the seats.

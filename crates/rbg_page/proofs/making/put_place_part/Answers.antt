@@ -1,6 +1,6 @@
 -- The parts of the text, one after the other.
 use Rattle.std.proofs.Common.{◌≡◌, codes, ap, ◌∙◌}
-use Rattle.rbg_rules.specs.Moves.{AbstractPlace}
+use Rattle.rbg_rules.specs.Meaning.{AbstractPlace}
 use Rattle.rbg_page.specs.Boards.{drawing_text}
 use Rattle.rbg_page.specs.Pages.{values_part}
 use Rattle.rbg_page.proofs.Parts.{place_is}

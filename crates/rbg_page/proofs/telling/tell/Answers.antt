@@ -5,7 +5,7 @@ use Rattle.std.proofs.lemmas.Bool.{eqb-true, true≢false}
 use Rattle.std.proofs.lemmas.List.{nil_from_length}
 use Rattle.rbg_record.specs.ByLine.{reached_of}
 use Rattle.rbg_record.proofs.SoFarLemmas.{read_fault, read_short, not_empty}
-use Rattle.rbg_rules.specs.Moves.{AbstractPlace}
+use Rattle.rbg_rules.specs.Meaning.{AbstractPlace}
 use Rattle.rbg_wire.specs.Lines.{line_of}
 use Rattle.rbg_page.specs.Places.{whole_text}
 use Rattle.rbg_page.specs.Pages.{IsRefused}

@@ -5,8 +5,7 @@ use Rattle.std.specs.Global.{Global}
 use Rattle.rbg_game.specs.Loading.{Loads}
 use Rattle.rbg_tokens.specs.Text.{HasTokens}
 use Rattle.rbg_tokens.specs.Token.{Lexeme}
-use Rattle.rbg_rules.specs.State.{AbstractGame}
-use Rattle.rbg_rules.specs.Moves.{AbstractPlace}
+use Rattle.rbg_rules.specs.Meaning.{AbstractGame, AbstractPlace}
 use Rattle.rbg_position.specs.Boards.{IsRewritten}
 use Rattle.rbg_position.specs.Positions.{game_at, IsTextAt}
 use Rattle.rbg_position.specs.Refusals.{IsUndescribed}

@@ -1,6 +1,6 @@
 -- The list is followed from the beginning of play.
 use Rattle.std.proofs.Common.{◌≡◌, None}
-use Rattle.rbg_rules.specs.State.{AbstractGame, start_of}
+use Rattle.rbg_rules.specs.Meaning.{AbstractGame, start_of}
 use Rattle.rbg_show.specs.Following.{Standing, first_standing}
 use Rattle.rbg_show.specs.Playing.{Playing}
 use Rattle.rbg_show.proofs.Lists.{list_shown}

@@ -1,5 +1,5 @@
 use Rattle.std.proofs.Common.{subst, IfNone}
-use Rattle.rbg_rules.specs.Moves.{AbstractPlace, Legal}
+use Rattle.rbg_rules.specs.Meaning.{AbstractPlace, Legal}
 use Rattle.rbg_show.proofs.play.Play.try_pairs.Goals as goal
 
 -- No place is reached by the pairs, so they are no legal move.
