@@ -41,18 +41,18 @@ pub enum PositionError {
     Memory,
 }
 
-impl From<Memory> for PositionError {
-    ghost from_gives = { λ _ error. error ≡ OutOfMemory };
-
-    fn from(_memory: Memory) -> PositionError {
-        PositionError::Memory
-    }
-}
-
 impl From<PageError> for PositionError {
     ghost from_gives = { λ error new. new ≡ Record error };
 
     fn from(error: PageError) -> PositionError {
         PositionError::Record { error }
+    }
+}
+
+impl From<Memory> for PositionError {
+    ghost from_gives = { λ _ error. error ≡ OutOfMemory };
+
+    fn from(_memory: Memory) -> PositionError {
+        PositionError::Memory
     }
 }
