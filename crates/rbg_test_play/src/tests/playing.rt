@@ -44,7 +44,7 @@ const NONE: &[u8] = b"#players = white(100), black(100)
 
 /// What becomes of a list of pairs.
 #[derive(Debug, Clone, Copy, PartialEq, Eq)]
-enum Outcome {
+enum Verdict {
     Legal,
     Illegal,
     Over(Over),
@@ -56,7 +56,7 @@ fn tried(
     alloc: Global,
     text: &[u8],
     pairs: &[(Vertex, Position)],
-) -> Result<Outcome, Fail> {
+) -> Result<Verdict, Fail> {
     let game = load(alloc, text)?;
     let steps = compact(alloc, &game)?;
     let place = Place::start(alloc, &game)?;
@@ -71,9 +71,9 @@ fn tried(
         panic!(rt; "no move has so many pairs");
     };
     Ok(match try_move(alloc, &game, &steps, &place, &all) {
-        Ok(Some(_)) => Outcome::Legal,
-        Ok(None) => Outcome::Illegal,
-        Err(over) => Outcome::Over(over),
+        Ok(Some(_)) => Verdict::Legal,
+        Ok(None) => Verdict::Illegal,
+        Err(over) => Verdict::Over(over),
     })
 }
 
@@ -88,18 +88,18 @@ fn found(alloc: Global, text: &[u8]) -> Result<Result<Option<Move>, Over>, Fail>
 #[test]
 fn pairs_are_followed_to_their_switch(rt: HostRuntime) -> Result<(), Fail> {
     for (text, pairs, becomes) in [
-        (ENDLESS, [(0, 2)].as_slice(), Outcome::Legal),
-        (ENDLESS, [(0, 1), (0, 2)].as_slice(), Outcome::Legal),
-        (ENDLESS, [(0, 1), (0, 1)].as_slice(), Outcome::Illegal),
-        (ENDLESS, [(0, 2), (0, 1)].as_slice(), Outcome::Illegal),
-        (ENDLESS, [(0, 2), (0, 2)].as_slice(), Outcome::Illegal),
-        (ENDLESS, [(1, 2)].as_slice(), Outcome::Illegal),
-        (ENDLESS, [(0, 9)].as_slice(), Outcome::Illegal),
-        (EDGE, [(2, 4), (2, 5)].as_slice(), Outcome::Legal),
-        (EDGE, [(1, 4), (1, 5)].as_slice(), Outcome::Illegal),
-        (EDGE, [(2, 4), (1, 5)].as_slice(), Outcome::Illegal),
-        (DEAD_END, [(0, 3), (0, 4)].as_slice(), Outcome::Legal),
-        (DEAD_END, [(0, 1), (0, 4)].as_slice(), Outcome::Illegal),
+        (ENDLESS, [(0, 2)].as_slice(), Verdict::Legal),
+        (ENDLESS, [(0, 1), (0, 2)].as_slice(), Verdict::Legal),
+        (ENDLESS, [(0, 1), (0, 1)].as_slice(), Verdict::Illegal),
+        (ENDLESS, [(0, 2), (0, 1)].as_slice(), Verdict::Illegal),
+        (ENDLESS, [(0, 2), (0, 2)].as_slice(), Verdict::Illegal),
+        (ENDLESS, [(1, 2)].as_slice(), Verdict::Illegal),
+        (ENDLESS, [(0, 9)].as_slice(), Verdict::Illegal),
+        (EDGE, [(2, 4), (2, 5)].as_slice(), Verdict::Legal),
+        (EDGE, [(1, 4), (1, 5)].as_slice(), Verdict::Illegal),
+        (EDGE, [(2, 4), (1, 5)].as_slice(), Verdict::Illegal),
+        (DEAD_END, [(0, 3), (0, 4)].as_slice(), Verdict::Legal),
+        (DEAD_END, [(0, 1), (0, 4)].as_slice(), Verdict::Illegal),
     ] {
         assert_eq!(rt; tried(&rt, rt.alloc(), text, pairs)?, becomes);
     }
@@ -110,9 +110,9 @@ fn pairs_are_followed_to_their_switch(rt: HostRuntime) -> Result<(), Fail> {
 fn longest_move_has_200_pairs(rt: HostRuntime) -> Result<(), Fail> {
     let mut pairs = vec![in rt.alloc(); (0, 1); 199]?;
     pairs.push((0, 2))?;
-    assert_eq!(rt; tried(&rt, rt.alloc(), ENDLESS, &pairs)?, Outcome::Legal);
+    assert_eq!(rt; tried(&rt, rt.alloc(), ENDLESS, &pairs)?, Verdict::Legal);
     let offs = vec![in rt.alloc(); (0, 1); 200]?;
-    assert_eq!(rt; tried(&rt, rt.alloc(), ENDLESS, &offs)?, Outcome::Illegal);
+    assert_eq!(rt; tried(&rt, rt.alloc(), ENDLESS, &offs)?, Verdict::Illegal);
     Ok(())
 }
 
