@@ -10,7 +10,8 @@ use rbg_moves::{Over, Unsettled};
 /// Why sequences of moves were not counted.
 #[derive(Clone, Copy, Debug)]
 pub enum CountError {
-    /// The keeper's moves from one of the places don't end, a question there is above the limits, or memory ran out.
+    /// At one of the places the keeper is to move after 1,000 of its moves in a row, or a question, the keeper's or a
+    /// player's, is above the limits; or memory ran out.
     Unsettled(Unsettled),
     /// A number is above 2^64 - 1.
     TooMany,

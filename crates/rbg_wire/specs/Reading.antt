@@ -42,7 +42,7 @@ ReadsPairs Spells (Ok pairs) = Spells pairs × (length pairs ≤ most_pairs)
 ReadsPairs Spells (Err TooManyPairs) = SpellsTooMany Spells
 ReadsPairs Spells (Err Malformed) = (pairs : List (ℕ × ℕ)) → Spells pairs → ⊥
 
--- what a reader of pairs tells: the pairs that the text spells if a move has as many, and else why there are none
+-- what a reader of pairs tells: the pairs that the text spells, if a move may have so many, and else why there are none
 pub record TellsPairs (Spells : List (ℕ × ℕ) → Type 0) (answer : Result (List (ℕ × ℕ)) WireError) : Type 0 where
   pub found : IfOk answer (λ pairs. Spells pairs × (length pairs ≤ most_pairs))
   pub only : (pairs : List (ℕ × ℕ)) → Spells pairs → length pairs ≤ most_pairs → answer ≡ Ok pairs
@@ -59,12 +59,12 @@ HasFewPairs (refusal_message reason) = Unit {0}
 HasFewPairs (end_message outcome) = Unit {0}
 HasFewPairs (join_message table) = Unit {0}
 
--- what a message with this letter is by the text after it: the message, or that there is none
+-- what is read behind this letter: the message that both spell, or none if they spell none
 abbrev pub ReadsAfterLetter : ℕ → List ℕ → Option Message → Type 0
 ReadsAfterLetter letter text (Some message) = SpellsMessage (letter ∷ text) (message_of message) × HasFewPairs (message_of message)
 ReadsAfterLetter letter text None = (message : AbstractMessage) → SpellsMessage (letter ∷ text) message → ⊥
 
--- what a message is by its text: the message, or the error for more pairs, or the error for no message
+-- what is read of a text: its message, or that it has more pairs than a move may, or that it is no message
 abbrev pub ReadsMessage : List ℕ → Result Message WireError → Type 0
 ReadsMessage text (Ok message) = SpellsMessage text (message_of message) × HasFewPairs (message_of message)
 ReadsMessage text (Err TooManyPairs) = SpellsTooMany (SpellsMove text)
