@@ -1,8 +1,8 @@
 -- The parts of a new hall.
-use Rattle.std.proofs.Common.{◌≡◌, ◌≢◌, ℕ, false, Result, Ok, Err, zero, suc, ◌+◌, ◌<◌, ◌≤◌, List, [], ◌∷◌, ◌++◌, length, map, reverse, get_or, refl, sym, ap, ◌∙◌, subst, append_assoc, arith, Some, inl, inr, replicate, All}
+use Rattle.std.proofs.Common.{◌≡◌, ◌≢◌, ℕ, false, Result, Ok, Err, zero, suc, ◌+◌, ◌<◌, ◌≤◌, List, [], ◌∷◌, ◌++◌, length, map, reverse, get_or, set, refl, sym, ap, ◌∙◌, subst, append_assoc, arith, Some, inl, inr, replicate, All}
 use Rattle.std.proofs.lemmas.Bool.{cases_lt}
-use Rattle.std.proofs.lemmas.List.{map-append, length-map, length-replicate, reverse-append}
-use Rattle.std.proofs.lemmas.List.Elements.{All-map, All-replicate}
+use Rattle.std.proofs.lemmas.List.{map-append, length-map, length-replicate, length-set, reverse-append}
+use Rattle.std.proofs.lemmas.List.Elements.{All-map, All-replicate, All-set}
 use Rattle.std.proofs.lemmas.Option.{none-some}
 use Rattle.std.specs.Prelude.{slice_get, IfErr, IsErrAnd}
 use Rattle.rbg_hall.proofs.Places.{there_within}
@@ -76,6 +76,14 @@ lines_ready tables lines are = record {
   count = ap length are ∙ length-replicate lines_in_all new_line;
   each = subst (All (IsReady tables)) (sym are) (All-replicate (IsReady tables) lines_in_all new_line (record { limit = refl; empty = refl }));
 }
+
+-- a ready line in the place of another one, where there are as many tables as before
+pub ready_with : (old new : ℕ) (lines : List Line) (line : ℕ) (next : Line) → AreReady old lines → IsReady old next → new ≡ old → AreReady new (set lines line next)
+ready_with old new lines line next are ready same =
+    subst (λ (n : ℕ). AreReady n (set lines line next)) (sym same) (record {
+      count = length-set lines line next ∙ are.count;
+      each = All-set (IsReady old) lines line next ready are.each;
+    })
 
 map_replicate : {X Y : Type 0} (f : X → Y) (n : ℕ) (x : X) → map f (replicate n x) ≡ replicate n (f x)
 map_replicate f zero x = refl

@@ -51,7 +51,7 @@ fn hear_line<W: Log>(
     marks: &mut Vec<Mark>,
 ) -> Result<(), Memory>
     requires { AreReady (length tables.old) lines.old }
-    ensures writes { OnOk result (KeptWrites W.told tables.old lines.old (said_by by.line by.at (option_copied bytes))
+    ensures writes { OnOk result (KeptWrites W.told tables.old lines.old (said_by by.line by.at (option_copied bytes.entry))
         tables.new lines.new out.old out.new) }
     ensures stops { OnErr result (KeptStops W.told tables.old tables.new) }
     ensures ready { AreReady (length tables.new) lines.new }

@@ -19,12 +19,12 @@ returns-in_ok-hear_from-in-Asks-clause-hears g c =
     let tables = c.args.tables.now in
     let index = c.in-Asks.index in
     let ready = subst (IsReady (length tables)) c.in-Asks.is c.requires in
-    let fills = fed_by c.in-Asks.inbox c.feed.new.self c.args.bytes.now ready.0 c.in_ok-feed.ensures.ok in
+    let fills = fed_by c.in-Asks.inbox c.feed.new.self c.args.bytes.now ready.0 c.in_ok-feed-in-Asks.ensures.ok in
     rw c.in-Asks.is
     (heard_again tables c.args.by.line c.args.by.at c.in-Asks.inbox.rest c.args.bytes.now index c.hear_from.new.inbox c.feed.new.self (get_or tables index c.index-tables-index.result) c.hear_from.new.table c.args.out.now c.hear_from.new.out ready.1 fills (ap (get_or tables index) c.index-tables-index.is) c.in_ok-hear_from-in-Asks.ensures.hears c.in_ok-hear_from-in-Asks.ensures.inbox)
 
-pub returns-in_err-feed-clause-stops : goal.returns-in_err-feed-clause-stops
-returns-in_err-feed-clause-stops g c = on_error _ (none_stops g.W.Log.told c.args.tables.now)
+pub returns-in_err-feed-in-Asks-clause-stops : goal.returns-in_err-feed-in-Asks-clause-stops
+returns-in_err-feed-in-Asks-clause-stops g c = on_error _ (none_stops g.W.Log.told c.args.tables.now)
 
 pub returns-in_err-hear_from-in-Asks-clause-stops : goal.returns-in_err-hear_from-in-Asks-clause-stops
 returns-in_err-hear_from-in-Asks-clause-stops g c =
