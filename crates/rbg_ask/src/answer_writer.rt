@@ -1,10 +1,10 @@
 //! The calls that write an answer or a refusal at the end of a list of bytes: the whole of it, or nothing.
-ghost use Rattle.std.specs.Prelude.{◌++◌, codes, decimal, length, map};
+ghost use Rattle.std.specs.Prelude.{◌++◌, codes, decimal, map};
 ghost use Rattle.std.specs.List.{flat_map};
 ghost use Rattle.rbg_wire.specs.Lines.{line_of};
 ghost use Rattle.rbg_wire.specs.Messages.{pairs_text};
 ghost use Rattle.rbg_wire.specs.Writing.{Appends, AppendsAll};
-ghost use Rattle.rbg_ask.specs.Answers.{Answer, moves as moves_answer, values as values_answer, board as board_answer, by_chance, answer_text, counted_text, cut_text, ending_text, numbers_text, refusal_text, standing_answer};
+ghost use Rattle.rbg_ask.specs.Answers.{moves as moves_answer, values as values_answer, board as board_answer, by_chance, answer_text, counted_text, cut_text, ending_text, numbers_text, refusal_text, standing_answer};
 ghost use Rattle.rbg_ask.specs.Chance.{counted_by, scores_of};
 
 use crate::refusal::Refusal;

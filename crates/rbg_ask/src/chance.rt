@@ -1,7 +1,7 @@
 //! Matches that are played by chance.
-ghost use Rattle.std.specs.Prelude.{◌≡◌, ◌<◌, IfErr, IfOk, OnOk, map};
+ghost use Rattle.std.specs.Prelude.{◌<◌, IfErr, IfOk, OnOk, map};
 ghost use Rattle.rbg_rules.specs.Meaning.{IsPlaceOf};
-ghost use Rattle.rbg_ask.specs.Chance.{AreTallied, Ends, IsUnmoved, IsUnplayed, counted_by, scores_of};
+ghost use Rattle.rbg_ask.specs.Chance.{AreTallied, IsUnmoved, IsUnplayed, counted_by, scores_of};
 ghost use Rattle.rbg_ask.specs.Limits.{IsCount};
 ghost use Rattle.rbg_ask.specs.internal.Moving.{IsPlayedTo, MovesOn};
 

@@ -3,7 +3,7 @@ ghost use Rattle.std.specs.Prelude.{◌≡◌, ◌≤◌, ◌↔◌, ◌++◌, �
 ghost use Rattle.rbg_base.specs.Move.{most_pairs};
 ghost use Rattle.rbg_wire.specs.Messages.{ArePairs, pairs_text};
 ghost use Rattle.rbg_ask.specs.declared.question.Question.{Question as AnyQuestion};
-ghost use Rattle.rbg_ask.specs.Limits.{IsCount, IsSeed};
+ghost use Rattle.rbg_ask.specs.Limits.{IsCount};
 ghost use Rattle.rbg_ask.specs.Questions.{SpellsQuestion};
 ghost use Rattle.rbg_ask.specs.internal.Reading.{IsPlain, SpellsChance};
 

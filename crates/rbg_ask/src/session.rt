@@ -1,10 +1,10 @@
 //! A session: the places that play has reached, and what is answered there.
-ghost use Rattle.std.specs.Prelude.{◌≡◌, ◌↔◌, ◌+◌, ◌-◌, ◌<◌, ◌≤◌, ◌^◌, ◌∷◌, ◌++◌, [], length, Err, IfErr, IfNone, IfOk, IfSome, IsTrue, OnErr, OnOk, All, ℕ, Option, Some, None};
+ghost use Rattle.std.specs.Prelude.{◌≡◌, ◌↔◌, ◌+◌, ◌-◌, ◌<◌, ◌≤◌, ◌^◌, [], length, Err, IfErr, IfNone, IfOk, IfSome, IsTrue, OnErr, OnOk, Option, Some, None};
 ghost use Rattle.rbg_moves.specs.declared.unsettled.Unsettled.TheVariants.{Heavy, Endless};
 ghost use Rattle.rbg_moves.specs.Settling.{IsEndless, MeetsHeavy, Settles};
 ghost use Rattle.rbg_ask.specs.declared.question.Question.TheVariants as questions;
-ghost use Rattle.rbg_ask.specs.Answering.{AnswersIn, GoesBack, Hears, IsLineRefused, IsRefused, StandsAt, moved_to, undone};
-ghost use Rattle.rbg_ask.specs.Answers.{standing_answer, to_move};
+ghost use Rattle.rbg_ask.specs.Answering.{AnswersIn, GoesBack, Hears, IsLineRefused, IsRefused, StandsAt, undone};
+ghost use Rattle.rbg_ask.specs.Answers.{to_move};
 ghost use Rattle.rbg_ask.specs.Limits.{longest_line};
 ghost use Rattle.rbg_ask.specs.Questions.{QuestionHasSpelling};
 ghost use Rattle.rbg_ask.specs.Sessions.{AbstractSession, HasLedTo, beginning_of};

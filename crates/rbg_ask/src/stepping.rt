@@ -1,5 +1,5 @@
 //! From one place of a session to the next, and how play stands there.
-ghost use Rattle.std.specs.Prelude.{◌≡◌, ◌+◌, IfErr, IfOk, take};
+ghost use Rattle.std.specs.Prelude.{◌≡◌, IfErr, IfOk};
 ghost use Rattle.rbg_rules.specs.Meaning.{IsPlaceOf};
 ghost use Rattle.rbg_ask.specs.Answers.{standing_answer};
 ghost use Rattle.rbg_ask.specs.Answering.{StandsAt};

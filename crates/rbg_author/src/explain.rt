@@ -1,11 +1,10 @@
 //! What `explain` and `check` print of a game.
 
 use crate::listing::listing;
-use crate::reading::{Read, load_text, read_text};
+use crate::reading::{Loaded, Read, load_with_tokens, read_text};
 use crate::report::Report;
 use rbg_console::{Files, Status};
 use rbg_explain::{push_positions, push_vertices, warn};
-use rbg_game::LoadedGame;
 use std::alloc::{AllocError, Global};
 
 /// What `explain` lists besides the names.
@@ -34,7 +33,7 @@ fn explain_text(
     text: &[u8],
     lists: Lists,
 ) -> Result<Report, AllocError> {
-    match load_text(alloc, file, text)? {
+    match load_with_tokens(alloc, file, text)? {
         Read::Found(loaded) => Ok(Report {
             text: lists_of(alloc, text, &loaded, lists)?,
             status: Status::Success,
@@ -46,15 +45,15 @@ fn explain_text(
 fn lists_of(
     alloc: Global,
     text: &[u8],
-    loaded: &LoadedGame,
+    loaded: &Loaded<'_>,
     lists: Lists,
 ) -> Result<Vec<u8>, AllocError> {
-    let mut output = listing(alloc, &loaded.game)?.into_bytes();
+    let mut output = listing(alloc, &loaded.game.game)?.into_bytes();
     if lists.vertices {
-        push_vertices(alloc, &mut output, &loaded.layout)?;
+        push_vertices(alloc, &mut output, &loaded.game.layout)?;
     }
     if lists.positions {
-        push_positions(alloc, &mut output, text)?;
+        push_positions(alloc, &mut output, text, &loaded.tokens)?;
     }
     Ok(output)
 }
@@ -72,9 +71,9 @@ pub(crate) fn check_file<F: Files>(
 }
 
 fn check_text(alloc: Global, file: &str, text: &[u8]) -> Result<Report, AllocError> {
-    match load_text(alloc, file, text)? {
+    match load_with_tokens(alloc, file, text)? {
         Read::Found(loaded) => Ok(Report {
-            text: warn(alloc, file, text, &loaded.game)?,
+            text: warn(alloc, file, text, &loaded.tokens, &loaded.game.game)?,
             status: Status::Success,
         }),
         Read::Other(report) => Ok(report),

@@ -26,15 +26,35 @@ pub(crate) fn read_game<F: Files>(
     }
 }
 
-/// The game of a file's text. The text is cut into its tokens once, for the game and for what is said of a refusal.
+/// A game with the tokens of its text.
+#[derive(Drop)]
+pub(crate) struct Loaded<'t> {
+    pub tokens: Tokens<'t>,
+    pub game: LoadedGame,
+}
+
+/// The game of a file's text.
 pub(crate) fn load_text(
     alloc: Global,
     file: &str,
     text: &[u8],
 ) -> Result<Read<LoadedGame>, AllocError> {
+    match load_with_tokens(alloc, file, text)? {
+        Read::Found(loaded) => Ok(Read::Found(loaded.game)),
+        Read::Other(report) => Ok(Read::Other(report)),
+    }
+}
+
+/// The game of a file's text, with its tokens. The text is cut into them once: for the game, for what is said of it, and
+/// for what is said of a refusal.
+pub(crate) fn load_with_tokens<'t>(
+    alloc: Global,
+    file: &str,
+    text: &'t [u8],
+) -> Result<Read<Loaded<'t>>, AllocError> {
     let refused = match tokens(alloc, text) {
         Ok(tokens) => match load_with_layout(alloc, &tokens) {
-            Ok(loaded) => return Ok(Read::Found(loaded)),
+            Ok(game) => return Ok(Read::Found(Loaded { tokens, game })),
             Err(error) => refuse(alloc, file, text, Some(&tokens), error),
         },
         Err(error) => refuse(alloc, file, text, None, LoadError::Text(error)),

@@ -11,9 +11,6 @@ use rbg_base::{Memory, Position};
 use rbg_rules::{Game, Rule};
 use std::alloc::Global;
 
-/// What filling nodes answers.
-type Filled = Result<(), Memory>;
-
 /// That many nodes with nothing laid.
 fn blank(alloc: Global, count: usize) -> Result<Vec<PlainNode>, Memory>
     ensures { IfOk result (λ nodes. AreBlank nodes.items count) }
@@ -42,7 +39,7 @@ fn set(nodes: &mut [PlainNode], position: Position, node: PlainNode)
 
 /// Lays a part of the rules, after which the rest comes.
 #[cycle(filling)]
-fn fill(alloc: Global, nodes: &mut [PlainNode], rule: &Rule, rest: &Rest) -> Filled
+fn fill(alloc: Global, nodes: &mut [PlainNode], rule: &Rule, rest: &Rest) -> Result<(), Memory>
     ensures { IfOk result (λ _.
         FillsTree nodes.old nodes.new rule.now rest.now.positions.items rest.now.may_end) }
 {
@@ -82,7 +79,7 @@ fn fill(alloc: Global, nodes: &mut [PlainNode], rule: &Rule, rest: &Rest) -> Fil
 
 /// Lays the parts of a sequence from the last to the first.
 #[cycle(filling)]
-fn fill_sequence(alloc: Global, nodes: &mut [PlainNode], parts: &[Rule], rest: &Rest) -> Filled
+fn fill_sequence(alloc: Global, nodes: &mut [PlainNode], parts: &[Rule], rest: &Rest) -> Result<(), Memory>
     ensures { IfOk result (λ _.
         FillsSequence nodes.old nodes.new parts.now rest.now.positions.items rest.now.may_end) }
 {
@@ -102,7 +99,7 @@ fn fill_sequence(alloc: Global, nodes: &mut [PlainNode], parts: &[Rule], rest: &
 
 /// Lays the parts of a sum, all with the same rest.
 #[cycle(filling)]
-fn fill_sum(alloc: Global, nodes: &mut [PlainNode], parts: &[Rule], rest: &Rest) -> Filled
+fn fill_sum(alloc: Global, nodes: &mut [PlainNode], parts: &[Rule], rest: &Rest) -> Result<(), Memory>
     ensures { IfOk result (λ _.
         FillsSum nodes.old nodes.new parts.now rest.now.positions.items rest.now.may_end) }
 {

@@ -1,5 +1,5 @@
 //! The walk over the rules that lays down what comes after each position.
-ghost use Rattle.std.specs.Prelude.{◌≡◌, ◌<◌, List, [], length, replicate, slice_index_or, IfOk};
+ghost use Rattle.std.specs.Prelude.{◌≡◌, ◌<◌, [], length, replicate, IfOk};
 ghost use Rattle.rbg_auto.specs.internal.Tables.{Keeps, IsFirstWithin, no_node, no_inside};
 ghost use Rattle.rbg_auto.specs.internal.Trees.{IsBefore};
 ghost use Rattle.rbg_auto.specs.internal.Building.{AddsList, IsKeptOf, LaysAt, LaysBefore, LaysPartsBefore, LaysLevel};

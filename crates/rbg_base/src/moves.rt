@@ -1,5 +1,5 @@
 //! A move: a list of pairs that is neither empty nor too long.
-ghost use Rattle.std.specs.Prelude.{◌≡◌, ℕ, ◌+◌, ◌<◌, ◌≤◌, ◌==◌, ◌↔◌, List, [], ◌∷◌, ◌++◌, length, slice_get, Some};
+ghost use Rattle.std.specs.Prelude.{◌≡◌, ℕ, ◌+◌, ◌<◌, ◌≤◌, ◌==◌, List, [], ◌∷◌, ◌++◌, length, slice_get, Some};
 ghost use Rattle.rbg_base.specs.Move.{most_pairs, IsMoveLength};
 
 use crate::{MoveLengthError, Pair};

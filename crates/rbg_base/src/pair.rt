@@ -1,5 +1,5 @@
 //! One modifier of a move.
-ghost use Rattle.std.specs.Prelude.{ℕ, ◌^◌, ◌<◌};
+ghost use Rattle.std.specs.Prelude.{ℕ};
 
 use crate::{Position, Vertex};
 use std::marker::Model;

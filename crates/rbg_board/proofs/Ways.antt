@@ -51,16 +51,16 @@ module _ {Way : Type 0} (ways : List Way) (Step : Way → ℕ → ℕ → ℕ �
   leads_of_edge v d u edge =
       let step = edge.step in
       let site = site_at rows step.row step.cell in
-      let within : edge.place < length directions = slice_get_within directions edge.place d edge.is_direction in
-      let direction : d ≡ get_or ks edge.place 0 = sym (get_or_from_slice_get directions edge.place d 0 edge.is_direction) ∙ ap (λ xs. get_or xs edge.place 0) is in
+      let within : edge.along.place < length directions = slice_get_within directions edge.along.place d edge.along.is_direction in
+      let direction : d ≡ get_or ks edge.along.place 0 = sym (get_or_from_slice_get directions edge.along.place d 0 edge.along.is_direction) ∙ ap (λ xs. get_or xs edge.along.place 0) is in
       record {
         row = step.row;
         cell = step.cell;
         is_cell = step.is_cell;
         number = step.from_number ∙ sym (numbered step.row step.cell step.is_cell);
         led = ap (choose ks (map (vertex site) ways)) direction
-            ∙ choose_at ks (map (vertex site) ways) edge.place (subst AreDifferent is different) (omega (arith, within, ap length is)) (omega (arith, within, all, length-map ways (vertex site)))
-            ∙ way_at ways (vertex site) edge.place edge.way edge.is_way
+            ∙ choose_at ks (map (vertex site) ways) edge.along.place (subst AreDifferent is different) (omega (arith, within, ap length is)) (omega (arith, within, all, length-map ways (vertex site)))
+            ∙ way_at ways (vertex site) edge.along.place edge.way edge.along.is_way
             ∙ vertex_of edge.way step.row step.cell step.to_row step.to_cell step.step step.is_to_cell
             ∙ ap Some (numbered step.to_row step.to_cell step.is_to_cell ∙ sym step.to_number);
       }
@@ -76,10 +76,8 @@ module _ {Way : Type 0} (ways : List Way) (Step : Way → ℕ → ℕ → ℕ �
         | inl (way, inside, stands, read) ↦
             let to = cell_of way r c u is_cell (sym (way_at ways (vertex site) k way stands) ∙ chosen.vertex) in
             record {
-              place = k;
               way = way;
-              is_way = stands;
-              is_direction = slice_get-get_or directions k 0 within ∙ ap Some (ap (λ xs. get_or xs k 0) is ∙ sym chosen.direction);
+              along = record { place = k; is_way = stands; is_direction = slice_get-get_or directions k 0 within ∙ ap Some (ap (λ xs. get_or xs k 0) is ∙ sym chosen.direction) };
               step = record {
                 row = r;
                 cell = c;
@@ -96,20 +94,20 @@ module _ {Way : Type 0} (ways : List Way) (Step : Way → ℕ → ℕ → ℕ �
       ]
 
   -- the direction of an edge is one of the directions
-  entry : (v d u : ℕ) (edge : Edge v d u) → get_or directions edge.place 0 ≡ d
-  entry v d u edge = get_or_from_slice_get directions edge.place d 0 edge.is_direction
+  entry : (v d u : ℕ) (edge : Edge v d u) → get_or directions edge.along.place 0 ≡ d
+  entry v d u edge = get_or_from_slice_get directions edge.along.place d 0 edge.along.is_direction
 
   module _ (width : ℕ) (board : Graph) (laid_out : IsLaidOut leads width rows board) (covers : All (λ d. d < width) directions) where
     pub edges_board : IsGraphOf board (concat rows) Edge
     edges_board = graph_of_layout leads width rows board laid_out Edge edge_of_leads leads_of_edge (λ v d u edge.
-        subst (λ k. k < width) (entry v d u edge) (covers edge.place 0 (slice_get_within directions edge.place d edge.is_direction)))
+        subst (λ k. k < width) (entry v d u edge) (covers edge.along.place 0 (slice_get_within directions edge.along.place d edge.along.is_direction)))
 
     -- only these directions lead anywhere
     pub edges_use : UsesOnly directions board
     edges_use = record {
       is_given = λ v d u leads.
           let edge = (edges_board.edges v d u).0 leads in
-          subst (Contains directions) (entry v d u edge) (contains_entry directions edge.place (slice_get_within directions edge.place d edge.is_direction));
+          subst (Contains directions) (entry v d u edge) (contains_entry directions edge.along.place (slice_get_within directions edge.along.place d edge.along.is_direction));
     }
 
 -- the cells to the right and to the left in the same row
@@ -143,7 +141,7 @@ way_back opposite Step back rows number there way v u same step =
 -- every edge has its way back
 pub edges_lead_back : {Way : Type 0} (ways : List Way) (opposite : Way → Way) (Step : Rows → Way → ℕ → ℕ → ℕ → ℕ → Type 0) (number : Rows → ℕ → ℕ → ℕ)
     → ((rows : Rows) (way : Way) (r c r' c' : ℕ) → Step rows way r c r' c' → Step rows (opposite way) r' c' r c) → RowsLeadBack ways opposite (λ directions rows. RowsEdge ways (Step rows) (number rows) directions rows)
-edges_lead_back ways opposite Step number step_back directions rows way there back d b v u all different at_there at_back is_there is_back edge =
-    let place : edge.place ≡ there = same_entry directions edge.place there d different edge.is_direction is_there in
-    let same : edge.way ≡ way = same_Some edge.way way (sym edge.is_way ∙ ap (slice_get ways) place ∙ at_there) in
-    record { place = back; way = opposite way; is_way = at_back; is_direction = is_back; step = way_back opposite (Step rows) (step_back rows) rows (number rows) edge.way way v u same edge.step }
+edges_lead_back ways opposite Step number step_back directions all different way d b there back rows v u edge =
+    let place : edge.along.place ≡ there.place = same_entry directions edge.along.place there.place d different edge.along.is_direction there.is_direction in
+    let same : edge.way ≡ way = same_Some edge.way way (sym edge.along.is_way ∙ ap (slice_get ways) place ∙ there.is_way) in
+    record { way = opposite way; along = back; step = way_back opposite (Step rows) (step_back rows) rows (number rows) edge.way way v u same edge.step }

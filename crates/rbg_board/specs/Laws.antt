@@ -1,8 +1,9 @@
 -- Laws of the edges of boards.
-use Rattle.std.specs.Prelude.{◌≡◌, ℕ, List, Some, length, slice_get}
+use Rattle.std.specs.Prelude.{◌≡◌, ℕ, List, length}
 use Rattle.rbg_board.specs.Cells.{Rows, AreDifferent}
 use Rattle.rbg_board.specs.Rectangle.{sides, side_opposite, RectangleEdge, MakesRectangle}
 use Rattle.rbg_board.specs.Hexagon.{compass, compass_opposite, HexagonEdge, MakesHexagon}
+use Rattle.rbg_board.specs.RowEdges.{IsDirectionOf}
 use Rattle.rbg_board.specs.Written.{Written, WrittenEdge, MakesGraph}
 
 -- from a vertex a direction leads to one vertex at most
@@ -26,18 +27,13 @@ HexagonsLeadOneWay = RowsLeadOneWay 6 MakesHexagon HexagonEdge
 abbrev pub GraphsLeadOneWay : Type 0
 GraphsLeadOneWay = (vertices : List Written) → MakesGraph vertices → LeadsOneWay (WrittenEdge vertices)
 
--- every edge of a board of rows has its way back: the direction at the place of the opposite way
+-- Every edge of a board of rows has its way back: where d is the direction of a way and b that of the opposite one, an edge
+-- in the direction d from v to u has one in the direction b from u to v.
 abbrev pub RowsLeadBack : {Way : Type 0} → List Way → (Way → Way) → (List ℕ → Rows → ℕ → ℕ → ℕ → Type 0) → Type 0
 RowsLeadBack {Way} ways opposite Edge =
-    (directions : List ℕ) (rows : Rows) (way : Way) (there back d b v u : ℕ)
-    → length directions ≡ length ways
-    → AreDifferent directions
-    → slice_get ways there ≡ Some way
-    → slice_get ways back ≡ Some (opposite way)
-    → slice_get directions there ≡ Some d
-    → slice_get directions back ≡ Some b
-    → Edge directions rows v d u
-    → Edge directions rows u b v
+    (directions : List ℕ) → length directions ≡ length ways → AreDifferent directions
+    → (way : Way) (d b : ℕ) → IsDirectionOf ways directions way d → IsDirectionOf ways directions (opposite way) b
+    → (rows : Rows) (v u : ℕ) → Edge directions rows v d u → Edge directions rows u b v
 
 abbrev pub RectanglesLeadBack : Type 0
 RectanglesLeadBack = RowsLeadBack sides side_opposite RectangleEdge

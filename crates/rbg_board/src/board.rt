@@ -1,5 +1,5 @@
 //! The board: the first piece of each vertex, and one flat table of the edges.
-ghost use Rattle.std.specs.Prelude.{◌≡◌, ◌<◌, ◌≤◌, ◌*◌, ◌+◌, ℕ, length, slice_get, Some, None, IfSome, vec_len};
+ghost use Rattle.std.specs.Prelude.{◌≡◌, ◌<◌, ◌≤◌, ◌*◌, ◌+◌, ℕ, length, slice_get, Some, None, IfSome};
 ghost use Rattle.rbg_board.specs.Graph.{next, IsClosed, HasWidth, HasOneWidth};
 ghost use Rattle.rbg_board.specs.Limits.{most_vertices};
 ghost use Rattle.rbg_board.specs.Table.{graph_of_table, IsTable};

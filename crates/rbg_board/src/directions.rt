@@ -1,5 +1,5 @@
 //! Lists of directions: whether two are equal, and how wide a table they need.
-ghost use Rattle.std.specs.Prelude.{◌≡◌, ℕ, ◌+◌, ◌<◌, ◌≤◌, ◌^◌, All, MatchBool};
+ghost use Rattle.std.specs.Prelude.{◌≡◌, ◌+◌, ◌<◌, ◌≤◌, ◌^◌, All, MatchBool};
 ghost use Rattle.rbg_board.specs.Cells.{HasTwice, AreDifferent, width_of};
 
 use rbg_base::Direction;

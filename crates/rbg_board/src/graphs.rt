@@ -1,5 +1,5 @@
 //! Boards that are written out, vertex by vertex.
-ghost use Rattle.std.specs.Prelude.{◌≡◌, ◌≢◌, ℕ, ◌<◌, ◌≤◌, ◌^◌, ◌+◌, length, All, Any, Contains, IsSome, IfOk, OnOk, IfErr, MatchBool, nat_eq};
+ghost use Rattle.std.specs.Prelude.{◌≡◌, ◌≢◌, ◌<◌, ◌≤◌, ◌^◌, ◌+◌, length, All, Any, IsSome, IfOk, OnOk, IfErr, MatchBool, nat_eq};
 ghost use Rattle.std.specs.HashMap as hash;
 ghost use Rattle.rbg_board.specs.Cells.{HasTwice, AreDifferent, width_of};
 ghost use Rattle.rbg_board.specs.Graph.{HasWidth};

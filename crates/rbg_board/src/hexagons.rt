@@ -1,5 +1,5 @@
 //! Hexagons: rows that grow and then shrink by one cell each, six directions.
-ghost use Rattle.std.specs.Prelude.{◌≡◌, ◌≤◌, IfOk, OnOk, IfErr, MatchBool, MatchOption};
+ghost use Rattle.std.specs.Prelude.{◌≡◌, IfOk, OnOk, IfErr, MatchBool, MatchOption};
 ghost use Rattle.rbg_board.specs.Limits.{most_vertices};
 ghost use Rattle.rbg_board.specs.Graph.{UsesOnly, HasWidth};
 ghost use Rattle.rbg_board.specs.Cells.{rows_of, width_of};

@@ -1,5 +1,5 @@
 //! Rectangles: rows of one length, four directions.
-ghost use Rattle.std.specs.Prelude.{◌≡◌, IfOk, OnOk, IfErr, MatchOption};
+ghost use Rattle.std.specs.Prelude.{IfOk, OnOk, IfErr, MatchOption};
 ghost use Rattle.rbg_board.specs.Graph.{UsesOnly, HasWidth};
 ghost use Rattle.rbg_board.specs.Cells.{rows_of, width_of};
 ghost use Rattle.rbg_board.specs.Rectangle.{IsRectangle, RectangleRefusal, MakesRectangle, IsEven, IsFirstUneven};

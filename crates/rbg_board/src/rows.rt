@@ -1,9 +1,9 @@
 //! Boards of rows, whose cells are numbered along the rows: what rectangles and hexagons share.
-ghost use Rattle.std.specs.Prelude.{◌≡◌, ◌≢◌, ℕ, ◌+◌, ◌*◌, ◌^◌, ◌<◌, ◌≤◌, ◌++◌, length, Option, IfOk, OnOk, IfErr, OnErr, IfSome, MatchBool};
+ghost use Rattle.std.specs.Prelude.{◌≡◌, ℕ, ◌+◌, ◌*◌, ◌^◌, ◌<◌, ◌≤◌, ◌++◌, length, Option, IfOk, OnOk, IfErr, OnErr, IfSome};
 ghost use Rattle.std.specs.List.{concat, flat_map};
 ghost use Rattle.rbg_board.specs.Graph.{HasWidth};
 ghost use Rattle.rbg_board.specs.Limits.{most_vertices};
-ghost use Rattle.rbg_board.specs.Cells.{rows_of, cells_in, HasTwice, AreDifferent};
+ghost use Rattle.rbg_board.specs.Cells.{rows_of, cells_in};
 ghost use Rattle.rbg_board.specs.Sites.{IsRow, IsSite, IsLaidOut, vertex_above, vertex_here, vertex_below, vertex_in, ways_from, sites_along};
 ghost use Rattle.rbg_board.specs.declared.rows.Site.{Site};
 

@@ -1,7 +1,7 @@
 //! Small facts of small games, which show what the definitions say. Each function does nothing: its contract is the
 //! fact.
 ghost use Rattle.std.specs.Prelude.{◌≡◌, ℕ, ◌-◌, ◌^◌, List, [], ◌∷◌, All, Contains, Some, None, Bool, pos, negsuc};
-ghost use Rattle.rbg_rules.specs.Meaning.{number, variable, piece_count, negated, sum, difference, product, quotient, off, on, sequence_of, choice_of, act, star, IsNumbered, inside, Word, after, beginning, AbstractState, start_of, value_of, Acts, Applies, AbstractPlace, IsLegal, Finished, Item, modifier_at, pattern_at, find_move, try_move, pattern, Opening, HasOpenings, IsDeep, IsWide, Forced, HasForced, IsHeavyToFind, IsGame};
+ghost use Rattle.rbg_rules.specs.Meaning.{number, piece_count, negated, sum, difference, product, quotient, off, on, sequence_of, choice_of, act, star, IsNumbered, inside, Word, after, beginning, AbstractState, start_of, value_of, Acts, Applies, IsLegal, Finished, Item, modifier_at, pattern_at, find_move, try_move, pattern, Opening, HasOpenings, IsDeep, IsWide, Forced, HasForced, IsHeavyToFind, IsGame};
 ghost use Rattle.rbg_examples.specs.ExampleGames.{one_square, two_squares, star_of_offs, without_end, counting, looking_right, nothing_right, small_sum, keeper_for_ever, asking_a_sum, heavy_choice, nested, state_of, white_on};
 
 /// In `->white ([e])* ->black` the keeper begins by the switch to white. White may end its turn at once, or after any

@@ -1,19 +1,22 @@
 //! What a game's positions and vertices are: a line for each.
 
 use crate::output::{line_and_column, push_made};
-use crate::sections::{cut, expanded, section_tokens};
+use crate::sections::{expanded, section_tokens};
 use rbg_game::Layout;
 use rbg_macro::SectionKind;
 use rbg_passages::{actions, push_action};
-use rbg_tokens::Token;
+use rbg_tokens::{Token, Tokens};
 use std::alloc::{AllocError, Global};
 
-/// Adds a line for each position of the rules: its number, the line and the column of its action, and the action.
-pub fn push_positions(alloc: Global, output: &mut Vec<u8>, text: &[u8]) -> Result<(), AllocError> {
-    let Some(tokens) = cut(alloc, text)? else {
-        return Ok(());
-    };
-    let Some(source) = expanded(alloc, &tokens)? else {
+/// Adds a line for each position of the rules: its number, the line and the column of its action, and the action. The
+/// tokens are those of the text.
+pub fn push_positions(
+    alloc: Global,
+    output: &mut Vec<u8>,
+    text: &[u8],
+    tokens: &Tokens<'_>,
+) -> Result<(), AllocError> {
+    let Some(source) = expanded(alloc, tokens)? else {
         return Ok(());
     };
     let rules = section_tokens(alloc, &source, SectionKind::Rules)?;

@@ -3,7 +3,7 @@
 use crate::boards::nth_direction;
 use crate::calls::calls_of;
 use crate::output::{File, line_and_column, push_location, push_made};
-use crate::sections::{cut, expanded, nth_name, section_tokens};
+use crate::sections::{expanded, nth_name, section_tokens};
 use crate::spot::is_section;
 use rbg_game::Game;
 use rbg_macro::{SectionKind, Source};
@@ -14,14 +14,19 @@ use std::alloc::{AllocError, Global};
 use std::str;
 
 /// A line for each warning of a game, with the file, the line and the column: what the rules never use, numbers above
-/// a bound, and macros that are never called. `no warnings` where there is none. The game is that of the text.
-pub fn warn(alloc: Global, file: &str, text: &[u8], game: &Game) -> Result<Vec<u8>, AllocError> {
+/// a bound, and macros that are never called. `no warnings` where there is none. The tokens and the game are those of the
+/// text.
+pub fn warn(
+    alloc: Global,
+    file: &str,
+    text: &[u8],
+    tokens: &Tokens<'_>,
+    game: &Game,
+) -> Result<Vec<u8>, AllocError> {
     let mut output = Vec::new(alloc);
-    if let Some(tokens) = cut(alloc, text)? {
-        let file = File { name: file, text };
-        push_warnings(alloc, &mut output, file, &tokens, game)?;
-        push_uncalled(alloc, &mut output, file, tokens.as_slice())?;
-    }
+    let file = File { name: file, text };
+    push_warnings(alloc, &mut output, file, tokens, game)?;
+    push_uncalled(alloc, &mut output, file, tokens.as_slice())?;
     if output.is_empty() {
         output.extend_from_slice(b"no warnings\n")?;
     }

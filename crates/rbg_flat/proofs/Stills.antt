@@ -6,7 +6,7 @@ use Rattle.std.proofs.lemmas.Bool.{cases_lt}
 use Rattle.std.proofs.lemmas.Option.{slice_get-get_or, slice_get_within, get_or_from_slice_get}
 use Rattle.std.proofs.lemmas.List.{take_more, length_push, get_or_push}
 use Rattle.std.proofs.lemmas.List.Elements.{Contains-push, Contains-push_cases, Contains-append_left, Contains-get_or, All-contains}
-use Rattle.rbg_rules.specs.Meaning.{shift, on, IsGame, IsNumbered, positions_of, AbstractGame, after, Follows, Ends}
+use Rattle.rbg_rules.specs.Meaning.{IsGame, IsNumbered, positions_of, AbstractGame, after, Follows, Ends}
 use Rattle.rbg_rules.proofs.LocalityLemmas.{locality_law}
 use Rattle.rbg_auto.specs.Steps.{AreNext}
 use Rattle.rbg_leaps.specs.declared.target.Target.{Target}

@@ -5,7 +5,7 @@ ghost use Rattle.rbg_flat.specs.Chains.{at_vertex};
 ghost use Rattle.rbg_flat.specs.Ending.{IsDeadEnd};
 ghost use Rattle.rbg_flat.specs.Paths.{ArePathsOf};
 ghost use Rattle.rbg_flat.specs.internal.Ending.{AreDead, IsDeadTarget, IsFilledTarget};
-ghost use Rattle.rbg_flat.specs.internal.Setting.{IsSet};
+ghost use Rattle.rbg_flat.specs.internal.Setting.{IsLawfulSetting};
 
 use crate::gathering::is_modifier;
 use crate::passing::to_try;
@@ -69,7 +69,7 @@ impl Paths {
 /// Whether nothing goes on from the targets, each of which has one vertex and a greater position than the one before it.
 #[inline(always)]
 fn are_dead(setting: &Setting, targets: &[Target]) -> bool
-    requires set { IsSet setting.now }
+    requires set { IsLawfulSetting setting.now }
     requires targets { All (IsFilledTarget setting.now.game.now) targets.now }
     ensures { IsTrue result → (last : ℕ)
         × AreDead setting.now.game.now setting.now.state.now.state targets.now last }
@@ -87,7 +87,7 @@ fn are_dead(setting: &Setting, targets: &[Target]) -> bool
 /// Whether a target has one vertex, and nothing goes on there.
 #[inline(always)]
 fn is_dead(setting: &Setting, target: &Target) -> bool
-    requires set { IsSet setting.now }
+    requires set { IsLawfulSetting setting.now }
     requires target { IsFilledTarget setting.now.game.now target.now }
     ensures { IsTrue result
         → IsDeadTarget setting.now.game.now setting.now.state.now.state target.now }

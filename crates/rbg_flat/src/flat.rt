@@ -1,6 +1,6 @@
 //! A flat part that is being found, by sets of vertices.
 ghost use Rattle.std.specs.Prelude.{◌≡◌, ◌≢◌, ℕ, ◌+◌, ◌*◌, ◌/◌, ◌<◌, ◌≤◌, ◌↔◌, ◌⊎◌, ◌^◌, length, IfOk, IfSome, IfNone, OnOk, IsTrue, false};
-ghost use Rattle.rbg_rules.specs.Meaning.{IsGame, IsStart, IsNumbered, IsPatternAt, positions_of, AbstractGame, AbstractState, IsStateOf, Start, after};
+ghost use Rattle.rbg_rules.specs.Meaning.{IsGame, IsStart, IsNumbered, IsPatternAt, positions_of, AbstractGame, AbstractState, IsStateOf, Start};
 ghost use Rattle.rbg_leaps.specs.Leaps.{IsLeap, EndsAcross};
 ghost use Rattle.rbg_leaps.specs.Origin.{start_of};
 ghost use Rattle.rbg_flat.specs.Candidates.{MayEnd};

@@ -7,7 +7,7 @@ ghost use Rattle.rbg_flat.specs.Paths.{ArePathsOf, IsKind};
 ghost use Rattle.rbg_flat.specs.declared.paths.Kind.TheVariants.{On, Comparison};
 ghost use Rattle.rbg_flat.specs.internal.Passing.{Passes, IsOneOf, IsToTry};
 ghost use Rattle.rbg_flat.specs.internal.Leading.{IsOnBoard, IsPositionIn};
-ghost use Rattle.rbg_flat.specs.internal.Setting.{IsSet, IsToTryIn};
+ghost use Rattle.rbg_flat.specs.internal.Setting.{IsLawfulSetting, IsToTryIn};
 
 use crate::paths::{Kind, Paths};
 use crate::setting::Setting;
@@ -20,7 +20,7 @@ use rbg_state::{SemiState, Trial};
 /// modifier, for an on those on which one of its pieces stands, and for a comparison all or none, as it holds.
 #[inline(always)]
 pub(crate) fn to_try(setting: &Setting, position: Position, column: usize) -> u64
-    requires set { IsSet setting.now }
+    requires set { IsLawfulSetting setting.now }
     requires position { IsPositionIn setting.now.game.now position }
     requires column { column < row_words setting.now.game.now }
     ensures { (b : ℕ) → b < 64 → (bit_at result b ≡ 1)
@@ -166,7 +166,7 @@ fn stands_at(pieces: &[Piece], vertex: usize, piece: Piece) -> bool
 /// pattern.
 #[inline(always)]
 pub(crate) fn held(setting: &Setting, position: Position, column: usize, word: u64) -> u64
-    requires set { IsSet setting.now }
+    requires set { IsLawfulSetting setting.now }
     requires position { IsPositionIn setting.now.game.now position }
     requires plain { ¬ IsPatternAt setting.now.game.now.rules position }
     requires board { IsOnBoard setting.now.game.now column word }

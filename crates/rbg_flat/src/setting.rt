@@ -3,8 +3,8 @@ use crate::paths::Paths;
 use rbg_rules::Game;
 use rbg_state::SemiState;
 
-/// A game, its paths, and the semi-state in which a flat part is looked for. What is put in line is lent it whole, which
-/// costs nothing then; what isn't is lent its parts.
+/// A game, its paths, and the semi-state in which a flat part is looked for. Inlined functions are lent it whole, which
+/// costs nothing; others are lent its parts.
 #[derive(Drop)]
 pub(crate) struct Setting<'a> {
     pub game: &'a Game,

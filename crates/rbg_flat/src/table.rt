@@ -1,5 +1,5 @@
 //! Words of bits, with a list of those that have bits.
-ghost use Rattle.std.specs.Prelude.{◌≡◌, ◌≢◌, ℕ, ◌<◌, [], length, slice_index, slice_set, bit_or, bit_and, IfOk, IfSome, IfNone};
+ghost use Rattle.std.specs.Prelude.{◌≡◌, ◌≢◌, ℕ, ◌<◌, length, slice_index, slice_set, bit_or, bit_and, IfOk, IfSome, IfNone};
 ghost use Rattle.std.specs.Int.{bit_not, w64};
 ghost use Rattle.rbg_flat.specs.internal.Sets.{IsLastOf};
 

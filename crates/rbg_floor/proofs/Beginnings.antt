@@ -4,7 +4,6 @@ use Rattle.std.proofs.lemmas.Bool.{true≢false, eqb-true, ltb-true}
 use Rattle.std.specs.Prelude.{nat_lt, slice_get}
 use Rattle.std.specs.List.{flat_map}
 use Rattle.rbg_match.specs.Deliveries.{bytes_for}
-use Rattle.rbg_match.specs.Matches.{MatchState}
 use Rattle.rbg_wire.specs.Streams.{incomplete, cut}
 use Rattle.rbg_match.specs.Limits.{message_limit}
 use Rattle.rbg_hall.specs.Laws.{Beginning, HoldsTranscript}

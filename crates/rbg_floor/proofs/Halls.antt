@@ -6,8 +6,8 @@ use Rattle.rbg_hall.specs.Tables.{OwnEvent, clock}
 use Rattle.rbg_hall.specs.Tellings.{Telling, told_to}
 use Rattle.rbg_hall.proofs.Telling.{told_to-none}
 use Rattle.rbg_ledger.specs.Kept.{KeptState}
-use Rattle.rbg_floor.specs.declared.line.Line.{Line}
-use Rattle.rbg_floor.specs.declared.line.Line.TheVariants.{Over}
+use Rattle.rbg_floor.specs.declared.line.LinePhase.{LinePhase}
+use Rattle.rbg_floor.specs.declared.line.LinePhase.TheVariants.{Over}
 use Rattle.rbg_floor.specs.Events.{sends, ends, ticks}
 use Rattle.rbg_floor.specs.Halls.{EachHears, HearsEach, line_at, line_behind, refused_in}
 use Rattle.rbg_floor.specs.Halls as halls
@@ -50,7 +50,7 @@ as_many : {W : Type 0} (tables : List (KeptState W)) → length tables ≡ lengt
 as_many tables = sym (length-map tables (λ one. one.table))
 
 -- a line that isn't there
-module _ {W : Type 0} (tells : W → List ℕ → Type 0) (tables : List (KeptState W)) (lines : List Line) (line at : ℕ) (past : length lines ≤ line) (queues : List (List ℕ)) where
+module _ {W : Type 0} (tells : W → List ℕ → Type 0) (tables : List (KeptState W)) (lines : List LinePhase) (line at : ℕ) (past : length lines ≤ line) (queues : List (List ℕ)) where
   there_none : length (lines_of lines) ≤ line
   there_none = subst (λ count. count ≤ line) (sym (length-map lines line_of)) past
 
@@ -100,7 +100,7 @@ module _ {W : Type 0} (tells : W → List ℕ → Type 0) (tables : List (KeptSt
   past_said None = past_ends
 
 -- a line that is there
-module _ {W : Type 0} (tells : W → List ℕ → Type 0) (tables news : List (KeptState W)) (lines : List Line) (line at : ℕ) (one : Line) (within : line < length lines) (found : one ≡ get_or lines line one) (before after : List (List ℕ)) where
+module _ {W : Type 0} (tells : W → List ℕ → Type 0) (tables news : List (KeptState W)) (lines : List LinePhase) (line at : ℕ) (one : LinePhase) (within : line < length lines) (found : one ≡ get_or lines line one) (before after : List (List ℕ)) where
   stands_so : line_of one ≡ line_at (lines_of lines) line
   stands_so = ap line_of found ∙ sym (get_or-map line_of lines line one over within)
 
@@ -109,7 +109,7 @@ module _ {W : Type 0} (tells : W → List ℕ → Type 0) (tables news : List (K
       subst (λ (standing : HallLine). EachKeptHears tells (λ (table : ℕ). heard_of_piece (length (states_of tables)) table standing line at bytes) 1 tables news hears.told) stands_so
       (subst (λ (count : ℕ). EachKeptHears tells (λ (table : ℕ). heard_of_piece count table (line_of one) line at bytes) 1 tables news hears.told) (as_many tables) hears.tables)
 
-  pub line_sends : (bytes : List ℕ) (left next : Line) → PieceHeard tells tables (line_of one) line at bytes news (line_of next) before after → HallWrites tells (hall_of tables lines) (ledgers_of tables) (sends line at bytes) (hall_of news (set (set lines line left) line next)) (ledgers_of news) before after
+  pub line_sends : (bytes : List ℕ) (left next : LinePhase) → PieceHeard tells tables (line_of one) line at bytes news (line_of next) before after → HallWrites tells (hall_of tables lines) (ledgers_of tables) (sends line at bytes) (hall_of news (set (set lines line left) line next)) (ledgers_of news) before after
   line_sends bytes left next hears = record {
     hears = record {
       told = refused_in (length (states_of tables)) (line_of one) line bytes ++ flat_map (λ one. one) hears.told;
@@ -128,7 +128,7 @@ module _ {W : Type 0} (tells : W → List ℕ → Type 0) (tables news : List (K
   has_ended : (hears : TablesHear tells (λ (table : ℕ). heard_of_end table (line_of one) line at) tables news before after) → EachKeptHears tells (λ (table : ℕ). heard_of_end table (line_at (lines_of lines) line) line at) 1 tables news hears.told
   has_ended hears = subst (λ (standing : HallLine). EachKeptHears tells (λ (table : ℕ). heard_of_end table standing line at) 1 tables news hears.told) stands_so hears.tables
 
-  pub line_ends : (left : Line) → left ≡ Over → TablesHear tells (λ (table : ℕ). heard_of_end table (line_of one) line at) tables news before after → HallWrites tells (hall_of tables lines) (ledgers_of tables) (ends line at) (hall_of news (set lines line left)) (ledgers_of news) before after
+  pub line_ends : (left : LinePhase) → left ≡ Over → TablesHear tells (λ (table : ℕ). heard_of_end table (line_of one) line at) tables news before after → HallWrites tells (hall_of tables lines) (ledgers_of tables) (ends line at) (hall_of news (set lines line left)) (ledgers_of news) before after
   line_ends left is hears = record {
     hears = record {
       told = flat_map (λ one. one) hears.told;
@@ -144,7 +144,7 @@ module _ {W : Type 0} (tells : W → List ℕ → Type 0) (tables news : List (K
   }
 
 -- the clock
-pub clock_ticks : {W : Type 0} (tells : W → List ℕ → Type 0) (tables news : List (KeptState W)) (lines : List Line) (at : ℕ) (before after : List (List ℕ)) → TablesHear tells (λ (table : ℕ). clock at ∷ []) tables news before after → HallWrites tells (hall_of tables lines) (ledgers_of tables) (ticks at) (hall_of news lines) (ledgers_of news) before after
+pub clock_ticks : {W : Type 0} (tells : W → List ℕ → Type 0) (tables news : List (KeptState W)) (lines : List LinePhase) (at : ℕ) (before after : List (List ℕ)) → TablesHear tells (λ (table : ℕ). clock at ∷ []) tables news before after → HallWrites tells (hall_of tables lines) (ledgers_of tables) (ticks at) (hall_of news lines) (ledgers_of news) before after
 clock_ticks tells tables news lines at before after hears = record {
   hears = record {
     told = flat_map (λ one. one) hears.told;
@@ -155,5 +155,5 @@ clock_ticks tells tables news lines at before after hears = record {
 }
 
 -- a line that was taken out of the list stood there
-pub found_by : (lines : List Line) (line : ℕ) (read one : Line) → read ≡ get_or lines line read → one ≡ get_or lines line read → one ≡ get_or lines line one
+pub found_by : (lines : List LinePhase) (line : ℕ) (read one : LinePhase) → read ≡ get_or lines line read → one ≡ get_or lines line read → one ≡ get_or lines line one
 found_by lines line read one found is = is ∙ ap (get_or lines line) (found ∙ sym is)

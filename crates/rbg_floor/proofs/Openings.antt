@@ -13,7 +13,7 @@ use Rattle.rbg_hall.specs.Tables.{new_table}
 use Rattle.rbg_ledger.specs.Kept.{KeptState, no_log}
 use Rattle.rbg_floor.specs.declared.error.HallError.{HallError}
 use Rattle.rbg_floor.specs.declared.error.HallError.TheVariants.{Config, Memory, Tables}
-use Rattle.rbg_floor.specs.declared.line.Line.{Line}
+use Rattle.rbg_floor.specs.declared.line.LinePhase.{LinePhase}
 use Rattle.rbg_floor.specs.declared.table.Table.{Table}
 use Rattle.rbg_floor.specs.Halls.{AbstractTable, new_hall}
 use Rattle.rbg_floor.specs.Lines.{silent}
@@ -71,14 +71,14 @@ fault_there (one ∷ tables) zero table there = ap (λ (o : Table). Some (start_
     same = cc
 fault_there (one ∷ tables) (suc index) table there = fault_there tables index table there
 
-pub lines_ready : (tables : ℕ) (lines : List Line) → lines ≡ replicate lines_in_all new_line → AreReady tables lines
+pub lines_ready : (tables : ℕ) (lines : List LinePhase) → lines ≡ replicate lines_in_all new_line → AreReady tables lines
 lines_ready tables lines are = record {
   count = ap length are ∙ length-replicate lines_in_all new_line;
   each = subst (All (IsReady tables)) (sym are) (All-replicate (IsReady tables) lines_in_all new_line (record { limit = refl; empty = refl }));
 }
 
 -- a ready line in the place of another one, where there are as many tables as before
-pub ready_with : (old new : ℕ) (lines : List Line) (line : ℕ) (next : Line) → AreReady old lines → IsReady old next → new ≡ old → AreReady new (set lines line next)
+pub ready_with : (old new : ℕ) (lines : List LinePhase) (line : ℕ) (next : LinePhase) → AreReady old lines → IsReady old next → new ≡ old → AreReady new (set lines line next)
 ready_with old new lines line next are ready same =
     subst (λ (n : ℕ). AreReady n (set lines line next)) (sym same) (record {
       count = length-set lines line next ∙ are.count;
@@ -89,7 +89,7 @@ map_replicate : {X Y : Type 0} (f : X → Y) (n : ℕ) (x : X) → map f (replic
 map_replicate f zero x = refl
 map_replicate f (suc n) x = ap (λ others. f x ∷ others) (map_replicate f n x)
 
-pub lines_new : (lines : List Line) → lines ≡ replicate lines_in_all new_line → lines_of lines ≡ replicate lines_in_all (silent (incomplete []))
+pub lines_new : (lines : List LinePhase) → lines ≡ replicate lines_in_all new_line → lines_of lines ≡ replicate lines_in_all (silent (incomplete []))
 lines_new lines are = ap lines_of are ∙ map_replicate line_of lines_in_all new_line
 
 -- tables are opened from the last to the first

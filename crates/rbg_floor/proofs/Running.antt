@@ -11,7 +11,7 @@ use Rattle.rbg_wire.specs.Streams.{Item, Rest, incomplete, cut}
 use Rattle.rbg_wire.proofs.CutLemmas.{cut-append}
 use Rattle.rbg_match.specs.Limits.{message_limit}
 use Rattle.rbg_hall.specs.Limits.{lines_in_all}
-use Rattle.rbg_hall.specs.Tables.{TableState, TableRun, OwnEvent, HallOf, new_table}
+use Rattle.rbg_hall.specs.Tables.{TableState, TableRun, OwnEvent, new_table}
 use Rattle.rbg_hall.specs.Tables as tables
 use Rattle.rbg_hall.specs.Tellings.{Telling, bytes_to}
 use Rattle.rbg_hall.proofs.Places.{same_or_other}

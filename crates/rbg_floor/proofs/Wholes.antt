@@ -6,7 +6,7 @@ use Rattle.rbg_hall.specs.Tellings.{told_to}
 use Rattle.rbg_hall.proofs.Telling.{told_to-append, told_to-none}
 use Rattle.rbg_floor.specs.declared.event.HallEvent.{HallEvent}
 use Rattle.rbg_floor.specs.Events.{AbstractHallEvent, event_of}
-use Rattle.rbg_floor.specs.Halls.{AbstractTable, HallState, new_hall}
+use Rattle.rbg_floor.specs.Halls.{AbstractTable, HallState}
 use Rattle.rbg_floor.specs.Halls as halls
 use Rattle.rbg_floor.specs.Hearing.{HallHears}
 use Rattle.rbg_floor.specs.Openings.{IsNewHall}

@@ -7,7 +7,7 @@ ghost use Rattle.rbg_floor.specs.internal.Parts.{AreReady};
 
 use crate::HallEvent;
 use crate::hearing::{hear_end, hear_piece, tick};
-use crate::line::{Line, Speaker};
+use crate::line::{LinePhase, Speaker};
 use rbg_base::Memory;
 use rbg_hall::{HallOut, Mark};
 use rbg_ledger::KeptTable;
@@ -17,7 +17,7 @@ use std::mem::replace;
 /// Hears an event. The marks tell how long the queues were.
 pub(crate) fn hear_event<W: Log>(
     tables: &mut [KeptTable<W>],
-    lines: &mut [Line],
+    lines: &mut [LinePhase],
     event: HallEvent<'_>,
     out: &mut HallOut,
     marks: &mut Vec<Mark>,
@@ -44,7 +44,7 @@ pub(crate) fn hear_event<W: Log>(
 /// Hears a line that sends bytes, or that ends.
 fn hear_line<W: Log>(
     tables: &mut [KeptTable<W>],
-    lines: &mut [Line],
+    lines: &mut [LinePhase],
     by: Speaker,
     bytes: Option<&[u8]>,
     out: &mut HallOut,
@@ -62,7 +62,7 @@ fn hear_line<W: Log>(
     if index >= lines.len() {
         return Ok(());
     }
-    let one = replace(&mut lines[index], Line::Over);
+    let one = replace(&mut lines[index], LinePhase::Over);
     match bytes {
         Some(bytes) => {
             let next = hear_piece(tables, one, by, bytes, out, marks)?;

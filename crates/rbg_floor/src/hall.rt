@@ -15,7 +15,7 @@ ghost use Rattle.rbg_ledger.specs.Kept.{no_log};
 
 use crate::ending::{has_log_failed, have_all_ended};
 use crate::events::hear_event;
-use crate::line::Line;
+use crate::line::LinePhase;
 use crate::numbered::{keep_log, log_of, match_of};
 use crate::opening::{faulty, new_lines, open_tables};
 use crate::speaking::may_speak;
@@ -38,7 +38,7 @@ pub struct Hall<W: Log> {
     /// The tables, table 1 first.
     tables: Vec<KeptTable<W>>,
     /// The lines, line 0 first.
-    lines: Vec<Line>,
+    lines: Vec<LinePhase>,
     /// Whether memory ran out in something that the hall heard.
     failed: bool,
 }

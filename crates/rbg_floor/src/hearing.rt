@@ -1,5 +1,5 @@
 //! How the tables of a hall hear a line and the clock.
-ghost use Rattle.std.specs.Prelude.{◌≡◌, ◌+◌, ◌<◌, ◌∷◌, [], length, map, IfOk, OnErr, OnOk};
+ghost use Rattle.std.specs.Prelude.{◌≡◌, ◌<◌, ◌∷◌, [], length, map, IfOk, OnErr, OnOk};
 ghost use Rattle.rbg_hall.specs.Hearing.{input_of};
 ghost use Rattle.rbg_hall.specs.Tables.{clock, says};
 ghost use Rattle.rbg_hall.specs.Undoing.{undone};
@@ -10,7 +10,7 @@ ghost use Rattle.rbg_floor.specs.internal.First.{IsFirst};
 ghost use Rattle.rbg_floor.specs.internal.Hearing.{HearsEachFor, PieceHeard, TablesHear, TablesStop};
 ghost use Rattle.rbg_floor.specs.internal.Parts.{IsEmptied, IsReady, line_of};
 
-use crate::line::{Line, Speaker};
+use crate::line::{LinePhase, Speaker};
 use crate::request::table_of;
 use rbg_base::Memory;
 use rbg_hall::{HallOut, Mark, TableInput};
@@ -94,7 +94,7 @@ fn hear_first<W: Log>(
     bytes: &[u8],
     out: &mut HallOut,
     marks: &mut Vec<Mark>,
-) -> Result<Line, Memory>
+) -> Result<LinePhase, Memory>
     requires { IsEmptied inbox }
     ensures hears { IfOk result (λ next. PieceHeard W.told tables.old (silent inbox.rest) by.line by.at bytes.now tables.new
         (line_of next) out.old out.new) }
@@ -105,10 +105,10 @@ fn hear_first<W: Log>(
 {
     inbox.feed(bytes)?;
     match take_first(&mut inbox, tables.len()) {
-        First::Nothing => Ok(Line::Silent(inbox)),
+        First::Nothing => Ok(LinePhase::Silent(inbox)),
         First::NoTable => {
             out.refuse(by.line, Reason::NoSeat, marks)?;
-            Ok(Line::Over)
+            Ok(LinePhase::Over)
         }
         First::Table(index) => {
             let joins = TableInput::Joins {
@@ -116,7 +116,7 @@ fn hear_first<W: Log>(
                 at: by.at,
             };
             hear_from(&mut tables[index], joins, &mut inbox, by, out, marks)?;
-            Ok(Line::Asks { index, inbox })
+            Ok(LinePhase::Asks { index, inbox })
         }
     }
 }
@@ -124,12 +124,12 @@ fn hear_first<W: Log>(
 /// The tables hear a line that sends bytes. Returns what stands of the line then.
 pub(crate) fn hear_piece<W: Log>(
     tables: &mut [KeptTable<W>],
-    one: Line,
+    one: LinePhase,
     by: Speaker,
     bytes: &[u8],
     out: &mut HallOut,
     marks: &mut Vec<Mark>,
-) -> Result<Line, Memory>
+) -> Result<LinePhase, Memory>
     requires { IsReady (length tables.old) one }
     ensures hears { IfOk result (λ next. PieceHeard W.told tables.old (line_of one) by.line by.at bytes.now tables.new
         (line_of next) out.old out.new) }
@@ -139,24 +139,24 @@ pub(crate) fn hear_piece<W: Log>(
     ensures undone { undone out.new marks.new.items ≡ undone out.old marks.old.items }
 {
     match one {
-        Line::Silent(inbox) => hear_first(tables, inbox, by, bytes, out, marks),
-        Line::Asks { index, mut inbox } => {
+        LinePhase::Silent(inbox) => hear_first(tables, inbox, by, bytes, out, marks),
+        LinePhase::Asks { index, mut inbox } => {
             inbox.feed(bytes)?;
             let arrives = TableInput::Arrives {
                 line: by.line,
                 at: by.at,
             };
             hear_from(&mut tables[index], arrives, &mut inbox, by, out, marks)?;
-            Ok(Line::Asks { index, inbox })
+            Ok(LinePhase::Asks { index, inbox })
         }
-        Line::Over => Ok(Line::Over),
+        LinePhase::Over => Ok(LinePhase::Over),
     }
 }
 
 /// The tables hear the end of a line.
 pub(crate) fn hear_end<W: Log>(
     tables: &mut [KeptTable<W>],
-    one: Line,
+    one: LinePhase,
     by: Speaker,
     out: &mut HallOut,
     marks: &mut Vec<Mark>,
@@ -169,15 +169,15 @@ pub(crate) fn hear_end<W: Log>(
     ensures undone { undone out.new marks.new.items ≡ undone out.old marks.old.items }
 {
     match one {
-        Line::Silent(_) => Ok(()),
-        Line::Asks { index, .. } => {
+        LinePhase::Silent(_) => Ok(()),
+        LinePhase::Asks { index, .. } => {
             let leaves = TableInput::Leaves {
                 line: by.line,
                 at: by.at,
             };
             tables[index].hear(leaves, out, marks)
         }
-        Line::Over => Ok(()),
+        LinePhase::Over => Ok(()),
     }
 }
 

@@ -11,7 +11,7 @@ pub(crate) struct Speaker {
 
 /// What stands of a line. Of a line that is over nothing is kept.
 #[derive(Drop)]
-pub(crate) enum Line {
+pub(crate) enum LinePhase {
     /// No message of it has come.
     Silent(Inbox),
     /// Its first message asks for the table at this index.

@@ -6,7 +6,7 @@ ghost use Rattle.rbg_floor.specs.Openings.{AreLoaded};
 ghost use Rattle.rbg_floor.specs.internal.Parts.{AreNew, HaveLimits, IsFaulty, new_kept, new_tables};
 
 use crate::Table;
-use crate::line::Line;
+use crate::line::LinePhase;
 use rbg_base::Memory;
 use rbg_hall::{HallTable, LINES, MESSAGE_LIMIT};
 use rbg_ledger::KeptTable;
@@ -56,12 +56,12 @@ fn open_table<W: Log>(alloc: Global, table: Table) -> Result<KeptTable<W>, Memor
 }
 
 /// The lines, of which nothing was heard.
-pub(crate) fn new_lines(alloc: Global) -> Result<Vec<Line>, Memory>
+pub(crate) fn new_lines(alloc: Global) -> Result<Vec<LinePhase>, Memory>
     ensures { IfOk result (λ lines. AreNew LINES lines.items) }
 {
     let mut lines = Vec::with_capacity(alloc, LINES)?;
     for _ in 0..LINES {
-        lines.push(Line::Silent(Inbox::new(alloc, MESSAGE_LIMIT)))?;
+        lines.push(LinePhase::Silent(Inbox::new(alloc, MESSAGE_LIMIT)))?;
     }
     Ok(lines)
 }

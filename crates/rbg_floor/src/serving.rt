@@ -31,6 +31,7 @@ impl<W: Log> Hall<W> {
             rounds self.old self.new out.old out.new result }
         ensures works { (¬ IsErrOf result ServeError.Memory) → self.old.failed ≡ false → self.new.failed ≡ false }
     {
+        // The outbox has a queue for each of a hall's lines.
         let _lines = out.lines();
         serve_engine(self.allocator(), lines, self, out, clock, rounds)
     }

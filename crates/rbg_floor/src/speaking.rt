@@ -3,12 +3,12 @@ ghost use Rattle.std.specs.Prelude.{◌↔◌, length, IsTrue};
 ghost use Rattle.rbg_floor.specs.Serving.{MaySpeak, SpeaksAs};
 ghost use Rattle.rbg_floor.specs.internal.Parts.{AreReady, IsReady, hall_of, line_of, states_of};
 
-use crate::line::Line;
+use crate::line::LinePhase;
 use rbg_ledger::KeptTable;
 use rbg_log::Log;
 
 /// Whether something may still be heard of a line.
-pub(crate) fn may_speak<W: Log>(tables: &[KeptTable<W>], lines: &[Line], line: usize) -> bool
+pub(crate) fn may_speak<W: Log>(tables: &[KeptTable<W>], lines: &[LinePhase], line: usize) -> bool
     requires { AreReady (length tables.now) lines.now }
     ensures { IsTrue result ↔ MaySpeak (hall_of tables.now lines.now) line }
 {
@@ -19,13 +19,13 @@ pub(crate) fn may_speak<W: Log>(tables: &[KeptTable<W>], lines: &[Line], line: u
 }
 
 /// Whether something may still be heard of a line that stands so.
-fn speaks<W: Log>(tables: &[KeptTable<W>], one: &Line, line: u64) -> bool
+fn speaks<W: Log>(tables: &[KeptTable<W>], one: &LinePhase, line: u64) -> bool
     requires { IsReady (length tables.now) one.now }
     ensures { IsTrue result ↔ SpeaksAs (states_of tables.now) line (line_of one.now) }
 {
     match one {
-        Line::Silent(_) => true,
-        Line::Asks { index, .. } => tables[*index].has_seat(line),
-        Line::Over => false,
+        LinePhase::Silent(_) => true,
+        LinePhase::Asks { index, .. } => tables[*index].has_seat(line),
+        LinePhase::Over => false,
     }
 }

@@ -18,7 +18,7 @@ use Rattle.rbg_match.specs.Transcript.{Transcript}
 use Rattle.rbg_match.proofs.OneTranscriptLemmas.{one_transcript}
 use Rattle.rbg_hall.specs.Laws.{Beginning, ChooseAlike, Hands, HandsEach, HoldsTranscript, OneTable, TakesLast, late_refusal, ticks, stirs, plays, goes, late, stirs_not, says_not, goes_not}
 use Rattle.rbg_hall.specs.Laws as laws
-use Rattle.rbg_hall.specs.Tables.{TableState, TableRun, OwnEvent, clock, joins, arrives, says, leaves, Plays, Hears, SitsAt, HasSeat, HasNoSeat, IsFirstFree, AreTaken, HallOf, new_table}
+use Rattle.rbg_hall.specs.Tables.{TableState, TableRun, OwnEvent, clock, joins, arrives, says, leaves, Plays, Hears, SitsAt, HasSeat, HasNoSeat, IsFirstFree, AreTaken, new_table}
 use Rattle.rbg_hall.specs.Tables as tables
 use Rattle.rbg_hall.specs.Tellings.{Telling, bytes_to, refusal_to}
 use Rattle.rbg_hall.proofs.Holding.{run_holds_transcript}

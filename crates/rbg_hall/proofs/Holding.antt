@@ -20,9 +20,9 @@ use Rattle.rbg_match.proofs.AllEvents.{all_handled}
 use Rattle.rbg_match.proofs.Delivering.{delivered-none, delivered-queued, length-delivered}
 use Rattle.rbg_match.proofs.EndedLemmas.{ended_play_stays}
 use Rattle.rbg_match.proofs.WholeMatch.{seats_of_opened, stepped_is_transcript}
-use Rattle.rbg_hall.specs.Laws.{Beginning, Hands, HandsEach, HoldsTranscript, RunHoldsTranscript, TakesLast, late_refusal, late, stirs_not, says_not, goes_not}
+use Rattle.rbg_hall.specs.Laws.{Beginning, Hands, HandsEach, RunHoldsTranscript, TakesLast, late_refusal, late, stirs_not, says_not, goes_not}
 use Rattle.rbg_hall.specs.Laws as laws
-use Rattle.rbg_hall.specs.Tables.{TableState, TableRun, OwnEvent, joins, Plays, Hears, waits, ticks, sits, begins, is_full, comes_late, stays, waits_too, stirs, is_early, plays, frees, goes, is_moment_for_none, is_unheard, goes_unheard, new_table, SitsAt, HasNoSeat}
+use Rattle.rbg_hall.specs.Tables.{TableState, TableRun, OwnEvent, joins, Plays, Hears, waits, ticks, sits, begins, is_full, comes_late, stays, waits_too, stirs, is_early, plays, frees, goes, is_moment_for_none, is_unheard, goes_unheard, SitsAt, HasNoSeat}
 use Rattle.rbg_hall.specs.Tables as tables
 use Rattle.rbg_hall.specs.Tellings.{Telling, bytes_to, telling, to_lines}
 use Rattle.rbg_hall.proofs.Places.{there_within}

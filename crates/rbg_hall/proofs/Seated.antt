@@ -10,7 +10,7 @@ use Rattle.rbg_wire.specs.declared.message.Reason.TheVariants.{OutOfTurn, NoSeat
 use Rattle.rbg_wire.specs.Streams.{Item}
 use Rattle.rbg_wire.specs.Whole.{whole_item}
 use Rattle.rbg_match.specs.Limits.{message_limit}
-use Rattle.rbg_hall.specs.Tables.{TableState, Plays, Hears, OwnEvent, clock, joins, arrives, says, leaves, waits, ticks, sits, is_full, comes_late, stays, waits_too, stirs, is_early, frees, goes, is_moment_for_none, is_unheard, goes_unheard, SitsAt, HasNoSeat, AreTaken}
+use Rattle.rbg_hall.specs.Tables.{TableState, Plays, Hears, clock, joins, arrives, says, leaves, waits, ticks, sits, is_full, comes_late, stays, waits_too, stirs, is_early, frees, goes, is_moment_for_none, is_unheard, goes_unheard, SitsAt, HasNoSeat, AreTaken}
 use Rattle.rbg_hall.specs.Tables as tables
 use Rattle.rbg_hall.specs.Tellings.{refusal_to, to_lines, told_to}
 use Rattle.rbg_hall.specs.internal.Hearing.{PlaysFor, BeginsFor, IsFirstAt}

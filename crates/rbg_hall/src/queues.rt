@@ -1,5 +1,5 @@
 //! The bytes that are queued for the lines.
-ghost use Rattle.std.specs.Prelude.{◌≡◌, ◌<◌, ◌∷◌, ℕ, List, [], replicate, slice_index_or, IfOk, OnOk, OnErr, length};
+ghost use Rattle.std.specs.Prelude.{◌≡◌, ◌<◌, ℕ, List, [], replicate, slice_index_or, IfOk, OnOk, length};
 ghost use Rattle.rbg_hall.specs.Limits.{lines_in_all};
 ghost use Rattle.rbg_hall.specs.Tellings.{refusal_to, telling, to_lines, told_on, told_to};
 ghost use Rattle.rbg_hall.specs.Undoing.{bytes_in, cut_back, undone};

@@ -1,5 +1,5 @@
 //! A match that has begun at a table.
-ghost use Rattle.std.specs.Prelude.{◌≡◌, ℕ, length, false, IfOk, OnOk};
+ghost use Rattle.std.specs.Prelude.{◌≡◌, length, false, IfOk, OnOk};
 ghost use Rattle.rbg_wire.specs.Bytes.{LacksByte};
 ghost use Rattle.rbg_match.specs.Config.{IsWithinLimits};
 ghost use Rattle.rbg_match.specs.Inputs.{event_of};

@@ -1,5 +1,5 @@
 //! Whether anything is missing in a table.
-ghost use Rattle.std.specs.Prelude.{◌≡◌, ℕ, ◌+◌, ◌<◌, ◌≤◌, length, true, IsTrue};
+ghost use Rattle.std.specs.Prelude.{◌≡◌, ℕ, ◌+◌, ◌<◌, length, true, IsTrue};
 ghost use Rattle.rbg_leaps.specs.Asked.{IsEndOf};
 ghost use Rattle.rbg_leaps.specs.Entries.{end_of, IsWithin};
 ghost use Rattle.rbg_leaps.specs.internal.Tables.{entry_at, TellsAt, IsUnder, IsToldAt, IsToldEverywhere, AreClosedAt, IsLaidOut};

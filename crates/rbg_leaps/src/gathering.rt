@@ -1,5 +1,5 @@
 //! What one step leads to from a node and a vertex, gathered from the entries that are there.
-ghost use Rattle.std.specs.Prelude.{◌≡◌, ℕ, ◌<◌, ◌≤◌, length, All, Contains, IfOk, OnOk, IsTrue};
+ghost use Rattle.std.specs.Prelude.{◌≡◌, ◌<◌, ◌≤◌, length, All, Contains, IfOk, OnOk, IsTrue};
 ghost use Rattle.rbg_leaps.specs.Entries.{IsWithin};
 ghost use Rattle.rbg_leaps.specs.internal.Interned.{branches_at, list_at, may_end_at};
 ghost use Rattle.rbg_leaps.specs.internal.Branches.{IsBranch};

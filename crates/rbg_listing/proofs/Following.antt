@@ -7,7 +7,7 @@ use Rattle.rbg_record.proofs.Deciding.{good_by_lines}
 use Rattle.rbg_record.proofs.SoFarLemmas.{place_in_game, read_none, read_more, read_good}
 use Rattle.rbg_record.specs.ByLine.{IsReachedIn}
 use Rattle.rbg_record.specs.Judged.{BeginsWith}
-use Rattle.rbg_record.specs.Lines.{Reached, version_next, players_next, start_next, entry_next, nothing_next, Leads, LeadTo}
+use Rattle.rbg_record.specs.Lines.{Reached, version_next, nothing_next, Leads, LeadTo}
 use Rattle.rbg_record.specs.Lines as lines
 use Rattle.rbg_record.specs.Reaching.{place_in}
 use Rattle.rbg_record.specs.Right.{IsRightRecord}

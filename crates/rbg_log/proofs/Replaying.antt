@@ -8,7 +8,7 @@ use Rattle.rbg_wire.specs.declared.outcome.Outcome.{Outcome}
 use Rattle.rbg_rules.specs.Meaning.{AbstractGame}
 use Rattle.rbg_match.specs.declared.config.Config.{Config}
 use Rattle.rbg_match.specs.Deliveries.{Delivery, delivered}
-use Rattle.rbg_match.specs.Handling.{AbstractInput, tick, HandlesInTime, Handles}
+use Rattle.rbg_match.specs.Handling.{tick, HandlesInTime, Handles}
 use Rattle.rbg_match.specs.Handling as handling
 use Rattle.rbg_match.specs.Inputs.{AbstractEvent, piece, end_of_stream, moment_alone, Streams, counted, moment_of, inputs_in, inputs_at, rests_after, streams_after, timed_inputs_in}
 use Rattle.rbg_match.specs.Limits.{latest_moment}

@@ -1,6 +1,5 @@
 //! Logs in memory.
-ghost use Rattle.std.specs.Prelude.{◌≡◌, ◌≤◌, ◌++◌, [], vec_len, OnOk, OnErr};
-ghost use Rattle.rbg_log.specs.Logs.{Appends, AppendsFront};
+ghost use Rattle.std.specs.Prelude.{◌≡◌, []};
 
 use crate::{Log, LogFailure};
 use std::alloc::{AllocError, Global};

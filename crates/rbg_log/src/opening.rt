@@ -1,7 +1,7 @@
 //! A match begins, and its log with it.
-ghost use Rattle.std.specs.Prelude.{◌≡◌, ◌++◌, [], length, IfOk, None, IsErrOf, OnErr, OnOk};
+ghost use Rattle.std.specs.Prelude.{◌≡◌, [], length, IfOk, None, IsErrOf, OnErr, OnOk};
 ghost use Rattle.rbg_game.specs.Loading.{Loads};
-ghost use Rattle.rbg_match.specs.Matches.{HasHistory, Opens};
+ghost use Rattle.rbg_match.specs.Matches.{HasHistory};
 ghost use Rattle.rbg_match.specs.PlayingOn.{seats_of};
 ghost use Rattle.rbg_log.specs.Logs.{Appends, AppendsFront, IsLog, first_line};
 

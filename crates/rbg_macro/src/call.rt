@@ -1,13 +1,12 @@
 //! Calls of macros: a macro's name, and the arguments in parentheses after it.
-ghost use Rattle.std.specs.Prelude.{ℕ, ◌≡◌, ◌+◌, ◌<◌, ◌≤◌, ◌^◌, [], ◌∷◌, ◌++◌, List, length, drop, map, None, Some, Ok};
-ghost use Rattle.std.specs.Prelude.{All, Err, IfOk, IfErr, IfSome, MatchOption, OnOk, IsTrue};
-ghost use Rattle.rbg_macro.specs.Call.{Stays, NoCall, arguments, closing, meets, nesting};
+ghost use Rattle.std.specs.Prelude.{◌≡◌, ◌+◌, ◌<◌, ◌^◌, [], drop, map, None, Some, Ok};
+ghost use Rattle.std.specs.Prelude.{All, Err, IfOk, IfErr, IfSome, MatchOption};
+ghost use Rattle.rbg_macro.specs.Call.{Stays, arguments, closing, meets, nesting};
 ghost use Rattle.rbg_macro.specs.internal.Calls.{nesting_of, AreArguments, IsCall, IsNoCall, begins_with_parenthesis};
 ghost use Rattle.rbg_macro.specs.Errors.{UnlessMemory};
-ghost use Rattle.rbg_macro.specs.Macro.{filled, filled_item};
 ghost use Rattle.rbg_macro.specs.internal.Marks.{IsMarked, IsMarkedCall, KeepsMarks};
 ghost use Rattle.rbg_macro.specs.internal.ReadTokens.{read_lexeme};
-ghost use Rattle.rbg_macro.specs.internal.Template.{item_in, lists_in};
+ghost use Rattle.rbg_macro.specs.internal.Template.{lists_in};
 
 use crate::error::MacroError;
 use crate::macros::BodyItem;

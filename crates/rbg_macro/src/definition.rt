@@ -1,18 +1,18 @@
 //! Reads the definitions of sections and macros.
-ghost use Rattle.std.specs.Prelude.{ℕ, ◌≡◌, ◌+◌, ◌<◌, ◌≤◌, [], ◌∷◌, ◌++◌, List, length, map, None, Some, Ok, Err, IfOk};
+ghost use Rattle.std.specs.Prelude.{◌≡◌, ◌+◌, ◌<◌, ◌≤◌, [], length, map, None, Some, Ok, Err, IfOk};
 ghost use Rattle.std.specs.Prelude.{IfErr, OnOk};
 ghost use Rattle.std.specs.List.{position_or_len};
 ghost use Rattle.rbg_macro.specs.internal.Defines.{defines_of, AddsDefined};
 ghost use Rattle.rbg_macro.specs.Definition.{expect, behind_equals, parameter_list, behind_name};
 ghost use Rattle.rbg_macro.specs.internal.Defines.{AddsParameter, IsTemplateBehind};
-ghost use Rattle.rbg_macro.specs.Definition.{section_named, first_at, defined, definitions_of, Part};
+ghost use Rattle.rbg_macro.specs.Definition.{section_named, first_at, defined, definitions_of};
 ghost use Rattle.rbg_macro.specs.internal.Defines.{BeginsDefinition};
 ghost use Rattle.rbg_macro.specs.internal.Gives.{Gives};
 ghost use Rattle.rbg_macro.specs.Errors.{UnlessMemory};
 ghost use Rattle.rbg_tokens.specs.Kinds.{is_name_kind, is_symbol};
 ghost use Rattle.rbg_tokens.specs.declared.token.Symbol.TheVariants as symbols;
-ghost use Rattle.rbg_macro.specs.internal.Template.{macro_of, texts_in};
-ghost use Rattle.rbg_tokens.specs.Token.{Lexeme, lexeme_of};
+ghost use Rattle.rbg_macro.specs.internal.Template.{texts_in};
+ghost use Rattle.rbg_tokens.specs.Token.{lexeme_of};
 
 use crate::error::MacroError;
 use crate::macros::{Macros, Template};

@@ -1,6 +1,6 @@
 //! Expansion: the sections, with the calls of macros replaced.
-ghost use Rattle.std.specs.Prelude.{All, ℕ, ◌≡◌, ◌+◌, ◌*◌, ◌-◌, ◌<◌, ◌≤◌, [], ◌∷◌, ◌++◌, List, length, map, Ok, Err};
-ghost use Rattle.std.specs.Prelude.{IfOk, IfErr, IfSome, OnOk, OnErr, MatchOption};
+ghost use Rattle.std.specs.Prelude.{All, ℕ, ◌≡◌, ◌+◌, ◌-◌, ◌<◌, ◌≤◌, [], ◌∷◌, ◌++◌, length, map, Ok, Err};
+ghost use Rattle.std.specs.Prelude.{IfOk, IfErr, IfSome, OnOk, MatchOption};
 ghost use Rattle.std.specs.List.{list_any};
 ghost use Rattle.rbg_macro.specs.Call.{Stays, meets};
 ghost use Rattle.rbg_macro.specs.Expansion.{ExpandsWithin, Fails, FailsReading, FailsAll, HasSections, HasMacroFault};
@@ -8,7 +8,7 @@ ghost use Rattle.rbg_macro.specs.internal.Defines.{section_of};
 ghost use Rattle.rbg_macro.specs.Errors.{UnlessMemory};
 ghost use Rattle.rbg_tokens.specs.Kinds.{is_symbol};
 ghost use Rattle.rbg_tokens.specs.declared.token.Symbol.TheVariants as symbols;
-ghost use Rattle.rbg_macro.specs.internal.Marks.{IsMarked, IsMarkedWord};
+ghost use Rattle.rbg_macro.specs.internal.Marks.{IsMarked};
 ghost use Rattle.rbg_macro.specs.internal.ExpandedTokens.{ReadsOn, ReadsJoined, ReadsSection, FailsJoined, GivesWay};
 ghost use Rattle.rbg_macro.specs.internal.ExpandedTokens.{IsTooMany, IsWithinLimits};
 ghost use Rattle.rbg_macro.specs.internal.Span.{section_in, IsSectionWithin};

@@ -1,5 +1,5 @@
 //! Fills a macro's body with the arguments of a call.
-ghost use Rattle.std.specs.Prelude.{ℕ, ◌≡◌, ◌+◌, ◌<◌, ◌≤◌, ◌++◌, List, [], length, map, slice_get, unwrap_or};
+ghost use Rattle.std.specs.Prelude.{◌≡◌, ◌+◌, ◌<◌, ◌≤◌, ◌++◌, List, [], length, map, slice_get, unwrap_or};
 ghost use Rattle.std.specs.Prelude.{All, MatchOption, IfOk, OnOk};
 ghost use Rattle.rbg_macro.specs.Macro.{Macro, filled, filled_item};
 ghost use Rattle.rbg_macro.specs.internal.Marks.{AreMarkedLists, FillsMarks, IsMarked, IsMarkedItem};

@@ -1,6 +1,6 @@
 //! Joining: each `~` and its two neighbours become one token, from the left.
 ghost use Rattle.std.specs.Prelude.{ℕ, ◌≡◌, ◌+◌, ◌<◌, ◌≤◌, [], ◌∷◌, ◌++◌, List, length, take, drop, map, Ok, Err, IfOk};
-ghost use Rattle.std.specs.Prelude.{IfErr, OnOk, IsTrue, ◌↔◌, All};
+ghost use Rattle.std.specs.Prelude.{IfErr, OnOk, IsTrue, All};
 ghost use Rattle.rbg_macro.specs.internal.Gives.{Gives};
 ghost use Rattle.rbg_macro.specs.Errors.{UnlessMemory};
 ghost use Rattle.rbg_macro.specs.internal.Joined.{AddsChain, JoinsNext, JoinsChain, FailsChain, IsJoinedWithin};
@@ -9,8 +9,6 @@ ghost use Rattle.rbg_macro.specs.internal.Marks.{IsMarked, IsMarkedWord, word_of
 ghost use Rattle.rbg_macro.specs.internal.ReadTokens.{read_lexeme};
 ghost use Rattle.rbg_macro.specs.internal.Span.{lexeme_in, IsSpanWithin};
 ghost use Rattle.rbg_macro.specs.Joining.{joined, joined_from, joined_kind};
-ghost use Rattle.rbg_tokens.specs.Kinds.{is_symbol};
-ghost use Rattle.rbg_tokens.specs.Token.{Lexeme};
 
 use crate::buffer::Span;
 use crate::error::MacroError;

@@ -1,6 +1,6 @@
 //! Marks tokens with the numbers of the macros that they name, so that their bytes aren't looked at wherever they are
 //! read.
-ghost use Rattle.std.specs.Prelude.{◌≡◌, ◌≤◌, List, length, map, None, Some, MatchOption, IfOk, IfSome, All};
+ghost use Rattle.std.specs.Prelude.{◌≡◌, List, map, None, Some, MatchOption, IfOk, IfSome, All};
 ghost use Rattle.rbg_macro.specs.Macro.{macro_named};
 ghost use Rattle.rbg_macro.specs.internal.Marks.{IsMarked, IsMarkedItem, IsMarkedTemplate};
 ghost use Rattle.rbg_macro.specs.internal.ReadTokens.{read_lexeme};

@@ -25,7 +25,7 @@ pub(crate) fn find_pairs(
     ensures heavy { IfErr result (λ over. (over ≡ Over.Deep) ⊎ (over ≡ Over.Wide)
         → IsHeavyToFind game.now place.old) }
 {
-    let _game = game.as_game();
+    game.is_accepted();
     game.find_move(place, workspace)
 }
 

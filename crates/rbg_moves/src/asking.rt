@@ -1,7 +1,7 @@
 //! What the questions at a place have in common.
 ghost use Rattle.std.specs.Prelude.{◌≡◌, ◌≤◌, ◌↔◌, length, IsTrue};
 ghost use Rattle.rbg_base.specs.Move.{IsMoveLength};
-ghost use Rattle.rbg_rules.specs.Meaning.{IsGame, IsSwitchAt, stand_of};
+ghost use Rattle.rbg_rules.specs.Meaning.{IsSwitchAt, stand_of};
 ghost use Rattle.rbg_pairs.specs.Start.{start_of, IsPositionOf};
 ghost use Rattle.rbg_moves.specs.internal.Asking.{begun_in};
 ghost use Rattle.rbg_flat.specs.internal.Shown.{shows_switch};
@@ -19,7 +19,7 @@ pub(crate) fn rules_of<'a, S: Steps>(game: &'a Game, steps: &'a S) -> GameSteps<
     requires { S.of_rules steps.now game.now.rules }
     ensures { result ≡ game.now }
 {
-    game_is_accepted(game);
+    game.is_accepted();
     GameSteps::new(game, steps, None)
 }
 
@@ -37,14 +37,6 @@ pub(crate) fn search_in<'a, S: Steps>(
         modifiers: MAX_MODIFIERS as u16,
     };
     Search::by_rules(alloc, rules, budget, buffers)
-}
-
-/// For proofs alone: the game is an accepted one. It does nothing.
-#[inline(always)]
-pub(crate) fn game_is_accepted(game: &Game)
-    ensures { IsGame game.now }
-{
-    let _positions = game.positions();
 }
 
 /// For proofs alone: what a search has taken up is within its budget. It does nothing.

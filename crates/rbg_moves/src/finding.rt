@@ -1,7 +1,6 @@
 //! Some legal move, where there is one.
-ghost use Rattle.std.specs.Prelude.{◌≡◌, ◌≤◌, length, IfOk, IfSome, IfNone, OnOk, Err, Bool};
-ghost use Rattle.rbg_base.specs.Move.{IsMoveLength};
-ghost use Rattle.rbg_rules.specs.Meaning.{Finished, find_move, IsPlaceOf};
+ghost use Rattle.std.specs.Prelude.{◌≡◌, ◌≤◌, length};
+ghost use Rattle.rbg_rules.specs.Meaning.{find_move, IsPlaceOf};
 ghost use Rattle.rbg_moves.specs.Answers.{FindsMove};
 ghost use Rattle.rbg_moves.specs.Tallying.{Tallies};
 ghost use Rattle.rbg_moves.specs.internal.Fronts.{FindsFront, IsWalkedFrom};
@@ -98,6 +97,7 @@ pub(crate) fn walk_from<S: Steps>(
     ensures walks { IsWalkedFrom rules.entry place.old found.old.max found.old.moves found.new.moves
         workspace.new.front.items workspace.old.tally workspace.new.tally result }
 {
+    // The game is lawful.
     let _game = rules.game();
     workspace.front.clear();
     let mark = place.state.mark();

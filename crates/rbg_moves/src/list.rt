@@ -1,5 +1,5 @@
 //! The legal moves of a place.
-ghost use Rattle.std.specs.Prelude.{◌≡◌, ◌≢◌, ◌<◌, AllPairs, IfOk, OnOk};
+ghost use Rattle.std.specs.Prelude.{◌≡◌, ◌≢◌, ◌<◌, AllPairs, IfOk};
 ghost use Rattle.std.specs.List.Sorted.{IsPermutation};
 ghost use Rattle.rbg_rules.specs.Meaning.{list_moves as listing_moves, IsPlaceOf};
 ghost use Rattle.rbg_moves.specs.Answers.{ListsMoves};

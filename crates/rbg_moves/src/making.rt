@@ -3,7 +3,6 @@ ghost use Rattle.std.specs.Prelude.{◌≡◌, IfOk, OnOk, OnErr};
 ghost use Rattle.rbg_rules.specs.Meaning.{Legal, IsLegal, IsPlaceOf};
 ghost use Rattle.rbg_state.specs.History.{IsAfter};
 
-use crate::asking::game_is_accepted;
 use crate::place::Place;
 use crate::stepping::apply_at;
 use rbg_base::{Memory, Move, Pair, Position};
@@ -60,7 +59,7 @@ fn make_each(
         IsPlaceOf game.now (record { state = state.new.state; last = last })) }
     ensures after { OnErr result (IsAfter state.old state.new) }
 {
-    game_is_accepted(game);
+    game.is_accepted();
     let mut after = after;
     for pair in pairs {
         state.reserve(2)?;

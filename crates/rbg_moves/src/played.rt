@@ -7,7 +7,6 @@ ghost use Rattle.rbg_moves.specs.Listing.{IsGathered, IsListed};
 ghost use Rattle.rbg_moves.specs.internal.Fronts.{FindsFront};
 ghost use Rattle.rbg_moves.specs.Tallying.{Tallies};
 
-use crate::asking::game_is_accepted;
 use crate::finding::{find_front, find_pairs};
 use crate::list::{Gathered, Listed, gather_moves, list_sorted};
 use crate::making::make_pairs;
@@ -67,7 +66,7 @@ impl Drop for PlayedGame {
 }
 
 /// The leaps of a game, where they are told.
-fn told(paths: &Option<Paths>) -> Option<&Paths>
+fn lent_paths(paths: &Option<Paths>) -> Option<&Paths>
     ensures { (game : AbstractGame) → IfSome paths.now (ArePathsOf game)
         → IfSome result (λ lent. ArePathsOf game lent.now) }
 {
@@ -82,7 +81,7 @@ impl PlayedGame {
     pub fn new(alloc: Global, game: Game) -> Result<PlayedGame, Memory>
         ensures { IfOk result (λ played. played ≡ game) }
     {
-        game_is_accepted(&game);
+        game.is_accepted();
         let automaton = compact(alloc, &game)?;
         let paths = Paths::new(alloc, &game, &automaton)?;
         Ok(PlayedGame {
@@ -98,7 +97,7 @@ impl PlayedGame {
     fn rules(&self) -> GameSteps<'_, Compact>
         ensures { result ≡ self.now }
     {
-        GameSteps::new(&self.game, &self.automaton, told(&self.paths))
+        GameSteps::new(&self.game, &self.automaton, lent_paths(&self.paths))
     }
 
     /// The game itself.
@@ -108,6 +107,12 @@ impl PlayedGame {
     {
         &self.game
     }
+
+    /// For proofs alone: the game is an accepted one. It does nothing.
+    #[inline(always)]
+    pub fn is_accepted(&self)
+        ensures { IsGame self.now }
+    {}
 
     /// Whether the game has a player of this number. The players are numbered from 1; the keeper is 0.
     pub fn has_player(&self, number: u64) -> bool

@@ -1,7 +1,6 @@
 //! The keeper's moves before a player's.
 ghost use Rattle.std.specs.Prelude.{◌≡◌, ◌≢◌, ◌⊎◌, Err, IfOk, OnErr};
 ghost use Rattle.rbg_rules.specs.Meaning.{IsHeavyToFind, IsPlaceOf};
-ghost use Rattle.rbg_moves.specs.Limits.{most_keeper_moves};
 ghost use Rattle.rbg_moves.specs.Settling.{IsEndless, MeetsHeavy, Settles, SomeKeeperMoves};
 
 use crate::place::Place;

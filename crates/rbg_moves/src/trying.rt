@@ -1,6 +1,6 @@
 //! Whether a list of pairs is a legal move.
-ghost use Rattle.std.specs.Prelude.{◌≡◌, IfOk, IfSome, IfNone, OnOk, OnErr};
-ghost use Rattle.rbg_rules.specs.Meaning.{AbstractPlace, Legal, IsPlaceOf, try_move};
+ghost use Rattle.std.specs.Prelude.{◌≡◌, IfOk, IfSome};
+ghost use Rattle.rbg_rules.specs.Meaning.{IsPlaceOf, try_move};
 ghost use Rattle.rbg_moves.specs.Answers.{TriesMove};
 ghost use Rattle.rbg_moves.specs.Tallying.{Tallies};
 ghost use Rattle.rbg_moves.specs.internal.Stepping.{place_behind, IsFollowed};
@@ -50,6 +50,7 @@ pub(crate) fn try_pairs<S: Steps>(
     ensures tallies { Tallies rules.entry (try_move pairs.now) place.now workspace.old.tally
         workspace.new.tally result }
 {
+    // The game is lawful.
     let _game = rules.game();
     let mut to = workspace.copy_of(place)?;
     let mut search = search_in(alloc, rules, &mut workspace.buffers);

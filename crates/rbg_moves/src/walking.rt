@@ -1,8 +1,7 @@
 //! The walk over the modifiers of moves, by which some move is found, or all are listed.
-ghost use Rattle.std.specs.Prelude.{◌≡◌, ℕ, ◌-◌, ◌<◌, ◌≤◌, ◌∷◌, [], ◌++◌, length, All, IfOk, IfSome, IfNone, Err, false};
-ghost use Rattle.std.specs.List.Sorted.{IsPermutation};
+ghost use Rattle.std.specs.Prelude.{◌≡◌, ◌-◌, ◌<◌, ◌≤◌, ◌∷◌, [], ◌++◌, length, All, IfOk, Err, false};
 ghost use Rattle.rbg_base.specs.Move.{most_pairs};
-ghost use Rattle.rbg_rules.specs.Meaning.{IsGame, stand_of, IsPlaceOf, IsSwitchAt, IsStateOf, after};
+ghost use Rattle.rbg_rules.specs.Meaning.{IsGame, stand_of, IsPlaceOf, IsStateOf, after};
 ghost use Rattle.rbg_pairs.specs.Start.{IsPositionOf};
 ghost use Rattle.rbg_state.specs.History.{IsAfter};
 ghost use Rattle.rbg_moves.specs.internal.Asking.{question_of, IsGivenUp};
@@ -108,7 +107,7 @@ pub(crate) fn walk<S: Steps>(
     let game = search.game();
     let origin = origin_after(after);
     // one modifier alone needs no list
-    if let Some(position) = search.only(state, origin) {
+    if let Some(position) = search.only_modifier(state, origin) {
         let vertex = state.vertex();
         search.reach_only(state, origin, position)?;
         let pair = Pair { vertex, position };

@@ -1,7 +1,7 @@
 -- Faults of names that are looked up in a table or added to it.
 use Rattle.std.proofs.Common.{◌≡◌, ℕ, zero, suc, List, [], ◌∷◌, ◌++◌, Some, take, append-nil}
 use Rattle.std.proofs.Common.{refl, sym, ap, ◌∙◌, subst, arith}
-use Rattle.std.specs.Prelude.{slice_get, Contains, Result, Ok, Err}
+use Rattle.std.specs.Prelude.{slice_get, Contains}
 use Rattle.std.proofs.lemmas.Option.{slice_get_within}
 use Rattle.rbg_grammar.specs.Tree.{SpeltName}
 use Rattle.rbg_numbering.specs.declared.error.NumberingError.{NumberingError}

@@ -1,9 +1,7 @@
 //! Actions by numbers. Each takes the next position of the table.
-ghost use Rattle.std.specs.Prelude.{◌≡◌, ◌<◌, ◌≤◌, ◌+◌, ◌^◌, ◌∷◌, ◌++◌, [], IfOk, IfErr, option_map, length, true, false};
+ghost use Rattle.std.specs.Prelude.{◌≡◌, ◌<◌, ◌≤◌, ◌+◌, ◌^◌, IfOk, IfErr, option_map, length, true, false};
 ghost use Rattle.rbg_grammar.specs.Formed.{is_formed_action};
 ghost use Rattle.rbg_grammar.specs.Views.{name_of, action_of as spelt_action_of};
-ghost use Rattle.rbg_rules.specs.Meaning.{skip, action_of, shows_pattern};
-ghost use Rattle.rbg_numbering.specs.Rules.{ActionIs};
 ghost use Rattle.rbg_numbering.specs.NameTables.{HasLookUpFault};
 ghost use Rattle.rbg_numbering.specs.Numbered.{names_of, IsWithinLimits};
 ghost use Rattle.rbg_numbering.specs.internal.Actions.{IsPlayer, player_names, is_spelt_pattern, HasActionFault, IsActionHere, OpensPattern, HasOpeningFault};

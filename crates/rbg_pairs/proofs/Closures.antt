@@ -8,7 +8,7 @@ use Rattle.rbg_rules.proofs.PlaceLemmas.{quiet_acts, same_state, RunPairs_join, 
 use Rattle.rbg_rules.proofs.LocalityLemmas.{locality_law}
 use Rattle.rbg_flat.specs.Candidates.{MayEnd}
 use Rattle.rbg_pairs.specs.Flat.{IsNext}
-use Rattle.rbg_pairs.specs.Closure.{at_vertex, Leads, Reached, first, then, IsFound, EndsFlat, RunsBehind}
+use Rattle.rbg_pairs.specs.Closure.{at_vertex, Leads, IsReached, first, then, IsFound, EndsFlat, RunsBehind}
 
 -- An action that stands where no modifier does is none.
 pub quiet_action : (game : AbstractGame) (p : ℕ) {s t : AbstractState} (applied : Applies game p s t) → ¬ IsModifierAt game.rules p → is_modifier applied.action ≡ false
@@ -35,20 +35,20 @@ quiet_place game numbered p applied quiet other =
 
 module _ (game : AbstractGame) (numbered : IsNumbered game.rules) where
   -- From behind a quiet action one reaches nothing new.
-  onward : (s : AbstractState) (f : Start) (v q u : ℕ) → Reached game s f v q → Leads game s v q u → (w p : ℕ) → Reached game (at_vertex s u) (after q) w p → Reached game s f w p
+  onward : (s : AbstractState) (f : Start) (v q u : ℕ) → IsReached game s f v q → Leads game s v q u → (w p : ℕ) → IsReached game (at_vertex s u) (after q) w p → IsReached game s f w p
   onward s f v q u here leads w p (first same follows) = then here (subst (λ (x : ℕ). Leads game s v q x) (sym same) leads) follows
   onward s f v q u here leads w p (then {v = x} {q = r} so_far moves follows) = then (onward s f v q u here leads x r so_far) (record { quiet = moves.quiet; applies = moves.applies }) follows
 
   -- What is reached by words is reached step by step.
-  pub reached : (s here : AbstractState) (f : Start) (w : List ℕ) (p : ℕ) → HasNoModifier game.rules w → Run game w s here → Follows game.rules f (w ++ p ∷ []) → Reached game s f here.vertex p
+  pub reached : (s here : AbstractState) (f : Start) (w : List ℕ) (p : ℕ) → HasNoModifier game.rules w → Run game w s here → Follows game.rules f (w ++ p ∷ []) → IsReached game s f here.vertex p
   reached s here f w p none rest follows = first refl follows
   reached s here f w p none (step {p = q} {w = m} {middle = middle} applied run) follows =
       let cut = (locality_law game.rules numbered f [] q (m ++ p ∷ [])).0.0 follows in
       let quiet = All-head (λ (k : ℕ). ¬ IsModifierAt game.rules k) q m none in
       let moved : middle ≡ at_vertex s middle.vertex = quiet_moves game q s middle quiet applied in
       let leads : Leads game s s.vertex q middle.vertex = record { quiet = quiet; applies = subst (λ (t : AbstractState). Applies game q s t) moved applied } in
-      let more : Reached game middle (after q) here.vertex p = reached middle here (after q) m p (All-tail (λ (k : ℕ). ¬ IsModifierAt game.rules k) q m none) run cut.1 in
-      onward s f s.vertex q middle.vertex (first refl cut.0) leads here.vertex p (subst (λ (t : AbstractState). Reached game t (after q) here.vertex p) moved more)
+      let more : IsReached game middle (after q) here.vertex p = reached middle here (after q) m p (All-tail (λ (k : ℕ). ¬ IsModifierAt game.rules k) q m none) run cut.1 in
+      onward s f s.vertex q middle.vertex (first refl cut.0) leads here.vertex p (subst (λ (t : AbstractState). IsReached game t (after q) here.vertex p) moved more)
 
   -- What is reached step by step is reached by words.
   pub record ByWords (s : AbstractState) (f : Start) (v p : ℕ) : Type 0 where
@@ -60,7 +60,7 @@ module _ (game : AbstractGame) (numbered : IsNumbered game.rules) where
   standing : (s : AbstractState) (v : ℕ) → v ≡ s.vertex → Run game [] s (at_vertex s v)
   standing s v e = subst (λ (x : ℕ). Run game [] s (at_vertex s x)) (sym e) rest
 
-  pub by_words : (s : AbstractState) (f : Start) (v p : ℕ) → Reached game s f v p → ByWords s f v p
+  pub by_words : (s : AbstractState) (f : Start) (v p : ℕ) → IsReached game s f v p → ByWords s f v p
   by_words s f v p (first same follows) = record { before = []; no_modifier = All-nil (λ (k : ℕ). ¬ IsModifierAt game.rules k); runs = standing s v same; follows = follows }
   by_words s f v p (then {v = w} {q = q} here leads follows) =
       let so_far = by_words s f w q here in
@@ -92,7 +92,7 @@ module _ (game : AbstractGame) (numbered : IsNumbered game.rules) where
       let here : next.here ≡ at_vertex s v = ends_at s next.here next.before next.no_modifier next.runs ∙ ap (λ (x : ℕ). at_vertex s x) next.vertex in
       record {
         later = next.later;
-        reached = subst (λ (x : ℕ). Reached game s f x p) next.vertex (reached s next.here f next.before p next.no_modifier next.runs next.follows);
+        reached = subst (λ (x : ℕ). IsReached game s f x p) next.vertex (reached s next.here f next.before p next.no_modifier next.runs next.follows);
         modifies = next.modifies;
         applies = subst (λ (t : AbstractState). Applies game p t next.later) here next.applies;
       }

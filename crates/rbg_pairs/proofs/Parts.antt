@@ -9,7 +9,7 @@ use Rattle.std.proofs.lemmas.Bool.Decides.{Decides-or}
 use Rattle.rbg_rules.specs.Meaning.{Expression, IsNumbered, positions_of, Start, after, Follows, Ends, AbstractGame, AbstractState}
 use Rattle.rbg_auto.specs.Steps.{AreAllThatFollow}
 use Rattle.rbg_pairs.specs.Flat.{IsFlatPart}
-use Rattle.rbg_pairs.specs.Closure.{at_vertex, Leads, Reached, first, then, IsFound, LeadsToEnd, EndsFlat}
+use Rattle.rbg_pairs.specs.Closure.{at_vertex, Leads, IsReached, first, then, IsFound, LeadsToEnd, EndsFlat}
 use Rattle.rbg_pairs.specs.Meeting.{Met, HasMark, MeetsAll}
 use Rattle.rbg_pairs.specs.Start.{IsPositionOf}
 use Rattle.rbg_pairs.specs.Part.{IsTrialAt, SomeLeadsToEnd, IsPart, HasMarksOf}
@@ -20,12 +20,12 @@ use Rattle.rbg_pairs.proofs.Meetings.{mark_there}
 
 module _ (game : AbstractGame) (s : AbstractState) (f : Start) where
   -- The pairs that were met anew may come next if those of the positions may.
-  new_sound : (xs ys : List (ℕ × ℕ)) (v : ℕ) (ps : List ℕ) → MeetsAll xs ys v ps → ((p : ℕ) → Contains ps p → Reached game s f v p) → All (λ q. Reached game s f q.0 q.1) xs → All (λ q. Reached game s f q.0 q.1) ys
+  new_sound : (xs ys : List (ℕ × ℕ)) (v : ℕ) (ps : List ℕ) → MeetsAll xs ys v ps → ((p : ℕ) → Contains ps p → IsReached game s f v p) → All (λ q. IsReached game s f q.0 q.1) xs → All (λ q. IsReached game s f q.0 q.1) ys
   new_sound xs ys v ps meets each sound =
-      subst (λ (zs : List (ℕ × ℕ)). All (λ q. Reached game s f q.0 q.1) zs) (sym meets.grown)
-      (All-append (λ q. Reached game s f q.0 q.1) xs meets.more sound
-      (All-weaker (λ q. (q.0 ≡ v) × Contains ps q.1) (λ q. Reached game s f q.0 q.1)
-      (λ q h. subst (λ (w : ℕ). Reached game s f w q.1) (sym h.0) (each q.1 h.1)) meets.more meets.only))
+      subst (λ (zs : List (ℕ × ℕ)). All (λ q. IsReached game s f q.0 q.1) zs) (sym meets.grown)
+      (All-append (λ q. IsReached game s f q.0 q.1) xs meets.more sound
+      (All-weaker (λ q. (q.0 ≡ v) × Contains ps q.1) (λ q. IsReached game s f q.0 q.1)
+      (λ q h. subst (λ (w : ℕ). IsReached game s f w q.1) (sym h.0) (each q.1 h.1)) meets.more meets.only))
 
   kept : (xs ys : List (ℕ × ℕ)) (v : ℕ) (ps : List ℕ) → MeetsAll xs ys v ps → (q : ℕ × ℕ) → Contains xs q → Contains ys q
   kept xs ys v ps meets q h = subst (λ (zs : List (ℕ × ℕ)). Contains zs q) (sym meets.grown) (Contains-append_left xs meets.more q h)
@@ -33,7 +33,7 @@ module _ (game : AbstractGame) (s : AbstractState) (f : Start) where
   -- At the beginning those that may come first are met, and nothing is done.
   pub begin_part : (ys : List (ℕ × ℕ)) (ps : List ℕ) (ends : Bool) → MeetsAll [] ys s.vertex ps → AreAllThatFollow game.rules f ps → Decides ends (Ends game.rules f []) → IsPart game s f ys [] [] ends
   begin_part ys ps ends meets follow decides = record {
-    sound = new_sound [] ys s.vertex ps meets (λ p h. first refl ((follow.exact p).0 h)) (All-nil (λ q. Reached game s f q.0 q.1));
+    sound = new_sound [] ys s.vertex ps meets (λ p h. first refl ((follow.exact p).0 h)) (All-nil (λ q. IsReached game s f q.0 q.1));
     begun = λ p follows. All-contains (λ r. Contains ys (s.vertex, r)) ps p meets.all ((follow.exact p).1 follows);
     closed = λ v q u p (k, under, is). absurd (omega (arith, under));
     among = All-nil (Contains []);
@@ -59,7 +59,7 @@ module _ (game : AbstractGame) (s : AbstractState) (f : Start) where
   FoundBy done found new v q = ((¬ IsFound game s f v q) × (new ≡ found)) ⊎ (IsFound game s f v q × (¬ Contains done (v, q)) × (new ≡ found ++ (v, q) ∷ []))
 
   -- One more pair is done.
-  step_part : (xs ys done found new : List (ℕ × ℕ)) (ends ends' : Bool) (v q : ℕ) → IsPart game s f xs done found ends → ((x : ℕ × ℕ) → Contains xs x → Contains ys x) → All (λ x. Reached game s f x.0 x.1) ys → ((u p : ℕ) → Leads game s v q u → Follows game.rules (after q) (p ∷ []) → Contains ys (u, p)) → FoundBy done found new v q → Decides ends' ((Ends game.rules f [] ⊎ SomeLeadsToEnd game s done) ⊎ LeadsToEnd game s v q) → IsPart game s f ys (done ++ (v, q) ∷ []) new ends'
+  step_part : (xs ys done found new : List (ℕ × ℕ)) (ends ends' : Bool) (v q : ℕ) → IsPart game s f xs done found ends → ((x : ℕ × ℕ) → Contains xs x → Contains ys x) → All (λ x. IsReached game s f x.0 x.1) ys → ((u p : ℕ) → Leads game s v q u → Follows game.rules (after q) (p ∷ []) → Contains ys (u, p)) → FoundBy done found new v q → Decides ends' ((Ends game.rules f [] ⊎ SomeLeadsToEnd game s done) ⊎ LeadsToEnd game s v q) → IsPart game s f ys (done ++ (v, q) ∷ []) new ends'
   unfolding FoundBy
   step_part xs ys done found new ends ends' v q part keeps sound closed found_by decides = record {
     sound = sound;
@@ -131,7 +131,7 @@ module _ (game : AbstractGame) (s : AbstractState) (f : Start) where
   modifier_part xs done found ends v q part there once (modifies, (t, applies)) =
       step_part xs xs done found (found ++ (v, q) ∷ []) ends ends v q part (λ x h. h) part.sound
       (λ u p leads follows. absurd (leads.quiet modifies))
-      (inr (record { later = t; reached = All-contains (λ x. Reached game s f x.0 x.1) xs (v, q) part.sound there; modifies = modifies; applies = applies }, once, refl))
+      (inr (record { later = t; reached = All-contains (λ x. IsReached game s f x.0 x.1) xs (v, q) part.sound there; modifies = modifies; applies = applies }, once, refl))
       ((λ is. inl (part.may_end.0 is)), to)
     where
       to : (Ends game.rules f [] ⊎ SomeLeadsToEnd game s done) ⊎ LeadsToEnd game s v q → ends ≡ true
@@ -148,8 +148,8 @@ module _ (game : AbstractGame) (s : AbstractState) (f : Start) where
       (inl ((λ is. leads.quiet is.modifies), refl))
       (Decides-or ends last part.may_end ends_here)
     where
-      reached : Reached game s f v q
-      reached = All-contains (λ x. Reached game s f x.0 x.1) xs (v, q) part.sound there
+      reached : IsReached game s f v q
+      reached = All-contains (λ x. IsReached game s f x.0 x.1) xs (v, q) part.sound there
 
       ends_here : Decides last (LeadsToEnd game s v q)
       ends_here = ((λ is. record { to = u; leads = leads; ends = decides.0 is }), (λ h. decides.1 h.ends))
@@ -169,13 +169,13 @@ module _ (game : AbstractGame) (s : AbstractState) (f : Start) where
 
   -- When each pair is done, the part is whole.
   module _ (numbered : IsNumbered game.rules) (xs found : List (ℕ × ℕ)) (ends : Bool) (part : IsPart game s f xs xs found ends) where
-    pub all_met : (v p : ℕ) → Reached game s f v p → Contains xs (v, p)
+    pub all_met : (v p : ℕ) → IsReached game s f v p → Contains xs (v, p)
     all_met v p (first same follows) = subst (λ (w : ℕ). Contains xs (w, p)) (sym same) (part.begun p follows)
     all_met v p (then {v = w} {q = q} here leads follows) = part.closed w q v p (all_met w q here) leads follows
 
     ends_flat : Ends game.rules f [] ⊎ SomeLeadsToEnd game s xs → EndsFlat game s f
     ends_flat (inl ends) = inl ends
-    ends_flat (inr some) = inr (record { vertex = some.vertex; position = some.position; reached = All-contains (λ x. Reached game s f x.0 x.1) xs (some.vertex, some.position) part.sound some.there; leads = some.leads })
+    ends_flat (inr some) = inr (record { vertex = some.vertex; position = some.position; reached = All-contains (λ x. IsReached game s f x.0 x.1) xs (some.vertex, some.position) part.sound some.there; leads = some.leads })
 
     flat_ends : EndsFlat game s f → Ends game.rules f [] ⊎ SomeLeadsToEnd game s xs
     flat_ends (inl ends) = inl ends

@@ -9,19 +9,19 @@ pub record Leads (game : AbstractGame) (s : AbstractState) (v q u : ℕ) : Type 
   pub applies : Applies game q (at_vertex s v) (at_vertex s u)
 
 -- Position p may come next at vertex v: it can come first, or after an action that leads to v from where it may come.
-pub data Reached (game : AbstractGame) (s : AbstractState) (f : Start) : (v p : ℕ) → Type 0 where
-  first : {v p : ℕ} → v ≡ s.vertex → Follows game.rules f (p ∷ []) → Reached game s f v p
+pub data IsReached (game : AbstractGame) (s : AbstractState) (f : Start) : (v p : ℕ) → Type 0 where
+  first : {v p : ℕ} → v ≡ s.vertex → Follows game.rules f (p ∷ []) → IsReached game s f v p
   then :
       {v q u p : ℕ} →
-      Reached game s f v q →
+      IsReached game s f v q →
       Leads game s v q u →
       Follows game.rules (after q) (p ∷ []) →
-      Reached game s f u p
+      IsReached game s f u p
 
 -- A modifier that may come next is valid.
 pub record IsFound (game : AbstractGame) (s : AbstractState) (f : Start) (v p : ℕ) : Type 0 where
   pub later : AbstractState
-  pub reached : Reached game s f v p
+  pub reached : IsReached game s f v p
   pub modifies : IsModifierAt game.rules p
   pub applies : Applies game p (at_vertex s v) later
 
@@ -35,7 +35,7 @@ pub record LeadsToEnd (game : AbstractGame) (s : AbstractState) (v q : ℕ) : Ty
 pub record ReachedEnd (game : AbstractGame) (s : AbstractState) (f : Start) : Type 0 where
   pub vertex : ℕ
   pub position : ℕ
-  pub reached : Reached game s f vertex position
+  pub reached : IsReached game s f vertex position
   pub leads : LeadsToEnd game s vertex position
 
 abbrev pub EndsFlat : AbstractGame → AbstractState → Start → Type 0

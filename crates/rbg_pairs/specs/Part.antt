@@ -1,7 +1,7 @@
 -- A flat part that is being found.
 use Rattle.std.specs.Prelude.{◌≡◌, ◌≢◌, ℕ, ◌+◌, ◌*◌, ◌⊎◌, List, [], ◌∷◌, length, All, AllPairs, Contains, Bool, Decides}
 use Rattle.rbg_rules.specs.Meaning.{IsModifierAt, positions_of, Start, after, Follows, Ends, AbstractGame, AbstractState, Applies}
-use Rattle.rbg_pairs.specs.Closure.{at_vertex, Leads, Reached, IsFound, LeadsToEnd}
+use Rattle.rbg_pairs.specs.Closure.{at_vertex, Leads, IsReached, IsFound, LeadsToEnd}
 use Rattle.rbg_pairs.specs.Meeting.{Met}
 use Rattle.rbg_state.specs.declared.state.trials.Trial.{Trial}
 use Rattle.rbg_state.specs.declared.state.trials.Trial.TheVariants.{Invalid, Modifies, LeadsTo}
@@ -29,7 +29,7 @@ pub record IsPart
     (game : AbstractGame) (s : AbstractState) (f : Start) (pairs done found : List (ℕ × ℕ)) (ends : Bool)
     : Type 0
   where
-    pub sound : All (λ q. Reached game s f q.0 q.1) pairs
+    pub sound : All (λ q. IsReached game s f q.0 q.1) pairs
     pub begun : (p : ℕ) → Follows game.rules f (p ∷ []) → Contains pairs (s.vertex, p)
     pub closed :
         (v q u p : ℕ) → Contains done (v, q) → Leads game s v q u → Follows game.rules (after q) (p ∷ []) →

@@ -1,6 +1,6 @@
 //! One flat part: the pairs that are reached without a modifier, the modifiers found among them, and whether a word may
 //! end.
-ghost use Rattle.std.specs.Prelude.{◌≡◌, ℕ, ◌<◌, ◌≤◌, ◌+◌, ◌-◌, ◌^◌, ◌↔◌, [], ◌∷◌, ◌++◌, List, length, take, slice_get, Contains, Some, IfOk, IfSome, IfNone, OnOk, IsTrue};
+ghost use Rattle.std.specs.Prelude.{◌≡◌, ℕ, ◌<◌, ◌≤◌, ◌+◌, ◌-◌, ◌^◌, [], ◌∷◌, ◌++◌, List, length, take, slice_get, Contains, Some, IfOk, IfSome, IfNone, OnOk};
 ghost use Rattle.rbg_rules.specs.Meaning.{shift, on, AbstractGame, AbstractState, IsStateOf, IsNumbered, HasAction, IsPatternAt, Start, IsGame};
 ghost use Rattle.rbg_pairs.specs.Flat.{IsFlatPart};
 ghost use Rattle.rbg_pairs.specs.Part.{IsTrialAt, IsPart, HasMarksOf};

@@ -1,7 +1,7 @@
 //! The pairs of a vertex and a position that a flat part meets, each once, in the order in which they are met.
-ghost use Rattle.std.specs.Prelude.{◌≡◌, ◌≢◌, ℕ, ◌<◌, ◌≤◌, ◌+◌, ◌-◌, ◌*◌, ◌/◌, ◌%◌, ◌^◌, [], length, slice_get, Some, take, replicate, ◌++◌, All, AllPairs, Contains, Bool, true, false, OnOk, OnErr, IfOk, IsTrue};
+ghost use Rattle.std.specs.Prelude.{◌≡◌, ◌≢◌, ℕ, ◌<◌, ◌≤◌, ◌+◌, ◌-◌, ◌*◌, ◌/◌, ◌^◌, [], length, slice_get, Some, take, replicate, ◌++◌, All, AllPairs, Contains, Bool, OnOk, OnErr, IfOk};
 ghost use Rattle.rbg_rules.specs.Meaning.{IsGame, IsPatternAt, AbstractState, Start};
-ghost use Rattle.rbg_pairs.specs.Meeting.{HasMark, MeetsAll, AreMarked, is_marked, mark_at};
+ghost use Rattle.rbg_pairs.specs.Meeting.{HasMark, MeetsAll, AreMarked};
 ghost use Rattle.rbg_pairs.specs.Part.{IsPart, HasMarksOf};
 
 use crate::marks::{LONG_LIST, are_marked, meet_each, unmark};

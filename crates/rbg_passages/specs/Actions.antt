@@ -1,5 +1,5 @@
 -- How the tokens of rules are cut into actions.
-use Rattle.std.specs.Prelude.{◌≡◌, ◌≢◌, ℕ, ◌+◌, ◌<◌, ◌||◌, Bool, true, false, List, [], ◌∷◌, ◌++◌, length, take, drop, slice_get, Some, All}
+use Rattle.std.specs.Prelude.{◌≡◌, ◌≢◌, ℕ, ◌+◌, ◌<◌, ◌||◌, Bool, true, false, List, [], ◌∷◌, length, take, drop, slice_get, Some, All}
 use Rattle.rbg_tokens.specs.Kinds.{is_name_kind, is_symbol}
 use Rattle.rbg_tokens.specs.declared.token.Token.{Token}
 use Rattle.rbg_tokens.specs.declared.token.TokenKind.{TokenKind}

@@ -1,5 +1,5 @@
 //! The actions that the tokens of rules spell, in order of their positions.
-ghost use Rattle.std.specs.Prelude.{◌≡◌, ◌↔◌, ◌<◌, ◌≤◌, IsTrue, IfOk, IfSome, IfNone, OnOk, All, length, map, true, if◌then◌else◌, ◌++◌, ◌∷◌, []};
+ghost use Rattle.std.specs.Prelude.{◌≡◌, ◌<◌, IfOk, IfSome, IfNone, OnOk, All, map, true, if◌then◌else◌, ◌++◌, ◌∷◌, []};
 ghost use Rattle.rbg_tokens.specs.declared.token.Token.{Token as AbstractToken};
 ghost use Rattle.rbg_tokens.specs.declared.token.TokenKind.TheVariants.{Symbol as OfSymbol};
 ghost use Rattle.rbg_tokens.specs.declared.token.Symbol.TheVariants.{OpenBrace, Arrow};

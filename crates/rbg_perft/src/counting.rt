@@ -1,7 +1,7 @@
 //! Sequences of moves, counted.
 ghost use Rattle.std.specs.Prelude.{◌≡◌, ◌≢◌, ℕ, ◌+◌, ◌<◌, ◌^◌, ◌⊎◌, length, suc, All, AllPairs, IfErr, IfNone, IfOk, IfSome, OnOk};
 ghost use Rattle.rbg_rules.specs.Meaning.{IsLegal, Legal, IsPlaceOf};
-ghost use Rattle.rbg_perft.specs.Counting.{AreCounted, AreCountedBehind, AreLegalMoves, Sums, TellsFinished};
+ghost use Rattle.rbg_perft.specs.Counting.{AreCounted, AreCountedBehind, AreLegalMoves, Sums};
 ghost use Rattle.rbg_perft.specs.Refusals.{IsNotCounted, IsNotCountedFrom, most_counted};
 ghost use Rattle.rbg_perft.specs.declared.extent.Extent.{Extent};
 ghost use Rattle.rbg_perft.specs.declared.extent.Extent.TheVariants.{Ends};

@@ -112,7 +112,7 @@ impl Seat {
         ensures lawful { IsGame self.now.game }
         ensures fits { IsPlaceOf self.now.game self.now.place }
     {
-        let _game = self.game.as_game();
+        self.game.is_accepted();
         let listed = self.game.list_moves(&self.place, MAX_CHOICES)?;
         Ok(listed.moves)
     }
@@ -129,6 +129,7 @@ fn choose_among<C: Chooser>(mut moves: Vec<Move>, chooser: &mut C) -> Option<Mov
     }
     let chosen = chooser.choose(moves.len());
     let answer = moves.swap_remove(chosen);
+    // Its length is below the greatest of any list in memory.
     let _pairs = answer.len();
     Some(answer)
 }

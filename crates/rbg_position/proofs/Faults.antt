@@ -1,6 +1,6 @@
 -- What a refusal says.
 use Rattle.std.proofs.Common.{◌≡◌, ◌≢◌, ℕ, List, Bool, true, false, not, sym, subst}
-use Rattle.std.specs.Prelude.{Result, Ok, Err, bytes_eq}
+use Rattle.std.specs.Prelude.{Result, Err, bytes_eq}
 use Rattle.std.proofs.lemmas.Slice.Eq.{bytes_eq-Decides}
 use Rattle.rbg_rules.specs.Meaning.{AbstractGame, AbstractPlace}
 use Rattle.rbg_moves.specs.Settling.{MeetsHeavy, IsEndless}

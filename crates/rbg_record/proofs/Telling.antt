@@ -14,12 +14,12 @@ use Rattle.rbg_lines.specs.Heading.{version_text, players_text, start_text, Have
 use Rattle.rbg_wire.specs.Lines.{lines_of}
 use Rattle.rbg_match.specs.declared.made.Made.{Made}
 use Rattle.rbg_match.specs.Config.{IsWithinLimits}
-use Rattle.rbg_match.specs.History.{LeadsTo, MadeInTurn, start_place, FitsOutcome}
+use Rattle.rbg_match.specs.History.{LeadsTo, MadeInTurn, FitsOutcome}
 use Rattle.rbg_match.specs.History as history
 use Rattle.rbg_match.specs.Limits.{latest_moment}
 use Rattle.rbg_record.specs.Records.{PlainMove, AbstractRecord, plain, timed, plain_entry, made_entry, texts_of, HasSpelling}
 use Rattle.rbg_record.specs.Right.{turn_config, told_play, made_at, FitsPlace, IsRight, IsRightRecord}
-use Rattle.rbg_record.specs.Lines.{Standing, Reached, version_next, players_next, start_next, entry_next, nothing_next, IsMomentFor, SpellsIn, EntryLeads, Leads, LeadTo, play_at}
+use Rattle.rbg_record.specs.Lines.{Standing, Reached, version_next, players_next, start_next, entry_next, nothing_next, SpellsIn, EntryLeads, Leads, LeadTo, play_at}
 use Rattle.rbg_record.specs.Lines as lines
 use Rattle.rbg_record.specs.Judged.{IsGoodByLines}
 use Rattle.rbg_record.proofs.Fitting.{fits_place, fits_same}

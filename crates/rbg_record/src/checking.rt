@@ -23,7 +23,7 @@ pub fn check_record(game: &PlayedGame, bytes: &[u8]) -> Result<Checked, RecordEr
     ensures over { (line : ℕ) → result ≡ Err (RecordError.Over line)
         → IsHeavyLine game.now bytes.now line }
 {
-    let _game = game.as_game();
+    game.is_accepted();
     judge_lines(game, bytes)
 }
 

@@ -41,7 +41,7 @@ pub fn migrate(alloc: Global, game: &Game, bytes: &[u8]) -> Result<Vec<u8>, Reco
     ensures form { (line : ℕ) → result ≡ Err (RecordError.Form line) → IsPlainFault bytes.now line }
     ensures never_over { (line : ℕ) → ¬ (result ≡ Err (RecordError.Over line)) }
 {
-    let _positions = game.positions();
+    game.is_accepted();
     let mut out = Vec::new(alloc);
     let mut part = Part::Version;
     let mut rest = bytes;

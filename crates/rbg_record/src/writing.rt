@@ -16,6 +16,7 @@ use std::alloc::Global;
 pub fn write_record(alloc: Global, played: &Match) -> Result<Vec<u8>, Memory>
     ensures { WritesRecord played.now (timed (record_of played.now)) result }
 {
+    // The game is lawful.
     let _players = played.players();
     let mut out = Vec::new(alloc);
     write_version(Version::Two, &mut out)?;
@@ -33,6 +34,7 @@ pub fn write_record(alloc: Global, played: &Match) -> Result<Vec<u8>, Memory>
 pub fn write_record_1(alloc: Global, played: &Match) -> Result<Vec<u8>, Memory>
     ensures { WritesRecord played.now (plain (plain_record_of played.now)) result }
 {
+    // The game is lawful.
     let _players = played.players();
     let mut out = Vec::new(alloc);
     write_version(Version::One, &mut out)?;

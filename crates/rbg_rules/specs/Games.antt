@@ -1,7 +1,8 @@
 -- What holds of every game that was accepted.
 use Rattle.std.specs.Prelude.{◌≡◌, ℕ, suc, ◌^◌, ◌<◌, ◌≤◌, ◌⊎◌, length, take, All}
 use Rattle.rbg_board.specs.Graph.{IsClosed}
-use Rattle.rbg_rules.specs.Limits.{most_players, most_pieces, most_variables, greatest_bound, most_directions, most_positions, most_vertices, most_nested_patterns}
+use Rattle.rbg_board.specs.Limits.{most_vertices}
+use Rattle.rbg_rules.specs.Limits.{most_players, most_pieces, most_variables, greatest_bound, most_directions, most_positions, most_nested_patterns}
 use Rattle.rbg_rules.specs.LawfulNames.{AreLawfulNames}
 use Rattle.rbg_rules.specs.Expression.{AbstractArithmetic, number, variable, piece_count, negated, sum, difference, product, quotient, AbstractAction, shift, on, off, assignment, comparison, switch, positive, negative, Expression, act, skip, sequence, fail, choice, star}
 use Rattle.rbg_rules.specs.Positions.{HasAction, positions_of, IsNumbered, IsLevel, inside}

@@ -20,9 +20,6 @@ most_directions = 64
 abbrev pub most_positions : ℕ
 most_positions = 20000
 
-abbrev pub most_vertices : ℕ
-most_vertices = 4096
-
 -- patterns one inside the other
 abbrev pub most_nested_patterns : ℕ
 most_nested_patterns = 8

@@ -1,4 +1,5 @@
 -- The words of the meaning that other crates use, on one page: where each is defined is said here.
+pub use Rattle.rbg_board.specs.Limits.{most_vertices}
 pub use Rattle.rbg_rules.specs.State.{AbstractGame, AbstractState, IsStateOf, start_of}
 pub use Rattle.rbg_rules.specs.Positions.{HasAction, HasInside, HasNoModifier, HasNoSwitch, HasOwnAction, IsLevel, IsModifierAt, IsNumbered, IsPatternAt, IsPatternOf, IsSwitchAt, Level, inside, is_modifier, is_pattern, outermost, positions_inside, positions_of}
 pub use Rattle.rbg_rules.specs.Words.{Ends, Follows, Repeats, Start, Word, WordOf, after, again, beginning, done}
@@ -9,7 +10,7 @@ pub use Rattle.rbg_rules.specs.Questions.{AnswersBehind, Forced, GoesTo, HasForc
 pub use Rattle.rbg_rules.specs.Actions.{Acts, ActsIn, Applies, Run, Runs, rest, step}
 pub use Rattle.rbg_rules.specs.Places.{IsLastOf, IsPlaceOf}
 pub use Rattle.rbg_rules.specs.Translation.{Change, act_of, action_at, action_of, arithmetic_of, changed, expression_of, operated, operation_of, pattern_of, rules_of, shows_pattern}
-pub use Rattle.rbg_rules.specs.Limits.{greatest_bound, most_directions, most_modifiers, most_nested_patterns, most_openings, most_pieces, most_players, most_positions, most_variables, most_vertices}
+pub use Rattle.rbg_rules.specs.Limits.{greatest_bound, most_directions, most_modifiers, most_nested_patterns, most_openings, most_pieces, most_players, most_positions, most_variables}
 pub use Rattle.rbg_rules.specs.Heavy.{IsHeavyToFind, IsHeavyToTry, IsTooHard}
 pub use Rattle.rbg_rules.specs.LawfulNames.{AreDifferentNames, AreLawfulNames, AreNames}
 pub use Rattle.rbg_rules.specs.Laws.{IsJoinOfWords, IsStart, SameButVertex}

@@ -32,9 +32,9 @@ abbrev pub stand_of : Option ℕ → Start
 stand_of None = beginning outermost
 stand_of (Some i) = after i
 
--- The pairs are a move from one place to the other (paper): some positions follow from where the place stands, run
--- from its semi-state to the new one with these pairs, and have exactly one switch, at their end. The new place
--- stands after that switch. No limit is in it.
+-- The pairs are a move from one place to the other (paper): the rules allow a sequence of actions from the place that
+-- can be carried out, has its only switch last, and leaves these pairs. The new place has the semi-state that they lead
+-- to, and stands after that switch. No limit is in it.
 pub record Legal (game : AbstractGame) (from : AbstractPlace) (ps : List (ℕ × ℕ)) (to : AbstractPlace) : Type 0 where
   pub before : List ℕ
   pub last : ℕ

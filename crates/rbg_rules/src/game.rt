@@ -1,10 +1,9 @@
 //! A checked game: the names of its things with their numbers, its board, its rules and the table of its actions.
-ghost use Rattle.std.specs.Prelude.{◌≡◌, ◌<◌, ◌≤◌, ◌+◌, ◌-◌, IfOk, IsTrue, ◌↔◌, length, slice_get, Some, string_bytes};
+ghost use Rattle.std.specs.Prelude.{◌≡◌, ◌<◌, ◌≤◌, ◌-◌, IsTrue, ◌↔◌, length, slice_get, Some};
 ghost use Rattle.rbg_rules.specs.Games.{IsGame};
 ghost use Rattle.rbg_rules.specs.Table.{Stands};
 ghost use Rattle.rbg_rules.specs.Translation.{rules_of};
 ghost use Rattle.rbg_rules.specs.Positions.{positions_of, IsPatternAt};
-ghost use Rattle.rbg_rules.specs.Texts.{texts};
 
 use crate::rule::{Action, Rules};
 use rbg_base::{Direction, Piece, Player, Position, Variable};
@@ -147,6 +146,12 @@ impl Game {
     {
         &self.parts.board
     }
+
+    /// For proofs alone: the game is an accepted one. It does nothing.
+    #[inline(always)]
+    pub fn is_accepted(&self)
+        ensures { IsGame self.now }
+    {}
 
     /// How many positions there are. They are numbered from 1.
     pub fn positions(&self) -> usize

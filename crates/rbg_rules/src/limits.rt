@@ -1,6 +1,9 @@
 //! How much a game may have, and how much a question may open.
 ghost use Rattle.std.specs.Prelude.{◌≡◌};
-ghost use Rattle.rbg_rules.specs.Limits.{most_players, most_pieces, most_variables, greatest_bound, most_directions, most_positions, most_vertices, most_nested_patterns, most_openings, most_modifiers};
+ghost use Rattle.rbg_board.specs.Limits.{most_vertices};
+ghost use Rattle.rbg_rules.specs.Limits.{most_players, most_pieces, most_variables, greatest_bound, most_directions, most_positions, most_nested_patterns, most_openings, most_modifiers};
+
+pub use rbg_board::MAX_VERTICES;
 
 /// The most players. The keeper isn't counted.
 pub const MAX_PLAYERS: usize = 8;
@@ -19,9 +22,6 @@ pub const MAX_DIRECTIONS: usize = 64;
 
 /// The most positions: the actions of the rules, and those inside patterns.
 pub const MAX_POSITIONS: usize = 20_000;
-
-/// The most vertices.
-pub const MAX_VERTICES: usize = 4_096;
 
 /// The most patterns one inside the other.
 pub const MAX_NESTED_PATTERNS: usize = 8;

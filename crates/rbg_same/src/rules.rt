@@ -20,9 +20,9 @@ pub(crate) fn put_rule(rule: &Rule, actions: &[Action], key: &mut Vec<Mark>) -> 
     match rule {
         Rule::Act(position) => put_act(*position, actions, key),
         Rule::Pattern { position, inside } => match pattern_at(*position, actions) {
-            Some(kind) => {
+            Some(mark) => {
                 put_rule(inside, actions, key)?;
-                put_pattern(kind, *position, key)
+                put_pattern(mark, *position, key)
             }
             None => put(Mark::Fail, key),
         },
@@ -87,10 +87,10 @@ fn put_known(position: Position, action: &Action, key: &mut Vec<Mark>) -> Result
 }
 
 /// Appends what stands behind the key of a pattern's inside.
-fn put_pattern(kind: Mark, position: Position, key: &mut Vec<Mark>) -> Result<(), Memory>
-    ensures { OnOk result (key.new.items ≡ key.old.items ++ (kind ∷ []) ++ (ActMark position ∷ [])) }
+fn put_pattern(mark: Mark, position: Position, key: &mut Vec<Mark>) -> Result<(), Memory>
+    ensures { OnOk result (key.new.items ≡ key.old.items ++ (mark ∷ []) ++ (ActMark position ∷ [])) }
 {
-    put(kind, key)?;
+    put(mark, key)?;
     put(Mark::Act(position), key)
 }
 
@@ -106,25 +106,25 @@ fn find_action(position: Position, actions: &[Action]) -> Option<&Action>
     }
 }
 
-/// The kind of the pattern at a position, if one stands there.
+/// The mark of the pattern at a position, if one stands there.
 fn pattern_at(position: Position, actions: &[Action]) -> Option<Mark>
-    ensures found { IfSome result (λ kind. (x : Expression)
+    ensures found { IfSome result (λ mark. (x : Expression)
         → rules_key (pattern_of position (action_at actions.now position) x)
-        ≡ rules_key x ++ (kind ∷ []) ++ (ActMark position ∷ [])) }
+        ≡ rules_key x ++ (mark ∷ []) ++ (ActMark position ∷ [])) }
     ensures none { IfNone result ((x : Expression)
         → pattern_of position (action_at actions.now position) x ≡ fail) }
 {
     match find_action(position, actions) {
-        Some(action) => pattern_kind(action),
+        Some(action) => pattern_mark(action),
         None => None,
     }
 }
 
-/// The kind of a pattern, if the action is one.
-fn pattern_kind(action: &Action) -> Option<Mark>
-    ensures found { IfSome result (λ kind. (position : ℕ) (x : Expression)
+/// The mark of a pattern, if the action is one.
+fn pattern_mark(action: &Action) -> Option<Mark>
+    ensures found { IfSome result (λ mark. (position : ℕ) (x : Expression)
         → rules_key (pattern_of position (Some action.now) x)
-        ≡ rules_key x ++ (kind ∷ []) ++ (ActMark position ∷ [])) }
+        ≡ rules_key x ++ (mark ∷ []) ++ (ActMark position ∷ [])) }
     ensures none { IfNone result ((position : ℕ) (x : Expression)
         → pattern_of position (Some action.now) x ≡ fail) }
 {

@@ -1,5 +1,5 @@
 //! The calls that write a line of a script at the end of a list of bytes.
-ghost use Rattle.std.specs.Prelude.{◌≡◌, ◌++◌, ◌<◌, ◌^◌, All, codes, decimal, slice_index};
+ghost use Rattle.std.specs.Prelude.{◌≡◌, ◌++◌, ◌<◌, All, codes, decimal, slice_index};
 ghost use Rattle.std.specs.List.{flat_map};
 ghost use Rattle.hex.specs.Hex.{lower_digits};
 ghost use Rattle.rbg_wire.specs.Writing.{Appends, AppendsAll};

@@ -1,6 +1,5 @@
 //! Making a script of a record, line by line.
-ghost use Rattle.std.specs.Prelude.{◌≡◌, ◌∷◌, ◌++◌, ◌↔◌, [], ℕ, List, IfOk, IfSome, IfNone, IsErrOf, IsTrue, Err};
-ghost use Rattle.rbg_lines.specs.declared.entry.Timed.{Timed as AnyTimed};
+ghost use Rattle.std.specs.Prelude.{◌≡◌, ◌↔◌, ℕ, List, IfOk, IfSome, IfNone, IsTrue, Err};
 ghost use Rattle.rbg_scripting.specs.Scripting.{HasForm, IsNoRecord, IsScriptOfRecord};
 ghost use Rattle.rbg_scripting.specs.internal.Telling.{TellsNext, part_behind};
 

@@ -8,7 +8,7 @@ use Rattle.rbg_leaps.specs.Leaps.{IsShiftAt}
 use Rattle.rbg_auto.specs.Steps.{AreAllThatFollow}
 use Rattle.rbg_pairs.specs.Flat.{IsFlatPart}
 use Rattle.rbg_pairs.specs.Start.{IsPositionOf}
-use Rattle.rbg_pairs.specs.Closure.{Reached}
+use Rattle.rbg_pairs.specs.Closure.{IsReached}
 use Rattle.rbg_pairs.specs.Meeting.{MeetsAll}
 use Rattle.rbg_pairs.specs.Part.{IsTrialAt, IsPart}
 use Rattle.rbg_state.specs.declared.state.trials.Trial.TheVariants.{Modifies}
@@ -50,7 +50,7 @@ module _ (game : AbstractGame) (numbered : IsNumbered game.rules) (s : AbstractS
   unfolding alone
   alone_whole = whole_part game s f numbered alone alone ends part
 
-  pub alone_met : (v q : ℕ) → Reached game s f v q → Contains {X = ℕ × ℕ} ((s.vertex, p) ∷ []) (v, q)
+  pub alone_met : (v q : ℕ) → IsReached game s f v q → Contains {X = ℕ × ℕ} ((s.vertex, p) ∷ []) (v, q)
   unfolding alone
   alone_met v q = all_met game s f numbered alone alone ends part v q
 

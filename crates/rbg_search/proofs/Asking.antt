@@ -7,7 +7,7 @@ use Rattle.rbg_rules.proofs.MoveLemmas.{pattern_law}
 use Rattle.rbg_state.specs.History.{History, states_of, capacity_of, IsAfter}
 use Rattle.rbg_state.proofs.Histories.{no_shorter}
 use Rattle.rbg_pairs.specs.Flat.{IsFlatPart}
-use Rattle.rbg_pairs.specs.Closure.{at_vertex, Reached}
+use Rattle.rbg_pairs.specs.Closure.{at_vertex, IsReached}
 use Rattle.rbg_search.specs.internal.Behind.{IsReady, RunsBehindPair, SomeRunsBehind}
 use Rattle.rbg_pairs.specs.Start.{IsPositionOf}
 use Rattle.rbg_pairs.specs.Part.{IsTrialAt}
@@ -48,7 +48,7 @@ pattern_fails game numbered s v p pattern fails = λ t applies.
     fails (subst (λ (u : AbstractState). Applies game p (at_vertex s v) u) (pattern_law game numbered p pattern.inside_it pattern.stands (at_vertex s v) t applies) applies)
 
 -- In a pattern that is reached patterns nest one less deep.
-pub reached_nests : (game : AbstractGame) → IsNumbered game.rules → (s : AbstractState) (f : Start) (n : ℕ) → NestsFrom game.rules n f → (v p : ℕ) → Reached game s f v p → IsPatternAt game.rules p → (less : ℕ) × (n ≡ suc less) × NestsFrom game.rules less (beginning (inside p))
+pub reached_nests : (game : AbstractGame) → IsNumbered game.rules → (s : AbstractState) (f : Start) (n : ℕ) → NestsFrom game.rules n f → (v p : ℕ) → IsReached game s f v p → IsPatternAt game.rules p → (less : ℕ) × (n ≡ suc less) × NestsFrom game.rules less (beginning (inside p))
 reached_nests game numbered s f n nests v p reached pattern =
     let words = by_words game numbered s f v p reached in
     nests_inside game.rules numbered n f nests words.before p words.follows pattern.inside_it pattern.stands

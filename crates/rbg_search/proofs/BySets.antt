@@ -12,7 +12,7 @@ use Rattle.rbg_flat.proofs.ChainLemmas.{candidate_of, met_of}
 use Rattle.rbg_flat.proofs.Steps.{all_marked}
 use Rattle.rbg_pairs.specs.Flat.{IsNext, IsFlatPart}
 use Rattle.rbg_search.specs.internal.BySets.{IsBegunBySets, IsWhole, AreAsked, IsToBeAsked}
-use Rattle.rbg_pairs.specs.Closure.{at_vertex, Reached}
+use Rattle.rbg_pairs.specs.Closure.{at_vertex, IsReached}
 use Rattle.rbg_search.proofs.Asking.{no_modifier}
 use Rattle.rbg_pairs.proofs.Closures.{found_next, next_found}
 use Rattle.rbg_search.proofs.Takings.{is_candidate, is_reached, no_shift, no_modifier_shift}
@@ -43,11 +43,11 @@ module _ (game : AbstractGame) (numbered : IsNumbered game.rules) (s : AbstractS
           }
 
   -- What is to be asked is reached.
-  pub asked_reached : (flat : Flat) (v p : ℕ) → IsBegunBySets game s f flat → IsToBeAsked game flat v p → Reached game s f v p
+  pub asked_reached : (flat : Flat) (v p : ℕ) → IsBegunBySets game s f flat → IsToBeAsked game flat v p → IsReached game s f v p
   asked_reached flat v p begun next = is_reached game numbered s f v p (candidate_of game numbered s f v p (begun.begun.sound v p next.marked))
 
   -- Where nothing is left, each pattern that is reached was asked.
-  pub all_asked : (flat : Flat) (pairs : List (ℕ × ℕ)) → IsBegunBySets game s f flat → IsWhole flat → AreAsked game flat pairs → (v p : ℕ) → Reached game s f v p → IsPatternAt game.rules p → Contains pairs (v, p)
+  pub all_asked : (flat : Flat) (pairs : List (ℕ × ℕ)) → IsBegunBySets game s f flat → IsWhole flat → AreAsked game flat pairs → (v p : ℕ) → IsReached game s f v p → IsPatternAt game.rules p → Contains pairs (v, p)
   all_asked flat pairs begun whole asked v p reached pattern =
       let candidate : IsCandidate game s f v p = is_candidate game numbered s f v p reached (no_shift game.rules numbered p pattern) in
       let marked : IsMarked flat.sets v p = all_marked game s f (IsMarked flat.sets) (IsOpen flat.sets) flat.ends begun.begun whole.closed v p (met_of game numbered s f v p candidate) in

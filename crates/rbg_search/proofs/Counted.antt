@@ -8,7 +8,7 @@ use Rattle.rbg_search.specs.Searching.{Searching}
 use Rattle.rbg_pairs.specs.Flat.{IsNext, IsFlatPart}
 use Rattle.rbg_search.specs.Counting.{CountsOpenings, IsOverBudget}
 use Rattle.rbg_search.specs.Passing.{GoesOn, CountsUpTo, somewhere}
-use Rattle.rbg_pairs.specs.Closure.{at_vertex, Reached}
+use Rattle.rbg_pairs.specs.Closure.{at_vertex, IsReached}
 use Rattle.rbg_search.specs.internal.Asked.{StandsInPattern, CountsAsked, GoesBehind, IsCounted}
 use Rattle.rbg_search.specs.declared.over.Over.{Over}
 use Rattle.rbg_search.specs.declared.over.Over.TheVariants.{Deep, Wide, Memory}
@@ -70,7 +70,7 @@ module _ (game : AbstractGame) where
 
   -- ---- a flat part
 
-  module _ (numbered : IsNumbered game.rules) (s : AbstractState) (f : Start) (v p : ℕ) (met : Reached game s f v p) (is : IsPatternAt game.rules p) (done : List (ℕ × ℕ)) (once : ¬ Contains done (v, p)) where
+  module _ (numbered : IsNumbered game.rules) (s : AbstractState) (f : Start) (v p : ℕ) (met : IsReached game s f v p) (is : IsPatternAt game.rules p) (done : List (ℕ × ℕ)) (once : ¬ Contains done (v, p)) where
     -- A pattern was asked, and the question was given up there.
     pub asked_counted : (a b c most openings : ℕ) (D W : Type 0) → CountsAsked game s f done a b → IsCounted game pattern (at_vertex s v) (beginning (inside p)) b c most openings most D W → IsCounted game reach s f a c most openings most D W
     asked_counted a b c most openings D W counts more = record {

@@ -11,7 +11,7 @@ use Rattle.rbg_search.specs.Searching.{Searching}
 use Rattle.rbg_search.specs.Counting.{CountsOpenings, IsOverBudget}
 use Rattle.rbg_search.specs.Passing.{CountsUpTo, IsTooDeep, from_here, somewhere}
 use Rattle.rbg_search.specs.internal.Begun.{IsBegun}
-use Rattle.rbg_pairs.specs.Closure.{at_vertex, Reached}
+use Rattle.rbg_pairs.specs.Closure.{at_vertex, IsReached}
 use Rattle.rbg_search.specs.internal.Asked.{StandsInPattern, CountsAsked, GoesBehind, IsCounted}
 use Rattle.rbg_pairs.specs.declared.flat.Flat.{Flat}
 use Rattle.rbg_search.specs.declared.over.Over.{Over}
@@ -38,18 +38,18 @@ not_memory r e e' is memory other back = other (sym memory ∙ returned_is r e e
 
 -- ---- a flat part
 
-pub taken_reached : (game : AbstractGame) (s : AbstractState) (f : Start) (flat : Flat) (v p : ℕ) → IsBegun game s f flat → slice_get flat.queue.pairs flat.taken ≡ Some (v, p) → Reached game s f v p
+pub taken_reached : (game : AbstractGame) (s : AbstractState) (f : Start) (flat : Flat) (v p : ℕ) → IsBegun game s f flat → slice_get flat.queue.pairs flat.taken ≡ Some (v, p) → IsReached game s f v p
 taken_reached game s f flat v p begun at =
     let pairs = flat.queue.pairs in
     let there : Contains pairs (v, p) = (flat.taken, slice_get_within pairs flat.taken (v, p) at, get_or_from_slice_get pairs flat.taken (v, p) (v, p) at) in
-    All-contains (λ q. Reached game s f q.0 q.1) pairs (v, p) begun.part.sound there
+    All-contains (λ q. IsReached game s f q.0 q.1) pairs (v, p) begun.part.sound there
 
 -- A pattern was asked in a flat part.
 pub record AskStep (h : Searching) (s : AbstractState) (f : Start) (done : List (ℕ × ℕ)) (a b : ℕ) (D W : Type 0) : Type 0 where
   pub counts : CountsAsked h.game s f done a b
   pub gave_up : IsCounted h.game reach s f a b h.modifiers h.openings h.modifiers D W
 
-pub ask_step_at : (h k : Searching) (s u : History) (f : Start) (done : List (ℕ × ℕ)) (v p a b : ℕ) (D W : Type 0) → k ≡ record h { opened = k.opened; taken = k.taken } → u ≡ record s { room = u.room } → IsGame h.game → Reached h.game s.state f v p → IsPatternAt h.game.rules p → ¬ Contains done (v, p) → CountsAsked h.game s.state f done a k.opened → IsCounted k.game pattern (at_vertex u.state v) (beginning (inside p)) k.opened b k.modifiers k.openings k.modifiers D W → AskStep h s.state f (done ++ (v, p) ∷ []) a b D W
+pub ask_step_at : (h k : Searching) (s u : History) (f : Start) (done : List (ℕ × ℕ)) (v p a b : ℕ) (D W : Type 0) → k ≡ record h { opened = k.opened; taken = k.taken } → u ≡ record s { room = u.room } → IsGame h.game → IsReached h.game s.state f v p → IsPatternAt h.game.rules p → ¬ Contains done (v, p) → CountsAsked h.game s.state f done a k.opened → IsCounted k.game pattern (at_vertex u.state v) (beginning (inside p)) k.opened b k.modifiers k.openings k.modifiers D W → AskStep h s.state f (done ++ (v, p) ∷ []) a b D W
 ask_step_at h k s u f done v p a b D W kept given lawful met is fresh so_far asked =
     let asked_here : IsCounted h.game pattern (at_vertex s.state v) (beginning (inside p)) k.opened b h.modifiers h.openings h.modifiers D W =
     search_before (λ y w. IsCounted y.game pattern (at_vertex w v) (beginning (inside p)) k.opened b y.modifiers y.openings y.modifiers D W) h k s u kept given asked in

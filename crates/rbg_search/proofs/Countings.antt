@@ -8,7 +8,7 @@ use Rattle.rbg_rules.proofs.TrimLemmas.{empty_opening_law}
 use Rattle.rbg_pairs.specs.Flat.{IsNext}
 use Rattle.rbg_search.specs.Counting.{CountsOpenings, IsOverBudget}
 use Rattle.rbg_search.specs.Passing.{asking, GoesOn, IsTooDeep, from_here}
-use Rattle.rbg_pairs.specs.Closure.{at_vertex, Reached}
+use Rattle.rbg_pairs.specs.Closure.{at_vertex, IsReached}
 use Rattle.rbg_search.specs.internal.Asked.{StandsInPattern, BeginsAsked, CountsAsked, GoesBehind}
 use Rattle.rbg_search.proofs.Openings.{in_pattern}
 use Rattle.rbg_search.proofs.Counts.{counts_such, joined, over_such, weaker}
@@ -56,7 +56,7 @@ module _ (game : AbstractGame) where
   asked_end s f done old new counts = counts_such counts
 
   -- One more pattern is asked.
-  pub asked_joined : (numbered : IsNumbered game.rules) (s : AbstractState) (f : Start) (v p : ℕ) → Reached game s f v p → IsPatternAt game.rules p → (done : List (ℕ × ℕ)) (a b n : ℕ) → CountsAsked game s f done a b → ¬ Contains done (v, p) → HasOpenings game pattern (at_vertex s v) (beginning (inside p)) n → CountsAsked game s f (done ++ (v, p) ∷ []) a (b + n)
+  pub asked_joined : (numbered : IsNumbered game.rules) (s : AbstractState) (f : Start) (v p : ℕ) → IsReached game s f v p → IsPatternAt game.rules p → (done : List (ℕ × ℕ)) (a b n : ℕ) → CountsAsked game s f done a b → ¬ Contains done (v, p) → HasOpenings game pattern (at_vertex s v) (beginning (inside p)) n → CountsAsked game s f (done ++ (v, p) ∷ []) a (b + n)
   asked_joined numbered s f v p reached is done a b n counts once has =
       joined BeginsAsked done (done ++ (v, p) ∷ []) (pattern_at v p)
       (in_pattern game numbered reach s f v p refl reached is)
@@ -64,15 +64,15 @@ module _ (game : AbstractGame) where
       (asked_more_pairs done (done ++ (v, p) ∷ []) (λ x there. Contains-append_left done ((v, p) ∷ []) x there))
       (λ o. Contains-push done (v, p)) a b n counts has
 
-  pub asked_more : (numbered : IsNumbered game.rules) (s : AbstractState) (f : Start) (v p : ℕ) → Reached game s f v p → IsPatternAt game.rules p → (done : List (ℕ × ℕ)) (a b c : ℕ) → CountsAsked game s f done a b → ¬ Contains done (v, p) → CountsOpenings game pattern (at_vertex s v) (beginning (inside p)) b c → CountsAsked game s f (done ++ (v, p) ∷ []) a c
+  pub asked_more : (numbered : IsNumbered game.rules) (s : AbstractState) (f : Start) (v p : ℕ) → IsReached game s f v p → IsPatternAt game.rules p → (done : List (ℕ × ℕ)) (a b c : ℕ) → CountsAsked game s f done a b → ¬ Contains done (v, p) → CountsOpenings game pattern (at_vertex s v) (beginning (inside p)) b c → CountsAsked game s f (done ++ (v, p) ∷ []) a c
   asked_more numbered s f v p reached is done a b c counts once more =
       subst (λ (x : ℕ). CountsAsked game s f (done ++ (v, p) ∷ []) a x) (sym more.sum) (asked_joined numbered s f v p reached is done a b more.added counts once more.openings)
 
-  pub over_asked : (numbered : IsNumbered game.rules) (s : AbstractState) (f : Start) (v p : ℕ) → Reached game s f v p → IsPatternAt game.rules p → (done : List (ℕ × ℕ)) (a b most : ℕ) → CountsAsked game s f done a b → ¬ Contains done (v, p) → IsOverBudget game pattern (at_vertex s v) (beginning (inside p)) b most → IsOverBudget game reach s f a most
+  pub over_asked : (numbered : IsNumbered game.rules) (s : AbstractState) (f : Start) (v p : ℕ) → IsReached game s f v p → IsPatternAt game.rules p → (done : List (ℕ × ℕ)) (a b most : ℕ) → CountsAsked game s f done a b → ¬ Contains done (v, p) → IsOverBudget game pattern (at_vertex s v) (beginning (inside p)) b most → IsOverBudget game reach s f a most
   over_asked numbered s f v p reached is done a b most counts once over =
       over_such (asked_joined numbered s f v p reached is done a b over.added counts once over.openings) most over.more
 
-  pub deep_asked : (numbered : IsNumbered game.rules) (s : AbstractState) (f : Start) (v p : ℕ) → Reached game s f v p → IsPatternAt game.rules p → (most : ℕ) → IsDeep game pattern (at_vertex s v) (beginning (inside p)) most → IsDeep game reach s f most
+  pub deep_asked : (numbered : IsNumbered game.rules) (s : AbstractState) (f : Start) (v p : ℕ) → IsReached game s f v p → IsPatternAt game.rules p → (most : ℕ) → IsDeep game pattern (at_vertex s v) (beginning (inside p)) most → IsDeep game reach s f most
   deep_asked numbered s f v p reached is most deep = record {
     before = pattern_at v p ∷ deep.before;
     row = deep.row;

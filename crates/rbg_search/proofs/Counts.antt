@@ -7,7 +7,7 @@ use Rattle.std.proofs.lemmas.List.Kept.{AllPairs-cons}
 use Rattle.rbg_rules.specs.Meaning.{IsNumbered, IsSwitchAt, Start, after, AbstractGame, AbstractState, Applies, Question, reach, Item, modifier_at, pattern_at, items_of, GoesTo, Opening, at, behind, HasOpenings}
 use Rattle.rbg_pairs.specs.Flat.{IsNext}
 use Rattle.rbg_search.specs.Counting.{CountsOpenings, IsOverBudget}
-use Rattle.rbg_search.specs.Passing.{Passes, BeginsAmong, CountsSuch, CountsUpTo}
+use Rattle.rbg_search.specs.Passing.{Passes, BeginsAmong, CountsBeginning, CountsUpTo}
 use Rattle.rbg_pairs.specs.Closure.{at_vertex}
 use Rattle.rbg_search.proofs.Openings.{lifted, reach_opens}
 
@@ -61,7 +61,7 @@ reach_begins game s f done o (behind {t = t} {p = p} {more = more} on none follo
 
 -- Openings that are counted, and those of another question with an item in front.
 module _ {game : AbstractGame} {question question' : Question} {s s' : AbstractState} {f f' : Start} (Begins : List (ℕ × ℕ) → List Item → Type 0) (done done' : List (ℕ × ℕ)) (x : Item) (lift : (o : List Item) → Opening game question' s' f' o → Opening game question s f (x ∷ o)) (once : (o : List Item) → ¬ Begins done (x ∷ o)) (still : (o : List Item) → Begins done o → Begins done' o) (first : (o : List Item) → Begins done' (x ∷ o)) where
-  pub joined : (a b n : ℕ) → CountsSuch Begins game question s f done a b → HasOpenings game question' s' f' n → CountsSuch Begins game question s f done' a (b + n)
+  pub joined : (a b n : ℕ) → CountsBeginning Begins game question s f done a b → HasOpenings game question' s' f' n → CountsBeginning Begins game question s f done' a (b + n)
   joined a b n counts has =
       let front : List Item → List Item = λ o. x ∷ o in
       let new : List (List Item) = map front has.openings in record {
@@ -86,8 +86,8 @@ module _ {game : AbstractGame} {question question' : Question} {s s' : AbstractS
           omega (arith, first, second, both, mapped)
 
 -- What is counted, with less said of how it begins, and as openings of the question.
-module _ {Begins : List (ℕ × ℕ) → List Item → Type 0} {game : AbstractGame} {question : Question} {s : AbstractState} {f : Start} {done : List (ℕ × ℕ)} {a b : ℕ} (counts : CountsSuch Begins game question s f done a b) where
-  pub weaker : (done' : List (ℕ × ℕ)) → ((o : List Item) → Begins done o → Begins done' o) → CountsSuch Begins game question s f done' a b
+module _ {Begins : List (ℕ × ℕ) → List Item → Type 0} {game : AbstractGame} {question : Question} {s : AbstractState} {f : Start} {done : List (ℕ × ℕ)} {a b : ℕ} (counts : CountsBeginning Begins game question s f done a b) where
+  pub weaker : (done' : List (ℕ × ℕ)) → ((o : List Item) → Begins done o → Begins done' o) → CountsBeginning Begins game question s f done' a b
   weaker done' still = record {
     openings = counts.openings;
     different = counts.different;

@@ -3,7 +3,7 @@ use Rattle.std.proofs.Common.{◌≡◌, ℕ, suc, ◌+◌, ◌<◌, ◌≤◌, 
 use Rattle.std.specs.Prelude.{Contains, Result, Ok, Err, IsOk, IsErrAnd, Some, slice_get, IsTrue, ◌↔◌}
 use Rattle.rbg_rules.specs.Meaning.{IsGame, IsStart, IsPatternAt, inside, IsStateOf, Start, beginning, Applies, reach, pattern}
 use Rattle.rbg_state.specs.History.{History}
-use Rattle.rbg_pairs.specs.Closure.{at_vertex, Reached}
+use Rattle.rbg_pairs.specs.Closure.{at_vertex, IsReached}
 use Rattle.rbg_pairs.specs.Nesting.{NestsFrom}
 use Rattle.rbg_pairs.specs.Plain.{HasPlain}
 use Rattle.rbg_pairs.specs.declared.flat.Flat.{Flat}
@@ -59,7 +59,7 @@ module _ {h k : Searching} {s l : History} {f : Start} {done : List (ℕ × ℕ)
   }
 
   -- A vertex is asked about a pattern.
-  module _ (v p : ℕ) (reached : Reached h.game s.state f v p) (there : IsPatternAt h.game.rules p) (fresh : ¬ Contains done (v, p)) {X : Type 0} {k' : Searching} {l' : History} {callee : Result X Over} (asked : IsAsked k k' l l' pattern (at_vertex l.state v) (beginning (inside p)) k.modifiers callee) where
+  module _ (v p : ℕ) (reached : IsReached h.game s.state f v p) (there : IsPatternAt h.game.rules p) (fresh : ¬ Contains done (v, p)) {X : Type 0} {k' : Searching} {l' : History} {callee : Result X Over} (asked : IsAsked k k' l l' pattern (at_vertex l.state v) (beginning (inside p)) k.modifiers callee) where
     step : AskStep h s.state f (done ++ (v, p) ∷ []) h.opened k'.opened (callee ≡ Err Deep) (callee ≡ Err Wide)
     step = ask_step_at h k s l f done v p h.opened k'.opened _ _ is.kept is.given_back is.lawful reached there fresh is.counted asked.counts
 
@@ -93,7 +93,7 @@ module _ {h k : Searching} {s l : History} {f : Start} {done : List (ℕ × ℕ)
     }
 
   -- What one owes who asks a vertex about a pattern.
-  pub asks_within : IsStateOf h.game s.state → (nested : ℕ) → NestsFrom h.game.rules nested f → (v p : ℕ) → Reached h.game s.state f v p → v < length k.game.board.first → IsPatternAt k.game.rules p → IsStateOf k.game l.state × ((1 ≤ l.room) × ((v < length l.state.pieces) × (IsPatternAt k.game.rules p × ((0 < nested) × ((n : ℕ) → nested ≡ suc n → NestsFrom k.game.rules n (beginning (inside p)))))))
+  pub asks_within : IsStateOf h.game s.state → (nested : ℕ) → NestsFrom h.game.rules nested f → (v p : ℕ) → IsReached h.game s.state f v p → v < length k.game.board.first → IsPatternAt k.game.rules p → IsStateOf k.game l.state × ((1 ≤ l.room) × ((v < length l.state.pieces) × (IsPatternAt k.game.rules p × ((0 < nested) × ((n : ℕ) → nested ≡ suc n → NestsFrom k.game.rules n (beginning (inside p)))))))
   asks_within fits nested nests v p reached vertex there =
       let fits_now : IsStateOf k.game l.state = onward IsStateOf h k s l is.kept is.given_back fits in
       let inner =
@@ -103,7 +103,7 @@ module _ {h k : Searching} {s l : History} {f : Start} {done : List (ℕ × ℕ)
       (fits_now, (omega (arith, is.enough), (omega (arith, size, vertex), (there, inner))))
 
   -- All patterns that are reached were asked.
-  pub finds_forced : ((v p : ℕ) → Reached h.game s.state f v p → IsPatternAt h.game.rules p → Contains done (v, p)) → (b : ℕ) → b ≡ k.opened → (cut : Bool) (left : ℕ) → CountsForced h.game cut reach s.state f h.opened b left h.modifiers
+  pub finds_forced : ((v p : ℕ) → IsReached h.game s.state f v p → IsPatternAt h.game.rules p → Contains done (v, p)) → (b : ℕ) → b ≡ k.opened → (cut : Bool) (left : ℕ) → CountsForced h.game cut reach s.state f h.opened b left h.modifiers
   finds_forced met b same cut left =
       subst (λ (n : ℕ). CountsForced h.game cut reach s.state f h.opened n left h.modifiers) (sym same)
       (asks_end h.game is.lawful.numbered cut s.state f done h.opened k.opened left h.modifiers met (is.forced cut))
@@ -170,7 +170,7 @@ module _ {h k : Searching} {s l : History} {f : Start} {flat : Flat} (is : Finds
   there_here : IsPatternAt h.game.rules p
   there_here = search_before (λ y z. IsPatternAt y.game.rules p) h k s l is.finds.kept is.finds.given_back next.pattern
 
-  pub reached_next : Reached h.game s.state f v p
+  pub reached_next : IsReached h.game s.state f v p
   reached_next = taken_reached h.game s.state f flat v p is.begun next.at
 
   module _ {X : Type 0} {k' : Searching} {l' : History} {callee : Result X Over} (asked : IsAsked k k' l l' pattern (at_vertex l.state v) (beginning (inside p)) k.modifiers callee) where
@@ -192,11 +192,11 @@ module _ {h k : Searching} {s l : History} {f : Start} {flat : Flat} (is : Finds
           }
 
 -- Nothing is left.
-module _ {h k : Searching} {s l : History} {f : Start} {flat : Flat} (is : FindsByPairs h k s l f flat) (met : (v p : ℕ) → Reached k.game l.state f v p → Contains (take flat.taken flat.queue.pairs) (v, p)) where
+module _ {h k : Searching} {s l : History} {f : Start} {flat : Flat} (is : FindsByPairs h k s l f flat) (met : (v p : ℕ) → IsReached k.game l.state f v p → Contains (take flat.taken flat.queue.pairs) (v, p)) where
   pub pairs_forced : (b : ℕ) → b ≡ k.opened → (cut : Bool) (left : ℕ) → CountsForced h.game cut reach s.state f h.opened b left h.modifiers
   pairs_forced =
       finds_forced is.finds
-      (λ v p reached _. search_before (λ y z. (v p : ℕ) → Reached y.game z f v p → Contains (take flat.taken flat.queue.pairs) (v, p)) h k s l is.finds.kept is.finds.given_back met v p reached)
+      (λ v p reached _. search_before (λ y z. (v p : ℕ) → IsReached y.game z f v p → Contains (take flat.taken flat.queue.pairs) (v, p)) h k s l is.finds.kept is.finds.given_back met v p reached)
 
   pub pairs_own : (k' : Searching) → k' ≡ record k { opened = k'.opened; taken = k'.taken } → k'.opened ≡ k.opened → (A : Type 0) → CountsPart k.game (HasPlain k.game.rules flat.queue.pairs) k.taken k'.taken → CountsPairs h.game reach s.state f h.opened k'.opened h.taken k'.taken A
   pairs_own k' kept same A counts =

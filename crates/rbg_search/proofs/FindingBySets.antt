@@ -6,7 +6,7 @@ use Rattle.rbg_state.specs.History.{History}
 use Rattle.rbg_flat.specs.declared.flat.Flat.{Flat}
 use Rattle.rbg_flat.specs.Found.{HasCandidates}
 use Rattle.rbg_pairs.specs.Flat.{IsFlatPart}
-use Rattle.rbg_pairs.specs.Closure.{at_vertex, Reached}
+use Rattle.rbg_pairs.specs.Closure.{at_vertex, IsReached}
 use Rattle.rbg_search.specs.Forced.{CountsForced}
 use Rattle.rbg_search.specs.Searching.{Searching}
 use Rattle.rbg_search.specs.Taken.{CountsPairs, most_pairs_of}
@@ -43,7 +43,7 @@ module _ {h k : Searching} {s l : History} {f : Start} {flat : Flat} (is : Finds
     next_here : IsToBeAsked h.game flat v p
     next_here = search_before (λ y z. IsToBeAsked y.game flat v p) h k s l is.finds.kept is.finds.given_back next
 
-    pub reached_here : Reached h.game s.state f v p
+    pub reached_here : IsReached h.game s.state f v p
     reached_here = asked_reached h.game is.finds.lawful.numbered s.state f flat v p is.begun next_here
 
     fresh : ¬ Contains is.pairs (v, p)

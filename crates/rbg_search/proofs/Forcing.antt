@@ -9,7 +9,7 @@ use Rattle.rbg_rules.proofs.PlaceLemmas.{RunPairs-Runs}
 use Rattle.rbg_rules.proofs.MoveLemmas.{Applies_one}
 use Rattle.rbg_pairs.specs.Flat.{IsNext, IsFlatPart}
 use Rattle.rbg_search.specs.Forced.{HasFewInRow, CountsForced, TakesBehind}
-use Rattle.rbg_pairs.specs.Closure.{at_vertex, Reached}
+use Rattle.rbg_pairs.specs.Closure.{at_vertex, IsReached}
 use Rattle.rbg_search.specs.internal.Taking.{AsksForced}
 use Rattle.rbg_flat.proofs.Lists.{no_longer}
 use Rattle.rbg_pairs.proofs.Closures.{reached, ends_at, next_found, behind_runs}
@@ -47,7 +47,7 @@ pub data IsForcedHere (game : AbstractGame) (cut : Bool) (s : AbstractState) (f 
   nothing : IsForcedHere game cut s f []
   asked :
       {v p : ℕ} {o : List Item} →
-      Reached game s f v p → IsPatternAt game.rules p →
+      IsReached game s f v p → IsPatternAt game.rules p →
       Forced game cut pattern (at_vertex s v) (beginning (inside p)) o →
       IsForcedHere game cut s f (pattern_at v p ∷ o)
 
@@ -158,7 +158,7 @@ module _ (game : AbstractGame) (numbered : IsNumbered game.rules) where
   }
 
   -- In the end they are all that is forced of `reach`.
-  pub asks_end : (cut : Bool) (s : AbstractState) (f : Start) (done : List (ℕ × ℕ)) (a b left most : ℕ) → ((v p : ℕ) → Reached game s f v p → IsPatternAt game.rules p → Contains done (v, p)) → AsksForced game cut s done a b most → CountsForced game cut reach s f a b left most
+  pub asks_end : (cut : Bool) (s : AbstractState) (f : Start) (done : List (ℕ × ℕ)) (a b left most : ℕ) → ((v p : ℕ) → IsReached game s f v p → IsPatternAt game.rules p → Contains done (v, p)) → AsksForced game cut s done a b most → CountsForced game cut reach s f a b left most
   asks_end cut s f done a b left most met asks = record {
     openings = asks.openings;
     all = λ o forced. there o (forced_here game numbered cut s f o forced);

@@ -9,7 +9,7 @@ use Rattle.rbg_rules.proofs.MoveLemmas.{Applies_one}
 use Rattle.rbg_rules.proofs.LocalityLemmas.{locality_law}
 use Rattle.rbg_pairs.specs.Flat.{IsNext}
 use Rattle.rbg_search.specs.Passing.{Passes, trying, finding, listing, asking}
-use Rattle.rbg_pairs.specs.Closure.{at_vertex, Reached}
+use Rattle.rbg_pairs.specs.Closure.{at_vertex, IsReached}
 use Rattle.rbg_pairs.proofs.Closures.{by_words, ends_at, next_found, quiet_place}
 
 -- A switch is a modifier.
@@ -204,7 +204,7 @@ module _ (game : AbstractGame) (numbered : IsNumbered game.rules) where
       behind run (goes_behind s later f v p applies question question' passes ps goes) there is opening
 
   -- An opening of the question of a pattern that is reached is one of the question in which it is reached.
-  pub in_pattern : (question : Question) (s : AbstractState) (f : Start) (v p : ℕ) → GoesTo game question s f [] → Reached game s f v p → IsPatternAt game.rules p → (o : List Item) → Opening game pattern (at_vertex s v) (beginning (inside p)) o → Opening game question s f (pattern_at v p ∷ o)
+  pub in_pattern : (question : Question) (s : AbstractState) (f : Start) (v p : ℕ) → GoesTo game question s f [] → IsReached game s f v p → IsPatternAt game.rules p → (o : List Item) → Opening game pattern (at_vertex s v) (beginning (inside p)) o → Opening game question s f (pattern_at v p ∷ o)
   in_pattern question s f v p goes reached is o opening =
       let words = by_words game numbered s f v p reached in
       let on : RunsOn game s f words.before (at_vertex s v) [] = record {

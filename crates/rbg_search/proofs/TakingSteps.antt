@@ -12,14 +12,14 @@ use Rattle.rbg_search.specs.Taken.{HasPart, CountsPairs, most_pairs_of}
 use Rattle.rbg_search.specs.internal.Asked.{StandsInPattern, GoesBehind}
 use Rattle.rbg_search.specs.internal.Begun.{IsBegun}
 use Rattle.rbg_pairs.specs.Plain.{HasPlain}
-use Rattle.rbg_pairs.specs.Closure.{at_vertex, Reached}
+use Rattle.rbg_pairs.specs.Closure.{at_vertex, IsReached}
 use Rattle.rbg_pairs.specs.declared.flat.Flat.{Flat}
 use Rattle.rbg_search.proofs.Counted.{found_behind, search_before, onward_search}
 use Rattle.rbg_search.proofs.Countings.{goes_behind}
 use Rattle.rbg_search.proofs.Takings.{is_candidate, no_shift, reached_pairs, own_part, any_part, pattern_part, behind_part, takes_then, takes_part_of}
 
 -- A pattern was asked in a flat part.
-pub asked_takes_at : (h k : Searching) (s u : History) (f : Start) (v p b w : ℕ) (A : Type 0) → k ≡ record h { opened = k.opened; taken = k.taken } → u ≡ record s { room = u.room } → IsGame h.game → Reached h.game s.state f v p → IsPatternAt h.game.rules p → CountsPairs h.game reach s.state f (h.opened + 1) k.opened h.taken k.taken (Unit {0}) → CountsPairs k.game pattern (at_vertex u.state v) (beginning (inside p)) k.opened b k.taken w A → CountsPairs h.game reach s.state f (h.opened + 1) b h.taken w A
+pub asked_takes_at : (h k : Searching) (s u : History) (f : Start) (v p b w : ℕ) (A : Type 0) → k ≡ record h { opened = k.opened; taken = k.taken } → u ≡ record s { room = u.room } → IsGame h.game → IsReached h.game s.state f v p → IsPatternAt h.game.rules p → CountsPairs h.game reach s.state f (h.opened + 1) k.opened h.taken k.taken (Unit {0}) → CountsPairs k.game pattern (at_vertex u.state v) (beginning (inside p)) k.opened b k.taken w A → CountsPairs h.game reach s.state f (h.opened + 1) b h.taken w A
 asked_takes_at h k s u f v p b w A kept given lawful met is so_far asked =
     let asked_here : CountsPairs h.game pattern (at_vertex s.state v) (beginning (inside p)) k.opened b k.taken w A =
     search_before (λ y z. CountsPairs y.game pattern (at_vertex z v) (beginning (inside p)) k.opened b k.taken w A) h k s u kept given asked in
@@ -31,12 +31,12 @@ contains_more : (pairs : List (ℕ × ℕ)) (n : ℕ) (q : ℕ × ℕ) → Conta
 contains_more pairs n q there = All-contains (Contains pairs) (take n pairs) q (All-take (Contains pairs) n pairs (All-contains_itself pairs)) there
 
 -- The flat part is whole.
-pub whole_takes : (h k : Searching) (s l : History) (f : Start) (flat : Flat) (many : ℕ) → k ≡ record h { opened = k.opened; taken = k.taken } → l ≡ record s { room = l.room } → IsGame h.game → IsBegun k.game l.state f flat → ((v p : ℕ) → Reached k.game l.state f v p → Contains (take flat.taken flat.queue.pairs) (v, p)) → HasPlain k.game.rules flat.queue.pairs many → many ≤ most_pairs_of k.game → HasPart h.game reach s.state f many
+pub whole_takes : (h k : Searching) (s l : History) (f : Start) (flat : Flat) (many : ℕ) → k ≡ record h { opened = k.opened; taken = k.taken } → l ≡ record s { room = l.room } → IsGame h.game → IsBegun k.game l.state f flat → ((v p : ℕ) → IsReached k.game l.state f v p → Contains (take flat.taken flat.queue.pairs) (v, p)) → HasPlain k.game.rules flat.queue.pairs many → many ≤ most_pairs_of k.game → HasPart h.game reach s.state f many
 whole_takes h k s l f flat many kept given lawful begun met has few =
     let pairs = flat.queue.pairs in
     let here : IsBegun h.game s.state f flat = search_before (λ y z. IsBegun y.game z f flat) h k s l kept given begun in
-    let met_here : (v p : ℕ) → Reached h.game s.state f v p → Contains (take flat.taken pairs) (v, p) =
-    search_before (λ y z. (v p : ℕ) → Reached y.game z f v p → Contains (take flat.taken pairs) (v, p)) h k s l kept given met in
+    let met_here : (v p : ℕ) → IsReached h.game s.state f v p → Contains (take flat.taken pairs) (v, p) =
+    search_before (λ y z. (v p : ℕ) → IsReached y.game z f v p → Contains (take flat.taken pairs) (v, p)) h k s l kept given met in
     own_part h.game reach s.state f many
     (reached_pairs h.game lawful.numbered s.state f pairs many here.part.sound (λ v p is. contains_more pairs flat.taken (v, p) (met_here v p is))
     (search_before (λ y z. HasPlain y.game.rules pairs many) h k s l kept given has))

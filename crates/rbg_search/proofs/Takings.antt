@@ -13,7 +13,7 @@ use Rattle.rbg_flat.specs.Found.{HasCandidates}
 use Rattle.rbg_search.specs.Passing.{Passes, trying, finding, listing, asking, GoesOn}
 use Rattle.rbg_search.specs.Taken.{ComesTo, begins, by_pattern, by_modifier, HasPart, CountsPairs, most_pairs_of}
 use Rattle.rbg_search.specs.declared.over.Over.{Over}
-use Rattle.rbg_pairs.specs.Closure.{at_vertex, Reached}
+use Rattle.rbg_pairs.specs.Closure.{at_vertex, IsReached}
 use Rattle.rbg_pairs.specs.Part.{IsPart}
 use Rattle.rbg_pairs.specs.Plain.{HasPlain}
 use Rattle.rbg_search.specs.internal.Spent.{IsSpent, IsSpentButOne}
@@ -33,13 +33,13 @@ is_answer (Err e) x is = cc
 
 -- ---- the pairs of one flat part
 
-pub is_candidate : (game : AbstractGame) → IsNumbered game.rules → (s : AbstractState) (f : Start) (v p : ℕ) → Reached game s f v p → ¬ IsShiftAt game.rules p → IsCandidate game s f v p
+pub is_candidate : (game : AbstractGame) → IsNumbered game.rules → (s : AbstractState) (f : Start) (v p : ℕ) → IsReached game s f v p → ¬ IsShiftAt game.rules p → IsCandidate game s f v p
 is_candidate game numbered s f v p is plain =
     let words = by_words game numbered s f v p is in
     record { before = words.before; here = at_vertex s v; no_modifier = words.no_modifier; runs = words.runs; vertex = refl; follows = words.follows; plain = plain }
 
-pub is_reached : (game : AbstractGame) → IsNumbered game.rules → (s : AbstractState) (f : Start) (v p : ℕ) → IsCandidate game s f v p → Reached game s f v p
-is_reached game numbered s f v p may = subst (λ (u : ℕ). Reached game s f u p) may.vertex (reached game numbered s may.here f may.before p may.no_modifier may.runs may.follows)
+pub is_reached : (game : AbstractGame) → IsNumbered game.rules → (s : AbstractState) (f : Start) (v p : ℕ) → IsCandidate game s f v p → IsReached game s f v p
+is_reached game numbered s f v p may = subst (λ (u : ℕ). IsReached game s f u p) may.vertex (reached game numbered s may.here f may.before p may.no_modifier may.runs may.follows)
 
 -- No shift stands where a pattern does.
 pub no_shift : (rules : Expression) → IsNumbered rules → (p : ℕ) → IsPatternAt rules p → ¬ IsShiftAt rules p
@@ -53,11 +53,11 @@ no_modifier_shift rules numbered p m other = false_not_true (ap is_modifier (one
     false_not_true e = cc
 
 -- All that is reached was met, and all that was met is reached.
-pub reached_pairs : (game : AbstractGame) → IsNumbered game.rules → (s : AbstractState) (f : Start) (pairs : List (ℕ × ℕ)) (many : ℕ) → All (λ q. Reached game s f q.0 q.1) pairs → ((v p : ℕ) → Reached game s f v p → Contains pairs (v, p)) → HasPlain game.rules pairs many → HasCandidates game s f many
+pub reached_pairs : (game : AbstractGame) → IsNumbered game.rules → (s : AbstractState) (f : Start) (pairs : List (ℕ × ℕ)) (many : ℕ) → All (λ q. IsReached game s f q.0 q.1) pairs → ((v p : ℕ) → IsReached game s f v p → Contains pairs (v, p)) → HasPlain game.rules pairs many → HasCandidates game s f many
 reached_pairs game numbered s f pairs many sound met has = record {
   pairs = has.plain;
   all = λ v p. (
-    (λ there. let both = (has.all v p).0 there in is_candidate game numbered s f v p (All-contains (λ q. Reached game s f q.0 q.1) pairs (v, p) sound both.0) both.1),
+    (λ there. let both = (has.all v p).0 there in is_candidate game numbered s f v p (All-contains (λ q. IsReached game s f q.0 q.1) pairs (v, p) sound both.0) both.1),
     (λ may. (has.all v p).1 (met v p (is_reached game numbered s f v p may), may.plain)),
   );
   different = has.different;

@@ -31,7 +31,7 @@ BeginsAmong done (pattern_at v p ∷ more) = Unit {0}
 
 -- The count grew from old to new by different openings of the question, each of which begins so by the pairs that are
 -- done.
-pub record CountsSuch
+pub record CountsBeginning
     (Begins : List (ℕ × ℕ) → List Item → Type 0) (game : AbstractGame) (question : Question) (s : AbstractState)
     (f : Start) (done : List (ℕ × ℕ)) (old new : ℕ)
     : Type 0
@@ -45,7 +45,7 @@ pub record CountsSuch
 -- .. none behind a modifier that isn't done.
 abbrev pub CountsUpTo :
     AbstractGame → Question → AbstractState → Start → (done : List (ℕ × ℕ)) → (old new : ℕ) → Type 0
-CountsUpTo game question s f done old new = CountsSuch BeginsAmong game question s f done old new
+CountsUpTo game question s f done old new = CountsBeginning BeginsAmong game question s f done old new
 
 -- An opening begins with this number of modifiers in a row.
 pub record HasRow

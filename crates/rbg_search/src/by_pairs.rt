@@ -4,7 +4,7 @@ ghost use Rattle.rbg_rules.specs.Meaning.{AbstractState, IsStateOf, IsPatternAt,
 ghost use Rattle.rbg_pairs.specs.Flat.{IsFlatPart};
 ghost use Rattle.rbg_pairs.specs.Start.{start_of};
 ghost use Rattle.rbg_search.specs.internal.Begun.{IsBegun};
-ghost use Rattle.rbg_pairs.specs.Closure.{at_vertex, Reached as Meets};
+ghost use Rattle.rbg_pairs.specs.Closure.{at_vertex, IsReached as Meets};
 ghost use Rattle.rbg_pairs.specs.Part.{HasMarksOf};
 ghost use Rattle.rbg_pairs.specs.Plain.{HasPlain};
 ghost use Rattle.rbg_search.specs.internal.Spent.{CountsPart, IsSpentButOne};
@@ -109,9 +109,11 @@ impl<'a, S: Steps> Search<'a, S> {
         ensures done { OnOk result (take flat.new.value.taken flat.new.value.queue.pairs
             ≡ take flat.old.value.taken flat.old.value.queue.pairs ++ (vertex, position) ∷ []) }
     {
+        // The game is lawful, and the position a number of 16 bits.
         let _game = self.rules.game();
         let _position = position;
         flat.take(&self.rules, trial_of(vertex, valid))?;
+        // What is taken is a number of the machine.
         let _taken = flat.taken;
         Ok(())
     }

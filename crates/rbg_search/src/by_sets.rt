@@ -1,5 +1,5 @@
 //! Flat parts that are found by sets of vertices: what a search does with one.
-ghost use Rattle.std.specs.Prelude.{◌≡◌, ◌<◌, length, IfOk, IfErr, IfSome, IfNone, OnOk, OnErr};
+ghost use Rattle.std.specs.Prelude.{◌≡◌, ◌<◌, IfOk, IfErr, IfSome, IfNone, OnOk, OnErr};
 ghost use Rattle.rbg_rules.specs.Meaning.{IsStart, IsStateOf, Start};
 ghost use Rattle.rbg_flat.specs.Found.{HasCandidates};
 ghost use Rattle.rbg_flat.specs.Paths.{ArePathsOf};

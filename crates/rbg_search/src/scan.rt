@@ -11,7 +11,7 @@ ghost use Rattle.rbg_search.specs.internal.Straight.{IsScanned, IsTold};
 
 use crate::over::Over;
 use crate::search::Search;
-use crate::single::only;
+use crate::single::only_position;
 use rbg_auto::{Expr, Steps};
 use rbg_base::{Position, Vertex};
 use rbg_pairs::{GameSteps, Origin, one_more, tried};
@@ -41,7 +41,7 @@ pub(crate) fn scan_inside<S: Steps>(
         (beginning (inside pattern)) scan.ends scan.pairs) }
 {
     let begin = Origin::Begin(Expr::Inside(pattern));
-    let mut position = only(rules.following(begin))?;
+    let mut position = only_position(rules.following(begin))?;
     let mut vertex = vertex;
     let mut ends = rules.may_end(begin);
     let mut pairs = 0;

@@ -16,7 +16,7 @@ ghost use Rattle.rbg_search.specs.internal.Behind.{IsReady, RunsBehindPair, Some
 ghost use Rattle.rbg_pairs.specs.Closure.{at_vertex};
 ghost use Rattle.rbg_pairs.specs.Nesting.{NestsFrom};
 ghost use Rattle.rbg_auto.specs.Steps.{AreAllThatFollow};
-ghost use Rattle.rbg_pairs.specs.Part.{HasMarksOf, IsTrialAt};
+ghost use Rattle.rbg_pairs.specs.Part.{IsTrialAt};
 ghost use Rattle.rbg_search.specs.internal.Spent.{IsSpent, IsSpentButOne};
 ghost use Rattle.rbg_search.specs.internal.Straight.{IsTold};
 
@@ -107,7 +107,7 @@ impl<'a, S: Steps> Search<'a, S> {
         ensures opened { result.opened ≡ 0 }
         ensures taken { result.taken ≡ 0 }
     {
-        let _positions = game.positions();
+        game.is_accepted();
         let rules = GameSteps::new(game, steps, None);
         Search::by_rules(alloc, rules, budget, buffers)
     }
@@ -211,7 +211,7 @@ impl<'a, S: Steps> Search<'a, S> {
         ensures found { IfOk result (λ ends. HasReached self.old self.new state.old state.new
             (start_of origin) pairs.new ends) }
     {
-        if let Some(position) = self.only(state, origin) {
+        if let Some(position) = self.only_modifier(state, origin) {
             let ends = self.reach_only(state, origin, position)?;
             pairs.clear();
             pairs.push(state.vertex(), position)?;
@@ -243,7 +243,7 @@ impl<'a, S: Steps> Search<'a, S> {
     /// The one modifier that comes next, if there is one alone and it is valid, as far as that is told without a try: then
     /// `reach_only` does what `reach_into` does, and needs no list.
     #[inline(always)]
-    pub fn only(&self, state: &SemiState, origin: Origin) -> Option<Position>
+    pub fn only_modifier(&self, state: &SemiState, origin: Origin) -> Option<Position>
         requires { IsStateOf self.now.game state.now.state }
         ensures only { IfSome result (λ p.
             AreAllThatFollow self.now.game.rules (start_of origin) (p ∷ [])) }
@@ -272,6 +272,7 @@ impl<'a, S: Steps> Search<'a, S> {
         ensures found { IfOk result (λ ends. HasReached self.old self.new state.old state.new
             (start_of origin) ((state.old.state.vertex, position) ∷ []) ends) }
     {
+        // The budget's modifiers are a number of 16 bits.
         let _modifiers = self.budget.modifiers;
         self.enter(state)?;
         let ends = self.rules.may_end(origin);
@@ -306,6 +307,7 @@ impl<'a, S: Steps> Search<'a, S> {
         ensures none_taken { self.new.taken ≡ self.old.taken }
         ensures spent { IsSpent self.old.game self.old.opened self.old.taken }
     {
+        // The game is lawful.
         let _lawful = self.rules.game();
         if self.opened >= self.budget.openings {
             return Err(Over::Wide);
@@ -322,7 +324,7 @@ impl<'a, S: Steps> Search<'a, S> {
         ensures opened { self.new.opened ≡ self.old.opened }
         ensures taken { self.new.taken ≡ self.old.taken + pairs }
     {
-        // the game is lawful and the openings are a number of 32 bits, so the sum is one of 64 bits
+        // The game is lawful, and the openings are a number of 32 bits, so the sum is one of 64 bits.
         let _game = self.rules.game();
         let _opened = self.opened;
         self.taken += pairs as u64;

@@ -23,7 +23,7 @@ pub(crate) fn only_modifier<S: Steps>(
     ensures modifies { IfSome result (λ p.
         IsTrialAt rules.now state.now.state state.now.state.vertex p Trial.Modifies) }
 {
-    let position = only(rules.following(origin))?;
+    let position = only_position(rules.following(origin))?;
     match rules.glance(position) {
         Glance::Modifies | Glance::Unknown => {}
         Glance::Shift(_) | Glance::On(_) | Glance::OnEither(_, _) | Glance::Pattern => return None,
@@ -35,7 +35,7 @@ pub(crate) fn only_modifier<S: Steps>(
 }
 
 /// The one position of a list that has one.
-pub(crate) fn only(positions: &[Position]) -> Option<Position>
+pub(crate) fn only_position(positions: &[Position]) -> Option<Position>
     ensures { IfSome result (λ p. positions.now ≡ p ∷ []) }
 {
     match positions {

@@ -93,11 +93,11 @@ rounds_of heard = count_by is_round_over heard
 abbrev pub IsLive : (seat : ℕ) → List Heard → Type 0
 IsLive seat heard = (ends_of seat heard ≡ 0) × (failures_of seat heard ≡ 0)
 
--- These moments were told by the clock while this was heard.
+-- The clock was read at these moments while this was heard: each event, except a failed write, has its own reading.
 --   nothing: at first neither is.
---   asked: the clock tells a moment at which nothing is heard of its own.
---   heard_alone: the clock tells a moment, and something other than a failing put is heard at it.
---   heard_with_it: a put fails at the moment that the clock told last.
+--   asked: the clock is read, and nothing is heard at that reading.
+--   heard_alone: the clock is read, and something other than a failed write is heard at that reading.
+--   heard_with_it: a write fails at the last reading.
 pub data IsTimed : (moments : List ℕ) → List Heard → Type 0 where
   nothing :
       IsTimed [] []

@@ -1,8 +1,9 @@
 -- Where a game that is followed stands.
-use Rattle.std.specs.Prelude.{ℕ, List, Option, refl}
-use Rattle.std.specs.Coded.{Coded, coded_ℕ, coded_list, coded_option, coded×, code_by}
+use Rattle.std.specs.Prelude.{ℕ, refl}
+use Rattle.std.specs.Coded.{Coded, coded_ℕ, coded×, code_by}
 use Rattle.rbg_rules.specs.Meaning.{AbstractGame, AbstractPlace}
 use Rattle.rbg_rules.specs.Codes.{coded_game}
+use Rattle.rbg_rules.specs.PlaceCodes.{coded_place}
 
 -- A game, the place that play has reached in it, and how many moves the keeper has made in a row, which are not counted
 -- above 1,000.
@@ -10,17 +11,6 @@ pub record Playing : Type 0 where
   pub game : AbstractGame
   pub place : AbstractPlace
   pub in_a_row : ℕ
-
-abbrev pub coded_place : Coded AbstractPlace
-coded_place =
-    code_by ((ℕ × (List ℕ × (List ℕ × ℕ))) × Option ℕ)
-    (coded× (coded× coded_ℕ (coded× (coded_list coded_ℕ) (coded× (coded_list coded_ℕ) coded_ℕ))) (coded_option coded_ℕ))
-    (λ p. ((p.state.player, (p.state.pieces, (p.state.values, p.state.vertex))), p.last))
-    (λ t. record {
-      state = record { player = t.0.0; pieces = t.0.1.0; values = t.0.1.1.0; vertex = t.0.1.1.1 };
-      last = t.1;
-    })
-    (λ _. refl)
 
 abbrev pub coded_playing : Coded Playing
 coded_playing =

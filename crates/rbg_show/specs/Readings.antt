@@ -1,5 +1,5 @@
 -- The moves that a line may mean.
-use Rattle.std.specs.Prelude.{◌≡◌, ℕ, ◌<◌, ◌≤◌, ◌^◌, List, [], ◌∷◌, ◌++◌, length, Option, Some, None, codes, decimal}
+use Rattle.std.specs.Prelude.{◌≡◌, ℕ, ◌≤◌, List, [], ◌∷◌, ◌++◌, length, Option, Some, None, codes}
 use Rattle.rbg_base.specs.Move.{most_pairs}
 use Rattle.rbg_wire.specs.Reading.{SpellsPairs}
 use Rattle.rbg_wire.specs.Words.{BeginsWithNumber}

@@ -1,10 +1,10 @@
 //! How the end of a list is told: how the match ended, who is to move, or why it stops.
-ghost use Rattle.std.specs.Prelude.{◌++◌, ◌≢◌, None, OnOk, codes};
+ghost use Rattle.std.specs.Prelude.{◌++◌, ◌≢◌, None, OnOk};
 ghost use Rattle.rbg_wire.specs.Writing.{Appends};
 ghost use Rattle.rbg_show.specs.declared.stop.Stop.TheVariants.{Memory as NoMemory};
 ghost use Rattle.rbg_show.specs.Endings.{ended_text, ending_text, ending_words, mover_text, reason_text, stopped_text, who_text};
 
-use crate::play::Play;
+use crate::playthrough::Playthrough;
 use crate::stop::Stop;
 use rbg_base::{Memory, Player};
 use rbg_rules::Game;
@@ -13,7 +13,7 @@ use rbg_wire::{Outcome, write_number};
 /// Appends how the match ended, or who is to move if there is a move.
 #[tactic(auto, unfolding(crate::specs::Endings::ended_text))]
 pub(crate) fn put_end(
-    play: &Play<'_>,
+    play: &Playthrough<'_>,
     outcome: Option<Outcome>,
     goes_on: bool,
     out: &mut Vec<u8>,
@@ -27,7 +27,7 @@ pub(crate) fn put_end(
 }
 
 #[tactic(auto, unfolding(crate::specs::Endings::ended_text))]
-fn put_going(play: &Play<'_>, goes_on: bool, out: &mut Vec<u8>) -> Result<(), Memory>
+fn put_going(play: &Playthrough<'_>, goes_on: bool, out: &mut Vec<u8>) -> Result<(), Memory>
     ensures { Appends out.old.items out.new.items (ended_text play.now None goes_on) result }
 {
     if goes_on {
@@ -38,7 +38,7 @@ fn put_going(play: &Play<'_>, goes_on: bool, out: &mut Vec<u8>) -> Result<(), Me
 }
 
 /// Appends who is to move, with words before and behind it.
-fn put_mover(before: &[u8], play: &Play<'_>, behind: &[u8], out: &mut Vec<u8>) -> Result<(), Memory>
+fn put_mover(before: &[u8], play: &Playthrough<'_>, behind: &[u8], out: &mut Vec<u8>) -> Result<(), Memory>
     ensures { Appends out.old.items out.new.items
         (before.now ++ mover_text play.now ++ behind.now) result }
 {
@@ -49,7 +49,7 @@ fn put_mover(before: &[u8], play: &Play<'_>, behind: &[u8], out: &mut Vec<u8>) -
 
 /// Appends the number of the line at which a list stops, and why. Where memory has run out, it does again.
 pub(crate) fn put_stop(
-    play: &Play<'_>,
+    play: &Playthrough<'_>,
     number: usize,
     stop: Stop,
     out: &mut Vec<u8>,
@@ -64,7 +64,7 @@ pub(crate) fn put_stop(
 }
 
 #[tactic(auto, unfolding(crate::specs::Endings::reason_text))]
-fn put_reason(play: &Play<'_>, stop: Stop, out: &mut Vec<u8>) -> Result<(), Memory>
+fn put_reason(play: &Playthrough<'_>, stop: Stop, out: &mut Vec<u8>) -> Result<(), Memory>
     ensures told { Appends out.old.items out.new.items (reason_text play.now stop) result }
     ensures known { OnOk result (stop ≢ NoMemory) }
 {

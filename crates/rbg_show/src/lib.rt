@@ -4,7 +4,7 @@
 mod drawing;
 mod ending;
 mod line;
-mod play;
+mod playthrough;
 mod reading;
 mod scene;
 mod sheet;

@@ -1,7 +1,6 @@
 //! The moves that a line may mean.
-ghost use Rattle.std.specs.Prelude.{◌≡◌, ◌≤◌, ℕ, ◌<◌, ◌^◌, List, [], ◌∷◌, ◌++◌, Option, Some, None, IfOk, IfSome, IfNone, OnOk, decimal, length};
+ghost use Rattle.std.specs.Prelude.{◌≡◌, ℕ, ◌<◌, List, Option, Some, None, IfOk, IfSome, IfNone, OnOk};
 ghost use Rattle.rbg_lines.specs.declared.heading.Version.TheVariants.{One, Two};
-ghost use Rattle.rbg_show.specs.declared.reading.Lead.{Lead as AnyLead};
 ghost use Rattle.rbg_show.specs.Readings.{AreReadings, IsMoveText, IsPlayersMove, IsSaid, MayMean, SpellsMovePairs, lead_of};
 ghost use Rattle.rbg_show.specs.internal.Holding.{AddsMeaning};
 

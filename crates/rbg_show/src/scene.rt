@@ -9,7 +9,7 @@ ghost use Rattle.rbg_show.specs.Moving.{IsHeavyAt, MeetsHeavy, Moves, Settles, S
 ghost use Rattle.rbg_wire.specs.declared.outcome.Outcome.TheVariants.{Heavy as HeavyEnd};
 ghost use Rattle.rbg_show.specs.internal.Trying.{IsHeavyPairs, IsHeavyReading, TellsFirst, TellsKeeper, TellsMade, TellsMoved, TellsOne};
 
-use crate::play::Play;
+use crate::playthrough::Playthrough;
 use crate::reading::Reading;
 use crate::sheet::Sheet;
 use crate::stop::Stop;
@@ -20,7 +20,7 @@ use rbg_wire::Outcome;
 /// A game that is followed, and what is written of it.
 #[derive(Drop)]
 pub(crate) struct Scene<'a> {
-    pub play: Play<'a>,
+    pub play: Playthrough<'a>,
     pub sheet: Sheet<'a>,
 }
 

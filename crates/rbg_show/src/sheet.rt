@@ -5,7 +5,7 @@ ghost use Rattle.rbg_show.specs.declared.stop.Stop.TheVariants.{Memory as NoMemo
 
 use crate::drawing::Drawing;
 use crate::ending::{put_end, put_stop, put_who};
-use crate::play::Play;
+use crate::playthrough::Playthrough;
 use crate::signs::Signs;
 use crate::stop::Stop;
 use rbg_base::{Piece, Player};
@@ -56,7 +56,7 @@ impl<'a> Sheet<'a> {
     }
 
     /// Draws the board, and writes the values of the variables below it, if something was done since it was drawn.
-    pub(crate) fn draw(&mut self, play: &Play<'_>) -> Result<(), AllocError> {
+    pub(crate) fn draw(&mut self, play: &Playthrough<'_>) -> Result<(), AllocError> {
         if self.is_new {
             let pieces = play.pieces()?;
             self.drawing.push_board(&mut self.text, pieces.as_slice())?;
@@ -69,7 +69,7 @@ impl<'a> Sheet<'a> {
     /// Says what a move of a player has changed. The keeper's moves that change no piece are not told.
     pub(crate) fn tell_move(
         &mut self,
-        play: &Play<'_>,
+        play: &Playthrough<'_>,
         player: Player,
         before: &[Piece],
     ) -> Result<(), AllocError> {
@@ -100,7 +100,7 @@ impl<'a> Sheet<'a> {
     /// Says that a seat's message is refused.
     pub(crate) fn tell_refusal(
         &mut self,
-        play: &Play<'_>,
+        play: &Playthrough<'_>,
         number: usize,
         seat: u64,
     ) -> Result<(), AllocError> {
@@ -112,7 +112,7 @@ impl<'a> Sheet<'a> {
     /// Says why the moves from a line on aren't shown.
     pub(crate) fn tell_stop(
         &mut self,
-        play: &Play<'_>,
+        play: &Playthrough<'_>,
         number: usize,
         stop: Stop,
     ) -> Result<(), AllocError>
@@ -127,7 +127,7 @@ impl<'a> Sheet<'a> {
     /// Tells how the match ended, or who is to move if there is a move, below the board.
     pub(crate) fn tell_end(
         &mut self,
-        play: &Play<'_>,
+        play: &Playthrough<'_>,
         outcome: Option<Outcome>,
         goes_on: bool,
     ) -> Result<(), AllocError>
@@ -139,7 +139,7 @@ impl<'a> Sheet<'a> {
     }
 
     /// Writes this line below the board.
-    pub(crate) fn tell(&mut self, play: &Play<'_>, line: &[u8]) -> Result<(), AllocError>
+    pub(crate) fn tell(&mut self, play: &Playthrough<'_>, line: &[u8]) -> Result<(), AllocError>
         ensures { OnOk result (EndsWith self.new.text.items line.now) }
     {
         self.draw(play)?;

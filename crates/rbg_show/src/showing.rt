@@ -8,7 +8,7 @@ ghost use Rattle.rbg_show.specs.Following.{Follows, Stops, outcome_of};
 ghost use Rattle.rbg_show.specs.internal.Standing.{IsMessageShown, IsMoveShown, KeepsLine, StopsMessage, StopsMove, TellsEnd, TellsLine, TellsList, standing_of};
 
 use crate::line::{ListLine, RecordEnd, without_return};
-use crate::play::Play;
+use crate::playthrough::Playthrough;
 use crate::reading::{Lead, readings, said_readings};
 use crate::scene::Scene;
 use crate::sheet::Sheet;
@@ -50,7 +50,7 @@ pub fn show(
     let LoadedGame { game, layout } = loaded;
     let game = PlayedGame::new(alloc, game)?;
     let sheet = Sheet::new(alloc, game.as_game(), &layout, only_last)?;
-    let play = Play::start(alloc, &game)?;
+    let play = Playthrough::start(alloc, &game)?;
     let mut showing = Showing {
         alloc,
         scene: Scene { play, sheet },

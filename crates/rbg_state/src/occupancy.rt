@@ -1,5 +1,5 @@
 //! The piece on each vertex of a board, with a row of vertices for each piece.
-ghost use Rattle.std.specs.Prelude.{◌≡◌, ◌+◌, ◌*◌, ◌-◌, ◌<◌, ◌^◌, ◌==◌, ◌++◌, [], ◌∷◌, Some, length, count_by, slice_get, slice_index, slice_set, IfOk, IfSome, OnErr};
+ghost use Rattle.std.specs.Prelude.{◌≡◌, ◌+◌, ◌*◌, ◌-◌, ◌<◌, ◌^◌, ◌==◌, [], Some, length, count_by, slice_get, slice_set, IfOk, IfSome, OnErr};
 ghost use Rattle.rbg_state.specs.Rows.{IsWordOf};
 
 use crate::rows::Rows;

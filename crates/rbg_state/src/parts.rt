@@ -14,7 +14,7 @@ use std::mem::replace;
 
 /// Who is to act, what stands on each vertex, what each variable holds, and the current vertex.
 #[derive(Drop)]
-pub(crate) struct Parts {
+pub(crate) struct StateParts {
     player: Player,
     vertex: Vertex,
     occupancy: Occupancy,
@@ -22,7 +22,7 @@ pub(crate) struct Parts {
     values: Vec<u32>,
 }
 
-impl Model for Parts {
+impl Model for StateParts {
     ghost use Rattle.rbg_rules.specs.Meaning.{AbstractState};
 
     ghost Value = { AbstractState };
@@ -30,14 +30,14 @@ impl Model for Parts {
     ghost view = { λ p. record { player = p.player; pieces = p.occupancy; values = p.values.items; vertex = p.vertex } };
 }
 
-impl Parts {
+impl StateParts {
     /// The parts of the semi-state in which play of a game begins.
-    pub(crate) fn start(alloc: Global, game: &Game) -> Result<Parts, Memory>
+    pub(crate) fn start(alloc: Global, game: &Game) -> Result<StateParts, Memory>
         ensures start { IfOk result (λ start. start ≡ start_of game.now) }
         ensures fits { IfOk result (IsStateOf game.now) }
     {
         let keeper = 0;
-        Ok(Parts {
+        Ok(StateParts {
             player: keeper,
             vertex: 0,
             occupancy: Occupancy::start(alloc, game.board(), game.pieces())?,
@@ -46,8 +46,8 @@ impl Parts {
     }
 
     /// The parts where there is no board.
-    pub(crate) fn empty(alloc: Global) -> Parts {
-        Parts {
+    pub(crate) fn empty(alloc: Global) -> StateParts {
+        StateParts {
             player: 0,
             vertex: 0,
             occupancy: Occupancy::empty(alloc),
@@ -55,10 +55,10 @@ impl Parts {
         }
     }
 
-    pub(crate) fn try_clone(&self) -> Result<Parts, Memory>
+    pub(crate) fn try_clone(&self) -> Result<StateParts, Memory>
         ensures { IfOk result (λ copy. copy ≡ self.now) }
     {
-        Ok(Parts {
+        Ok(StateParts {
             player: self.player,
             vertex: self.vertex,
             occupancy: self.occupancy.try_clone()?,
@@ -67,7 +67,7 @@ impl Parts {
     }
 
     /// Become a copy of others. Memory is taken only where there is no room for it.
-    pub(crate) fn copy_from(&mut self, other: &Parts) -> Result<(), Memory>
+    pub(crate) fn copy_from(&mut self, other: &StateParts) -> Result<(), Memory>
         ensures { IfOk result (λ _. self.new ≡ other.now) }
     {
         self.occupancy.copy_from(&other.occupancy)?;
@@ -146,14 +146,14 @@ impl Parts {
     }
 }
 
-impl PartialEq for Parts {
+impl PartialEq for StateParts {
     ghost use Rattle.rbg_state.specs.Equality.{is_same_state, same_state_laws};
 
     ghost eq = { is_same_state };
 
     ghost laws = { same_state_laws };
 
-    fn eq(&self, other: &Parts) -> bool {
+    fn eq(&self, other: &StateParts) -> bool {
         self.player == other.player
             && self.vertex == other.vertex
             && self.occupancy.pieces() == other.occupancy.pieces()

@@ -1,5 +1,5 @@
 //! The vertices on which each piece of the game stands, as rows of bits.
-ghost use Rattle.std.specs.Prelude.{◌≡◌, ℕ, List, ◌≤◌, ◌<◌, ◌^◌, ◌*◌, ◌/◌, ◌==◌, ◌++◌, [], ◌∷◌, count_by, count_ones, length, slice_set, take, IfOk, IfSome, IfNone, OnErr, IsTrue, if◌then◌else◌};
+ghost use Rattle.std.specs.Prelude.{◌≡◌, ℕ, List, ◌≤◌, ◌<◌, ◌^◌, ◌*◌, ◌/◌, ◌==◌, [], count_by, count_ones, length, IfOk, IfSome, IfNone, OnErr, IsTrue, if◌then◌else◌};
 ghost use Rattle.rbg_state.specs.Rows.{IsWordOf, word_of, HasBit, AreRows, ChangesBit, ChangesWord};
 
 use crate::occupancy::refill;

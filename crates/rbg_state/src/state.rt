@@ -1,6 +1,6 @@
 //! A semi-state: who is to act, what stands on each vertex, what each variable holds, and the current
 //! vertex. It changes in place and keeps a list of its changes, so that they can be taken back.
-ghost use Rattle.std.specs.Prelude.{◌≡◌, ℕ, ◌+◌, ◌*◌, ◌-◌, ◌<◌, ◌≤◌, ◌==◌, [], length, take, count_by, slice_get, Some, IfOk, IfSome, OnOk, OnErr};
+ghost use Rattle.std.specs.Prelude.{◌≡◌, ◌*◌, ◌-◌, ◌<◌, ◌≤◌, ◌==◌, [], length, take, count_by, slice_get, Some, IfOk, IfSome, OnOk, OnErr};
 ghost use Rattle.rbg_rules.specs.Meaning.{AbstractGame, start_of, IsStateOf};
 ghost use Rattle.rbg_state.specs.History.{History, states_of, capacity_of, changed_to, IsAfter};
 ghost use Rattle.rbg_state.specs.Changes.{set, IsChangeWithin};
@@ -11,7 +11,7 @@ mod arithmetic;
 mod trials;
 
 use crate::change::{Change, Mark};
-use crate::parts::Parts;
+use crate::parts::StateParts;
 pub use actions::Applied;
 use rbg_base::{Memory, Piece, Player, Variable, Vertex};
 use rbg_rules::Game;
@@ -22,7 +22,7 @@ pub use trials::Trial;
 /// A semi-state of a game. Two of them are equal if they have the same player, vertex, pieces and
 /// values, whatever their changes are.
 pub struct SemiState {
-    parts: Parts,
+    parts: StateParts,
     /// The changes that lead back, the latest change last.
     changes: Vec<Change>,
 }
@@ -58,7 +58,7 @@ impl SemiState {
         ensures fits { IfOk result (λ start. IsStateOf game.now start.state) }
     {
         Ok(SemiState {
-            parts: Parts::start(alloc, game)?,
+            parts: StateParts::start(alloc, game)?,
             changes: Vec::new(alloc),
         })
     }
@@ -68,7 +68,7 @@ impl SemiState {
         ensures { result.past ≡ [] }
     {
         SemiState {
-            parts: Parts::empty(alloc),
+            parts: StateParts::empty(alloc),
             changes: Vec::new(alloc),
         }
     }

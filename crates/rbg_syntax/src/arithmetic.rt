@@ -1,7 +1,7 @@
 //! The readers of arithmetic. Each takes how many further brackets may be open at once, so a call is never nested
 //! deeper than that.
 ghost use Rattle.std.specs.Prelude.{◌≡◌, map};
-ghost use Rattle.rbg_syntax.specs.internal.Giving.{Gives, GivesWithin, FailsWithin};
+ghost use Rattle.rbg_syntax.specs.internal.Giving.{Gives, GivesWithin};
 ghost use Rattle.rbg_grammar.specs.Grammar.{operator_of};
 ghost use Rattle.rbg_grammar.specs.Reading.{further_at, next_is, one_of_at};
 ghost use Rattle.rbg_grammar.specs.RuleReading.{chain_at, factor_at, further_operand_at, is_operator, number_or_name_at, operand_at, primary_at, sum_at};

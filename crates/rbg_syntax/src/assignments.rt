@@ -1,8 +1,6 @@
 //! The readers of the actions with arithmetic: comparisons and assignment lists.
 ghost use Rattle.std.specs.Prelude.{◌≡◌, map};
 ghost use Rattle.rbg_tokens.specs.declared.token.Symbol.TheVariants as symbols;
-ghost use Rattle.rbg_tokens.specs.declared.token.TokenKind.{TokenKind as Kind};
-ghost use Rattle.rbg_base.specs.declared.relation.Relation.{Relation as SpeltRelation};
 ghost use Rattle.rbg_syntax.specs.internal.Giving.{Gives, GivesWithin};
 ghost use Rattle.rbg_grammar.specs.Reading.{after_at, one_of_at, separated_at, within_at};
 ghost use Rattle.rbg_grammar.specs.Grammar.{relation_of};

@@ -1,7 +1,7 @@
 //! The readers of boards.
 ghost use Rattle.rbg_syntax.specs.internal.Generators.{contents_at};
 ghost use Rattle.rbg_syntax.specs.internal.Giving.{Gives};
-ghost use Rattle.rbg_grammar.specs.Reading.{board_at, direction_at, generated_at, graph_at, hexagon_at, next_word, rectangle_at};
+ghost use Rattle.rbg_grammar.specs.Reading.{board_at, direction_at, generated_at, graph_at, hexagon_at, rectangle_at};
 ghost use Rattle.rbg_grammar.specs.Views.{board_of, name_of};
 
 use crate::error::{Expectation, Reading};

@@ -1,5 +1,5 @@
 //! What is left of a section's tokens, and the readers of single tokens.
-ghost use Rattle.std.specs.Prelude.{◌≡◌, [], ◌∷◌, drop, List, IfErr, IfOk, IfSome, IsTrue, MatchOption};
+ghost use Rattle.std.specs.Prelude.{◌≡◌, [], ◌∷◌, drop, List, IfOk, IfSome, IsTrue, MatchOption};
 ghost use Rattle.rbg_base.specs.Names.{is_name as is_a_name};
 ghost use Rattle.rbg_tokens.specs.Token.{Lexeme, lexeme_of};
 ghost use Rattle.rbg_tokens.specs.Kinds.{is_name_kind, is_number_kind, is_symbol};

@@ -6,7 +6,7 @@ ghost use Rattle.rbg_grammar.specs.Views.{rule_of};
 use rbg_grammar::Rule;
 
 /// The only part, or the parts where there isn't one alone.
-pub(crate) fn only<T: Drop>(mut parts: Vec<T>) -> Result<T, Vec<T>>
+pub(crate) fn only_part<T: Drop>(mut parts: Vec<T>) -> Result<T, Vec<T>>
     ensures one { IfOk result (λ part. parts.items ≡ part ∷ []) }
     ensures several { IfErr result (λ all. vec_len all ≡ 1 → ⊥) }
     ensures all { IfErr result (λ all. all ≡ parts) }
@@ -25,7 +25,7 @@ pub(crate) fn only<T: Drop>(mut parts: Vec<T>) -> Result<T, Vec<T>>
 pub(crate) fn in_sequence(parts: Vec<Rule<'_>>) -> Rule<'_>
     ensures { rule_of result ≡ in_sequence (map rule_of parts.entry.items) }
 {
-    match only(parts) {
+    match only_part(parts) {
         Ok(part) => part,
         Err(parts) => Rule::Then(parts),
     }

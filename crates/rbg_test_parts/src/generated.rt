@@ -1,12 +1,14 @@
 //! Rules by a generator: the same ones at each run.
+use rand_core::{Rng, SeedableRng};
+use rand_pcg::Pcg32;
 use rbg_base::Position;
 use rbg_rules::Rule;
 use std::alloc::{AllocError, Global};
 
-/// Numbers that look random, from a start that is given, and the positions that were handed out.
+/// Numbers by chance, from a seed, and the positions that were handed out.
 #[derive(Drop)]
 pub(crate) struct Generator {
-    state: u64,
+    chance: Pcg32,
     /// The last position that was handed out.
     pub positions: Position,
 }
@@ -14,18 +16,14 @@ pub(crate) struct Generator {
 impl Generator {
     pub(crate) fn new(seed: u64) -> Generator {
         Generator {
-            state: seed,
+            chance: Pcg32::seed_from_u64(seed),
             positions: 0,
         }
     }
 
     /// The next number, from 0 to 255.
     fn number(&mut self) -> u8 {
-        self.state = self
-            .state
-            .wrapping_mul(6_364_136_223_846_793_005)
-            .wrapping_add(1_442_695_040_888_963_407);
-        (self.state >> 56) as u8
+        self.chance.next_u64() as u8
     }
 
     /// The next position in order of text.

@@ -1,6 +1,6 @@
 -- The actions of a game at its positions.
-use Rattle.std.proofs.Common.{◌≡◌, ℕ, zero, suc, ◌+◌, ◌<◌, ◌≤◌, ◌⊎◌, inl, inr, Bool, true, false, IsTrue, List, length, refl, sym, ap, subst, ◌∙◌, arith}
-use Rattle.rbg_rules.specs.Meaning.{AbstractAction, Expression, skip, IsGame, HasAction, positions_of, IsNumbered, AbstractGame, Stands, action_of}
+use Rattle.std.proofs.Common.{◌≡◌, ℕ, zero, suc, ◌+◌, ◌<◌, ◌≤◌, ◌⊎◌, inl, inr, Bool, true, false, IsTrue, length, sym, ap, subst, ◌∙◌, arith}
+use Rattle.rbg_rules.specs.Meaning.{AbstractAction, Expression, skip, HasAction, positions_of, IsNumbered, AbstractGame, Stands, action_of}
 use Rattle.rbg_rules.specs.declared.rule.Action.{Action}
 use Rattle.rbg_rules.specs.declared.rule.Action.TheVariants.{Shift, On, Off, Assign, Compare, Switch, Positive, Negative}
 use Rattle.std.specs.List.{range_with_len}

@@ -1,5 +1,5 @@
 -- Lists that keep some items of others.
-use Rattle.std.specs.Prelude.{List, [], ◌∷◌, ◌++◌}
+use Rattle.std.specs.Prelude.{List, [], ◌∷◌}
 
 -- The second list has the items of the first one of which P holds, in their order.
 pub data Keeps {A : Type 0} (P : A → Type 0) : List A → List A → Type 0 where

@@ -1,5 +1,5 @@
 -- What an author is warned of in a game: what it has and its rules never use, and numbers that a variable can't hold.
-use Rattle.std.specs.Prelude.{◌≡◌, ℕ, ◌-◌, ◌==◌, ◌||◌, nat_lt, Bool, true, false, IsTrue, List, ◌++◌, map, length, slice_index, Contains}
+use Rattle.std.specs.Prelude.{ℕ, ◌-◌, ◌==◌, ◌||◌, nat_lt, Bool, false, IsTrue, List, ◌++◌, map, length, slice_index, Contains}
 use Rattle.std.specs.List.{range_with_len}
 use Rattle.rbg_rules.specs.Meaning.{AbstractArithmetic, number, variable, piece_count, negated, sum, difference, product, quotient, AbstractAction, shift, off, assignment, comparison, switch, HasAction, positions_of, AbstractGame}
 use Rattle.rbg_warnings.specs.declared.thing.Thing.{Thing}

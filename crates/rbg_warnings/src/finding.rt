@@ -1,5 +1,5 @@
 //! The warnings of a game.
-ghost use Rattle.std.specs.Prelude.{◌≡◌, ◌↔◌, ◌+◌, ◌<◌, ◌≤◌, ◌^◌, [], ◌∷◌, length, map, Contains, IfOk, OnOk, IsTrue};
+ghost use Rattle.std.specs.Prelude.{◌↔◌, ◌+◌, ◌<◌, ◌≤◌, ◌^◌, [], ◌∷◌, length, map, Contains, IfOk, OnOk, IsTrue};
 ghost use Rattle.std.specs.List.{range_with_len};
 ghost use Rattle.rbg_rules.specs.Meaning.{positions_of};
 ghost use Rattle.rbg_warnings.specs.declared.warning.Warning.TheVariants.{TooGreat as TooGreatWarning, Unused as UnusedWarning};
@@ -96,7 +96,7 @@ fn has_too_great(game: &Game, position: Position) -> bool
     requires there { position ≤ length (positions_of game.now.rules) }
     ensures { IsTrue result ↔ HasTooGreat game.now position }
 {
-    let _positions = game.positions();
+    game.is_accepted();
     assigns_too_much(game, game.action(position))
 }
 

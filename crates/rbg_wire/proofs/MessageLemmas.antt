@@ -1,5 +1,5 @@
 -- Messages and their texts.
-use Rattle.std.proofs.Common.{◌≡◌, ◌≢◌, ℕ, ◌+◌, ◌<◌, ◌≤◌, ◌^◌, List, [], ◌∷◌, ◌++◌, length, take, drop, subst, decimal, codes, ap, sym, ◌∙◌, refl, arith, append_assoc, cond, Result, Ok, Err, ◌↔◌, IsErrOf, IsOkAnd}
+use Rattle.std.proofs.Common.{◌≡◌, ◌≢◌, ℕ, ◌+◌, ◌<◌, ◌≤◌, ◌^◌, List, ◌∷◌, ◌++◌, length, take, drop, subst, decimal, codes, ap, sym, ◌∙◌, refl, arith, append_assoc, cond, Result, Ok, Err, ◌↔◌, IsErrOf, IsOkAnd}
 use Rattle.std.specs.Prelude.{◌==◌}
 use Rattle.rbg_wire.specs.declared.error.WireError.{WireError}
 use Rattle.rbg_wire.specs.declared.error.WireError.TheVariants.{Malformed, TooManyPairs}

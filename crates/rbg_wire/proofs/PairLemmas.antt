@@ -1,5 +1,5 @@
 -- Pairs, their words and the text that spells them.
-use Rattle.std.proofs.Common.{◌≡◌, ◌≢◌, ℕ, ◌+◌, ◌<◌, ◌≤◌, ◌^◌, Bool, true, false, List, [], ◌∷◌, ◌++◌, length, decimal, codes, All, Result, Ok, Err, IfOk, IsErrOf, ◌↔◌, ap, subst, append-nil, sym, ◌∙◌, refl, arith, append_assoc, length-append}
+use Rattle.std.proofs.Common.{◌≡◌, ◌≢◌, ℕ, ◌+◌, ◌<◌, ◌≤◌, ◌^◌, Bool, true, false, List, [], ◌∷◌, ◌++◌, length, decimal, codes, All, Result, Ok, Err, ap, subst, append-nil, sym, ◌∙◌, refl, arith, append_assoc, length-append}
 use Rattle.std.specs.Bool.{MatchBool}
 use Rattle.std.specs.List.{flat_map, AllByRecursion}
 use Rattle.std.proofs.lemmas.Fmt.{decimal_injective}

@@ -1,5 +1,5 @@
 -- What a reader returns, from what the text spells.
-use Rattle.std.proofs.Common.{◌≡◌, Option, Some, None, IfNone, IfSome, ap, sym, ◌∙◌}
+use Rattle.std.proofs.Common.{◌≡◌, Option, Some, None, IfNone, IfSome, ap}
 use Rattle.rbg_wire.specs.Reads.{ReadsOnly}
 
 pub reads_found : {T : Type 0} {Spells : T → Type 0} → ((a b : T) → Spells a → Spells b → a ≡ b) → {x : T} → Spells x → ReadsOnly Spells (Some x)

@@ -1,5 +1,5 @@
 //! The stream of one seat: bytes that come in pieces, and the messages that they complete.
-ghost use Rattle.std.specs.Prelude.{◌≡◌, ℕ, ◌+◌, ◌<◌, ◌≤◌, [], OnOk, OnErr, slice_get, drop, vec_len};
+ghost use Rattle.std.specs.Prelude.{◌≡◌, ◌<◌, [], OnOk, OnErr, slice_get};
 ghost use Rattle.std.specs.Option.{option_map};
 ghost use Rattle.rbg_wire.specs.Streams.{Stream, incomplete, with_bytes};
 

@@ -1,5 +1,5 @@
 //! The calls that write a message, or a field of one, at the end of a list of bytes.
-ghost use Rattle.std.specs.Prelude.{ℕ, ◌++◌, codes, decimal};
+ghost use Rattle.std.specs.Prelude.{◌++◌, codes, decimal};
 ghost use Rattle.std.specs.List.{flat_map};
 ghost use Rattle.rbg_wire.specs.Messages.{
   message_of,

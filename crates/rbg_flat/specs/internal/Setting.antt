@@ -10,14 +10,14 @@ use Rattle.rbg_flat.specs.internal.Passing.{IsToTry}
 use Rattle.rbg_flat.specs.internal.Sets.{SetsOfVertices, IsMarked, IsOpen, Meets}
 
 -- The game is a lawful one, and the paths and the semi-state are its own.
-pub record IsSet (setting : Setting) : Type 0 where
+pub record IsLawfulSetting (setting : Setting) : Type 0 where
   pub lawful : IsGame setting.game.now
   pub paths : ArePathsOf setting.game.now setting.paths.now
   pub fits : IsStateOf setting.game.now setting.state.now.state
 
 -- All this is so, and the sets have the size that a flat part of the game takes.
 pub record AreReady (setting : Setting) (sets : SetsOfVertices) : Type 0 where
-  pub set : IsSet setting
+  pub set : IsLawfulSetting setting
   pub sized : AreSizedFor setting.game.now sets
 
 -- What was met at a vertex is to be looked at.

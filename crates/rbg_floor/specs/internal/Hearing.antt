@@ -4,7 +4,7 @@ use Rattle.std.specs.List.{flat_map}
 use Rattle.rbg_hall.specs.Tables.{OwnEvent}
 use Rattle.rbg_hall.specs.Tellings.{Telling, told_to}
 use Rattle.rbg_ledger.specs.Kept.{KeptState}
-use Rattle.rbg_floor.specs.declared.line.Line.{Line}
+use Rattle.rbg_floor.specs.declared.line.LinePhase.{LinePhase}
 use Rattle.rbg_floor.specs.Events.{AbstractHallEvent, sends, ends}
 use Rattle.rbg_floor.specs.Halls.{line_behind, refused_in}
 use Rattle.rbg_floor.specs.Ledgers.{Becomes, HallStops, HallWrites, KeptHearsEach}
@@ -58,8 +58,8 @@ said_by line at (Some bytes) = sends line at bytes
 said_by line at None = ends line at
 
 -- what a hall of these tables and lines writes, and where it stops
-abbrev pub KeptWrites : {W : Type 0} → (W → List ℕ → Type 0) → (tables : List (KeptState W)) → (lines : List Line) → AbstractHallEvent →
-    (tables' : List (KeptState W)) → (lines' : List Line) → (before after : List (List ℕ)) → Type 0
+abbrev pub KeptWrites : {W : Type 0} → (W → List ℕ → Type 0) → (tables : List (KeptState W)) → (lines : List LinePhase) → AbstractHallEvent →
+    (tables' : List (KeptState W)) → (lines' : List LinePhase) → (before after : List (List ℕ)) → Type 0
 KeptWrites told tables lines event tables' lines' before after =
     HallWrites told (hall_of tables lines) (ledgers_of tables) event (hall_of tables' lines') (ledgers_of tables') before after
 

@@ -6,18 +6,18 @@ use Rattle.rbg_match.specs.Limits.{message_limit}
 use Rattle.rbg_hall.specs.Limits.{lines_in_all}
 use Rattle.rbg_hall.specs.Tables.{TableState, new_table}
 use Rattle.rbg_ledger.specs.Kept.{KeptState, Ledger, no_log}
-use Rattle.rbg_floor.specs.declared.line.Line.{Line}
-use Rattle.rbg_floor.specs.declared.line.Line.TheVariants.{Silent, Asks, Over}
+use Rattle.rbg_floor.specs.declared.line.LinePhase.{LinePhase}
+use Rattle.rbg_floor.specs.declared.line.LinePhase.TheVariants.{Silent, Asks, Over}
 use Rattle.rbg_floor.specs.declared.table.Table.{Table}
 use Rattle.rbg_floor.specs.Halls.{HallState}
 use Rattle.rbg_floor.specs.Lines.{HallLine, silent, asks, over}
 
-abbrev pub line_of : Line → HallLine
+abbrev pub line_of : LinePhase → HallLine
 line_of (Silent inbox) = silent inbox.rest
 line_of (Asks index inbox) = asks (index + 1) inbox.rest
 line_of Over = over
 
-abbrev pub lines_of : List Line → List HallLine
+abbrev pub lines_of : List LinePhase → List HallLine
 lines_of lines = map line_of lines
 
 -- tables, and ledgers, of tables with their ledgers
@@ -28,7 +28,7 @@ abbrev pub ledgers_of : {W : Type 0} → List (KeptState W) → List (Ledger W)
 ledgers_of tables = map (λ one. one.ledger) tables
 
 -- tables and lines as a hall
-abbrev pub hall_of : {W : Type 0} → List (KeptState W) → List Line → HallState
+abbrev pub hall_of : {W : Type 0} → List (KeptState W) → List LinePhase → HallState
 hall_of tables lines = record { tables = states_of tables; lines = lines_of lines }
 
 -- The table of this number, of so many, is at this index.
@@ -42,21 +42,21 @@ pub record IsEmptied (inbox : Stream) : Type 0 where
   pub empty : inbox.items ≡ []
 
 -- The inbox of a line is emptied, and there is the table for which it asks.
-abbrev pub IsReady : (tables : ℕ) → Line → Type 0
+abbrev pub IsReady : (tables : ℕ) → LinePhase → Type 0
 IsReady tables (Silent inbox) = IsEmptied inbox
 IsReady tables (Asks index inbox) = IsEmptied inbox × (index < tables)
 IsReady tables Over = Unit {0}
 
 -- There are all lines, and each of them is ready.
-pub record AreReady (tables : ℕ) (lines : List Line) : Type 0 where
+pub record AreReady (tables : ℕ) (lines : List LinePhase) : Type 0 where
   pub count : length lines ≡ lines_in_all
   pub each : All (IsReady tables) lines
 
 -- a line of which nothing was heard
-abbrev pub new_line : Line
+abbrev pub new_line : LinePhase
 new_line = Silent (record { limit = message_limit; items = []; rest = incomplete [] })
 
-abbrev pub AreNew : (count : ℕ) → List Line → Type 0
+abbrev pub AreNew : (count : ℕ) → List LinePhase → Type 0
 AreNew count lines = lines ≡ replicate count new_line
 
 -- the config of each of the first tables, so many, is within its limits

@@ -1,5 +1,5 @@
 //! The board of a description by numbers: its cells by those of their pieces, its directions by those of their names.
-ghost use Rattle.std.specs.Prelude.{◌≡◌, ◌<◌, ◌≤◌, ◌^◌, ◌∷◌, [], length, map, flat_map, IfOk, OnOk, IfErr};
+ghost use Rattle.std.specs.Prelude.{◌≡◌, ◌<◌, ◌≤◌, ◌^◌, length, map, flat_map, IfOk, IfErr};
 ghost use Rattle.std.specs.List.{AllZip};
 ghost use Rattle.rbg_board.specs.Cells.{rows_of};
 ghost use Rattle.rbg_grammar.specs.Views.{name_of, names_of, board_of};

@@ -19,7 +19,8 @@ abbrev mutual
   IsLawful left (sequence x y) = IsLawful left x × IsLawful left y
   IsLawful left (choice x y) = IsLawful left x × IsLawful left y
   IsLawful left (star x) = IsLawful left x
-  IsLawful left _ = Unit {0}
+  IsLawful left skip = Unit {0}
+  IsLawful left fail = Unit {0}
 
   pub IsLawfulAction : ℕ → AbstractAction → Type 0
   IsLawfulAction left (switch n) = left ≡ most_nested_patterns

@@ -5,7 +5,7 @@ use Rattle.rbg_state.specs.History.{History}
 use Rattle.rbg_flat.specs.Candidates.{MayEnd}
 use Rattle.rbg_pairs.specs.Flat.{IsNext}
 use Rattle.rbg_search.specs.Counting.{CountsOpenings, IsOverBudget}
-use Rattle.rbg_search.specs.Passing.{CountsSuch, IsTooDeep}
+use Rattle.rbg_search.specs.Passing.{CountsBeginning, IsTooDeep}
 use Rattle.rbg_search.specs.Searching.{Searching}
 use Rattle.rbg_search.specs.Taken.{CountsPairs}
 use Rattle.rbg_search.specs.declared.over.Over.{Over}
@@ -27,7 +27,7 @@ BeginsAsked done (pattern_at v p ∷ more) = Contains done (v, p)
 
 -- The count grew from old to new by different openings of `reach`, none in a pattern that isn't done.
 abbrev pub CountsAsked : AbstractGame → AbstractState → Start → (done : List (ℕ × ℕ)) → (old new : ℕ) → Type 0
-CountsAsked game s f done old new = CountsSuch BeginsAsked game reach s f done old new
+CountsAsked game s f done old new = CountsBeginning BeginsAsked game reach s f done old new
 
 -- The pairs are modifiers that come next in a pattern of a lawful game, each once, and no word may end before them.
 pub record GoesBehind (game : AbstractGame) (s : AbstractState) (f : Start) (pairs : List (ℕ × ℕ)) : Type 0 where

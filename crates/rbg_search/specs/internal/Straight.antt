@@ -3,7 +3,7 @@ use Rattle.std.specs.Prelude.{◌≢◌, ℕ, ◌<◌, ◌≤◌, List, [], ◌�
 use Rattle.rbg_rules.specs.Meaning.{IsPatternAt, Start, AbstractGame, AbstractState}
 use Rattle.rbg_flat.specs.Found.{HasCandidates}
 use Rattle.rbg_pairs.specs.Flat.{IsFlatPart}
-use Rattle.rbg_pairs.specs.Closure.{Reached}
+use Rattle.rbg_pairs.specs.Closure.{IsReached}
 use Rattle.rbg_pairs.specs.Part.{IsPart}
 use Rattle.rbg_pairs.specs.Plain.{HasPlain}
 use Rattle.rbg_search.specs.Taken.{most_pairs_of}
@@ -11,7 +11,7 @@ use Rattle.rbg_search.specs.Taken.{most_pairs_of}
 -- The flat part is whole: it has no modifier, no pattern may come in it, and `ends` tells whether a word may end.
 pub record IsScanned (game : AbstractGame) (s : AbstractState) (f : Start) (ends : Bool) : Type 0 where
   pub part : IsFlatPart game s f [] ends
-  pub quiet : (v p : ℕ) → Reached game s f v p → ¬ IsPatternAt game.rules p
+  pub quiet : (v p : ℕ) → IsReached game s f v p → ¬ IsPatternAt game.rules p
 
 -- .. and it has so many candidates, no more than a flat part has.
 pub record IsTold (game : AbstractGame) (s : AbstractState) (f : Start) (ends : Bool) (many : ℕ) : Type 0 where

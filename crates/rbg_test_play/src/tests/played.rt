@@ -1,5 +1,5 @@
 //! The public calls of a game that is made ready for play: each is made with ample memory along a small match.
-ghost use Rattle.std.specs.Prelude.{◌≡◌, IfOk};
+ghost use Rattle.std.specs.Prelude.{IfOk};
 ghost use Rattle.rbg_rules.specs.Meaning.{IsLegal, IsPlaceOf};
 
 use rbg_base::{Position, Vertex};

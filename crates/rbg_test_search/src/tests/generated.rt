@@ -2,6 +2,8 @@
 ghost use Rattle.std.specs.Prelude.{◌<◌};
 
 use crate::tests::tree::{Action, Operand, Operator, Sum, Tree};
+use rand_core::{Rng, SeedableRng};
+use rand_pcg::Pcg32;
 use rbg_base::{Position, Relation};
 use std::alloc::{AllocError, Global};
 
@@ -17,10 +19,10 @@ struct Setting {
     repeated: bool,
 }
 
-/// Numbers that look random, from a start that is given, and the positions that were handed out.
+/// Numbers by chance, from a seed, and the positions that were handed out.
 #[derive(Drop)]
 pub(crate) struct Generator {
-    state: u64,
+    chance: Pcg32,
     alloc: Global,
     /// The last position that was handed out.
     last: Position,
@@ -31,7 +33,7 @@ pub(crate) struct Generator {
 impl Generator {
     pub(crate) fn new(alloc: Global, seed: u64) -> Generator {
         Generator {
-            state: seed,
+            chance: Pcg32::seed_from_u64(seed),
             alloc,
             last: 0,
             endless: false,
@@ -43,11 +45,7 @@ impl Generator {
         requires { 0 < count }
         ensures { result < count }
     {
-        self.state = self
-            .state
-            .wrapping_mul(6_364_136_223_846_793_005)
-            .wrapping_add(1_442_695_040_888_963_407);
-        (self.state >> 48) as u16 % count
+        (self.chance.next_u64() % u64::from(count)) as u16
     }
 
     /// An action at the next position in order of text.

@@ -1,5 +1,5 @@
 //! Words of rules, each cut behind its sixth letter. A letter is the position of an action.
-ghost use Rattle.std.specs.Prelude.{◌≤◌, ◌<◌};
+ghost use Rattle.std.specs.Prelude.{◌<◌};
 
 use crate::tests::odd::Odd;
 use crate::tests::tree::Tree;

@@ -1,5 +1,5 @@
 -- What is found on a walk through arithmetic, and through the positions of a game.
-use Rattle.std.specs.Prelude.{◌≡◌, ℕ, ◌≤◌, ◌||◌, Bool, false, IsTrue, List, [], ◌∷◌, ◌++◌, Option, Some, None}
+use Rattle.std.specs.Prelude.{ℕ, ◌≤◌, ◌||◌, Bool, false, IsTrue, List, [], ◌∷◌, ◌++◌, Option, Some, None}
 use Rattle.rbg_rules.specs.declared.arithmetic.Operation.{Operation}
 use Rattle.rbg_rules.specs.Meaning.{AbstractArithmetic, number, AbstractAction, HasAction, arithmetic_of, AbstractGame}
 use Rattle.rbg_warnings.specs.declared.thing.Thing.{Thing}

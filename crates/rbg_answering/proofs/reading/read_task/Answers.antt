@@ -1,9 +1,6 @@
 -- What was read for each command.
-use Rattle.std.proofs.Common.{subst, sym}
 use Rattle.std.specs.Prelude.{IfOk}
 use Rattle.std.proofs.lemmas.Result.{IfOk-weaker}
-use Rattle.rbg_tasks.specs.Tasks.{file_task}
-use Rattle.rbg_answering.specs.internal.Parts.{IsReadFor}
 use Rattle.rbg_refereeing.proofs.CallerLemmas.{all_three}
 use Rattle.rbg_answering.proofs.ReadingLemmas.{check_read, match_read}
 use Rattle.rbg_answering.proofs.reading.read_task.Goals as goal

@@ -1,5 +1,5 @@
 -- The texts are where the words say: what was read of them is answered.
-use Rattle.std.proofs.Common.{◌≡◌, subst}
+use Rattle.std.proofs.Common.{subst}
 use Rattle.std.proofs.lemmas.Result.{IfOk-weaker}
 use Rattle.rbg_refereeing.proofs.CallerLemmas.{both}
 use Rattle.rbg_console.specs.Inputs.{most_input, IsAll, IsAbove, IsReading}

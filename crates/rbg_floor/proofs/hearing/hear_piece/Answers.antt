@@ -1,5 +1,4 @@
 use Rattle.std.proofs.Common.{get_or, ap, sym, subst, length}
-use Rattle.std.specs.Prelude.{IfOk}
 use Rattle.rbg_wire.specs.Streams.{dropping}
 use Rattle.rbg_floor.specs.Lines.{over}
 use Rattle.rbg_floor.specs.internal.Hearing.{PieceHeard}

@@ -43,13 +43,13 @@ module _ (game : AbstractGame) (lawful : IsGame game) (place to : AbstractPlace)
 pub apply_at-requires-clause-valid : goal.apply_at-requires-clause-valid
 apply_at-requires-clause-valid c =
     let place : AbstractPlace = record { state = c.loop-pair.state.state; last = c.loop-pair.after } in
-    valid c.args.game.now c.game_is_accepted.ensures place c.requires.legal.0 c.args.pairs.now c.loop-pair.pair-index c.pair.inside.vertex c.pair.inside.position c.pair-item.result c.loop-pair-test.true c.pair-item.is c.pair.view_is
+    valid c.args.game.now c.is_accepted.ensures place c.requires.legal.0 c.args.pairs.now c.loop-pair.pair-index c.pair.inside.vertex c.pair.inside.position c.pair-item.result c.loop-pair-test.true c.pair-item.is c.pair.view_is
     (c.loop-pair.invariant.goes_on c.requires.legal.0 c.requires.legal.1) c.loop-pair.invariant.in_game.state c.reserve.new.self.state (ap (λ (x : History). x.state) c.reserve.ensures.kept)
 
 pub loop-pair-preserved : goal.loop-pair-preserved
 loop-pair-preserved c =
     let game = c.args.game.now in
-    let lawful = c.game_is_accepted.ensures in
+    let lawful = c.is_accepted.ensures in
     let place : AbstractPlace = record { state = c.loop-pair.state.state; last = c.loop-pair.after } in
     let v = c.pair.inside.vertex in
     let p = c.pair.inside.position in
@@ -65,7 +65,7 @@ loop-pair-preserved c =
 pub returns-clause-to : goal.returns-clause-to
 returns-clause-to c =
     let game = c.args.game.now in
-    let lawful = c.game_is_accepted.ensures in
+    let lawful = c.is_accepted.ensures in
     let all = c.args.pairs.now in
     let k = c.loop-pair.pair-index in
     let s = c.loop-pair.state.state in

@@ -3,11 +3,10 @@ use Rattle.std.proofs.Common.{◌≡◌, ℕ, ◌+◌, ◌-◌, ◌<◌, List, �
 use Rattle.std.proofs.lemmas.List.{length_push}
 use Rattle.std.proofs.lemmas.Result.{err_from_is_err_and}
 use Rattle.rbg_base.specs.Move.{most_pairs}
-use Rattle.rbg_rules.specs.Meaning.{AbstractGame, IsStateOf, IsStart, AbstractPlace, stand_of, IsSwitchAt}
+use Rattle.rbg_rules.specs.Meaning.{AbstractGame, IsStateOf, IsStart, AbstractPlace, stand_of}
 use Rattle.rbg_state.specs.History.{History, IsAfter}
 use Rattle.rbg_state.proofs.Histories.{after_nothing, after_both}
 use Rattle.rbg_pairs.specs.Start.{start_of, IsPositionOf}
-use Rattle.rbg_search.specs.Answered.{HasReached}
 use Rattle.rbg_search.specs.Searching.{Searching}
 use Rattle.rbg_search.proofs.Asking.{after_room, room_twice}
 use Rattle.rbg_search.proofs.Kept.{kept_since, kept_twice}

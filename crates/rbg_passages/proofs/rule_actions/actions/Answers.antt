@@ -1,6 +1,6 @@
 -- One part after the other.
-use Rattle.std.proofs.Common.{◌≡◌, ℕ, List, map, refl, arith, length, drop, take, sym, ◌∙◌, ap, ◌≤◌, ◌<◌, ◌+◌, ◌-◌, ◌++◌, [], append-nil, subst}
-use Rattle.std.proofs.lemmas.List.{take_rest, length-drop, drop_all}
+use Rattle.std.proofs.Common.{map, refl, arith, length, sym, ◌≤◌, ◌+◌, [], append-nil, subst}
+use Rattle.std.proofs.lemmas.List.{drop_all}
 use Rattle.rbg_passages.specs.Actions.{AreCut, nothing}
 use Rattle.rbg_passages.proofs.Parts.{grown, within_rest, step_at}
 use Rattle.rbg_passages.proofs.rule_actions.actions.Goals as goal

@@ -25,16 +25,16 @@ star_key actions r part old middle new is b same first second =
     ∙ (ap (λ e. old ++ rules_key e) (sym (expression_of-Star actions part))
     ∙ ap (λ (x : Rule). old ++ rules_key (expression_of actions x)) (sym is)))))
 
-pattern_key : (actions : List Action) (r : Rule) (p : ℕ) (inside : Box Rule Global) (kind : Mark) (old middle new : List Mark) → r ≡ Pattern p inside →
-    ((x : Expression) → rules_key (pattern_of p (action_at actions p) x) ≡ rules_key x ++ (kind ∷ []) ++ (Act p ∷ [])) →
-    (b : Rule) → b ≡ inside.value → middle ≡ old ++ rules_key (expression_of actions b) → new ≡ middle ++ (kind ∷ []) ++ (Act p ∷ []) → new ≡ old ++ rules_key (expression_of actions r)
-pattern_key actions r p inside kind old middle new is key b same first second =
+pattern_key : (actions : List Action) (r : Rule) (p : ℕ) (inside : Box Rule Global) (mark : Mark) (old middle new : List Mark) → r ≡ Pattern p inside →
+    ((x : Expression) → rules_key (pattern_of p (action_at actions p) x) ≡ rules_key x ++ (mark ∷ []) ++ (Act p ∷ [])) →
+    (b : Rule) → b ≡ inside.value → middle ≡ old ++ rules_key (expression_of actions b) → new ≡ middle ++ (mark ∷ []) ++ (Act p ∷ []) → new ≡ old ++ rules_key (expression_of actions r)
+pattern_key actions r p inside mark old middle new is key b same first second =
     let x = expression_of actions b in
     second
-    ∙ (ap (λ xs. xs ++ (kind ∷ []) ++ (Act p ∷ [])) first
-    ∙ (append_assoc (old ++ rules_key x) ((kind ∷ [])) ((Act p ∷ []))
-    ∙ (append_assoc old (rules_key x) ((kind ∷ []) ++ (Act p ∷ []))
-    ∙ (ap (λ xs. old ++ xs) (sym (append_assoc (rules_key x) ((kind ∷ [])) ((Act p ∷ []))))
+    ∙ (ap (λ xs. xs ++ (mark ∷ []) ++ (Act p ∷ [])) first
+    ∙ (append_assoc (old ++ rules_key x) ((mark ∷ [])) ((Act p ∷ []))
+    ∙ (append_assoc old (rules_key x) ((mark ∷ []) ++ (Act p ∷ []))
+    ∙ (ap (λ xs. old ++ xs) (sym (append_assoc (rules_key x) ((mark ∷ [])) ((Act p ∷ []))))
     ∙ (ap (λ xs. old ++ xs) (sym (key x))
     ∙ (ap (λ (y : Rule). old ++ rules_key (pattern_of p (action_at actions p) (expression_of actions y))) same
     ∙ (ap (λ e. old ++ rules_key e) (sym (expression_of-Pattern actions p inside))
@@ -46,7 +46,7 @@ put_rule-returns-in_ok-put_rule-in-Star t c =
 
 pub put_rule-returns-in_ok-put_rule-in-Some : goal.put_rule-returns-in_ok-put_rule-in-Some
 put_rule-returns-in_ok-put_rule-in-Some t c =
-    on_ok_weaker _ (pattern_key _ _ _ c.in-Pattern.inside c.in-Some.kind _ _ _ c.in-Pattern.is c.in-Some.ensures.found _ c.deref.ensures c.in_ok-put_rule-in-Some.ensures) c.put_pattern.ensures
+    on_ok_weaker _ (pattern_key _ _ _ c.in-Pattern.inside c.in-Some.mark _ _ _ c.in-Pattern.is c.in-Some.ensures.found _ c.deref.ensures c.in_ok-put_rule-in-Some.ensures) c.put_pattern.ensures
 
 pub put_parts-loop-part-preserved : goal.put_parts-loop-part-preserved
 put_parts-loop-part-preserved t c = λ before first join marks is.

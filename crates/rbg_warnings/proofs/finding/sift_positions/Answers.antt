@@ -1,5 +1,5 @@
 -- One number after the other.
-use Rattle.std.proofs.Common.{◌-◌, length, arith}
+use Rattle.std.proofs.Common.{length, arith}
 use Rattle.rbg_warnings.specs.declared.warning.Warning.TheVariants.{TooGreat}
 use Rattle.rbg_rules.specs.Meaning.{positions_of}
 use Rattle.rbg_warnings.specs.Warnings.{positions_warned}

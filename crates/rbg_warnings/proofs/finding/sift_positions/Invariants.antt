@@ -1,8 +1,7 @@
 -- The warnings so far are those of the numbers so far.
-use Rattle.std.proofs.Common.{map, length}
+use Rattle.std.proofs.Common.{map}
 use Rattle.std.specs.List.{range_with_len}
-use Rattle.rbg_warnings.specs.declared.thing.Thing.TheVariants.{Player, Piece, Variable, Direction}
-use Rattle.rbg_warnings.specs.declared.warning.Warning.TheVariants.{TooGreat, Unused}
+use Rattle.rbg_warnings.specs.declared.warning.Warning.TheVariants.{TooGreat}
 use Rattle.rbg_warnings.specs.internal.Walking.{Sifts}
 use Rattle.rbg_warnings.proofs.finding.sift_positions.Given as goal
 

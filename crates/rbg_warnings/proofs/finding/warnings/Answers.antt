@@ -1,5 +1,5 @@
 -- The kinds of warnings, one after the other.
-use Rattle.std.proofs.Common.{[], ◌-◌}
+use Rattle.std.proofs.Common.{[]}
 use Rattle.rbg_warnings.specs.Sifting.{nothing}
 use Rattle.rbg_warnings.specs.Warnings.{players_warned, pieces_warned, variables_warned, directions_warned}
 use Rattle.rbg_warnings.proofs.Sifting.{sifts_both}

@@ -5,10 +5,8 @@ use Rattle.rbg_grammar.specs.Views.{name_of, bounded_of}
 use Rattle.rbg_grammar.specs.Tree.{SpeltBounded, SpeltName, SpeltDescription}
 use Rattle.rbg_grammar.specs.declared.names.Name.{Name}
 use Rattle.rbg_grammar.specs.declared.description.Bounded.{Bounded}
-use Rattle.rbg_game.specs.declared.game_error.GameError.{GameError}
 use Rattle.rbg_game.specs.declared.game_error.GameError.TheVariants.{TooMany}
 use Rattle.rbg_game.specs.declared.game_error.Thing.TheVariants.{Players, Pieces, Variables}
-use Rattle.rbg_numbering.specs.declared.error.NumberingError.{NumberingError}
 use Rattle.rbg_game.specs.GameErrors.{game_error_of}
 use Rattle.rbg_numbering.specs.Names.{texts_of}
 use Rattle.rbg_game.specs.Descriptions.{holder_names, holders_of}

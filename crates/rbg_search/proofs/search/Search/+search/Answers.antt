@@ -9,7 +9,7 @@ use Rattle.rbg_search.specs.internal.Begun.{IsBegun}
 use Rattle.rbg_search.specs.internal.BySets.{HasSetsFor, IsWhole, IsToBeAsked}
 use Rattle.rbg_search.specs.internal.Finding.{FindsByPairs}
 use Rattle.rbg_search.specs.internal.Behind.{IsReady, RunsBehindPair, SomeRunsBehind}
-use Rattle.rbg_pairs.specs.Closure.{at_vertex, Reached}
+use Rattle.rbg_pairs.specs.Closure.{at_vertex, IsReached}
 use Rattle.rbg_pairs.specs.Nesting.{NestsFrom}
 use Rattle.rbg_pairs.specs.Part.{HasMarksOf}
 use Rattle.rbg_search.proofs.Asking.{back, mark_within, given_room, runs_one, runs_here, runs_there}
@@ -183,7 +183,7 @@ pub pairs_part-returns-in_err-ends-clause-asked : goal.pairs_part-returns-in_err
 pairs_part-returns-in_err-ends-clause-asked g t c =
     let flat = c.advance.new.flat.value in
     let is = pairs_on c.loop-flat.invariant flat (c.in_ok-vertex.ensures.begun (start_of c.args.origin)) c.in_ok-vertex.ensures.still_done c.in_ok-vertex.ensures.quiet in
-    let met : (e : Start) → IsBegun c.loop-flat.self.game c.loop-flat.state.state e c.loop-flat.flat.value → (w q : ℕ) → Reached c.loop-flat.self.game c.loop-flat.state.state e w q → Contains (take flat.taken flat.queue.pairs) (w, q) = search rules in
+    let met : (e : Start) → IsBegun c.loop-flat.self.game c.loop-flat.state.state e c.loop-flat.flat.value → (w q : ℕ) → IsReached c.loop-flat.self.game c.loop-flat.state.state e w q → Contains (take flat.taken flat.queue.pairs) (w, q) = search rules in
     let r = c.from_residual-in_err-ends.result in
     finds_asked is.finds c.finish.new.self c.finish.ensures.kept c.finish.ensures.opened r
     (not_memory r c.in_err-ends.field-0.0 Deep c.from_residual-in_err-ends.ensures.1 c.in_err-ends.ensures.memory memory_not_deep)
@@ -194,7 +194,7 @@ pub pairs_part-returns-clause-asked : goal.pairs_part-returns-clause-asked
 pairs_part-returns-clause-asked g t c =
     let flat = c.advance.new.flat.value in
     let is = pairs_on c.loop-flat.invariant flat (c.in_ok-vertex.ensures.begun (start_of c.args.origin)) c.in_ok-vertex.ensures.still_done c.in_ok-vertex.ensures.quiet in
-    let met : (e : Start) → IsBegun c.loop-flat.self.game c.loop-flat.state.state e c.loop-flat.flat.value → (w q : ℕ) → Reached c.loop-flat.self.game c.loop-flat.state.state e w q → Contains (take flat.taken flat.queue.pairs) (w, q) = search rules in
+    let met : (e : Start) → IsBegun c.loop-flat.self.game c.loop-flat.state.state e c.loop-flat.flat.value → (w q : ℕ) → IsReached c.loop-flat.self.game c.loop-flat.state.state e w q → Contains (take flat.taken flat.queue.pairs) (w, q) = search rules in
     finds_asked is.finds c.finish.new.self c.finish.ensures.kept c.finish.ensures.opened _ (ok_not_err c.in_ok-ends.ends Deep) (ok_not_err c.in_ok-ends.ends Wide)
     (pairs_own is (met _ (begun_now c.loop-flat.invariant flat)) c.finish.new.self c.finish.ensures.kept c.finish.ensures.opened _ c.finish.ensures.taken)
 
@@ -207,7 +207,7 @@ pairs_part-returns-clause-found g t c =
     let f : Start = start_of c.args.origin in
     let flat = c.advance.new.flat.value in
     let is : FindsByPairs h k s l f flat = pairs_on c.loop-flat.invariant flat (c.in_ok-vertex.ensures.begun f) c.in_ok-vertex.ensures.still_done c.in_ok-vertex.ensures.quiet in
-    let met : (e : Start) → IsBegun k.game l.state e c.loop-flat.flat.value → (w q : ℕ) → Reached k.game l.state e w q → Contains (take flat.taken flat.queue.pairs) (w, q) = search rules in
+    let met : (e : Start) → IsBegun k.game l.state e c.loop-flat.flat.value → (w q : ℕ) → IsReached k.game l.state e w q → Contains (take flat.taken flat.queue.pairs) (w, q) = search rules in
     let begun = begun_now c.loop-flat.invariant flat in
     let whole : (e : Start) → IsBegun k.game l.state e c.loop-flat.flat.value → IsFlatPart k.game l.state e flat.found.items flat.ends = search rules in
     let part : IsFlatPart h.game s.state f flat.found.items flat.ends = before (λ x u. IsFlatPart x u f flat.found.items flat.ends) h k s l is.finds.kept is.finds.given_back (whole f begun) in

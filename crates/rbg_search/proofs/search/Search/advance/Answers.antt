@@ -4,7 +4,7 @@ use Rattle.std.proofs.lemmas.List.{take_all}
 use Rattle.rbg_rules.specs.Meaning.{IsPatternAt, AbstractGame, AbstractState}
 use Rattle.rbg_pairs.specs.declared.flat.Flat.{Flat}
 use Rattle.rbg_search.specs.Searching.{Searching}
-use Rattle.rbg_pairs.specs.Closure.{Reached}
+use Rattle.rbg_pairs.specs.Closure.{IsReached}
 use Rattle.rbg_pairs.specs.Part.{IsPart}
 use Rattle.rbg_pairs.proofs.Parts.{all_met}
 use Rattle.rbg_search.proofs.search.Search.advance.Goals as goal
@@ -32,7 +32,7 @@ returns-clause-met g c =
     let now : IsPart inner s f new.queue.pairs (take new.taken new.queue.pairs) new.found.items new.ends = part f before in
     let here : IsPart inner s f new.queue.pairs new.queue.pairs new.found.items new.ends =
     subst (λ (ds : List (ℕ × ℕ)). IsPart inner s f new.queue.pairs ds new.found.items new.ends) all now in
-    let reached : Reached inner s f v p = subst (λ (x : AbstractGame). Reached x s f v p) (sym same) met in
+    let reached : IsReached inner s f v p = subst (λ (x : AbstractGame). IsReached x s f v p) (sym same) met in
     subst (λ (ds : List (ℕ × ℕ)). Contains ds (v, p)) (sym all) (all_met inner s f c.game-game.ensures.lawful.numbered new.queue.pairs new.found.items new.ends here v p reached))
     c.advance.ensures.done c.advance.ensures.part
 

@@ -1,5 +1,5 @@
 use Rattle.std.proofs.Common.{◌≡◌, take}
-use Rattle.rbg_show.proofs.play.Play.pieces.Given as goal
+use Rattle.rbg_show.proofs.playthrough.Playthrough.pieces.Given as goal
 
 -- The pieces of the vertices before this one.
 abbrev pub invariant-loop-vertex : goal.invariant-loop-vertex

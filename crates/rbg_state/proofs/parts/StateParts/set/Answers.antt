@@ -1,7 +1,7 @@
 use Rattle.std.proofs.Common.{◌≡◌, ℕ, List, slice_set, get_or, refl, sym, ap, ◌∙◌}
 use Rattle.std.proofs.lemmas.List.{set-set, set-get_or}
 use Rattle.std.proofs.lemmas.Option.{get_or_from_slice_get}
-use Rattle.rbg_state.proofs.parts.Parts.set.Goals as goal
+use Rattle.rbg_state.proofs.parts.StateParts.set.Goals as goal
 
 -- an element is set, and then set back
 set_again : (xs ys : List ℕ) (i x y : ℕ) → ys ≡ slice_set xs i x → y ≡ get_or xs i y → slice_set ys i y ≡ xs

@@ -14,7 +14,7 @@ use std::marker::Model;
 /// A game that is played move by move, and the place that is reached. Contracts see both, and how many moves the keeper
 /// has made in a row.
 #[derive(Drop)]
-pub(crate) struct Play<'a> {
+pub(crate) struct Playthrough<'a> {
     alloc: Global,
     game: &'a PlayedGame,
     place: Place,
@@ -24,7 +24,7 @@ pub(crate) struct Play<'a> {
     workspace: Workspace,
 }
 
-impl<'a> Model for Play<'a> {
+impl<'a> Model for Playthrough<'a> {
     ghost use Rattle.rbg_show.specs.Playing.{Playing, coded_playing};
 
     ghost Value = { Playing };
@@ -34,21 +34,22 @@ impl<'a> Model for Play<'a> {
     ghost view = { λ p. record { game = p.game.now; place = p.place; in_a_row = p.in_a_row } };
 
     ghost use Rattle.std.specs.Prelude.{◌≤◌};
+    ghost use Rattle.rbg_moves.specs.Limits.{most_keeper_moves};
     ghost use Rattle.rbg_rules.specs.Meaning.{IsPlaceOf};
 
-    ghost invariant = { λ p. IsPlaceOf p.game.now p.place × (p.in_a_row ≤ 1000) };
+    ghost invariant = { λ p. IsPlaceOf p.game.now p.place × (p.in_a_row ≤ most_keeper_moves) };
 }
 
-impl<'a> Play<'a> {
+impl<'a> Playthrough<'a> {
     /// The beginning of play.
-    pub(crate) fn start(alloc: Global, game: &'a PlayedGame) -> Result<Play<'a>, Memory>
+    pub(crate) fn start(alloc: Global, game: &'a PlayedGame) -> Result<Playthrough<'a>, Memory>
         ensures game { IfOk result (λ play. play.game ≡ game.now) }
         ensures place { IfOk result (λ play.
             play.place ≡ record { state = start_of game.now; last = None }) }
         ensures in_a_row { IfOk result (λ play. play.in_a_row ≡ 0) }
     {
         let place = game.start()?;
-        Ok(Play {
+        Ok(Playthrough {
             alloc,
             game,
             place,
