@@ -1,30 +1,23 @@
 -- Steps of the proofs about small games.
-use Rattle.std.proofs.Common.{◌≡◌, ◌≢◌, ℕ, zero, suc, List, [], ◌∷◌, ◌++◌, refl, sym, ap, ◌∙◌, subst, ◌⊎◌, inl, inr, arith, Bool, true, false}
-use Rattle.std.specs.Prelude.{◌&&◌, All, Some, slice_get}
+use Rattle.std.proofs.Common.{◌≡◌, ◌≢◌, ℕ, zero, suc, List, [], ◌∷◌, ◌++◌, refl, sym, ap, ◌∙◌, subst, ◌⊎◌, inl, inr, arith, false, ◌==◌}
+use Rattle.std.specs.Prelude.{All, Some, slice_get}
 use Rattle.std.specs.List.{list_any}
 use Rattle.std.specs.Str.{bytes_eq}
-use Rattle.std.proofs.lemmas.Bool.{and_parts, or_parts}
+use Rattle.std.proofs.lemmas.Bool.{or_parts, eq-eqb}
 use Rattle.std.proofs.lemmas.Slice.Eq.{bytes_eq-Decides}
-use Rattle.rbg_rules.specs.Meaning.{AbstractAction, shift, on, off, assignment, comparison, switch, positive, negative, Expression, act, skip, sequence, fail, choice, star, sequence_of, HasAction, HasInside, HasOwnAction, IsNumbered, IsSwitchAt, IsPatternAt, HasNoSwitch, outermost, is_modifier, Word, Follows, after, AbstractGame, AbstractState, Applies, RunPairs, stay, modify, pass, AbstractPlace, Legal, IsLegal, stand_of, IsJoinOfWords}
-use Rattle.rbg_rules.proofs.PositionLemmas.{Among, Among_right, one_stands}
+use Rattle.rbg_rules.specs.Meaning.{AbstractAction, Expression, act, sequence_of, HasOwnAction, IsNumbered, IsSwitchAt, HasNoSwitch, outermost, Word, Follows, after, AbstractGame, AbstractState, Applies, RunPairs, stay, modify, pass, AbstractPlace, Legal, IsLegal, stand_of, IsJoinOfWords}
+use Rattle.rbg_rules.proofs.PositionLemmas.{Among, Among_right}
 use Rattle.rbg_rules.proofs.PatternLemmas.{word_own}
 use Rattle.rbg_rules.proofs.LevelLemmas.{one_level_law}
 use Rattle.rbg_rules.proofs.PlaceLemmas.{RunPairs-append, one_switch}
 use Rattle.rbg_rules.proofs.WordLemmas.{sequence_law}
+use Rattle.rbg_examples.proofs.Standing.{has_such, of_word, ModifiesAt, not_quiet, true_not_false}
 
 -- What holds of all elements holds of one that is among them.
 pub all_among : (P : ℕ → Type 0) (xs : List ℕ) → All P xs → (x : ℕ) → Among x xs → P x
 all_among P [] all x h = absurd h
 all_among P (y ∷ xs) all x (inl e) = subst P (sym e) (all 0 0 (omega arith))
 all_among P (y ∷ xs) all x (inr h) = all_among P xs (λ k d below. all (suc k) d (omega arith)) x h
-
--- Two numbers that are told apart.
-pub not_equal : (x y : ℕ) → x ≢ y → ¬ (x ≡ y)
-not_equal x y different same = different same
-
--- Where another action stands there is no switch.
-pub no_switch_at : (rules : Expression) → IsNumbered rules → (p : ℕ) (a : AbstractAction) → HasAction rules p a → ((n : ℕ) → ¬ (a ≡ switch n)) → ¬ IsSwitchAt rules p
-no_switch_at rules numbered p a here other switches = other switches.player (one_stands rules numbered p a (switch switches.player) here switches.stands)
 
 -- The pairs of a move end with the switch's.
 pub record LastPair (ps : List (ℕ × ℕ)) (last : ℕ) : Type 0 where
@@ -71,15 +64,7 @@ goes_on rules numbered i a own m (level, u, z, of_level) =
     let same = one_level_law rules numbered level outermost of_level.expression rules of_level.is_level refl i other.0 a other.1 own in
     record { front = u; back = z; word = subst (λ (x : Expression). Word x (u ++ i ∷ (m ++ z))) same.1 of_level.is_word }
 
--- An action and then the word of the others.
-pub record BeginsWith (p : ℕ) (parts : List Expression) (w : List ℕ) : Type 0 where
-  pub tail : List ℕ
-  pub is : w ≡ p ∷ tail
-  pub others : IsJoinOfWords parts tail
-
-pub begins_with : (p : ℕ) (a : AbstractAction) (parts : List Expression) (w : List ℕ) → IsJoinOfWords (act p a ∷ parts) w → BeginsWith p parts w
-begins_with p a parts w (u, v, first, others, e) = record { tail = v; is = e ∙ ap (λ (z : List ℕ). z ++ v) first; others = others }
-
+-- A word of a sequence is one of its parts after the other.
 pub sequence_word : (parts : List Expression) (w : List ℕ) → IsJoinOfWords parts w → Word (sequence_of parts) w
 sequence_word parts w join = (sequence_law parts w).1 join
 
@@ -92,6 +77,19 @@ at_front i [] r w e once = cc
 at_front i (x ∷ u) r w e once =
     let tails : u ++ i ∷ r ≡ w = cc in
     absurd (once (subst (Among i) tails (Among_right i u (i ∷ r) (inl refl))))
+
+-- What follows the first action of a sequence, whose position is no other's, begins a word of the others.
+pub record Remains (parts : List Expression) (m : List ℕ) : Type 0 where
+  pub back : List ℕ
+  pub others : IsJoinOfWords parts (m ++ back)
+
+pub remains : (i : ℕ) (a : AbstractAction) (parts : List Expression) → IsNumbered (sequence_of (act i a ∷ parts)) → HasOwnAction (sequence_of (act i a ∷ parts)) i a → has_such (λ q b. i == q) (sequence_of parts) ≡ false → (m : List ℕ) → Follows (sequence_of (act i a ∷ parts)) (after i) m → Remains parts m
+remains i a parts numbered own once m follows =
+    let on_from = goes_on (sequence_of (act i a ∷ parts)) numbered i a own m follows in
+    let (u, v, first, others, e) = join_word (act i a ∷ parts) (on_from.front ++ i ∷ (m ++ on_from.back)) on_from.word in
+    let not_again : ¬ Among i v = λ h. true_not_false (sym (eq-eqb i i refl) ∙ of_word (λ q. i == q) (sequence_of parts) once v (sequence_word parts v others) i h) in
+    let rest : m ++ on_from.back ≡ v = at_front i on_from.front (m ++ on_from.back) v (e ∙ ap (λ (z : List ℕ). z ++ v) first) not_again in
+    record { back = on_from.back; others = subst (IsJoinOfWords parts) (sym rest) others }
 
 -- A sequence of single actions has one word.
 abbrev pub acts : List (ℕ × AbstractAction) → List Expression
@@ -106,7 +104,7 @@ acts_join : (qs : List (ℕ × AbstractAction)) → IsJoinOfWords (acts qs) (pla
 acts_join [] = refl
 acts_join (q ∷ qs) = (q.0 ∷ [], places qs, refl, acts_join qs, refl)
 
-acts_joined : (qs : List (ℕ × AbstractAction)) (w : List ℕ) → IsJoinOfWords (acts qs) w → w ≡ places qs
+pub acts_joined : (qs : List (ℕ × AbstractAction)) (w : List ℕ) → IsJoinOfWords (acts qs) w → w ≡ places qs
 acts_joined [] w e = e
 acts_joined (q ∷ qs) w (u, v, first, others, e) = e ∙ ap (λ (z : List ℕ). z ++ v) first ∙ ap (λ (z : List ℕ). q.0 ∷ z) (acts_joined qs v others)
 
@@ -133,19 +131,13 @@ split (z ∷ m) (y ∷ b) q x back e =
       | inr (rest, is) ↦ inr (rest, ap (λ (l : List ℕ). z ∷ l) is ∙ ap (λ (k : ℕ). k ∷ (b ++ rest)) head)
     ]
 
-pub true_not_false : true ≡ false → ⊥
-true_not_false e = cc
-
 -- An off is a modifier, so a run of one off is one pair, and none is no run of one.
-pub modifies : (game : AbstractGame) → IsNumbered game.rules → (p x : ℕ) → HasAction game.rules p (off x) → {s t : AbstractState} (applied : Applies game p s t) → is_modifier applied.action ≡ true
-modifies game numbered p x puts applied = ap is_modifier (one_stands game.rules numbered p applied.action (off x) applied.stands puts)
-
 pub no_pairs : (game : AbstractGame) (s t : AbstractState) (ps : List (ℕ × ℕ)) → RunPairs game [] s t ps → ps ≡ []
 no_pairs game s t ps stay = refl
 
-pub one_pair : (game : AbstractGame) → IsNumbered game.rules → (p x : ℕ) → HasAction game.rules p (off x) → (s t : AbstractState) (ps : List (ℕ × ℕ)) → RunPairs game (p ∷ []) s t ps → ps ≡ (s.vertex, p) ∷ []
-one_pair game numbered p x puts s t ps (modify applied is stay) = refl
-one_pair game numbered p x puts s t ps (pass applied quiet stay) = absurd (true_not_false (sym (modifies game numbered p x puts applied) ∙ quiet))
+pub one_pair : (game : AbstractGame) (p : ℕ) → ModifiesAt game.rules p → (s t : AbstractState) (ps : List (ℕ × ℕ)) → RunPairs game (p ∷ []) s t ps → ps ≡ (s.vertex, p) ∷ []
+one_pair game p modifier s t ps (modify applied is stay) = refl
+one_pair game p modifier s t ps (pass applied quiet stay) = absurd (not_quiet modifier applied quiet)
 
 -- A name that differs from each of some names is none of them.
 pub differs : (name : List ℕ) (names : List (List ℕ)) → list_any (λ other. bytes_eq other name) names ≡ false → (k : ℕ) → ¬ (slice_get names k ≡ Some name)
@@ -169,40 +161,3 @@ only_nothing (q ∷ qs) more some e = cc
 pub all_of_one : (pair : ℕ × ℕ) (qs more : List (ℕ × ℕ)) → more ≢ [] → pair ∷ [] ≡ qs ++ more → qs ≡ []
 all_of_one pair [] more some e = refl
 all_of_one pair (q ∷ qs) more some e = let tails : [] ≡ qs ++ more = cc in absurd (only_nothing qs more some tails)
-
--- whether all actions are modifiers
-abbrev all_modify : Expression → Bool
-all_modify (act p a) = is_modifier a
-all_modify skip = true
-all_modify (sequence x y) = all_modify x && all_modify y
-all_modify fail = true
-all_modify (choice x y) = all_modify x && all_modify y
-all_modify (star x) = all_modify x
-
-nothing_inside : (a b : AbstractAction) (p : ℕ) → is_modifier b ≡ true → HasInside b p a → ⊥
-nothing_inside a (off x) p is has = has
-nothing_inside a (assignment v e) p is has = has
-nothing_inside a (switch n) p is has = has
-nothing_inside a (shift d) p is has = has
-nothing_inside a (on xs) p is has = has
-nothing_inside a (comparison e r f) p is has = has
-nothing_inside a (positive x) p is has = true_not_false (sym is)
-nothing_inside a (negative x) p is has = true_not_false (sym is)
-
-each_modifies : (x : Expression) → all_modify x ≡ true → (p : ℕ) (a : AbstractAction) → HasAction x p a → is_modifier a ≡ true
-each_modifies (act q b) all p a (inl (_, e)) = ap is_modifier e ∙ all
-each_modifies (act q b) all p a (inr has) = absurd (nothing_inside a b p all has)
-each_modifies skip all p a has = absurd has
-each_modifies (sequence x y) all p a (inl has) = each_modifies x (and_parts (all_modify x) (all_modify y) all).0 p a has
-each_modifies (sequence x y) all p a (inr has) = each_modifies y (and_parts (all_modify x) (all_modify y) all).1 p a has
-each_modifies fail all p a has = absurd has
-each_modifies (choice x y) all p a (inl has) = each_modifies x (and_parts (all_modify x) (all_modify y) all).0 p a has
-each_modifies (choice x y) all p a (inr has) = each_modifies y (and_parts (all_modify x) (all_modify y) all).1 p a has
-each_modifies (star x) all p a has = each_modifies x all p a has
-
--- Rules of modifiers alone have no pattern.
-pub no_pattern_among : (x : Expression) → all_modify x ≡ true → (p : ℕ) → ¬ IsPatternAt x p
-no_pattern_among x all p pattern = elim pattern.stands [
-  | inl h ↦ true_not_false (sym (each_modifies x all p (positive pattern.inside_it) h))
-  | inr h ↦ true_not_false (sym (each_modifies x all p (negative pattern.inside_it) h))
-]

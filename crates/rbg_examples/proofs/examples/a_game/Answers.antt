@@ -5,15 +5,14 @@ use Rattle.std.specs.List.{list_any}
 use Rattle.std.specs.Str.{bytes_eq}
 use Rattle.std.proofs.lemmas.List.Elements.{All-cons, All-nil}
 use Rattle.rbg_board.specs.Graph.{next}
-use Rattle.rbg_rules.specs.Meaning.{greatest_bound, AreLawfulNames, AbstractAction, shift, off, positive, negative, switch, act, Expression, sequence_of, HasAction, IsLevel, inside, IsActionOf}
+use Rattle.rbg_rules.specs.Meaning.{greatest_bound, AreLawfulNames, AbstractAction, positive, negative, switch, Expression, HasAction, IsLevel, inside, IsActionOf}
 use Rattle.rbg_examples.specs.ExampleGames.{looking_right, two_squares}
 use Rattle.rbg_rules.proofs.NameLemmas.{no_names, lawful_name}
 use Rattle.rbg_base.specs.Names.{is_name}
+use Rattle.rbg_examples.proofs.Standing.{none_such, true_not_false, is_switch}
 use Rattle.rbg_examples.proofs.ExampleLemmas.{differs}
+use Rattle.rbg_examples.proofs.LookingRight.{right_off, numbered}
 use Rattle.rbg_examples.proofs.examples.a_game.Goals as goal
-
-abbrev right_off : Expression
-right_off = sequence_of (act 3 (shift 3) ∷ act 4 (off 1) ∷ [])
 
 -- Each action speaks of what the game has, and the one pattern is the one that steps and puts.
 abbrev IsRight : AbstractAction → Type 0
@@ -44,11 +43,7 @@ speaks p a (inl (inl (inl (inl (inl (inr (inr none))))))) = absurd none
 speaks p a (inl (inl (inl (inl (inl (inl none)))))) = absurd none
 
 no_switch : (q n : ℕ) → ¬ HasAction right_off q (switch n)
-no_switch q n (inl (inl none)) = absurd none
-no_switch q n (inl (inr (inl (_, e)))) = cc
-no_switch q n (inl (inr (inr none))) = absurd none
-no_switch q n (inr (inl (_, e))) = cc
-no_switch q n (inr (inr none)) = absurd none
+no_switch q n here = true_not_false (none_such (λ p a. is_switch a) right_off refl q (switch n) here)
 
 no_switch_inside : (p : ℕ) (x : Expression) → IsLevel looking_right.rules (inside p) x → (q n : ℕ) → ¬ HasAction x q (switch n)
 no_switch_inside p x (inl h) q n k = no_switch q n (subst (λ (y : Expression). HasAction y q (switch n)) (speaks p (positive x) h).1 k)
@@ -75,7 +70,7 @@ name_before name names is others = lawful_name name names is (differs name names
 
 pub returns : goal.returns
 returns c = record {
-  numbered = record { in_order = refl };
+  numbered = numbered;
   no_empty_sum = ((((((tt, tt), ((tt, tt), tt)), tt), tt), tt), tt);
   actions = λ p a h. (speaks p a h).0;
   switches = no_switch_inside;

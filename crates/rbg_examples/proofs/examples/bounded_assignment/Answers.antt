@@ -1,9 +1,9 @@
 -- The proof of `examples::bounded_assignment`.
 use Rattle.std.proofs.Common.{[], ◌∷◌, refl, inl, inr, arith}
-use Rattle.std.proofs.lemmas.List.Elements.{All-cons, All-nil}
-use Rattle.rbg_rules.specs.Meaning.{assignment, switch, variable, number, sum, IsSwitchAt, outermost, done, again, stay, modify}
+use Rattle.rbg_rules.specs.Meaning.{assignment, switch, variable, number, sum, outermost, done, again, stay, modify}
 use Rattle.rbg_examples.specs.ExampleGames.{counting, state_of}
-use Rattle.rbg_examples.proofs.ExampleLemmas.{legal_by, no_switch_at}
+use Rattle.rbg_examples.proofs.Standing.{no_switches}
+use Rattle.rbg_examples.proofs.ExampleLemmas.{legal_by}
 use Rattle.rbg_examples.proofs.examples.bounded_assignment.Goals as goal
 
 pub returns-clause-at_zero : goal.returns-clause-at_zero
@@ -14,4 +14,4 @@ returns-clause-once c =
     legal_by (2 ∷ []) 3 (state_of 2 (0 ∷ []) 1)
     (outermost, [], [], record { expression = counting.rules; is_level = refl; is_word = (1 ∷ 2 ∷ [], 3 ∷ [], (1 ∷ [], 2 ∷ [], ([], 1 ∷ [], refl, refl, refl), again refl done, refl), refl, refl) })
     (modify (record { action = assignment 2 (sum (variable 2) (number 1)); stands = inl (inr (inl (refl, refl))); acts = (1, refl, omega arith, refl) }) refl (modify (record { action = switch 2; stands = inr (inl (refl, refl)); acts = refl }) refl stay))
-    (record { player = 2; stands = inr (inl (refl, refl)) }) (All-cons (λ p. ¬ IsSwitchAt counting.rules p) 2 [] (no_switch_at counting.rules (record { in_order = refl }) 2 (assignment 2 (sum (variable 2) (number 1))) (inl (inr (inl (refl, refl)))) (λ n e. cc)) (All-nil (λ p. ¬ IsSwitchAt counting.rules p)))
+    (record { player = 2; stands = inr (inl (refl, refl)) }) (no_switches counting.rules (2 ∷ []) refl)

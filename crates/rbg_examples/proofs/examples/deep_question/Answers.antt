@@ -3,7 +3,8 @@ use Rattle.std.proofs.Common.{ℕ, zero, suc, List, [], ◌∷◌, refl, inl, in
 use Rattle.std.proofs.lemmas.List.{append-nil}
 use Rattle.rbg_rules.specs.Meaning.{off, outermost, after, Follows, AbstractState, RunPairs, stay, modify, Opening, at, GoesTo, find_move, items_of}
 use Rattle.rbg_examples.specs.ExampleGames.{without_end, state_of}
-use Rattle.rbg_examples.proofs.WithoutEnd.{off_no_switch, no_switch_follows}
+use Rattle.rbg_examples.proofs.Standing.{no_switch_at}
+use Rattle.rbg_examples.proofs.WithoutEnd.{no_switch_follows}
 use Rattle.rbg_examples.proofs.Offs.{offs, pairs, length-pairs, word, no_switch}
 use Rattle.rbg_examples.proofs.examples.deep_question.Goals as goal
 
@@ -21,7 +22,7 @@ goes : (ps : List (ℕ × ℕ)) → GoesTo without_end find_move (state_of 1 (0 
 goes ps qs prefix (m, t, q, _, follows_on, switches) = no_switch_follows m q follows_on switches
 
 opened : (n : ℕ) → Opening without_end find_move (state_of 1 (0 ∷ []) 0) (after 1) (items_of (pairs n))
-opened n = let (t, run) = runs n 0 in at (record { no_switch = no_switch without_end.rules off_no_switch n; follows = follows n; runs = run }) (goes (pairs n))
+opened n = let (t, run) = runs n 0 in at (record { no_switch = no_switch without_end.rules (no_switch_at without_end.rules 2 refl) n; follows = follows n; runs = run }) (goes (pairs n))
 
 pub returns : goal.returns
 returns c n = record {

@@ -1,13 +1,12 @@
 -- The proof of `examples::heavy_with_a_move`.
-use Rattle.std.proofs.Common.{◌≡◌, ℕ, zero, suc, List, [], ◌∷◌, ◌++◌, refl, inl, inr, sym, ap, ◌∙◌, subst, ◌⊎◌, true, false, append_assoc, arith}
+use Rattle.std.proofs.Common.{◌≡◌, ℕ, zero, suc, List, [], ◌∷◌, ◌++◌, refl, inl, inr, sym, ap, ◌∙◌, subst, ◌⊎◌, append_assoc, arith}
 use Rattle.std.proofs.lemmas.List.{append-nil}
-use Rattle.std.proofs.lemmas.List.Elements.{All-cons, All-nil}
-use Rattle.rbg_rules.specs.Meaning.{AbstractAction, off, on, switch, act, star, choice_of, sequence_of, Expression, HasAction, IsNumbered, IsSwitchAt, HasOwnAction, outermost, is_modifier, after, Word, Follows, AbstractState, Applies, RunPairs, stay, modify, pass, Opening, at, IsProperPrefix, AnswersBehind, IsDeep, find_move, items_of, IsJoinOfWords}
+use Rattle.rbg_rules.specs.Meaning.{off, on, switch, act, star, choice_of, sequence_of, Expression, HasAction, IsNumbered, IsSwitchAt, outermost, after, Word, Follows, AbstractState, Applies, RunPairs, stay, modify, pass, Opening, at, IsProperPrefix, AnswersBehind, IsDeep, find_move, items_of, IsJoinOfWords}
 use Rattle.rbg_examples.specs.ExampleGames.{heavy_choice, state_of}
-use Rattle.rbg_rules.proofs.PositionLemmas.{Among, Among_left, Among_right, Among_cases, one_stands}
-use Rattle.rbg_rules.proofs.PatternLemmas.{only_one, own_stands, word_own}
+use Rattle.rbg_rules.proofs.PositionLemmas.{Among, Among_left, Among_right}
 use Rattle.rbg_rules.proofs.MoveLemmas.{applied_acts}
-use Rattle.rbg_examples.proofs.ExampleLemmas.{legal_by, not_equal, no_switch_at, goes_on, begins_with, join_word, at_front, PairAmong, pair_first, pair_later, split}
+use Rattle.rbg_examples.proofs.Standing.{has_at, is_switch, no_switch_at, no_switches, ModifiesAt, not_quiet, of_word}
+use Rattle.rbg_examples.proofs.ExampleLemmas.{legal_by, remains, acts_joined, PairAmong, pair_first, pair_later, split}
 use Rattle.rbg_examples.proofs.Offs.{offs, pairs, length-pairs, word, no_switch}
 use Rattle.rbg_examples.proofs.ExampleStates.{start, with_piece}
 use Rattle.rbg_examples.proofs.examples.heavy_with_a_move.Goals as goal
@@ -21,9 +20,6 @@ offs_and_stop = sequence_of (star (act 2 (off 0)) ∷ act 3 (on []) ∷ [])
 abbrev either : Expression
 either = choice_of (offs_and_stop ∷ act 4 (off 1) ∷ [])
 
-begins : HasAction heavy_choice.rules 1 (switch 1)
-begins = inl (inl (inr (inl (refl, refl))))
-
 puts_e : HasAction heavy_choice.rules 2 (off 0)
 puts_e = inl (inr (inl (inr (inl (inr (inl (refl, refl)))))))
 
@@ -36,22 +32,13 @@ puts_w = inl (inr (inr (inl (refl, refl))))
 ends : HasAction heavy_choice.rules 5 (switch 2)
 ends = inr (inl (refl, refl))
 
-not_two : ¬ IsSwitchAt heavy_choice.rules 2
-not_two = no_switch_at heavy_choice.rules numbered 2 (off 0) puts_e (λ n e. cc)
-
-not_three : ¬ IsSwitchAt heavy_choice.rules 3
-not_three = no_switch_at heavy_choice.rules numbered 3 (on []) stops (λ n e. cc)
-
-not_four : ¬ IsSwitchAt heavy_choice.rules 4
-not_four = no_switch_at heavy_choice.rules numbered 4 (off 1) puts_w (λ n e. cc)
-
 -- The move by [w].
 pub returns-clause-legal : goal.returns-clause-legal
 returns-clause-legal c =
     legal_by (4 ∷ []) 5 (state_of 2 (1 ∷ []) 0)
     (outermost, [], [], record { expression = heavy_choice.rules; is_level = refl; is_word = (1 ∷ 4 ∷ [], 5 ∷ [], (1 ∷ [], 4 ∷ [], ([], 1 ∷ [], refl, refl, refl), inr refl, refl), refl, refl) })
     (modify {middle = with_piece} (record { action = off 1; stands = puts_w; acts = refl }) refl (modify (record { action = switch 2; stands = ends; acts = refl }) refl stay))
-    (record { player = 2; stands = ends }) (All-cons (λ p. ¬ IsSwitchAt heavy_choice.rules p) 4 [] not_four (All-nil (λ p. ¬ IsSwitchAt heavy_choice.rules p)))
+    (record { player = 2; stands = ends }) (no_switches heavy_choice.rules (4 ∷ []) refl)
 
 branch : (n : ℕ) → Word either (offs n ++ 3 ∷ [])
 branch n = inl (inr (offs n, 3 ∷ [], ([], offs n, refl, word 0 n, refl), refl, refl))
@@ -85,23 +72,18 @@ no_three (pass {s} {middle} applied quiet run) (inl e) = never s middle (subst (
 no_three (pass applied quiet run) (inr h) = no_three run h
 
 -- The off at 4 leaves a pair.
-true_not_false : true ≡ false → ⊥
-true_not_false e = cc
-
 pair_of_four : {w : List ℕ} {s t : AbstractState} {ps : List (ℕ × ℕ)} → RunPairs heavy_choice w s t ps → Among 4 w → (v : ℕ) × PairAmong v 4 ps
 pair_of_four stay h = absurd h
 pair_of_four (modify {p} {s} {ps} applied modifies run) (inl e) = (s.vertex, subst (λ (q : ℕ). PairAmong s.vertex 4 ((s.vertex, q) ∷ ps)) e (pair_first s.vertex 4 ps))
 pair_of_four (modify {p} {s} {ps} applied modifies run) (inr h) = let (v, more) = pair_of_four run h in (v, pair_later v 4 (s.vertex, p) ps more)
-pair_of_four (pass {p} applied quiet run) (inl e) =
-    let same : applied.action ≡ off 1 = one_stands heavy_choice.rules numbered 4 applied.action (off 1) (subst (λ (q : ℕ). HasAction heavy_choice.rules q applied.action) (sym e) applied.stands) puts_w in
-    absurd (true_not_false (sym (ap is_modifier same) ∙ quiet))
+pair_of_four (pass {p} applied quiet run) (inl e) = absurd (not_quiet (subst (ModifiesAt heavy_choice.rules) e refl) applied quiet)
 pair_of_four (pass applied quiet run) (inr h) = pair_of_four run h
 
 -- The pairs of the offs are all at 2, and so are those of their first part.
 only_two : (n v : ℕ) → ¬ PairAmong v 4 (pairs n)
 unfolding pairs PairAmong
 only_two zero v h = absurd h
-only_two (suc n) v (inl e) = absurd (not_equal 2 4 (omega arith) (ap (λ (q : ℕ × ℕ). q.1) e))
+only_two (suc n) v (inl e) = let two_is_four : 2 ≡ 4 = ap (λ (q : ℕ × ℕ). q.1) e in absurd cc
 only_two (suc n) v (inr h) = only_two n v h
 
 in_front : (v : ℕ) (qs more : List (ℕ × ℕ)) → PairAmong v 4 qs → PairAmong v 4 (qs ++ more)
@@ -112,45 +94,21 @@ in_front v (q ∷ qs) more (inr h) = inr (in_front v qs more h)
 
 -- What stands in a branch is no switch, and a branch has the position 3 or the position 4.
 in_branch : (b : List ℕ) → Word either b → (p : ℕ) → Among p b → ¬ IsSwitchAt heavy_choice.rules p
-in_branch b in_b p h switches =
-    let (a, own) = word_own either b in_b p h in
-    no_switch_at heavy_choice.rules numbered p a (stands a own) (plain a own) switches
-  where
-    stands : (a : AbstractAction) → HasOwnAction either p a → HasAction heavy_choice.rules p a
-    stands a own = inl (inr (own_stands either p a own))
-
-    plain : (a : AbstractAction) → HasOwnAction either p a → (n : ℕ) → ¬ (a ≡ switch n)
-    plain a (inl (inl none)) n e = absurd none
-    plain a (inl (inr (inl (inl none)))) n e = absurd none
-    plain a (inl (inr (inl (inr (_, is))))) n e = cc
-    plain a (inl (inr (inr (_, is)))) n e = cc
-    plain a (inr (_, is)) n e = cc
+in_branch b in_b p h = no_switch_at heavy_choice.rules p (of_word (has_at is_switch heavy_choice.rules) either refl b in_b p h)
 
 three_or_four : (b : List ℕ) → Word either b → Among 3 b ⊎ Among 4 b
 three_or_four b (inl (inl none)) = absurd none
 three_or_four b (inl (inr (u, v, in_u, last, e))) = inl (subst (Among 3) (sym e) (Among_right 3 u v (subst (Among 3) (sym last) (inl refl))))
 three_or_four b (inr is) = inr (subst (Among 4) (sym is) (inl refl))
 
--- No position behind the first is 1.
-one_not_behind : (b v : List ℕ) → Word either b → v ≡ 5 ∷ [] → ¬ Among 1 (b ++ v)
-one_not_behind b v in_b is h = elim (Among_cases 1 b v h) [
-  | inl left ↦ in_branch b in_b 1 left (record { player = 1; stands = begins })
-  | inr right ↦ not_equal 1 5 (omega arith) (only_one 1 5 (subst (Among 1) is right))
-]
-
 no_answer : (n : ℕ) (qs : List (ℕ × ℕ)) → IsProperPrefix qs (pairs n) → ¬ AnswersBehind heavy_choice find_move start (after 1) qs
 no_answer n qs (more, some, is) (m, t, q, runs_on, follows_on, switches) =
-    let whole : List ℕ = m ++ q ∷ [] in
-    let on_from = goes_on heavy_choice.rules numbered 1 (switch 1) (inl (inl (inr (refl, refl)))) whole follows_on in
-    let parts : List Expression = either ∷ act 5 (switch 2) ∷ [] in
-    let begun = begins_with 1 (switch 1) parts (on_from.front ++ 1 ∷ (whole ++ on_from.back)) (join_word (act 1 (switch 1) ∷ parts) (on_from.front ++ 1 ∷ (whole ++ on_from.back)) on_from.word) in
-    behind begun.tail begun.others on_from.front on_from.back begun.is
+    let rest = remains 1 (switch 1) (either ∷ act 5 (switch 2) ∷ []) numbered (inl (inl (inr (refl, refl)))) refl (m ++ q ∷ []) follows_on in
+    behind rest.back rest.others
   where
-    behind : (tail : List ℕ) → IsJoinOfWords (either ∷ act 5 (switch 2) ∷ []) tail → (front back : List ℕ) → front ++ 1 ∷ ((m ++ q ∷ []) ++ back) ≡ 1 ∷ tail → ⊥
-    behind tail (b, v, in_b, (x, y, last, none, f), e) front back is_tail =
-        let v_is : v ≡ 5 ∷ [] = f ∙ ap (λ (z : List ℕ). z ++ y) last ∙ ap (λ (z : List ℕ). 5 ∷ z) none in
-        let rest : (m ++ q ∷ []) ++ back ≡ tail = at_front 1 front ((m ++ q ∷ []) ++ back) tail is_tail (λ h. one_not_behind b v in_b v_is (subst (Among 1) e h)) in
-        let joined : m ++ q ∷ back ≡ b ++ 5 ∷ [] = sym (append_assoc m (q ∷ []) back) ∙ rest ∙ e ∙ ap (λ (z : List ℕ). b ++ z) v_is in
+    behind : (back : List ℕ) → IsJoinOfWords (either ∷ act 5 (switch 2) ∷ []) ((m ++ q ∷ []) ++ back) → ⊥
+    behind back (b, v, in_b, last, e) =
+        let joined : m ++ q ∷ back ≡ b ++ 5 ∷ [] = sym (append_assoc m (q ∷ []) back) ∙ e ∙ ap (λ (z : List ℕ). b ++ z) (acts_joined ((5, switch 2) ∷ []) v last) in
         elim (split m b q 5 back joined) [
           | inl h ↦ in_branch b in_b q h switches
           | inr (later, m_is) ↦ elim (three_or_four b in_b) [
@@ -162,7 +120,7 @@ no_answer n qs (more, some, is) (m, t, q, runs_on, follows_on, switches) =
         ]
 
 opened : (n : ℕ) → Opening heavy_choice find_move start (after 1) (items_of (pairs n))
-opened n = at (record { no_switch = no_switch heavy_choice.rules not_two n; follows = follows n; runs = runs n }) (λ qs prefix. no_answer n qs prefix)
+opened n = at (record { no_switch = no_switch heavy_choice.rules (no_switch_at heavy_choice.rules 2 refl) n; follows = follows n; runs = runs n }) (λ qs prefix. no_answer n qs prefix)
 
 deep : (n : ℕ) → IsDeep heavy_choice find_move start (after 1) n
 deep n = record {

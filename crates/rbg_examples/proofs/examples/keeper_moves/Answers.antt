@@ -1,8 +1,8 @@
 -- The proof of `examples::keeper_moves`.
 use Rattle.std.proofs.Common.{[], refl, inl}
-use Rattle.std.proofs.lemmas.List.Elements.{All-nil}
-use Rattle.rbg_rules.specs.Meaning.{switch, IsSwitchAt, outermost, done, again, start_of, stay, modify}
+use Rattle.rbg_rules.specs.Meaning.{switch, outermost, done, again, start_of, stay, modify}
 use Rattle.rbg_examples.specs.ExampleGames.{keeper_for_ever}
+use Rattle.rbg_examples.proofs.Standing.{no_switches}
 use Rattle.rbg_examples.proofs.ExampleLemmas.{legal_by}
 use Rattle.rbg_examples.proofs.examples.keeper_moves.Goals as goal
 
@@ -11,11 +11,11 @@ returns-clause-first c =
     legal_by [] 1 (start_of keeper_for_ever)
     ([], record { expression = keeper_for_ever.rules; is_level = refl; is_word = again refl done })
     (modify (record { action = switch 0; stands = inl (refl, refl); acts = refl }) refl stay)
-    (record { player = 0; stands = inl (refl, refl) }) (All-nil (λ p. ¬ IsSwitchAt keeper_for_ever.rules p))
+    (record { player = 0; stands = inl (refl, refl) }) (no_switches keeper_for_ever.rules [] refl)
 
 pub returns-clause-again : goal.returns-clause-again
 returns-clause-again c =
     legal_by [] 1 (start_of keeper_for_ever)
     (outermost, [], [], record { expression = keeper_for_ever.rules; is_level = refl; is_word = again refl (again refl done) })
     (modify (record { action = switch 0; stands = inl (refl, refl); acts = refl }) refl stay)
-    (record { player = 0; stands = inl (refl, refl) }) (All-nil (λ p. ¬ IsSwitchAt keeper_for_ever.rules p))
+    (record { player = 0; stands = inl (refl, refl) }) (no_switches keeper_for_ever.rules [] refl)

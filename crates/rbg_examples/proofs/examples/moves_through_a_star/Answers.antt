@@ -1,10 +1,10 @@
 -- The proof of `examples::moves_through_a_star`.
 use Rattle.std.proofs.Common.{◌≡◌, ℕ, [], ◌∷◌, ◌++◌, List, refl, inl, inr, ap, sym, ◌∙◌, subst}
-use Rattle.std.proofs.lemmas.List.Elements.{All-cons, All-nil}
-use Rattle.rbg_rules.specs.Meaning.{off, switch, HasAction, IsNumbered, IsSwitchAt, HasNoSwitch, outermost, done, again, Applies, stay, modify}
+use Rattle.rbg_rules.specs.Meaning.{off, switch, HasAction, IsNumbered, IsSwitchAt, outermost, done, again, Applies, stay, modify}
 use Rattle.rbg_examples.specs.ExampleGames.{star_of_offs, state_of}
 use Rattle.rbg_rules.proofs.PlaceLemmas.{RunPairs-append, one_switch, snoc_same}
-use Rattle.rbg_examples.proofs.ExampleLemmas.{legal_by, no_switch_at, last_pair, PairAmong, pair_first, pair_position, all_among}
+use Rattle.rbg_examples.proofs.ExampleLemmas.{legal_by, last_pair, PairAmong, pair_first, pair_position, all_among}
+use Rattle.rbg_examples.proofs.Standing.{no_switch_at, no_switches}
 use Rattle.rbg_examples.proofs.examples.moves_through_a_star.Goals as goal
 
 numbered : IsNumbered star_of_offs.rules
@@ -19,12 +19,6 @@ puts_e = inl (inr (inl (refl, refl)))
 to_black : HasAction star_of_offs.rules 3 (switch 2)
 to_black = inr (inl (refl, refl))
 
-off_no_switch : ¬ IsSwitchAt star_of_offs.rules 2
-off_no_switch = no_switch_at star_of_offs.rules numbered 2 (off 0) puts_e (λ n e. cc)
-
-none : HasNoSwitch star_of_offs.rules []
-none = All-nil (λ p. ¬ IsSwitchAt star_of_offs.rules p)
-
 abbrev putting : Applies star_of_offs 2 (state_of 1 (0 ∷ []) 0) (state_of 1 (0 ∷ []) 0)
 putting = record { action = off 0; stands = puts_e; acts = refl }
 
@@ -36,28 +30,28 @@ returns-clause-opening c =
     legal_by [] 1 (state_of 1 (0 ∷ []) 0)
     (3 ∷ [], record { expression = star_of_offs.rules; is_level = refl; is_word = (1 ∷ [], 3 ∷ [], (1 ∷ [], [], ([], 1 ∷ [], refl, refl, refl), done, refl), refl, refl) })
     (modify (record { action = switch 1; stands = to_white; acts = refl }) refl stay)
-    (record { player = 1; stands = to_white }) none
+    (record { player = 1; stands = to_white }) (no_switches star_of_offs.rules [] refl)
 
 pub returns-clause-at_once : goal.returns-clause-at_once
 returns-clause-at_once c =
     legal_by [] 3 (state_of 2 (0 ∷ []) 0)
     (outermost, [], [], record { expression = star_of_offs.rules; is_level = refl; is_word = (1 ∷ [], 3 ∷ [], (1 ∷ [], [], ([], 1 ∷ [], refl, refl, refl), done, refl), refl, refl) })
     (modify ending refl stay)
-    (record { player = 2; stands = to_black }) none
+    (record { player = 2; stands = to_black }) (no_switches star_of_offs.rules [] refl)
 
 pub returns-clause-after_two : goal.returns-clause-after_two
 returns-clause-after_two c =
     legal_by (2 ∷ 2 ∷ []) 3 (state_of 2 (0 ∷ []) 0)
     (outermost, [], [], record { expression = star_of_offs.rules; is_level = refl; is_word = (1 ∷ 2 ∷ 2 ∷ [], 3 ∷ [], (1 ∷ [], 2 ∷ 2 ∷ [], ([], 1 ∷ [], refl, refl, refl), again refl (again refl done), refl), refl, refl) })
     (modify putting refl (modify putting refl (modify ending refl stay)))
-    (record { player = 2; stands = to_black }) (All-cons (λ p. ¬ IsSwitchAt star_of_offs.rules p) 2 (2 ∷ []) off_no_switch (All-cons (λ p. ¬ IsSwitchAt star_of_offs.rules p) 2 [] off_no_switch none))
+    (record { player = 2; stands = to_black }) (no_switches star_of_offs.rules (2 ∷ 2 ∷ []) refl)
 
 -- The off would be the move's last position, and it is no switch.
 pub returns-clause-no_switch : goal.returns-clause-no_switch
 returns-clause-no_switch c (to, legal) =
     let last = last_pair star_of_offs numbered legal in
     let same = snoc_same [] last.before (0, 2) (last.vertex, legal.last) last.joined in
-    off_no_switch (subst (IsSwitchAt star_of_offs.rules) (sym (ap (λ (q : ℕ × ℕ). q.1) same.1)) legal.switches)
+    no_switch_at star_of_offs.rules 2 refl (subst (IsSwitchAt star_of_offs.rules) (sym (ap (λ (q : ℕ × ℕ). q.1) same.1)) legal.switches)
 
 -- The switch to white would stand before the move's last position.
 pub returns-clause-two_switches : goal.returns-clause-two_switches

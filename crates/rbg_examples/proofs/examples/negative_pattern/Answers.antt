@@ -1,13 +1,12 @@
 -- The proof of `examples::negative_pattern`.
 use Rattle.std.proofs.Common.{◌≡◌, ℕ, List, [], ◌∷◌, ◌++◌, refl, inl, inr, subst, arith}
 use Rattle.std.specs.Prelude.{Some}
-use Rattle.std.proofs.lemmas.List.Elements.{All-cons, All-nil}
 use Rattle.rbg_board.specs.Graph.{Graph, next}
-use Rattle.rbg_rules.specs.Meaning.{AbstractAction, shift, on, off, negative, switch, act, Expression, sequence_of, HasAction, IsNumbered, IsSwitchAt, HasNoSwitch, outermost, Word, AbstractState, Applies, Runs, ActsIn, rest, step, RunPairs, stay, modify, pass}
+use Rattle.rbg_rules.specs.Meaning.{AbstractAction, shift, on, off, negative, switch, act, Expression, sequence_of, HasAction, IsNumbered, outermost, Word, AbstractState, Applies, Runs, ActsIn, rest, step, RunPairs, stay, modify, pass}
 use Rattle.rbg_examples.specs.ExampleGames.{nothing_right, one_square, two_squares, state_of}
-use Rattle.rbg_rules.proofs.PositionLemmas.{Among}
 use Rattle.rbg_rules.proofs.MoveLemmas.{applied_acts}
-use Rattle.rbg_examples.proofs.ExampleLemmas.{legal_by, no_switch_at, goes_on, at_front, first_applies, acts_word, only_word}
+use Rattle.rbg_examples.proofs.ExampleLemmas.{legal_by, remains, first_applies, acts, acts_word, acts_joined, only_word}
+use Rattle.rbg_examples.proofs.Standing.{no_switches}
 use Rattle.rbg_examples.proofs.ExampleStates.{start, with_piece, at_first, at_second, after_off}
 use Rattle.rbg_examples.proofs.examples.negative_pattern.Goals as goal
 
@@ -17,8 +16,11 @@ right_off = sequence_of (act 3 (shift 3) ∷ act 4 (off 1) ∷ act 5 (on (1 ∷ 
 abbrev inner : List (ℕ × AbstractAction)
 inner = (3, shift 3) ∷ (4, off 1) ∷ (5, on (1 ∷ [])) ∷ []
 
+abbrev last_three : List (ℕ × AbstractAction)
+last_three = (2, negative right_off) ∷ (6, off 1) ∷ (7, switch 2) ∷ []
+
 abbrev actions : List (ℕ × AbstractAction)
-actions = (1, switch 1) ∷ (2, negative right_off) ∷ (6, off 1) ∷ (7, switch 2) ∷ []
+actions = (1, switch 1) ∷ last_three
 
 module _ (board : Graph) where
   numbered : IsNumbered (nothing_right board).rules
@@ -32,9 +34,6 @@ module _ (board : Graph) where
 
   ends : HasAction (nothing_right board).rules 7 (switch 2)
   ends = inr (inl (refl, refl))
-
-  not : (p : ℕ) (w : List ℕ) → ¬ IsSwitchAt (nothing_right board).rules p → HasNoSwitch (nothing_right board).rules w → HasNoSwitch (nothing_right board).rules (p ∷ w)
-  not p w here others = All-cons (λ q. ¬ IsSwitchAt (nothing_right board).rules q) p w here others
 
 no_edge : (v : ℕ) → ¬ (next one_square 0 3 ≡ Some v)
 unfolding next
@@ -58,7 +57,7 @@ returns-clause-holds c =
     legal_by (2 ∷ 6 ∷ []) 7 (state_of 2 (1 ∷ []) 0)
     (outermost, [], [], record { expression = (nothing_right one_square).rules; is_level = refl; is_word = acts_word actions })
     (pass {middle = start} (record { action = negative right_off; stands = looks one_square; acts = ((λ (w, end, word, run). nothing w end word run), refl) }) refl (modify {middle = with_piece} (record { action = off 1; stands = puts one_square; acts = refl }) refl (modify (record { action = switch 2; stands = ends one_square; acts = refl }) refl stay)))
-    (record { player = 2; stands = ends one_square }) (not one_square 2 (6 ∷ []) (no_switch_at (nothing_right one_square).rules (numbered one_square) 2 (negative right_off) (looks one_square) (λ n e. cc)) (not one_square 6 [] (no_switch_at (nothing_right one_square).rules (numbered one_square) 6 (off 1) (puts one_square) (λ n e. cc)) (All-nil (λ p. ¬ IsSwitchAt (nothing_right one_square).rules p))))
+    (record { player = 2; stands = ends one_square }) (no_switches (nothing_right one_square).rules (2 ∷ 6 ∷ []) refl)
 
 -- On two squares the inside runs: one step to the right, w put there, and found there.
 runs_right : Runs (ActsIn (nothing_right two_squares) right_off) (3 ∷ 4 ∷ 5 ∷ []) at_first after_off
@@ -79,18 +78,10 @@ begins (p ∷ before) last end ps back e run =
     let applies = first_applies (subst (λ (q : ℕ). RunPairs (nothing_right two_squares) (q ∷ (before ++ last ∷ [])) at_first end ps) first run) in
     stopped applies.0 applies.1
 
-no_one : Among 1 (2 ∷ 6 ∷ 7 ∷ []) → ⊥
-no_one (inl e) = cc
-no_one (inr (inl e)) = cc
-no_one (inr (inr (inl e))) = cc
-no_one (inr (inr (inr e))) = absurd e
-
 pub returns-clause-fails : goal.returns-clause-fails
 returns-clause-fails c = record {
   no_move = λ ps to legal.
       let m : List ℕ = legal.before ++ legal.last ∷ [] in
-      let on_from = goes_on (nothing_right two_squares).rules (numbered two_squares) 1 (switch 1) (inl (inl (inl (inr (refl, refl))))) m legal.follows in
-      let only = only_word actions (on_from.front ++ 1 ∷ (m ++ on_from.back)) on_from.word in
-      let rest : m ++ on_from.back ≡ 2 ∷ 6 ∷ 7 ∷ [] = at_front 1 on_from.front (m ++ on_from.back) (2 ∷ 6 ∷ 7 ∷ []) only no_one in
-      begins legal.before legal.last to.state ps on_from.back rest legal.runs;
+      let rest = remains 1 (switch 1) (acts last_three) (numbered two_squares) (inl (inl (inl (inr (refl, refl))))) refl m legal.follows in
+      begins legal.before legal.last to.state ps rest.back (acts_joined last_three (m ++ rest.back) rest.others) legal.runs;
 }

@@ -1,9 +1,9 @@
 -- The proof of `examples::nothing_forced`.
-use Rattle.std.proofs.Common.{◌≡◌, ℕ, List, [], ◌∷◌, ◌++◌, refl, inl, inr, sym, ap, ◌∙◌, subst}
-use Rattle.rbg_rules.specs.Meaning.{off, IsNumbered, IsSwitchAt, after, at, behind, IsMove}
+use Rattle.std.proofs.Common.{◌≡◌, ℕ, List, [], ◌∷◌, ◌++◌, refl, sym, ap, ◌∙◌, subst}
+use Rattle.rbg_rules.specs.Meaning.{IsNumbered, IsSwitchAt, after, at, behind, IsMove}
 use Rattle.rbg_examples.specs.ExampleGames.{star_of_offs, state_of}
 use Rattle.rbg_rules.proofs.PlaceLemmas.{RunPairs-append, one_switch, snoc_same}
-use Rattle.rbg_examples.proofs.ExampleLemmas.{no_switch_at}
+use Rattle.rbg_examples.proofs.Standing.{no_switch_at}
 use Rattle.rbg_examples.proofs.examples.nothing_forced.Goals as goal
 
 numbered : IsNumbered star_of_offs.rules
@@ -15,7 +15,7 @@ no_move move =
     let end = one_switch numbered move.switches cut.second in
     let joined : (0, 2) ∷ [] ≡ cut.before ++ (cut.middle.vertex, move.last) ∷ [] = cut.joined ∙ ap (λ (qs : List (ℕ × ℕ)). cut.before ++ qs) end.pairs in
     let same = snoc_same [] cut.before (0, 2) (cut.middle.vertex, move.last) joined in
-    no_switch_at star_of_offs.rules numbered 2 (off 0) (inl (inr (inl (refl, refl)))) (λ n e. cc) (subst (IsSwitchAt star_of_offs.rules) (sym (ap (λ (q : ℕ × ℕ). q.1) same.1)) move.switches)
+    no_switch_at star_of_offs.rules 2 refl (subst (IsSwitchAt star_of_offs.rules) (sym (ap (λ (q : ℕ × ℕ). q.1) same.1)) move.switches)
 
 pub returns : goal.returns
 returns c cut o (at runs goes forced) = no_move forced

@@ -1,9 +1,8 @@
 -- The proof of `examples::openings_end_at_an_answer`.
 use Rattle.std.proofs.Common.{◌≡◌, ℕ, List, [], ◌∷◌, refl, inl, inr}
-use Rattle.std.proofs.lemmas.List.Elements.{All-nil}
-use Rattle.rbg_rules.specs.Meaning.{IsSwitchAt, outermost, after, done, stay, at, behind, AnswersBehind, GoesTo, find_move}
+use Rattle.rbg_rules.specs.Meaning.{outermost, after, done, stay, at, behind, AnswersBehind, GoesTo, find_move, is_pattern}
 use Rattle.rbg_examples.specs.ExampleGames.{star_of_offs, state_of}
-use Rattle.rbg_examples.proofs.ExampleLemmas.{no_pattern_among}
+use Rattle.rbg_examples.proofs.Standing.{none_such, no_switches, no_pattern_at}
 use Rattle.rbg_examples.proofs.examples.openings_end_at_an_answer.Goals as goal
 
 -- The switch to black stands behind no modifier.
@@ -13,7 +12,7 @@ answer = (
   state_of 1 (0 ∷ []) 0,
   3,
   record {
-    no_switch = All-nil (λ p. ¬ IsSwitchAt star_of_offs.rules p);
+    no_switch = no_switches star_of_offs.rules [] refl;
     follows = (outermost, [], 3 ∷ [], record { expression = star_of_offs.rules; is_level = refl; is_word = (1 ∷ [], 3 ∷ [], (1 ∷ [], [], ([], 1 ∷ [], refl, refl, refl), done, refl), refl, refl) });
     runs = stay;
   },
@@ -27,4 +26,4 @@ stops (q ∷ ps) goes = absurd (goes [] (q ∷ ps, (λ e. cc), refl) answer)
 
 pub returns : goal.returns
 returns c o (at {ps} runs goes) = rw (stops ps goes)
-returns c o (behind {p} runs goes follows pattern more) = absurd (no_pattern_among star_of_offs.rules refl p pattern)
+returns c o (behind {p} runs goes follows pattern more) = absurd (no_pattern_at star_of_offs.rules p (none_such (λ q a. is_pattern a) star_of_offs.rules refl p) pattern)

@@ -1,37 +1,20 @@
 -- The proof of `examples::openings_in_a_pattern`.
-use Rattle.std.proofs.Common.{◌≡◌, ℕ, List, [], ◌∷◌, refl, inl, inr, sym, ap, ◌∙◌, subst}
-use Rattle.std.proofs.lemmas.List.Elements.{All-cons, All-nil}
+use Rattle.std.proofs.Common.{◌≡◌, ℕ, List, [], ◌∷◌, refl, inl, inr, subst}
 use Rattle.rbg_board.specs.Graph.{next}
-use Rattle.rbg_rules.specs.Meaning.{AbstractAction, shift, on, off, positive, negative, switch, act, Expression, sequence_of, HasAction, IsNumbered, IsSwitchAt, HasNoSwitch, outermost, inside, IsLevel, is_modifier, beginning, WordOf, Word, AbstractState, RunPairs, stay, modify, pass, at, behind, AnswersBehind, GoesTo, pattern}
+use Rattle.rbg_rules.specs.Meaning.{shift, off, positive, negative, Expression, HasAction, outermost, inside, IsLevel, beginning, WordOf, Word, AbstractState, RunPairs, stay, modify, pass, at, behind, AnswersBehind, GoesTo, pattern}
 use Rattle.rbg_examples.specs.ExampleGames.{looking_right}
-use Rattle.rbg_examples.proofs.ExampleLemmas.{no_switch_at, true_not_false, only_nothing, all_of_one, acts_word, only_word}
+use Rattle.rbg_examples.proofs.Standing.{no_switches, not_quiet}
+use Rattle.rbg_examples.proofs.ExampleLemmas.{only_nothing, all_of_one, acts_word, only_word}
+use Rattle.rbg_examples.proofs.LookingRight.{inner, right_off, actions, numbered, looks}
 use Rattle.rbg_rules.proofs.PositionLemmas.{one_stands}
 use Rattle.rbg_examples.proofs.ExampleStates.{at_first, at_second, after_off}
 use Rattle.rbg_examples.proofs.examples.openings_in_a_pattern.Goals as goal
-
-numbered : IsNumbered looking_right.rules
-numbered = record { in_order = refl }
-
-abbrev right_off : Expression
-right_off = sequence_of (act 3 (shift 3) ∷ act 4 (off 1) ∷ [])
-
-abbrev inner : List (ℕ × AbstractAction)
-inner = (3, shift 3) ∷ (4, off 1) ∷ []
-
-abbrev actions : List (ℕ × AbstractAction)
-actions = (1, switch 1) ∷ (2, positive right_off) ∷ (5, shift 3) ∷ (6, on (0 ∷ [])) ∷ (7, off 1) ∷ (8, switch 2) ∷ []
-
-looks : HasAction looking_right.rules 2 (positive right_off)
-looks = inl (inl (inl (inl (inr (inl (refl, refl))))))
 
 steps : HasAction looking_right.rules 3 (shift 3)
 steps = inl (inl (inl (inl (inr (inr (inl (inr (inl (refl, refl)))))))))
 
 puts : HasAction looking_right.rules 4 (off 1)
 puts = inl (inl (inl (inl (inr (inr (inr (inl (refl, refl))))))))
-
-no_switch : HasNoSwitch looking_right.rules (3 ∷ 4 ∷ [])
-no_switch = All-cons (λ p. ¬ IsSwitchAt looking_right.rules p) 3 (4 ∷ []) (no_switch_at looking_right.rules numbered 3 (shift 3) steps (λ n e. cc)) (All-cons (λ p. ¬ IsSwitchAt looking_right.rules p) 4 [] (no_switch_at looking_right.rules numbered 4 (off 1) puts (λ n e. cc)) (All-nil (λ p. ¬ IsSwitchAt looking_right.rules p)))
 
 runs_inside : RunPairs looking_right (3 ∷ 4 ∷ []) at_first after_off ((1, 4) ∷ [])
 unfolding next
@@ -47,9 +30,7 @@ inside_word w of_level = only_word inner w (subst (λ (x : Expression). Word x w
 
 -- .. and no run of it is without a modifier.
 some_pair : (t : AbstractState) → ¬ RunPairs looking_right (3 ∷ 4 ∷ []) at_first t []
-some_pair t (pass applied quiet (pass applied' quiet' stay)) =
-    let same : applied'.action ≡ off 1 = one_stands looking_right.rules numbered 4 applied'.action (off 1) applied'.stands puts in
-    true_not_false (sym (ap is_modifier same) ∙ quiet')
+some_pair t (pass applied quiet (pass applied' quiet' stay)) = not_quiet refl applied' quiet'
 
 no_answer : ¬ AnswersBehind looking_right pattern at_first (beginning (inside 2)) []
 no_answer (m, t, runs, ends) = some_pair t (subst (λ (w : List ℕ). RunPairs looking_right w at_first t []) (inside_word m ends) runs.runs)
@@ -59,10 +40,10 @@ goes_inside qs (more, some, e) answer = no_answer (subst (λ (ps : List (ℕ × 
 
 pub returns : goal.returns
 returns c = behind {m = []} {t = at_first} {ps = []} {p = 2}
-    (record { no_switch = All-nil (λ p. ¬ IsSwitchAt looking_right.rules p); follows = (outermost, [], 2 ∷ 5 ∷ 6 ∷ 7 ∷ 8 ∷ [], record { expression = looking_right.rules; is_level = refl; is_word = acts_word actions }); runs = stay })
+    (record { no_switch = no_switches looking_right.rules [] refl; follows = (outermost, [], 2 ∷ 5 ∷ 6 ∷ 7 ∷ 8 ∷ [], record { expression = looking_right.rules; is_level = refl; is_word = acts_word actions }); runs = stay })
     (λ qs (more, some, e). absurd (only_nothing qs more some e))
     (outermost, [], 5 ∷ 6 ∷ 7 ∷ 8 ∷ [], record { expression = looking_right.rules; is_level = refl; is_word = acts_word actions })
     (record { inside_it = right_off; stands = inl looks })
     (at {m = 3 ∷ 4 ∷ []} {t = after_off} {ps = (1, 4) ∷ []}
-    (record { no_switch = no_switch; follows = ([], record { expression = right_off; is_level = inl looks; is_word = acts_word inner }); runs = runs_inside })
+    (record { no_switch = no_switches looking_right.rules (3 ∷ 4 ∷ []) refl; follows = ([], record { expression = right_off; is_level = inl looks; is_word = acts_word inner }); runs = runs_inside })
     goes_inside)

@@ -1,14 +1,13 @@
 -- The proof of `examples::openings_of_a_pattern`.
-use Rattle.std.proofs.Common.{◌≡◌, ◌≢◌, ℕ, List, [], ◌∷◌, ◌++◌, refl, inl, inr, sym, ap, ◌∙◌, subst, ◌⊎◌, arith, Bool}
-use Rattle.std.specs.Prelude.{All, Contains, AllPairs}
-use Rattle.std.proofs.lemmas.List.Elements.{All-cons, All-nil}
-use Rattle.std.proofs.lemmas.List.Kept.{AllPairs-cons}
-use Rattle.rbg_rules.specs.Meaning.{on, off, positive, negative, Expression, HasAction, IsNumbered, IsSwitchAt, IsPatternAt, HasNoSwitch, IsLevel, inside, Word, WordOf, Start, beginning, Follows, AbstractState, Applies, RunPairs, stay, modify, pass, Item, modifier_at, RunsOn, Opening, at, behind, GoesTo, Forced, SomeWordRuns, pattern, items_of}
+use Rattle.std.proofs.Common.{◌≡◌, ℕ, List, [], ◌∷◌, ◌++◌, refl, inl, inr, sym, ap, ◌∙◌, subst, ◌⊎◌, arith, Bool}
+use Rattle.std.specs.Prelude.{All, Contains}
+use Rattle.rbg_rules.specs.Meaning.{on, off, positive, negative, Expression, HasAction, IsNumbered, IsPatternAt, IsLevel, inside, Word, WordOf, Start, beginning, Follows, AbstractState, Applies, RunPairs, stay, modify, pass, Item, modifier_at, RunsOn, Opening, at, behind, GoesTo, Forced, SomeWordRuns, pattern, items_of, is_pattern}
 use Rattle.rbg_examples.specs.ExampleGames.{asking_a_sum, off_and_stop}
 use Rattle.rbg_rules.proofs.PositionLemmas.{Among, Among_left, Among_right, one_stands}
 use Rattle.rbg_rules.proofs.MoveLemmas.{applied_acts}
-use Rattle.rbg_rules.proofs.TableLemmas.{plain_stands}
-use Rattle.rbg_examples.proofs.ExampleLemmas.{no_switch_at, no_pairs, one_pair}
+use Rattle.rbg_examples.proofs.Standing.{has_at, none_at, no_switches, no_pattern_at, of_word}
+use Rattle.rbg_examples.proofs.ExampleLemmas.{no_pairs, one_pair}
+use Rattle.rbg_examples.proofs.Threes.{all_three, three_apart}
 use Rattle.rbg_examples.proofs.ExampleStates.{start, with_piece}
 use Rattle.rbg_examples.proofs.examples.openings_of_a_pattern.Goals as goal
 
@@ -99,80 +98,45 @@ short m s t ps (z, word) run = elim (of_level (m ++ z) word) [ inl e ↦ by_fron
     by_front p (inr (rest, is)) one = absurd (stopped_then p rest s t ps (subst (λ (v : List ℕ). RunPairs asking_a_sum v s t ps) is run))
 
 -- No pattern stands inside the pattern.
-no_pattern : (p : ℕ) → (p ≡ 3) ⊎ ((p ≡ 4) ⊎ (p ≡ 5)) → ¬ IsPatternAt asking_a_sum.rules p
-no_pattern p (inl e) pattern_at_p = plain_stands asking_a_sum.rules numbered 3 (off 1) refl puts_w (subst (IsPatternAt asking_a_sum.rules) e pattern_at_p)
-no_pattern p (inr (inl e)) pattern_at_p = plain_stands asking_a_sum.rules numbered 4 (off 0) refl puts_e (subst (IsPatternAt asking_a_sum.rules) e pattern_at_p)
-no_pattern p (inr (inr e)) pattern_at_p = plain_stands asking_a_sum.rules numbered 5 (on []) refl stops (subst (IsPatternAt asking_a_sum.rules) e pattern_at_p)
-
-position_inside : (p : ℕ) (w : List ℕ) → IsOneOfTwo w → Among p w → (p ≡ 3) ⊎ ((p ≡ 4) ⊎ (p ≡ 5))
-position_inside p w (inl e) h = one_of_two (subst (Among p) e h)
-  where
-    one_of_two : Among p (3 ∷ 5 ∷ []) → (p ≡ 3) ⊎ ((p ≡ 4) ⊎ (p ≡ 5))
-    one_of_two (inl is) = inl is
-    one_of_two (inr (inl is)) = inr (inr is)
-    one_of_two (inr (inr none)) = absurd none
-position_inside p w (inr e) h = one_of_two (subst (Among p) e h)
-  where
-    one_of_two : Among p (4 ∷ 5 ∷ []) → (p ≡ 3) ⊎ ((p ≡ 4) ⊎ (p ≡ 5))
-    one_of_two (inl is) = inr (inl is)
-    one_of_two (inr (inl is)) = inr (inr is)
-    one_of_two (inr (inr none)) = absurd none
-
 no_pattern_follows : (m : List ℕ) (p : ℕ) → Follows asking_a_sum.rules asked (m ++ p ∷ []) → ¬ IsPatternAt asking_a_sum.rules p
 no_pattern_follows m p (z, word) =
-    no_pattern p (position_inside p ((m ++ p ∷ []) ++ z) (of_level ((m ++ p ∷ []) ++ z) word) (Among_left p (m ++ p ∷ []) z (Among_right p m (p ∷ []) (inl refl))))
+    let among : Among p ((m ++ p ∷ []) ++ z) = Among_left p (m ++ p ∷ []) z (Among_right p m (p ∷ []) (inl refl)) in
+    let inner : Word off_and_stop ((m ++ p ∷ []) ++ z) = subst (λ (x : Expression). Word x ((m ++ p ∷ []) ++ z)) (inside_is word.expression word.is_level) word.is_word in
+    no_pattern_at asking_a_sum.rules p (none_at is_pattern asking_a_sum.rules p (of_word (has_at is_pattern asking_a_sum.rules) off_and_stop refl ((m ++ p ∷ []) ++ z) inner p among))
 
 abbrev three : List (List Item)
 three = [] ∷ (modifier_at 0 3 ∷ []) ∷ (modifier_at 0 4 ∷ []) ∷ []
 
 is_one : (m : List ℕ) (t : AbstractState) (ps : List (ℕ × ℕ)) → RunPairs asking_a_sum m start t ps → IsShort m → Contains three (items_of ps)
 is_one m t ps run (inl (inl e)) = let same = no_pairs asking_a_sum start t ps (subst (λ (w : List ℕ). RunPairs asking_a_sum w start t ps) e run) in (0, omega arith, sym (ap items_of same))
-is_one m t ps run (inl (inr e)) = let same = one_pair asking_a_sum numbered 3 1 puts_w start t ps (subst (λ (w : List ℕ). RunPairs asking_a_sum w start t ps) e run) in (1, omega arith, sym (ap items_of same))
-is_one m t ps run (inr e) = let same = one_pair asking_a_sum numbered 4 0 puts_e start t ps (subst (λ (w : List ℕ). RunPairs asking_a_sum w start t ps) e run) in (2, omega arith, sym (ap items_of same))
+is_one m t ps run (inl (inr e)) = let same = one_pair asking_a_sum 3 refl start t ps (subst (λ (w : List ℕ). RunPairs asking_a_sum w start t ps) e run) in (1, omega arith, sym (ap items_of same))
+is_one m t ps run (inr e) = let same = one_pair asking_a_sum 4 refl start t ps (subst (λ (w : List ℕ). RunPairs asking_a_sum w start t ps) e run) in (2, omega arith, sym (ap items_of same))
 
 pub returns-clause-no_other : goal.returns-clause-no_other
 returns-clause-no_other c o (at {m} {t} {ps} runs goes_on) = is_one m t ps runs.runs (short m start t ps runs.follows runs.runs)
 returns-clause-no_other c o (behind {m} {p} runs goes_on follows is_pattern_at more) = absurd (no_pattern_follows m p follows is_pattern_at)
 
 -- The three runs.
-none : HasNoSwitch asking_a_sum.rules []
-none = All-nil (λ p. ¬ IsSwitchAt asking_a_sum.rules p)
-
-no_switch : (p x : ℕ) → HasAction asking_a_sum.rules p (off x) → HasNoSwitch asking_a_sum.rules (p ∷ [])
-no_switch p x puts = All-cons (λ q. ¬ IsSwitchAt asking_a_sum.rules q) p [] (no_switch_at asking_a_sum.rules numbered p (off x) puts (λ n e. cc)) none
-
 runs_at_once : RunsOn asking_a_sum start asked [] start []
-runs_at_once = record { no_switch = none; follows = (3 ∷ 5 ∷ [], word_w); runs = stay }
+runs_at_once = record { no_switch = no_switches asking_a_sum.rules [] refl; follows = (3 ∷ 5 ∷ [], word_w); runs = stay }
 
 runs_w : RunsOn asking_a_sum start asked (3 ∷ []) with_piece ((0, 3) ∷ [])
-runs_w = record { no_switch = no_switch 3 1 puts_w; follows = (5 ∷ [], word_w); runs = modify (record { action = off 1; stands = puts_w; acts = refl }) refl stay }
+runs_w = record { no_switch = no_switches asking_a_sum.rules (3 ∷ []) refl; follows = (5 ∷ [], word_w); runs = modify (record { action = off 1; stands = puts_w; acts = refl }) refl stay }
 
 runs_e : RunsOn asking_a_sum start asked (4 ∷ []) start ((0, 4) ∷ [])
-runs_e = record { no_switch = no_switch 4 0 puts_e; follows = (5 ∷ [], word_e); runs = modify (record { action = off 0; stands = puts_e; acts = refl }) refl stay }
-
-all_three : (P : List Item → Type 0) → P [] → P (modifier_at 0 3 ∷ []) → P (modifier_at 0 4 ∷ []) → All P three
-all_three P one two last = All-cons P [] ((modifier_at 0 3 ∷ []) ∷ (modifier_at 0 4 ∷ []) ∷ []) one (All-cons P (modifier_at 0 3 ∷ []) ((modifier_at 0 4 ∷ []) ∷ []) two (All-cons P (modifier_at 0 4 ∷ []) [] last (All-nil P)))
+runs_e = record { no_switch = no_switches asking_a_sum.rules (4 ∷ []) refl; follows = (5 ∷ [], word_e); runs = modify (record { action = off 0; stands = puts_e; acts = refl }) refl stay }
 
 these : All (Opening asking_a_sum pattern start asked) three
-these = all_three (Opening asking_a_sum pattern start asked) (at runs_at_once (goes [])) (at runs_w (goes ((0, 3) ∷ []))) (at runs_e (goes ((0, 4) ∷ [])))
+these = all_three (Opening asking_a_sum pattern start asked) [] (modifier_at 0 3 ∷ []) (modifier_at 0 4 ∷ []) (at runs_at_once (goes [])) (at runs_w (goes ((0, 3) ∷ []))) (at runs_e (goes ((0, 4) ∷ [])))
 
 forced : (cut : Bool) → All (Forced asking_a_sum cut pattern start asked) three
-forced cut = all_three (Forced asking_a_sum cut pattern start asked) (at runs_at_once (goes []) (inr no_answer)) (at runs_w (goes ((0, 3) ∷ [])) (inr no_answer)) (at runs_e (goes ((0, 4) ∷ [])) (inr no_answer))
-
-abbrev Differs : List Item → List Item → Type 0
-Differs o o' = o ≢ o'
-
-apart : AllPairs Differs three
-apart =
-    AllPairs-cons Differs [] ((modifier_at 0 3 ∷ []) ∷ (modifier_at 0 4 ∷ []) ∷ []) (All-cons (Differs []) (modifier_at 0 3 ∷ []) ((modifier_at 0 4 ∷ []) ∷ []) (λ e. cc) (All-cons (Differs []) (modifier_at 0 4 ∷ []) [] (λ e. cc) (All-nil (Differs []))))
-    (AllPairs-cons Differs (modifier_at 0 3 ∷ []) ((modifier_at 0 4 ∷ []) ∷ []) (All-cons (Differs (modifier_at 0 3 ∷ [])) (modifier_at 0 4 ∷ []) [] (λ e. cc) (All-nil (Differs (modifier_at 0 3 ∷ []))))
-    (AllPairs-cons Differs (modifier_at 0 4 ∷ []) [] (All-nil (Differs (modifier_at 0 4 ∷ []))) (λ i j d below inside. absurd (omega arith))))
+forced cut = all_three (Forced asking_a_sum cut pattern start asked) [] (modifier_at 0 3 ∷ []) (modifier_at 0 4 ∷ []) (at runs_at_once (goes []) (inr no_answer)) (at runs_w (goes ((0, 3) ∷ [])) (inr no_answer)) (at runs_e (goes ((0, 4) ∷ [])) (inr no_answer))
 
 pub returns-clause-forced : goal.returns-clause-forced
 returns-clause-forced c cut = forced cut
 
 pub returns-clause-three_forced : goal.returns-clause-three_forced
-returns-clause-three_forced c cut = record { openings = three; different = apart; forced = forced cut; count = refl }
+returns-clause-three_forced c cut = record { openings = three; different = three_apart [] (modifier_at 0 3 ∷ []) (modifier_at 0 4 ∷ []) (λ e. cc) (λ e. cc) (λ e. cc); forced = forced cut; count = refl }
 
 pub returns-clause-wide : goal.returns-clause-wide
-returns-clause-wide c = record { openings = three; different = apart; opened = these; count = refl }
+returns-clause-wide c = record { openings = three; different = three_apart [] (modifier_at 0 3 ∷ []) (modifier_at 0 4 ∷ []) (λ e. cc) (λ e. cc) (λ e. cc); opened = these; count = refl }

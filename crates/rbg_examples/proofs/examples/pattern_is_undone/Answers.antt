@@ -1,22 +1,14 @@
 -- The proof of `examples::pattern_is_undone`.
-use Rattle.std.proofs.Common.{ℕ, List, [], ◌∷◌, ◌++◌, refl, inl, inr, subst, arith}
-use Rattle.std.proofs.lemmas.List.Elements.{All-cons, All-nil}
+use Rattle.std.proofs.Common.{ℕ, ◌==◌, List, [], ◌∷◌, ◌++◌, refl, inl, inr, subst, arith}
 use Rattle.rbg_board.specs.Graph.{next}
-use Rattle.rbg_rules.specs.Meaning.{AbstractAction, shift, on, off, positive, switch, act, Expression, sequence_of, HasAction, IsNumbered, IsSwitchAt, HasNoSwitch, outermost, AbstractState, Applies, rest, step, stay, modify, pass}
+use Rattle.rbg_rules.specs.Meaning.{shift, on, off, positive, switch, HasAction, outermost, Applies, rest, step, stay, modify, pass}
 use Rattle.rbg_examples.specs.ExampleGames.{looking_right}
 use Rattle.rbg_rules.proofs.PositionLemmas.{Among, Among_left, Among_right}
-use Rattle.rbg_examples.proofs.ExampleLemmas.{legal_by, no_switch_at, goes_on, pair_first, pair_position, places, acts_word, only_word}
-use Rattle.rbg_examples.proofs.ExampleStates.{at_first, at_second, after_off}
+use Rattle.rbg_examples.proofs.Standing.{no_switches, of_list, true_not_false}
+use Rattle.rbg_examples.proofs.ExampleLemmas.{legal_by, goes_on, pair_first, pair_position, places, acts_word, only_word}
+use Rattle.rbg_examples.proofs.LookingRight.{right_off, actions, numbered, looks}
+use Rattle.rbg_examples.proofs.ExampleStates.{at_first, at_second, after_off, after_switch}
 use Rattle.rbg_examples.proofs.examples.pattern_is_undone.Goals as goal
-
-numbered : IsNumbered looking_right.rules
-numbered = record { in_order = refl }
-
-abbrev right_off : Expression
-right_off = sequence_of (act 3 (shift 3) ∷ act 4 (off 1) ∷ [])
-
-looks : HasAction looking_right.rules 2 (positive right_off)
-looks = inl (inl (inl (inl (inr (inl (refl, refl))))))
 
 steps : HasAction looking_right.rules 5 (shift 3)
 steps = inl (inl (inl (inr (inl (refl, refl)))))
@@ -30,10 +22,6 @@ puts = inl (inr (inl (refl, refl)))
 ends : HasAction looking_right.rules 8 (switch 2)
 ends = inr (inl (refl, refl))
 
--- what its switch leaves
-abbrev after_switch : AbstractState
-after_switch = record { player = 2; pieces = 0 ∷ 1 ∷ []; values = 0 ∷ 0 ∷ 0 ∷ []; vertex = 1 }
-
 abbrev looking : Applies looking_right 2 at_first at_first
 unfolding next
 looking = record { action = positive right_off; stands = looks; acts = ((3 ∷ 4 ∷ [], after_off, (3 ∷ [], 4 ∷ [], ([], 3 ∷ [], refl, refl, refl), refl, refl), step {middle = at_second} (inl (inr (refl, (1, refl, refl)))) (step (inr (refl, refl)) rest)), refl) }
@@ -42,19 +30,13 @@ abbrev stepping : Applies looking_right 5 at_first at_second
 unfolding next
 stepping = record { action = shift 3; stands = steps; acts = (1, refl, refl) }
 
-abbrev actions : List (ℕ × AbstractAction)
-actions = (1, switch 1) ∷ (2, positive right_off) ∷ (5, shift 3) ∷ (6, on (0 ∷ [])) ∷ (7, off 1) ∷ (8, switch 2) ∷ []
-
-not : (p : ℕ) (w : List ℕ) → ¬ IsSwitchAt looking_right.rules p → HasNoSwitch looking_right.rules w → HasNoSwitch looking_right.rules (p ∷ w)
-not p w here others = All-cons (λ q. ¬ IsSwitchAt looking_right.rules q) p w here others
-
 pub returns-clause-legal : goal.returns-clause-legal
 unfolding looking stepping
 returns-clause-legal c =
     legal_by (2 ∷ 5 ∷ 6 ∷ 7 ∷ []) 8 after_switch
     (outermost, [], [], record { expression = looking_right.rules; is_level = refl; is_word = acts_word actions })
     (pass looking refl (pass stepping refl (pass {middle = at_second} (record { action = on (0 ∷ []); stands = tests; acts = ((0, omega arith, refl), refl) }) refl (modify {middle = after_off} (record { action = off 1; stands = puts; acts = refl }) refl (modify (record { action = switch 2; stands = ends; acts = refl }) refl stay)))))
-    (record { player = 2; stands = ends }) (not 2 (5 ∷ 6 ∷ 7 ∷ []) (no_switch_at looking_right.rules numbered 2 (positive right_off) looks (λ n e. cc)) (not 5 (6 ∷ 7 ∷ []) (no_switch_at looking_right.rules numbered 5 (shift 3) steps (λ n e. cc)) (not 6 (7 ∷ []) (no_switch_at looking_right.rules numbered 6 (on (0 ∷ [])) tests (λ n e. cc)) (not 7 [] (no_switch_at looking_right.rules numbered 7 (off 1) puts (λ n e. cc)) (All-nil (λ p. ¬ IsSwitchAt looking_right.rules p))))))
+    (record { player = 2; stands = ends }) (no_switches looking_right.rules (2 ∷ 5 ∷ 6 ∷ 7 ∷ []) refl)
 
 -- Position 4 belongs to the pattern, so no word of the rules has it.
 pub returns-clause-not_its_off : goal.returns-clause-not_its_off
@@ -64,13 +46,4 @@ returns-clause-not_its_off c (to, legal) =
     let word : List ℕ = on_from.front ++ 1 ∷ (m ++ on_from.back) in
     let only = only_word actions word on_from.word in
     let four : Among 4 word = Among_right 4 on_from.front (1 ∷ (m ++ on_from.back)) (inr (Among_left 4 m on_from.back (pair_position legal.runs 1 4 (pair_first 1 4 ((1, 7) ∷ (1, 8) ∷ []))))) in
-    no_four (subst (Among 4) only four)
-  where
-    no_four : Among 4 (places actions) → ⊥
-    no_four (inl e) = cc
-    no_four (inr (inl e)) = cc
-    no_four (inr (inr (inl e))) = cc
-    no_four (inr (inr (inr (inl e)))) = cc
-    no_four (inr (inr (inr (inr (inl e))))) = cc
-    no_four (inr (inr (inr (inr (inr (inl e)))))) = cc
-    no_four (inr (inr (inr (inr (inr (inr e)))))) = absurd e
+    true_not_false (of_list (λ q. 4 == q) (places actions) refl 4 (subst (Among 4) only four))
