@@ -19,7 +19,7 @@ abbrev mutual
   has_such test (choice x y) = has_such test x || has_such test y
   has_such test (star x) = has_such test x
 
-  has_inside : (ℕ → AbstractAction → Bool) → AbstractAction → Bool
+  pub has_inside : (ℕ → AbstractAction → Bool) → AbstractAction → Bool
   has_inside test (positive x) = has_such test x
   has_inside test (negative x) = has_such test x
   has_inside test _ = false

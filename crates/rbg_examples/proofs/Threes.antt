@@ -8,7 +8,7 @@ use Rattle.rbg_rules.specs.Meaning.{Item}
 pub all_three : (P : List Item → Type 0) (a b c : List Item) → P a → P b → P c → All P (a ∷ b ∷ c ∷ [])
 all_three P a b c one two last = All-cons P a (b ∷ c ∷ []) one (All-cons P b (c ∷ []) two (All-cons P c [] last (All-nil P)))
 
-abbrev Differs : List Item → List Item → Type 0
+abbrev pub Differs : List Item → List Item → Type 0
 Differs o o' = o ≢ o'
 
 pub three_apart : (a b c : List Item) → a ≢ b → a ≢ c → b ≢ c → AllPairs Differs (a ∷ b ∷ c ∷ [])
