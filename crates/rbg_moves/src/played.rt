@@ -112,7 +112,9 @@ impl PlayedGame {
     #[inline(always)]
     pub fn is_accepted(&self)
         ensures { IsGame self.now }
-    {}
+    {
+        let _game = self.as_game();
+    }
 
     /// Whether the game has a player of this number. The players are numbered from 1; the keeper is 0.
     pub fn has_player(&self, number: u64) -> bool

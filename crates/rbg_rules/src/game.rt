@@ -151,7 +151,9 @@ impl Game {
     #[inline(always)]
     pub fn is_accepted(&self)
         ensures { IsGame self.now }
-    {}
+    {
+        let _positions = self.positions();
+    }
 
     /// How many positions there are. They are numbered from 1.
     pub fn positions(&self) -> usize
