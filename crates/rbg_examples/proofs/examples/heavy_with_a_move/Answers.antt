@@ -1,11 +1,12 @@
 -- The proof of `examples::heavy_with_a_move`.
 use Rattle.std.proofs.Common.{◌≡◌, ℕ, zero, suc, List, [], ◌∷◌, ◌++◌, refl, inl, inr, sym, ap, ◌∙◌, subst, ◌⊎◌, append_assoc, arith}
+use Rattle.std.proofs.lemmas.Bool.{eq-eqb}
 use Rattle.std.proofs.lemmas.List.{append-nil}
 use Rattle.rbg_rules.specs.Meaning.{off, on, switch, act, star, choice_of, sequence_of, Expression, HasAction, IsNumbered, IsSwitchAt, outermost, after, Word, Follows, AbstractState, Applies, RunPairs, stay, modify, pass, Opening, at, IsProperPrefix, AnswersBehind, IsDeep, find_move, items_of, IsJoinOfWords}
 use Rattle.rbg_examples.specs.ExampleGames.{heavy_choice, state_of}
 use Rattle.rbg_rules.proofs.PositionLemmas.{Among, Among_left, Among_right}
 use Rattle.rbg_rules.proofs.MoveLemmas.{applied_acts}
-use Rattle.rbg_examples.proofs.Standing.{has_at, is_switch, no_switch_at, no_switches, ModifiesAt, not_quiet, of_word}
+use Rattle.rbg_examples.proofs.Standing.{has_at, is_switch, no_switch_at, no_switches, ModifiesAt, not_quiet, of_word, true_not_false}
 use Rattle.rbg_examples.proofs.ExampleLemmas.{legal_by, remains, acts_joined, PairAmong, pair_first, pair_later, split}
 use Rattle.rbg_examples.proofs.Offs.{offs, pairs, length-pairs, word, no_switch}
 use Rattle.rbg_examples.proofs.ExampleStates.{start, with_piece}
@@ -83,7 +84,7 @@ pair_of_four (pass applied quiet run) (inr h) = pair_of_four run h
 only_two : (n v : ℕ) → ¬ PairAmong v 4 (pairs n)
 unfolding pairs PairAmong
 only_two zero v h = absurd h
-only_two (suc n) v (inl e) = let two_is_four : 2 ≡ 4 = ap (λ (q : ℕ × ℕ). q.1) e in absurd cc
+only_two (suc n) v (inl e) = absurd (true_not_false (sym (eq-eqb 2 4 (ap (λ (q : ℕ × ℕ). q.1) e))))
 only_two (suc n) v (inr h) = only_two n v h
 
 in_front : (v : ℕ) (qs more : List (ℕ × ℕ)) → PairAmong v 4 qs → PairAmong v 4 (qs ++ more)
