@@ -79,7 +79,12 @@ fn fill(alloc: Global, nodes: &mut [PlainNode], rule: &Rule, rest: &Rest) -> Res
 
 /// Lays the parts of a sequence from the last to the first.
 #[cycle(filling)]
-fn fill_sequence(alloc: Global, nodes: &mut [PlainNode], parts: &[Rule], rest: &Rest) -> Result<(), Memory>
+fn fill_sequence(
+    alloc: Global,
+    nodes: &mut [PlainNode],
+    parts: &[Rule],
+    rest: &Rest,
+) -> Result<(), Memory>
     ensures { IfOk result (λ _.
         FillsSequence nodes.old nodes.new parts.now rest.now.positions.items rest.now.may_end) }
 {
@@ -99,7 +104,12 @@ fn fill_sequence(alloc: Global, nodes: &mut [PlainNode], parts: &[Rule], rest: &
 
 /// Lays the parts of a sum, all with the same rest.
 #[cycle(filling)]
-fn fill_sum(alloc: Global, nodes: &mut [PlainNode], parts: &[Rule], rest: &Rest) -> Result<(), Memory>
+fn fill_sum(
+    alloc: Global,
+    nodes: &mut [PlainNode],
+    parts: &[Rule],
+    rest: &Rest,
+) -> Result<(), Memory>
     ensures { IfOk result (λ _.
         FillsSum nodes.old nodes.new parts.now rest.now.positions.items rest.now.may_end) }
 {

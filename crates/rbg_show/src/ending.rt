@@ -38,7 +38,12 @@ fn put_going(play: &Playthrough<'_>, goes_on: bool, out: &mut Vec<u8>) -> Result
 }
 
 /// Appends who is to move, with words before and behind it.
-fn put_mover(before: &[u8], play: &Playthrough<'_>, behind: &[u8], out: &mut Vec<u8>) -> Result<(), Memory>
+fn put_mover(
+    before: &[u8],
+    play: &Playthrough<'_>,
+    behind: &[u8],
+    out: &mut Vec<u8>,
+) -> Result<(), Memory>
     ensures { Appends out.old.items out.new.items
         (before.now ++ mover_text play.now ++ behind.now) result }
 {
