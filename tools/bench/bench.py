@@ -121,7 +121,7 @@ HEAVY_RULES = "sequence(20000) one_sum(20000) starred_sum(20000) stars_in_a_row(
 
 # Functions, by patterns of their symbols.
 LOAD, COMPACT = r"rbg_game::(.*::)?load", r"rbg_auto::(.*::)?compact"
-QUESTIONS = r".*PlayedGame::find_pairs", r".*PlayedGame::try_move"
+QUESTIONS = r".*PlayedGame::find_move", r".*PlayedGame::try_move"
 
 
 def automaton(run, programs):
