@@ -131,7 +131,7 @@ split (z ∷ m) (y ∷ b) q x back e =
       | inr (rest, is) ↦ inr (rest, ap (λ (l : List ℕ). z ∷ l) is ∙ ap (λ (k : ℕ). k ∷ (b ++ rest)) head)
     ]
 
--- An off is a modifier, so a run of one off is one pair, and none is no run of one.
+-- A run of no positions leaves no pairs, and a run of one modifier leaves one pair.
 pub no_pairs : (game : AbstractGame) (s t : AbstractState) (ps : List (ℕ × ℕ)) → RunPairs game [] s t ps → ps ≡ []
 no_pairs game s t ps stay = refl
 

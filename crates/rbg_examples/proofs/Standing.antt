@@ -71,10 +71,11 @@ no_pattern_at rules p plain pattern = elim pattern.stands [
   | inr h ↦ true_not_false (plain (negative pattern.inside_it) h)
 ]
 
--- What applies at a position where only a modifier stands is one, and what applies where none stands is none.
+-- only modifiers stand at the position
 abbrev pub ModifiesAt : Expression → ℕ → Type 0
 ModifiesAt rules p = has_at (λ a. not (is_modifier a)) rules p ≡ false
 
+-- What applies at a position where only modifiers stand is one, and what applies where none stands is none.
 pub not_quiet : {game : AbstractGame} {p : ℕ} {s t : AbstractState} → ModifiesAt game.rules p → (applied : Applies game p s t) → ¬ (is_modifier applied.action ≡ false)
 not_quiet {game} {p} modifier applied quiet = true_not_false (ap not (sym quiet) ∙ none_at (λ a. not (is_modifier a)) game.rules p modifier applied.action applied.stands)
 

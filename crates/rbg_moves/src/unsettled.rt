@@ -8,8 +8,8 @@ use rbg_search::Over;
 /// Why the keeper's moves lead to no place where a player is to move or play is finished.
 #[derive(Clone, Copy, Debug, PartialEq, Eq)]
 pub enum Unsettled {
-    /// A question at one of the places is above the limits. Who asks at a player's places too, as a count of moves does,
-    /// gives this for such a question as well.
+    /// A question at one of the places is above the limits. A caller that also asks at players' places, as a count of moves
+    /// does, gives this for those questions too.
     Heavy,
     /// The keeper is to move after 1,000 of its moves in a row.
     Endless,

@@ -129,7 +129,7 @@ fn choose_among<C: Chooser>(mut moves: Vec<Move>, chooser: &mut C) -> Option<Mov
     }
     let chosen = chooser.choose(moves.len());
     let answer = moves.swap_remove(chosen);
-    // Its length is below the greatest of any list in memory.
+    // A move has 1 to 200 pairs.
     let _pairs = answer.len();
     Some(answer)
 }

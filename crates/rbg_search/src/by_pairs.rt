@@ -109,11 +109,11 @@ impl<'a, S: Steps> Search<'a, S> {
         ensures done { OnOk result (take flat.new.value.taken flat.new.value.queue.pairs
             ≡ take flat.old.value.taken flat.old.value.queue.pairs ++ (vertex, position) ∷ []) }
     {
-        // The game is lawful, and the position a number of 16 bits.
+        // The game is lawful, and the position is a number of 32 bits.
         let _game = self.rules.game();
         let _position = position;
         flat.take(&self.rules, trial_of(vertex, valid))?;
-        // What is taken is a number of the machine.
+        // What is taken is a number of 64 bits.
         let _taken = flat.taken;
         Ok(())
     }

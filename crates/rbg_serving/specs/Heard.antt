@@ -93,11 +93,11 @@ rounds_of heard = count_by is_round_over heard
 abbrev pub IsLive : (seat : ℕ) → List Heard → Type 0
 IsLive seat heard = (ends_of seat heard ≡ 0) × (failures_of seat heard ≡ 0)
 
--- The clock was read at these moments while this was heard: each event, except a failed write, has its own reading.
---   nothing: at first neither is.
+-- The clock was read at these moments while this was heard: each event, except a failed put, has its own reading.
+--   nothing: at first there is no reading, and nothing was heard.
 --   asked: the clock is read, and nothing is heard at that reading.
---   heard_alone: the clock is read, and something other than a failed write is heard at that reading.
---   heard_with_it: a write fails at the last reading.
+--   heard_alone: the clock is read, and something other than a failed put is heard at that reading.
+--   heard_with_it: a put fails at the last reading.
 pub data IsTimed : (moments : List ℕ) → List Heard → Type 0 where
   nothing :
       IsTimed [] []

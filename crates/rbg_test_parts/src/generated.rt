@@ -5,7 +5,7 @@ use rbg_base::Position;
 use rbg_rules::Rule;
 use std::alloc::{AllocError, Global};
 
-/// Numbers by chance, from a seed, and the positions that were handed out.
+/// Numbers that look random, fixed by a seed, and the positions that were handed out.
 #[derive(Drop)]
 pub(crate) struct Generator {
     chance: Pcg32,

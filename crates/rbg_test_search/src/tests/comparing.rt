@@ -27,7 +27,7 @@ const BUDGET: Budget = Budget {
 fn at_beginning(game: &Game) -> Origin
     ensures { IsStart game.now.rules (start_of result) }
 {
-    let _positions = game.positions();
+    game.is_accepted();
     Origin::Begin(Expr::Rules)
 }
 
@@ -37,7 +37,7 @@ fn after(game: &Game, position: Position) -> Origin
     requires there { position ≤ length (positions_of game.now.rules) }
     ensures { IsStart game.now.rules (start_of result) }
 {
-    let _positions = game.positions();
+    game.is_accepted();
     Origin::After(position)
 }
 
@@ -46,7 +46,7 @@ fn in_pattern(game: &Game, position: Position) -> Origin
     requires there { IsPatternAt game.now.rules position }
     ensures { IsStart game.now.rules (start_of result) }
 {
-    let _positions = game.positions();
+    game.is_accepted();
     Origin::Begin(Expr::Inside(position))
 }
 

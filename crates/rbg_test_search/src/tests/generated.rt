@@ -19,7 +19,7 @@ struct Setting {
     repeated: bool,
 }
 
-/// Numbers by chance, from a seed, and the positions that were handed out.
+/// Numbers that look random, fixed by a seed, and the positions that were handed out.
 #[derive(Drop)]
 pub(crate) struct Generator {
     chance: Pcg32,
