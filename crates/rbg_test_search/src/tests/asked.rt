@@ -31,7 +31,7 @@ impl<'a, S: Steps> Asked<'a, S> {
         requires paths { IfSome self.now.paths (λ told. ArePathsOf self.now.game.now told.now) }
         ensures { result.game ≡ self.now.game.now }
     {
-        let _positions = self.game.positions();
+        self.game.is_accepted();
         let rules = GameSteps::new(self.game, self.steps, self.paths);
         Search::by_rules(self.alloc, rules, budget, buffers)
     }

@@ -4,4 +4,4 @@ use Rattle.rbg_test_search.proofs.tests.comparing.after.Goals as goal
 
 pub returns : goal.returns
 returns c =
-    numbered_action c.args.game.now.rules c.positions-positions.ensures.lawful.numbered c.args.position c.requires.from_one c.requires.there
+    numbered_action c.args.game.now.rules c.is_accepted.ensures.numbered c.args.position c.requires.from_one c.requires.there
