@@ -23,7 +23,7 @@ loop-text-preserved c =
 
 pub returns-then-is_empty-clause-migrated : goal.returns-then-is_empty-clause-migrated
 returns-then-is_empty-clause-migrated c =
-    migrated_whole c.args.game.now c.args.bytes.now (part_of c.loop-text.part) c.loop-text.rest.now c.loop-text.line c.loop-text.out.items (players_named c.args.game.now c.positions-positions.ensures.lawful) c.loop-text.invariant (c.is_over.ensures.0 c.if-is_over.true) (nil_from_length c.loop-text.rest.now (eqb-true (length c.loop-text.rest.now) 0 (sym c.is_empty.ensures ∙ c.if-is_empty.true)))
+    migrated_whole c.args.game.now c.args.bytes.now (part_of c.loop-text.part) c.loop-text.rest.now c.loop-text.line c.loop-text.out.items (players_named c.args.game.now c.is_accepted.ensures) c.loop-text.invariant (c.is_over.ensures.0 c.if-is_over.true) (nil_from_length c.loop-text.rest.now (eqb-true (length c.loop-text.rest.now) 0 (sym c.is_empty.ensures ∙ c.if-is_empty.true)))
 
 pub returns-else-is_over-clause-form : goal.returns-else-is_over-clause-form
 returns-else-is_over-clause-form c = λ line same.

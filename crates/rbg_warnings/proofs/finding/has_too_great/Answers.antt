@@ -3,4 +3,4 @@ use Rattle.rbg_warnings.proofs.Standing.{too_great}
 use Rattle.rbg_warnings.proofs.finding.has_too_great.Goals as goal
 
 pub returns : goal.returns
-returns c = too_great c.args.game.now c.positions-positions.ensures.lawful.numbered _ _ _ c.action.ensures c.assigns_too_much.ensures
+returns c = too_great c.args.game.now c.is_accepted.ensures.numbered _ _ _ c.action.ensures c.assigns_too_much.ensures
