@@ -120,17 +120,7 @@ HEAVY_RULES = "sequence(20000) one_sum(20000) starred_sum(20000) stars_in_a_row(
 
 
 # Functions, by patterns of their symbols.
-LOAD, COMPACT = r"rbg_game::(.*::)?load", r"rbg_auto::(.*::)?compact"
 QUESTIONS = r".*PlayedGame::find_move", r".*PlayedGame::try_move"
-
-
-def automaton(run, programs):
-    head("The automaton: `rbg_author perft`, within `compact`", "Rules", "Million instructions of `load`", "of `compact`")
-    cases = [*made(HEAVY_RULES), *((name, texts.game(name)) for name in NAMES)]
-    for label, text in cases:
-        file = run.file("text.rbg", text)
-        _, _, inside = run.counted([programs.author, "perft", file, "1"], within=(LOAD, COMPACT))
-        row(label, *(millions(inside[it]) if it in inside else "not told" for it in (LOAD, COMPACT)))
 
 
 DEPTHS = {
@@ -288,7 +278,7 @@ def changes(run, programs):
 
 
 SECTIONS = {
-    "texts": heavy_texts, "loading": loading, "automaton": automaton, "search": search, "limit": limit,
+    "texts": heavy_texts, "loading": loading, "search": search, "limit": limit,
     "matches": matches, "streams": streams, "halls": halls, "forms": forms, "changes": changes,
 }  # fmt: skip
 
