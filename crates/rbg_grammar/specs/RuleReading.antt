@@ -10,7 +10,7 @@ use Rattle.rbg_grammar.specs.declared.expression.Rank.{Rank}
 use Rattle.rbg_grammar.specs.declared.expression.Rank.TheVariants as ranks
 use Rattle.rbg_grammar.specs.Grammar.{operator_of, relation_of}
 use Rattle.rbg_grammar.specs.Tree.{SpeltExpression, SpeltOperand, SpeltRule, first_of, in_chain, act, assign, compare, positive, negative, star, choice, no_rules, sequence_of, choice_of}
-use Rattle.rbg_grammar.specs.Reading.{misfit, too_deep, Reading, next_is, symbol_at, name_at, number_at, is_in, one_of_at, repeated_at, after_at, separated_at, within_at, open_atom_at, on_at, off_at, in_sequence}
+use Rattle.rbg_grammar.specs.Reading.{misfit, too_deep, Reading, ◌>>=◌, next_is, symbol_at, name_at, number_at, is_in, one_of_at, repeated_at, after_at, separated_at, within_at, open_atom_at, on_at, off_at, in_sequence}
 
 -- the bracket at the front is one too many
 abbrev pub too_deep_at : {A : Type 0} → List Lexeme → Reading A
