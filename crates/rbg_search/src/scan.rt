@@ -57,7 +57,7 @@ pub(crate) fn scan_inside<S: Steps>(
                 if following.is_empty() {
                     return Some(PatternScan { ends, pairs });
                 }
-                let next = only(following)?;
+                let next = only_position(following)?;
                 if next <= position {
                     return None;
                 }

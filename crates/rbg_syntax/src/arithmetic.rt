@@ -10,7 +10,7 @@ ghost use Rattle.rbg_grammar.specs.Views.{expression_of, operand_of};
 
 use crate::error::{Expectation, Reading};
 use crate::parser::Parser;
-use crate::sequences::only;
+use crate::sequences::only_part;
 use rbg_grammar::{Expression, Operand, Operator, Rank};
 use rbg_tokens::{Symbol, TokenKind};
 use std::alloc::Global;
@@ -192,7 +192,7 @@ fn first_of(rank: Rank) -> Operator
 fn in_chain(operands: Vec<Operand<'_>>) -> Expression<'_>
     ensures { expression_of result ≡ in_chain (map operand_of operands.entry.items) }
 {
-    match only(operands) {
+    match only_part(operands) {
         Ok(operand) => operand.value,
         Err(operands) => Expression::Chain(operands),
     }

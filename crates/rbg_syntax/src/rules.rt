@@ -10,7 +10,7 @@ ghost use Rattle.rbg_grammar.specs.Views.{rule_of};
 
 use crate::error::{Expectation, Reading};
 use crate::parser::Parser;
-use crate::sequences::{in_sequence, only};
+use crate::sequences::{in_sequence, only_part};
 use rbg_grammar::{Action, Rule};
 use rbg_tokens::{Symbol, TokenKind};
 use std::alloc::Global;
@@ -240,7 +240,7 @@ fn joined(level: Level, parts: Vec<Rule<'_>>) -> Rule<'_>
 fn in_choice(parts: Vec<Rule<'_>>) -> Rule<'_>
     ensures { rule_of result ≡ in_choice (map rule_of parts.entry.items) }
 {
-    match only(parts) {
+    match only_part(parts) {
         Ok(part) => part,
         Err(parts) => Rule::Or(parts),
     }
