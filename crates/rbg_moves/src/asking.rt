@@ -1,7 +1,7 @@
 //! What the questions at a place have in common.
 ghost use Rattle.std.specs.Prelude.{◌≡◌, ◌≤◌, ◌↔◌, length, IsTrue};
 ghost use Rattle.rbg_base.specs.Move.{IsMoveLength};
-ghost use Rattle.rbg_rules.specs.Meaning.{IsSwitchAt, stand_of};
+ghost use Rattle.rbg_rules.specs.Meaning.{IsGame, IsSwitchAt, stand_of};
 ghost use Rattle.rbg_pairs.specs.Start.{start_of, IsPositionOf};
 ghost use Rattle.rbg_moves.specs.internal.Asking.{begun_in};
 ghost use Rattle.rbg_flat.specs.internal.Shown.{shows_switch};
