@@ -23,7 +23,7 @@ impl Generator {
 
     /// The next number, from 0 to 255.
     fn number(&mut self) -> u8 {
-        self.chance.next_u64() as u8
+        (self.chance.next_u64() >> 56) as u8
     }
 
     /// The next position in order of text.
