@@ -1,5 +1,6 @@
 //! The place of a refused board among the tokens of its section.
 
+use crate::among::{before_first, is_at};
 use crate::sections::nth_name;
 use rbg_board::BoardError;
 use rbg_game::limits::MAX_VERTICES;
@@ -69,22 +70,29 @@ fn second_direction<'a>(board: &'a [Token<'a>]) -> Option<Token<'a>> {
     if is_graph(board) {
         return second_edge(board);
     }
-    let names = match board.iter().position(|token| token.is(Symbol::OpenBracket)) {
-        Some(row) => &board[..row],
-        None => board,
-    };
+    let names = before_first(board, Symbol::OpenBracket);
     second_name(names.get(1..).unwrap_or(&[]))
 }
 
 /// The first name that stands before among these tokens.
 fn second_name<'a>(tokens: &'a [Token<'a>]) -> Option<Token<'a>> {
     for (index, token) in tokens.iter().enumerate() {
-        let earlier = &tokens[..index];
-        if token.kind.is_name() && earlier.iter().any(|other| other.text == token.text) {
+        let earlier = tokens.get(..index).unwrap_or(&[]);
+        if token.kind.is_name() && has_text(earlier, token.text) {
             return Some(*token);
         }
     }
     None
+}
+
+/// Whether one of these tokens has this text.
+fn has_text(tokens: &[Token<'_>], text: &[u8]) -> bool {
+    for token in tokens {
+        if token.text == text {
+            return true;
+        }
+    }
+    false
 }
 
 /// The second one of two equal directions of the edges of one vertex.
@@ -105,8 +113,7 @@ fn second_vertex<'a>(board: &'a [Token<'a>]) -> Option<Token<'a>> {
 /// The first name before such a symbol that stood before one already.
 fn second_before<'a>(tokens: &'a [Token<'a>], symbol: Symbol) -> Option<Token<'a>> {
     for (index, token) in tokens.iter().enumerate() {
-        let next = tokens.get(index.saturating_add(1));
-        let is_before = next.is_some_and(|next| next.is(symbol));
+        let is_before = is_at(tokens, index.saturating_add(1), symbol);
         if is_before && stands_before(tokens.get(..=index).unwrap_or(&[]), token.text, symbol) {
             return Some(*token);
         }
@@ -116,10 +123,15 @@ fn second_before<'a>(tokens: &'a [Token<'a>], symbol: Symbol) -> Option<Token<'a
 
 /// Whether a name stands directly before such a symbol.
 fn stands_before(tokens: &[Token<'_>], name: &[u8], symbol: Symbol) -> bool {
-    tokens.windows(2).any(|pair| match pair {
-        [token, next] => token.text == name && next.is(symbol),
-        _ => false,
-    })
+    for pair in tokens.windows(2) {
+        if let [token, next] = pair
+            && token.text == name
+            && next.is(symbol)
+        {
+            return true;
+        }
+    }
+    false
 }
 
 /// The first target of an edge that is no vertex.
@@ -145,17 +157,17 @@ pub(crate) fn nth_direction<'a>(board: &'a [Token<'a>], count: usize) -> Option<
 }
 
 fn is_graph(board: &[Token<'_>]) -> bool {
-    board
-        .first()
-        .is_some_and(|first| first.text == b"graph".as_slice())
+    match board.first() {
+        Some(first) => first.text == b"graph".as_slice(),
+        None => false,
+    }
 }
 
 /// The name of an edge behind so many other names of edges.
 fn nth_edge_name<'a>(board: &'a [Token<'a>], count: usize) -> Option<Token<'a>> {
     let mut left = count;
     for (index, token) in board.iter().enumerate() {
-        let next = board.get(index.saturating_add(1));
-        let is_direction = next.is_some_and(|next| next.is(Symbol::Colon));
+        let is_direction = is_at(board, index.saturating_add(1), Symbol::Colon);
         let earlier = board.get(..=index).unwrap_or(&[]);
         if is_direction && !stands_before(earlier, token.text, Symbol::Colon) {
             if left == 0 {

@@ -1,5 +1,6 @@
 //! Brackets of a text: the ones that stay open, and the calls of macros.
 
+use crate::among::{before_first, count_names};
 use rbg_tokens::{Symbol, Token};
 
 /// The last opening bracket of these tokens that isn't closed among them.
@@ -63,9 +64,5 @@ fn form_inside(inside: &[Token<'_>]) -> CallForm {
 
 /// How many parameters the head of a macro has behind its name.
 pub(crate) fn parameter_count(tokens: &[Token<'_>]) -> usize {
-    let head = match tokens.iter().position(|token| token.is(Symbol::Equals)) {
-        Some(equals) => &tokens[..equals],
-        None => tokens,
-    };
-    head.iter().filter(|token| token.kind.is_name()).count()
+    count_names(before_first(tokens, Symbol::Equals))
 }

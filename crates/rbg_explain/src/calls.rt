@@ -1,5 +1,6 @@
 //! Where a macro is called in a text.
 
+use crate::among::{index_of, is_at};
 use crate::output::push_made;
 use rbg_tokens::{Symbol, Token, count_line_feeds};
 use std::alloc::{AllocError, Global};
@@ -44,7 +45,7 @@ fn push_calls_in(
     name: &[u8],
     found: &mut Vec<usize>,
 ) -> Result<(), AllocError> {
-    let Some(equals) = definition.iter().position(|token| token.is(Symbol::Equals)) else {
+    let Some(equals) = index_of(definition, Symbol::Equals) else {
         return Ok(());
     };
     let (head, body) = definition.split_at(equals);
@@ -61,8 +62,8 @@ fn push_calls_in(
 
 /// Whether a `~` stands beside a token.
 fn is_joined(tokens: &[Token<'_>], index: usize) -> bool {
-    let is_tilde = |token: Option<&Token<'_>>| token.is_some_and(|token| token.is(Symbol::Tilde));
-    is_tilde(tokens.get(index.saturating_add(1))) || is_tilde(tokens.get(index.saturating_sub(1)))
+    is_at(tokens, index.saturating_add(1), Symbol::Tilde)
+        || is_at(tokens, index.saturating_sub(1), Symbol::Tilde)
 }
 
 /// Adds the line that lists the lines of calls, if there are any.

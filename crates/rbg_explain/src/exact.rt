@@ -1,5 +1,6 @@
 //! The places of refusals, also of those that name none: of a board, and of too many things.
 
+use crate::among::{count_names, offset_of};
 use crate::boards::{board_place, nth_direction};
 use crate::place::place_of;
 use crate::sections::{expanded, nth_name, section_tokens};
@@ -54,7 +55,7 @@ fn place_in_source(
     match error {
         LoadError::Game(GameError::Board { error }) => {
             let board = section_tokens(alloc, source, SectionKind::Board)?;
-            Ok(board_place(error, &board).map(|token| token.at))
+            Ok(offset_of(board_place(error, &board)))
         }
         LoadError::Game(GameError::TooMany { what }) => further_thing(alloc, *what, source),
         _ => Ok(None),
@@ -73,16 +74,12 @@ fn further_thing(
         Thing::Variables => further_variable(alloc, source),
         Thing::Directions => {
             let board = section_tokens(alloc, source, SectionKind::Board)?;
-            Ok(nth_direction(&board, MAX_DIRECTIONS).map(|token| token.at))
+            Ok(offset_of(nth_direction(&board, MAX_DIRECTIONS)))
         }
         Thing::Positions => {
             let rules = section_tokens(alloc, source, SectionKind::Rules)?;
             let actions = actions(alloc, &rules)?;
-            Ok(
-                actions
-                    .get(MAX_POSITIONS)
-                    .and_then(|action| start_of(action)),
-            )
+            Ok(start_of(actions.get(MAX_POSITIONS).copied().unwrap_or(&[])))
         }
     }
 }
@@ -100,13 +97,12 @@ fn further_name(
     count: usize,
 ) -> Result<Option<usize>, AllocError> {
     let tokens = section_tokens(alloc, source, kind)?;
-    Ok(nth_name(&tokens, count).map(|token| token.at))
+    Ok(offset_of(nth_name(&tokens, count)))
 }
 
 /// The first variable above the limit. The players are counted too.
 fn further_variable(alloc: Global, source: &Source<'_>) -> Result<Option<usize>, AllocError> {
     let players = section_tokens(alloc, source, SectionKind::Players)?;
-    let count = players.iter().filter(|token| token.kind.is_name()).count();
-    let left = MAX_VARIABLES.saturating_sub(count);
+    let left = MAX_VARIABLES.saturating_sub(count_names(&players));
     further_name(alloc, source, SectionKind::Variables, left)
 }

@@ -138,7 +138,7 @@ fn push_place(
         number: line.number,
         bytes: line.bytes.strip_suffix(b"\r").unwrap_or(line.bytes),
         offset,
-        width: message.spot.map_or(1, |spot| spot.token.text.len()),
+        width: message.width(),
     };
     excerpt.write(alloc, output)
 }

@@ -56,9 +56,12 @@ fn chosen<'a>(error: &LoadError, source: &Source<'_>, texts: &[&'a [u8]]) -> Opt
 
 /// Whether a token of the text is this one.
 fn stands_at(tokens: &[Token<'_>], at: usize, text: &[u8]) -> bool {
-    tokens
-        .iter()
-        .any(|token| token.at == at && token.text == text)
+    for token in tokens {
+        if token.at == at && token.text == text {
+            return true;
+        }
+    }
+    false
 }
 
 /// The texts of the tokens that come from an offset, each once.

@@ -2,6 +2,7 @@
 //! vertices are, and what they are warned of.
 #![tactic(auto)]
 
+mod among;
 mod boards;
 mod brackets;
 mod calls;

@@ -47,6 +47,14 @@ impl<'a> Message<'a> {
         })
     }
 
+    /// How many bytes stand at the refusal's place.
+    pub fn width(&self) -> usize {
+        match self.spot {
+            Some(spot) => spot.token.text.len(),
+            None => 1,
+        }
+    }
+
     fn write_text<W: Write>(&self, f: &mut Formatter<W>, error: &TextError) -> fmt::Result {
         let words = match error {
             TextError::TooLong => return write!(f, "the text has more than {MAX_TEXT} bytes"),
@@ -83,23 +91,27 @@ impl<'a> Message<'a> {
         }
     }
 
+    /// How many parameters the macro has that is called here, and what stands behind its name.
+    fn call(&self) -> Option<(usize, CallForm)> {
+        let spot = self.spot?;
+        Some((spot.parameters()?, spot.call_form()))
+    }
+
     /// What is wrong with the arguments of a call.
     fn write_call<W: Write>(&self, f: &mut Formatter<W>) -> fmt::Result {
         let found = Found(self.found());
-        let wanted = self.spot.and_then(|spot| spot.parameters());
-        let form = self.spot.map(|spot| spot.call_form());
-        match (wanted, form) {
-            (Some(wanted), Some(CallForm::NoParenthesis)) => {
+        match self.call() {
+            Some((wanted, CallForm::NoParenthesis)) => {
                 let wanted = ArgumentCount(wanted);
                 write!(
                     f,
                     "expected `(` and {wanted} behind the macro's name {found}"
                 )
             }
-            (Some(_), Some(CallForm::Open)) => {
+            Some((_, CallForm::Open)) => {
                 write!(f, "expected a `)` behind the arguments of {found}")
             }
-            (Some(wanted), Some(CallForm::Arguments(count))) if count != wanted => {
+            Some((wanted, CallForm::Arguments(count))) if count != wanted => {
                 let wanted = ArgumentCount(wanted);
                 write!(
                     f,

@@ -1,5 +1,6 @@
 //! What stands around a token of a text.
 
+use crate::among::{before_first, index_of};
 use crate::brackets::{CallForm, call_form, parameter_count};
 use rbg_tokens::{Symbol, Token, TokenKind};
 
@@ -69,10 +70,7 @@ impl<'a> Spot<'a> {
     pub fn behind(&self) -> &'a [Token<'a>] {
         let first = self.before.len().saturating_add(1);
         let rest = self.tokens.get(first..).unwrap_or(&[]);
-        match rest.iter().position(|token| token.is(Symbol::Hash)) {
-            Some(hash) => &rest[..hash],
-            None => rest,
-        }
+        before_first(rest, Symbol::Hash)
     }
 
     /// What the tokens behind this one are to a call of the macro of its name.
@@ -87,13 +85,7 @@ impl<'a> Spot<'a> {
 
     /// How many parameters the macro of the token's name has.
     pub fn parameters(&self) -> Option<usize> {
-        let name = self.token.text;
-        let head = self.tokens.windows(2).position(|pair| match pair {
-            [hash, head] => hash.is(Symbol::Hash) && head.text == name,
-            _ => false,
-        })?;
-        let behind = self.tokens.get(head.saturating_add(2)..).unwrap_or(&[]);
-        Some(parameter_count(behind))
+        Some(parameter_count(behind_head(self.tokens, self.token.text)?))
     }
 
     /// What is said of a comma between rows or vertices of a board.
@@ -115,7 +107,7 @@ impl<'a> Spot<'a> {
     /// Whether the token is the `#` of a definition: the head before it, if there is one, has its `=`.
     pub fn starts_definition(&self) -> bool {
         let before = self.definition();
-        let is_whole = before.is_empty() || before.iter().any(|token| token.is(Symbol::Equals));
+        let is_whole = before.is_empty() || index_of(before, Symbol::Equals).is_some();
         self.token.is(Symbol::Hash) && is_whole
     }
 
@@ -222,17 +214,39 @@ fn is_closing(token: &Token<'_>) -> bool {
 
 /// Whether a macro with parameters has this name.
 fn has_parameters(tokens: &[Token<'_>], name: &[u8]) -> bool {
-    tokens.windows(3).any(|head| match head {
-        [hash, found, bracket] => {
-            hash.is(Symbol::Hash) && found.text == name && bracket.is(Symbol::OpenParenthesis)
+    for head in tokens.windows(3) {
+        if let [hash, found, bracket] = head
+            && hash.is(Symbol::Hash)
+            && found.text == name
+            && bracket.is(Symbol::OpenParenthesis)
+        {
+            return true;
         }
-        _ => false,
-    })
+    }
+    false
+}
+
+/// The tokens behind the name in the first head of a definition that has this name.
+fn behind_head<'a>(tokens: &'a [Token<'a>], name: &[u8]) -> Option<&'a [Token<'a>]> {
+    for (index, pair) in tokens.windows(2).enumerate() {
+        if let [hash, head] = pair
+            && hash.is(Symbol::Hash)
+            && head.text == name
+        {
+            return tokens.get(index.saturating_add(2)..);
+        }
+    }
+    None
 }
 
 /// Whether a name is that of a section.
 pub fn is_section(name: &[u8]) -> bool {
-    SECTIONS.iter().any(|section| section.as_bytes() == name)
+    for section in SECTIONS {
+        if section.as_bytes() == name {
+            return true;
+        }
+    }
+    false
 }
 
 /// The name in the head of the definition with this name, counted from 0 among those of one name.

@@ -1,5 +1,6 @@
 //! What an author is warned of, in words.
 
+use crate::among::index_of;
 use crate::boards::nth_direction;
 use crate::calls::calls_of;
 use crate::output::{File, line_and_column, push_location, push_made};
@@ -87,14 +88,14 @@ fn push_warnings_in(
     Ok(())
 }
 
-/// Adds the line of an assignment whose number is above the bound of its variable.
+/// Adds the line of an assignment whose number is above the bound of its variable, the first name of its action.
 fn push_too_great(
     alloc: Global,
     output: &mut Vec<u8>,
     file: File<'_>,
     action: Option<&[Token<'_>]>,
 ) -> Result<(), AllocError> {
-    match action.and_then(first_name) {
+    match nth_name(action.unwrap_or(&[]), 0) {
         Some(token) => {
             let words = [
                 "the number is above the bound of",
@@ -104,11 +105,6 @@ fn push_too_great(
         }
         None => Ok(()),
     }
-}
-
-/// The first name of an action: of an assignment, its variable.
-fn first_name<'a>(action: &[Token<'a>]) -> Option<Token<'a>> {
-    action.iter().find(|token| token.kind.is_name()).copied()
 }
 
 /// Adds the line of a thing that the rules never use, at its name in the section that lists it.
@@ -169,7 +165,7 @@ fn push_uncalled(
     file: File<'_>,
     tokens: &[Token<'_>],
 ) -> Result<(), AllocError> {
-    if tokens.iter().any(|token| token.is(Symbol::Tilde)) {
+    if index_of(tokens, Symbol::Tilde).is_some() {
         return Ok(());
     }
     for pair in tokens.windows(2) {

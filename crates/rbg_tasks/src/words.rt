@@ -51,10 +51,9 @@ pub fn asked_by(words: &[String]) -> Asked<'_>
 fn asked_alone<'a>(command: &str) -> Asked<'a>
     ensures { (wish : Wish) → Asks (command.now ∷ []) wish → wish_of result ≡ Some wish }
 {
-    if command == "referee" {
-        Asked::Input
-    } else {
-        Asked::Other
+    match command {
+        "referee" => Asked::Input,
+        _ => Asked::Other,
     }
 }
 
@@ -62,12 +61,10 @@ fn asked_alone<'a>(command: &str) -> Asked<'a>
 fn asked_of_file<'a>(command: &str, file: &'a str) -> Asked<'a>
     ensures { (wish : Wish) → Asks (command.now ∷ file.now ∷ []) wish → wish_of result ≡ Some wish }
 {
-    if command == "referee" && file == "--cut" {
-        Asked::Cut { file: None }
-    } else if is_option(file) {
-        Asked::Other
-    } else {
-        asked_of_name(command, file)
+    match (command, file) {
+        ("referee", "--cut") => Asked::Cut { file: None },
+        _ if is_option(file) => Asked::Other,
+        _ => asked_of_name(command, file),
     }
 }
 
@@ -76,16 +73,12 @@ fn asked_of_name<'a>(command: &str, file: &'a str) -> Asked<'a>
     requires { IsName file.now }
     ensures { (wish : Wish) → Asks (command.now ∷ file.now ∷ []) wish → wish_of result ≡ Some wish }
 {
-    if command == "check" {
-        Asked::Files(FileTask::Check { file })
-    } else if command == "referee" {
-        Asked::Files(FileTask::Referee { file })
-    } else if command == "moves" {
-        Asked::Moves { file }
-    } else if command == "script" {
-        Asked::Script { file }
-    } else {
-        Asked::Other
+    match command {
+        "check" => Asked::Files(FileTask::Check { file }),
+        "referee" => Asked::Files(FileTask::Referee { file }),
+        "moves" => Asked::Moves { file },
+        "script" => Asked::Script { file },
+        _ => Asked::Other,
     }
 }
 
@@ -107,19 +100,14 @@ fn asked_by_option<'a>(command: &str, first: &'a str, second: &'a str) -> Asked<
     ensures { (wish : Wish) → Asks (command.now ∷ first.now ∷ second.now ∷ []) wish
         → wish_of result ≡ Some wish }
 {
-    if command != "referee" {
-        Asked::Other
-    } else if second == "--cut" {
-        asked_to_cut(first)
-    } else if first == "--cut" {
-        asked_to_cut(second)
-    } else if first == "--record" && !is_option(second) {
-        Asked::Recorded(RecordTask {
+    match (command, first, second) {
+        ("referee", _, "--cut") => asked_to_cut(first),
+        ("referee", "--cut", _) => asked_to_cut(second),
+        ("referee", "--record", _) if !is_option(second) => Asked::Recorded(RecordTask {
             description: None,
             target: second,
-        })
-    } else {
-        Asked::Other
+        }),
+        _ => Asked::Other,
     }
 }
 
@@ -129,23 +117,20 @@ fn asked_of_record<'a>(command: &str, file: &'a str, other: &'a str) -> Asked<'a
     ensures { (wish : Wish) → Asks (command.now ∷ file.now ∷ other.now ∷ []) wish
         → wish_of result ≡ Some wish }
 {
-    if command == "replay" {
-        Asked::Files(FileTask::Replay {
+    match command {
+        "replay" => Asked::Files(FileTask::Replay {
             file,
             record: other,
-        })
-    } else if command == "migrate" {
-        Asked::Files(FileTask::Migrate {
+        }),
+        "migrate" => Asked::Files(FileTask::Migrate {
             file,
             record: other,
-        })
-    } else if command == "moves" {
-        Asked::Files(FileTask::Moves {
+        }),
+        "moves" => Asked::Files(FileTask::Moves {
             file,
             record: other,
-        })
-    } else {
-        Asked::Other
+        }),
+        _ => Asked::Other,
     }
 }
 
@@ -154,20 +139,17 @@ fn asked_of_three<'a>(command: &str, first: &'a str, second: &'a str, third: &'a
     ensures { (wish : Wish) → Asks (command.now ∷ first.now ∷ second.now ∷ third.now ∷ []) wish
         → wish_of result ≡ Some wish }
 {
-    if command != "referee" || is_option(third) {
-        Asked::Other
-    } else if first == "--record" && !is_option(second) {
-        Asked::Recorded(RecordTask {
+    match (command, first, second) {
+        ("referee", _, _) if is_option(third) => Asked::Other,
+        ("referee", "--record", _) if !is_option(second) => Asked::Recorded(RecordTask {
             description: Some(third),
             target: second,
-        })
-    } else if second == "--record" && !is_option(first) {
-        Asked::Recorded(RecordTask {
+        }),
+        ("referee", _, "--record") if !is_option(first) => Asked::Recorded(RecordTask {
             description: Some(first),
             target: third,
-        })
-    } else {
-        Asked::Other
+        }),
+        _ => Asked::Other,
     }
 }
 

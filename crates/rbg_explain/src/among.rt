@@ -1,0 +1,45 @@
+//! What is found among tokens.
+
+use rbg_tokens::{Symbol, Token};
+
+/// The index of the first token that is this symbol.
+pub(crate) fn index_of(tokens: &[Token<'_>], symbol: Symbol) -> Option<usize> {
+    for (index, token) in tokens.iter().enumerate() {
+        if token.is(symbol) {
+            return Some(index);
+        }
+    }
+    None
+}
+
+/// The tokens before the first one that is this symbol; all of them where none is.
+pub(crate) fn before_first<'a, 't>(tokens: &'a [Token<'t>], symbol: Symbol) -> &'a [Token<'t>] {
+    match index_of(tokens, symbol) {
+        Some(index) => tokens.get(..index).unwrap_or(&[]),
+        None => tokens,
+    }
+}
+
+/// Whether the token at an index is this symbol.
+pub(crate) fn is_at(tokens: &[Token<'_>], index: usize, symbol: Symbol) -> bool {
+    match tokens.get(index) {
+        Some(token) => token.is(symbol),
+        None => false,
+    }
+}
+
+/// How many of the tokens are names.
+pub(crate) fn count_names(tokens: &[Token<'_>]) -> usize {
+    let mut count = 0usize;
+    for token in tokens {
+        if token.kind.is_name() {
+            count = count.saturating_add(1);
+        }
+    }
+    count
+}
+
+/// The offset of a token, if there is one.
+pub(crate) fn offset_of(token: Option<Token<'_>>) -> Option<usize> {
+    Some(token?.at)
+}
