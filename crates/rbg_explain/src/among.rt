@@ -14,10 +14,8 @@ pub(crate) fn index_of(tokens: &[Token<'_>], symbol: Symbol) -> Option<usize> {
 
 /// The tokens before the first one that is this symbol; all of them where none is.
 pub(crate) fn before_first<'a, 't>(tokens: &'a [Token<'t>], symbol: Symbol) -> &'a [Token<'t>] {
-    match index_of(tokens, symbol) {
-        Some(index) => tokens.get(..index).unwrap_or(&[]),
-        None => tokens,
-    }
+    let end = index_of(tokens, symbol).unwrap_or(tokens.len());
+    tokens.get(..end).unwrap_or(tokens)
 }
 
 /// Whether the token at an index is this symbol.
