@@ -1,11 +1,7 @@
-//! Tests of the crates of a match: messages, streams and the referee.
+//! Tests of the public calls of a match and of a hall: why none is made.
 #![tactic(auto)]
 
 #[cfg(test)]
-mod matches;
+mod refusals;
 #[cfg(test)]
-mod messages;
-#[cfg(test)]
-mod scripts;
-#[cfg(test)]
-mod streams;
+mod tables;

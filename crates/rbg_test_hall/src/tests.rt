@@ -1,6 +1,0 @@
-//! The tests, by subject.
-mod cases;
-mod halls;
-mod lines;
-mod serving;
-mod tables;
