@@ -1,14 +1,11 @@
-//! Tests of the automaton of positions, of a player, of serving over lines and clocks in memory, and of logs.
+//! Tests of what no contract says of the automaton of positions, of a player, of serving over lines in memory, and of logs
+//! in memory.
 #![tactic(auto)]
 
 #[cfg(test)]
-mod forms;
+mod automata;
 #[cfg(test)]
-mod generated;
-#[cfg(test)]
-mod hearing;
-#[cfg(test)]
-mod lists;
+mod choosing;
 #[cfg(test)]
 mod logs;
 #[cfg(test)]

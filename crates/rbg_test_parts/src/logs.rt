@@ -1,36 +1,18 @@
-//! Logs in memory, and lines that were cut off.
+//! A log in memory takes what it has room for, and of what it hasn't room for nothing.
 
-use rbg_log::{Log, MemoryLog, whole_lines};
-use std::test::Fail;
+use rbg_log::{Log, MemoryLog};
+use std::alloc::Global;
 
-/// Texts, and what their whole lines are.
-const TEXTS: [(&[u8], &[u8]); 5] = [
-    (b"", b""),
-    (b"\n", b"\n"),
-    (b"config 1 0 0", b""),
-    (b"config 1 0 0\nt 1", b"config 1 0 0\n"),
-    (b"config 1 0 0\nt 1\n", b"config 1 0 0\nt 1\n"),
-];
-
-#[test]
-fn lines_that_are_cut_off_are_left_out(rt: HostRuntime) -> Result<(), Fail> {
-    for (text, whole) in TEXTS {
-        assert_eq!(rt; whole_lines(text), whole);
-    }
-    Ok(())
-}
-
-/// Whether a log takes these bytes.
-fn takes<W: Log>(log: &mut W, bytes: &[u8]) -> bool {
-    log.append(bytes).is_ok()
+/// Whether a log of five bytes takes three bytes, not three more, and then two.
+fn takes_what_fits(alloc: Global) -> bool {
+    let mut log = MemoryLog::new(alloc, 5);
+    log.append(b"abc").is_ok()
+        && log.append(b"def").is_err()
+        && log.append(b"de").is_ok()
+        && log.bytes() == b"abcde".as_slice()
 }
 
 #[test]
-fn a_full_log_takes_nothing(rt: HostRuntime) -> Result<(), Fail> {
-    let mut log = MemoryLog::new(rt.alloc(), 5);
-    assert!(rt; takes(&mut log, b"abc"));
-    assert!(rt; !takes(&mut log, b"def"));
-    assert!(rt; takes(&mut log, b"de"));
-    assert_eq!(rt; log.bytes(), b"abcde".as_slice());
-    Ok(())
+fn a_full_log_takes_nothing(rt: HostRuntime) {
+    assert!(rt; takes_what_fits(rt.alloc()));
 }

@@ -2,12 +2,13 @@
 ghost use Rattle.std.specs.Prelude.{◌≡◌, IfOk, IfSome};
 ghost use Rattle.rbg_flat.specs.Paths.{ArePathsOf};
 ghost use Rattle.rbg_rules.specs.Meaning.{IsPlaceOf};
+ghost use Rattle.rbg_test_search.specs.Asking.{IsAskedAt};
 
 use crate::tests::asked::Asked;
 use crate::tests::board::Board;
 use crate::tests::comparing::compare_reach;
 use crate::tests::generated::Generator;
-use crate::tests::meaning::Rules;
+use crate::tests::meaning::{Moves, Rules};
 use crate::tests::odd::{Odd, Tally, add, expect};
 use crate::tests::playing::{compare_moves, play};
 use crate::tests::table::Table;
@@ -40,6 +41,29 @@ struct Turn {
     world: World,
 }
 
+/// Makes one of the moves at a place, which a number chooses.
+fn turn_after<S: Steps>(
+    asked: &Asked<'_, S>,
+    place: &Place,
+    moves: &Moves,
+    choice: u64,
+) -> Option<Turn>
+    requires asked { IsAskedAt S.of_rules asked.now.steps.now asked.now.game.now asked.now.played.now place.now }
+    ensures { IfSome result (λ turn. IsPlaceOf asked.now.game.now turn.place) }
+{
+    let number = choice.checked_rem(moves.moves.len() as u64).unwrap_or(0);
+    let Some(played) = moves.moves.get(number as usize) else {
+        return None;
+    };
+    let Some(place) = play(asked, place, played) else {
+        return None;
+    };
+    Some(Turn {
+        place,
+        world: played.world,
+    })
+}
+
 /// Compares everything at a place, and makes a move.
 fn compare_turn<S: Steps>(
     asked: &Asked<'_, S>,
@@ -60,17 +84,44 @@ fn compare_turn<S: Steps>(
         Some(position) => &table.entry(position).ok_or(Odd::Load)?.rests,
     };
     let moves = compare_moves(asked, &turn.place, &turn.world, words, tally)?;
-    let number = choice.checked_rem(moves.moves.len() as u64).unwrap_or(0);
-    let Some(played) = moves.moves.get(number as usize) else {
-        return Ok(None);
+    Ok(turn_after(asked, &turn.place, &moves, choice))
+}
+
+/// Compares everything at two places, one move behind the other.
+fn compare_two<S: Steps>(
+    asked: &Asked<'_, S>,
+    turn: &Turn,
+    choice: u64,
+    tally: &mut Tally,
+) -> Result<(), Odd>
+    requires steps { S.of_rules asked.now.steps.now asked.now.game.now.rules }
+    requires paths { IfSome asked.now.paths (λ told. ArePathsOf asked.now.game.now told.now) }
+    requires same { asked.now.played.now ≡ asked.now.game.now }
+    requires place { IsPlaceOf asked.now.game.now turn.now.place }
+{
+    let Some(next) = compare_turn(asked, turn, choice, tally)? else {
+        return Ok(());
     };
-    let Some(place) = play(asked, &turn.place, played)? else {
-        return Ok(None);
+    compare_turn(asked, &next, choice / 7, tally)?;
+    Ok(())
+}
+
+/// Compares everything at three places, one move behind the other.
+fn compare_three<S: Steps>(
+    asked: &Asked<'_, S>,
+    turn: &Turn,
+    choice: u64,
+    tally: &mut Tally,
+) -> Result<(), Odd>
+    requires steps { S.of_rules asked.now.steps.now asked.now.game.now.rules }
+    requires paths { IfSome asked.now.paths (λ told. ArePathsOf asked.now.game.now told.now) }
+    requires same { asked.now.played.now ≡ asked.now.game.now }
+    requires place { IsPlaceOf asked.now.game.now turn.now.place }
+{
+    let Some(next) = compare_turn(asked, turn, choice, tally)? else {
+        return Ok(());
     };
-    Ok(Some(Turn {
-        place,
-        world: played.world,
-    }))
+    compare_two(asked, &next, choice / 7, tally)
 }
 
 /// Compares the first places of a game.
@@ -83,14 +134,7 @@ fn compare_game<S: Steps>(asked: &Asked<'_, S>, choice: u64, tally: &mut Tally) 
         place: Place::start(asked.alloc, asked.game)?,
         world: World::start(asked.rules.board),
     };
-    let Some(second) = compare_turn(asked, &first, choice, tally)? else {
-        return Ok(());
-    };
-    let Some(third) = compare_turn(asked, &second, choice / 7, tally)? else {
-        return Ok(());
-    };
-    compare_turn(asked, &third, choice / 49, tally)?;
-    Ok(())
+    compare_three(asked, &first, choice, tally)
 }
 
 /// Compares a game by an automaton, where seeds say so by sets of vertices.
@@ -144,27 +188,43 @@ fn board_of(seed: u64, generator: &mut Generator) -> Board {
     }
 }
 
+/// The game of these rules on a board.
+fn load_rules(alloc: Global, board: &Board, rules: &Tree) -> Result<PlayedGame, Odd> {
+    let text = text_of(alloc, board, rules)?;
+    let Ok(game) = load(alloc, text.as_bytes()) else {
+        return Err(Odd::Load);
+    };
+    Ok(PlayedGame::new(alloc, game)?)
+}
+
+/// Compares the game of these rules on a board.
+fn compare_rules(
+    alloc: Global,
+    board: &Board,
+    rules: &Tree,
+    seed: u64,
+    tally: &mut Tally,
+) -> Result<(), Odd> {
+    let table = Table::new(alloc, rules)?;
+    let played = load_rules(alloc, board, rules)?;
+    let rules = Rules {
+        board,
+        table: &table,
+    };
+    compare(alloc, &played, rules, seed, tally)
+}
+
 /// Makes a game and compares it.
 fn compare_seed(alloc: Global, seed: u64, tally: &mut Tally) -> Result<(), Odd> {
     let mut generator = Generator::new(alloc, seed);
     let board = board_of(seed, &mut generator);
     let tree = generator.rules()?;
-    let table = Table::new(alloc, &tree)?;
-    let text = text_of(alloc, &board, &tree)?;
-    let Ok(game) = load(alloc, text.as_bytes()) else {
-        return Err(Odd::Load);
-    };
-    let rules = Rules {
-        board: &board,
-        table: &table,
-    };
-    let played = PlayedGame::new(alloc, game)?;
-    compare(alloc, &played, rules, seed, tally)
+    compare_rules(alloc, &board, &tree, seed, tally)
 }
 
 #[test]
 fn searches_agree_with_trying_all_words(rt: HostRuntime) {
-    let mut tally = Tally::default();
+    let mut tally = Tally::new();
     for seed in 0..GAMES {
         match compare_seed(rt.alloc(), seed, &mut tally) {
             Ok(()) => add(&mut tally.games, 1),
@@ -173,5 +233,5 @@ fn searches_agree_with_trying_all_words(rt: HostRuntime) {
             Err(odd) => panic!(rt; "at {seed}: {odd:?}"),
         }
     }
-    assert!(rt; tally.shows_enough(), "{tally:?}");
+    assert!(rt; tally.shows_enough());
 }

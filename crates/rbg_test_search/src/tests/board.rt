@@ -142,6 +142,11 @@ impl Board {
         }
     }
 
+    /// Where the edge from a vertex of a ring in a direction ends.
+    fn end(&self, vertex: Vertex, direction: Direction) -> Vertex {
+        self.step(vertex, direction).unwrap_or(vertex)
+    }
+
     /// Appends the text of the board.
     pub(crate) fn spell(&self, text: &mut String) -> Result<(), AllocError> {
         match self {
@@ -163,13 +168,13 @@ impl Board {
         } else {
             "w"
         };
-        write!(text, " v{vertex}[{piece}]")?;
-        let mut before = "{";
-        for (name, direction) in [("up", UP), ("down", DOWN), ("left", LEFT), ("right", RIGHT)] {
-            let to = self.step(vertex, direction).unwrap_or(vertex);
-            write!(text, "{before}{name}:v{to}")?;
-            before = ",";
-        }
-        text.push_str("}")
+        let up = self.end(vertex, UP);
+        let down = self.end(vertex, DOWN);
+        let left = self.end(vertex, LEFT);
+        let right = self.end(vertex, RIGHT);
+        write!(
+            text,
+            " v{vertex}[{piece}]{{up:v{up},down:v{down},left:v{left},right:v{right}}}"
+        )
     }
 }

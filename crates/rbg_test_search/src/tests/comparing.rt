@@ -50,20 +50,41 @@ fn in_pattern(game: &Game, position: Position) -> Origin
     Origin::Begin(Expr::Inside(position))
 }
 
-/// Compares what is reached with the slow answer.
-fn expect_reached(reached: Result<FlatPart, Over>, next: &Next) -> Result<(), Odd> {
-    let Ok(reached) = reached else {
-        return expect(!next.whole, Odd::Limits);
-    };
+/// Whether what is reached is as the slow answer says, as far as that is known.
+fn is_next(reached: &FlatPart, next: &Next) -> bool {
+    let mut right = reached.ends || !next.ends;
     for pair in &next.pairs {
-        expect(reached.pairs.contains(pair), Odd::Reach)?;
+        right = right && reached.pairs.contains(pair);
     }
-    expect(reached.ends || !next.ends, Odd::Reach)?;
     if next.whole {
-        expect(reached.ends == next.ends, Odd::Reach)?;
-        expect(reached.pairs.len() == next.pairs.len(), Odd::Reach)?;
+        right = right && reached.ends == next.ends && reached.pairs.len() == next.pairs.len();
     }
-    Ok(())
+    right
+}
+
+/// Compares what is reached with the slow answer.
+fn expect_reached(reached: &Result<FlatPart, Over>, next: &Next) -> Result<(), Odd> {
+    match reached {
+        Ok(reached) => expect(is_next(reached, next), Odd::Reach),
+        Err(_) => expect(!next.whole, Odd::Limits),
+    }
+}
+
+/// What is reached from somewhere in the rules.
+fn reach<S: Steps>(
+    asked: &Asked<'_, S>,
+    place: &Place,
+    origin: Origin,
+    buffers: &mut Buffers,
+) -> Result<Result<FlatPart, Over>, Odd>
+    requires asked { IsSearchedAt S.of_rules asked.now.steps.now asked.now.game.now
+        (λ told. ArePathsOf asked.now.game.now told.now) asked.now.paths place.now }
+    requires stands { IsStart asked.now.game.now.rules (start_of origin) }
+{
+    let mut state = place.state.try_clone()?;
+    let reached = asked.search(BUDGET, buffers).reach(&mut state, origin);
+    expect(state == place.state, Odd::Reach)?;
+    Ok(reached)
 }
 
 /// Compares what is reached from somewhere in the rules, where these are the words that go on from there.
@@ -82,10 +103,8 @@ fn compare_start<S: Steps>(
 {
     let next = asked.rules.next(asked.alloc, world, words)?;
     tally.count_next(&next);
-    let mut state = place.state.try_clone()?;
-    let reached = asked.search(BUDGET, buffers).reach(&mut state, origin);
-    expect(state == place.state, Odd::Reach)?;
-    expect_reached(reached, &next)
+    let reached = reach(asked, place, origin, buffers)?;
+    expect_reached(&reached, &next)
 }
 
 /// Whether the pattern at a position holds at a place.
@@ -100,8 +119,7 @@ fn pattern<S: Steps>(
     requires there { IsPatternAt asked.now.game.now.rules position }
 {
     let mut state = place.state.try_clone()?;
-    let mut search = asked.search(BUDGET, buffers);
-    let valid = search.pattern(&mut state, position);
+    let valid = asked.search(BUDGET, buffers).pattern(&mut state, position);
     expect(state == place.state, Odd::Pattern)?;
     Ok(valid)
 }
@@ -155,6 +173,26 @@ fn compare_position<S: Steps>(
     expect_pattern(valid, asked.rules.is_valid(world, position), tally)
 }
 
+/// Compares what is reached from everywhere in the rules, and which patterns hold, at a place, with these buffers.
+fn compare_everywhere<S: Steps>(
+    asked: &Asked<'_, S>,
+    place: &Place,
+    world: &World,
+    buffers: &mut Buffers,
+    tally: &mut Tally,
+) -> Result<(), Odd>
+    requires asked { IsSearchedAt S.of_rules asked.now.steps.now asked.now.game.now
+        (λ told. ArePathsOf asked.now.game.now told.now) asked.now.paths place.now }
+{
+    let origin = at_beginning(asked.game);
+    let words = asked.rules.table.words.as_slice();
+    compare_start(asked, place, world, origin, words, buffers, tally)?;
+    for position in 1..=asked.game.positions() as Position {
+        compare_position(asked, place, world, position, buffers, tally)?;
+    }
+    Ok(())
+}
+
 /// Compares what is reached from everywhere in the rules, and which patterns hold, at a place.
 pub(crate) fn compare_reach<S: Steps>(
     asked: &Asked<'_, S>,
@@ -166,11 +204,5 @@ pub(crate) fn compare_reach<S: Steps>(
         (λ told. ArePathsOf asked.now.game.now told.now) asked.now.paths place.now }
 {
     let mut buffers = Buffers::new(asked.alloc);
-    let origin = at_beginning(asked.game);
-    let words = asked.rules.table.words.as_slice();
-    compare_start(asked, place, world, origin, words, &mut buffers, tally)?;
-    for position in 1..=asked.game.positions() as Position {
-        compare_position(asked, place, world, position, &mut buffers, tally)?;
-    }
-    Ok(())
+    compare_everywhere(asked, place, world, &mut buffers, tally)
 }

@@ -4,7 +4,7 @@ ghost use Rattle.std.specs.Prelude.{◌<◌};
 use crate::tests::tree::{Action, Operand, Operator, Sum, Tree};
 use rand_core::{Rng, SeedableRng};
 use rand_pcg::Pcg32;
-use rbg_base::{Position, Relation};
+use rbg_base::{Player, Position, Relation};
 use std::alloc::{AllocError, Global};
 
 /// With so many actions no further parts are begun.
@@ -216,25 +216,41 @@ impl Generator {
         Ok(parts)
     }
 
-    /// A switch to white, a part, a switch to black, a part and a switch.
-    fn turns(&mut self, depth: u8) -> Result<Vec<Tree>, AllocError> {
+    /// Appends a switch.
+    fn push_switch(&mut self, player: Player, turns: &mut Vec<Tree>) -> Result<(), AllocError> {
+        turns.push(self.act(Action::Switch(player)))?;
+        Ok(())
+    }
+
+    /// Appends a switch and a part.
+    fn push_turn(
+        &mut self,
+        player: Player,
+        depth: u8,
+        turns: &mut Vec<Tree>,
+    ) -> Result<(), AllocError> {
         let setting = Setting {
             in_pattern: false,
             repeated: false,
         };
-        let mut turns = Vec::new(self.alloc);
-        turns.push(self.act(Action::Switch(1)))?;
+        self.push_switch(player, turns)?;
         turns.push(self.part(setting, depth)?)?;
-        turns.push(self.act(Action::Switch(2)))?;
-        turns.push(self.part(setting, depth)?)?;
+        Ok(())
+    }
+
+    /// Appends a switch to white, a part, a switch to black, a part and a switch.
+    fn push_turns(&mut self, depth: u8, turns: &mut Vec<Tree>) -> Result<(), AllocError> {
+        self.push_turn(1, depth, turns)?;
+        self.push_turn(2, depth, turns)?;
         let player = self.below(3);
-        turns.push(self.act(Action::Switch(player)))?;
-        Ok(turns)
+        self.push_switch(player, turns)
     }
 
     /// Rules of a game.
     pub(crate) fn rules(&mut self) -> Result<Tree, AllocError> {
-        let turns = Tree::Then(self.turns(3)?);
+        let mut turns = Vec::new(self.alloc);
+        self.push_turns(3, &mut turns)?;
+        let turns = Tree::Then(turns);
         if self.below(2) == 0 {
             return Ok(turns);
         }

@@ -12,7 +12,7 @@ use std::alloc::{AllocError, Global};
 const NESTED: u8 = 8;
 
 /// What becomes of an action that is tried.
-#[derive(Clone, Copy, PartialEq, Eq)]
+#[derive(Clone, Copy)]
 enum Tried {
     To(World),
     Invalid,
@@ -21,7 +21,7 @@ enum Tried {
 }
 
 /// Whether something is so, as far as it is known.
-#[derive(Clone, Copy, PartialEq, Eq)]
+#[derive(Clone, Copy)]
 pub(crate) enum Known {
     Yes,
     No,
@@ -44,6 +44,17 @@ pub(crate) struct Next {
     pub ends: bool,
     /// Whether that is all.
     pub whole: bool,
+}
+
+/// Where a word leads up to its first switch.
+#[derive(Clone, Copy)]
+enum Turned {
+    /// There is a switch at this last position, and all up to it runs.
+    To(World, Position),
+    /// There is none, or not all up to it runs.
+    No,
+    /// A longer word may have one.
+    Unknown,
 }
 
 /// A legal move, and where it leads.
@@ -199,7 +210,7 @@ impl Rules<'_> {
         Ok(moves)
     }
 
-    /// Goes along a word up to a switch.
+    /// Adds the move of a word up to its first switch, if that is one.
     fn play(
         &self,
         alloc: Global,
@@ -207,11 +218,28 @@ impl Rules<'_> {
         world: &World,
         word: &Word,
     ) -> Result<(), AllocError> {
-        let mut world = *world;
         let mut pairs = Vec::new(alloc);
+        match self.turn(world, word, &mut pairs)? {
+            Turned::To(world, last) => moves.add(Played { pairs, world, last }),
+            Turned::No => Ok(()),
+            Turned::Unknown => {
+                moves.whole = false;
+                Ok(())
+            }
+        }
+    }
+
+    /// Goes along a word up to a switch, and appends the pairs.
+    fn turn(
+        &self,
+        world: &World,
+        word: &Word,
+        pairs: &mut Vec<Pair>,
+    ) -> Result<Turned, AllocError> {
+        let mut world = *world;
         for number in 0..LETTERS {
             let Some(position) = word.letter(number) else {
-                return Ok(());
+                return Ok(Turned::No);
             };
             if self.table.is_modifier(position) {
                 pairs.push(Pair {
@@ -221,24 +249,18 @@ impl Rules<'_> {
             }
             match self.try_at(&world, position, NESTED) {
                 Tried::To(after) => world = after,
-                Tried::Invalid => return Ok(()),
-                Tried::Unknown => {
-                    moves.whole = false;
-                    return Ok(());
-                }
+                Tried::Invalid => return Ok(Turned::No),
+                Tried::Unknown => return Ok(Turned::Unknown),
             }
             if self.table.is_switch(position) {
-                return moves.add(Played {
-                    pairs,
-                    world,
-                    last: position,
-                });
+                return Ok(Turned::To(world, position));
             }
         }
         if word.is_longer() {
-            moves.whole = false;
+            Ok(Turned::Unknown)
+        } else {
+            Ok(Turned::No)
         }
-        Ok(())
     }
 }
 

@@ -4,7 +4,7 @@ use rbg_base::Memory;
 use std::alloc::AllocFailed;
 
 /// Why a game isn't compared to its end.
-#[derive(Clone, Copy, Debug, PartialEq, Eq, Drop)]
+#[derive(Clone, Copy, Debug, Drop)]
 pub(crate) enum Odd {
     /// The rules have too many words.
     TooMany,
@@ -40,7 +40,7 @@ pub(crate) fn expect(holds: bool, odd: Odd) -> Result<(), Odd> {
 }
 
 /// How much was compared.
-#[derive(Clone, Copy, Debug, Default, PartialEq, Eq)]
+#[derive(Drop)]
 pub(crate) struct Tally {
     /// Games that were compared, such with too many words, and such that met the limits of a search.
     pub games: u32,
@@ -69,6 +69,25 @@ pub(crate) fn add(count: &mut u32, more: usize) {
 }
 
 impl Tally {
+    /// Nothing was compared yet.
+    pub(crate) fn new() -> Tally {
+        Tally {
+            games: 0,
+            skipped: 0,
+            limited: 0,
+            moves: 0,
+            longer_moves: 0,
+            whole_places: 0,
+            finished: 0,
+            illegal: 0,
+            pairs: 0,
+            ends: 0,
+            whole_starts: 0,
+            valid: 0,
+            invalid: 0,
+        }
+    }
+
     pub(crate) fn count_next(&mut self, next: &Next) {
         add(&mut self.pairs, next.pairs.len());
         add(&mut self.ends, next.ends as usize);

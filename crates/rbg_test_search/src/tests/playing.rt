@@ -114,22 +114,38 @@ fn compare_near<S: Steps>(
         return Err(Odd::Try);
     };
     compare_pairs(asked, place, front, moves, tally)?;
-    let mut pairs = Vec::new(asked.alloc);
-    pairs.extend_from_slice(front)?;
-    for pair in [
-        Pair {
-            vertex: last.vertex ^ 1,
-            ..*last
-        },
-        Pair {
-            position: last.position ^ 1,
-            ..*last
-        },
-        *last,
-        *last,
-    ] {
-        pairs.push(pair)?;
-        compare_pairs(asked, place, &pairs, moves, tally)?;
+    let mut pairs = Vec::from_slice(asked.alloc, front)?;
+    compare_longer(asked, place, &mut pairs, &near(last), moves, tally)
+}
+
+/// What is put behind the front of a move that ends with a pair, one after the other: pairs that differ in a little, the
+/// pair, and the pair once more.
+fn near(last: &Pair) -> [Pair; 4] {
+    let elsewhere = Pair {
+        vertex: last.vertex ^ 1,
+        ..*last
+    };
+    let otherwise = Pair {
+        position: last.position ^ 1,
+        ..*last
+    };
+    [elsewhere, otherwise, *last, *last]
+}
+
+/// Tries some pairs with more pairs behind them, one after the other.
+fn compare_longer<S: Steps>(
+    asked: &Asked<'_, S>,
+    place: &Place,
+    pairs: &mut Vec<Pair>,
+    more: &[Pair],
+    moves: &Moves,
+    tally: &mut Tally,
+) -> Result<(), Odd>
+    requires asked { IsAskedAt S.of_rules asked.now.steps.now asked.now.game.now asked.now.played.now place.now }
+{
+    for pair in more {
+        pairs.push(*pair)?;
+        compare_pairs(asked, place, pairs, moves, tally)?;
     }
     Ok(())
 }
@@ -153,14 +169,42 @@ fn compare_single<S: Steps>(
 
 /// Whether the moves listed are in order, each once.
 fn is_sorted(moves: &[Move]) -> bool {
-    let mut before: Option<&Move> = None;
-    for played in moves {
-        if let Some(before) = before
-            && before >= played
+    for pair in moves.windows(2) {
+        if let [one, next] = pair
+            && one >= next
         {
             return false;
         }
-        before = Some(played);
+    }
+    true
+}
+
+/// Whether the pairs are one of the moves listed.
+fn is_listed(listed: &[Move], pairs: &[Pair]) -> bool {
+    for one in listed {
+        if one.as_slice() == pairs {
+            return true;
+        }
+    }
+    false
+}
+
+/// Whether all moves are listed.
+fn has_all(listed: &[Move], moves: &Moves) -> bool {
+    for played in &moves.moves {
+        if !is_listed(listed, &played.pairs) {
+            return false;
+        }
+    }
+    true
+}
+
+/// Whether only moves are listed.
+fn has_only(listed: &[Move], moves: &Moves) -> bool {
+    for one in listed {
+        if !moves.has(one.as_slice()) {
+            return false;
+        }
     }
     true
 }
@@ -170,17 +214,14 @@ fn is_list(listed: &Listed, moves: &Moves, max: usize) -> bool {
     let count = listed.moves.len();
     let mut right = is_sorted(&listed.moves) && count <= max;
     if !listed.cut {
-        for played in &moves.moves {
-            let pairs = played.pairs.as_slice();
-            right = right && listed.moves.iter().any(|one| one.as_slice() == pairs);
-        }
+        right = right && has_all(&listed.moves, moves);
     }
     if moves.whole {
-        for one in &listed.moves {
-            right = right && moves.has(one.as_slice());
-        }
         let all = moves.moves.len();
-        right = right && listed.cut == (max < all) && count == all.min(max);
+        right = right
+            && has_only(&listed.moves, moves)
+            && listed.cut == (max < all)
+            && count == all.min(max);
     }
     right
 }
@@ -245,6 +286,26 @@ fn compare_found<S: Steps>(asked: &Asked<'_, S>, place: &Place, moves: &Moves) -
     }
 }
 
+/// Compares all that is asked of moves at a place, where these are the moves.
+fn compare_all<S: Steps>(
+    asked: &Asked<'_, S>,
+    place: &Place,
+    moves: &Moves,
+    tally: &mut Tally,
+) -> Result<(), Odd>
+    requires asked { IsAskedAt S.of_rules asked.now.steps.now asked.now.game.now asked.now.played.now place.now }
+{
+    compare_found(asked, place, moves)?;
+    compare_list(asked, place, moves, 200)?;
+    compare_list(asked, place, moves, 2)?;
+    compare_single(asked, place, moves, tally)?;
+    for played in &moves.moves {
+        compare_legal(asked, place, played, moves.whole)?;
+        compare_near(asked, place, played, moves, tally)?;
+    }
+    Ok(())
+}
+
 /// Compares all that is asked of moves at a place, where these words go on from it, and returns the moves.
 pub(crate) fn compare_moves<S: Steps>(
     asked: &Asked<'_, S>,
@@ -257,31 +318,19 @@ pub(crate) fn compare_moves<S: Steps>(
 {
     let moves = asked.rules.moves(asked.alloc, world, words)?;
     tally.count_moves(&moves);
-    if !moves.whole && asked.rules.board.len() > FEW_VERTICES {
-        return Ok(moves);
-    }
-    compare_found(asked, place, &moves)?;
-    compare_list(asked, place, &moves, 200)?;
-    compare_list(asked, place, &moves, 2)?;
-    compare_single(asked, place, &moves, tally)?;
-    for played in &moves.moves {
-        compare_legal(asked, place, played, moves.whole)?;
-        compare_near(asked, place, played, &moves, tally)?;
+    if moves.whole || asked.rules.board.len() <= FEW_VERTICES {
+        compare_all(asked, place, &moves, tally)?;
     }
     Ok(moves)
 }
 
 /// The place after a move that is legal.
-pub(crate) fn play<S: Steps>(
-    asked: &Asked<'_, S>,
-    place: &Place,
-    played: &Played,
-) -> Result<Option<Place>, Odd>
+pub(crate) fn play<S: Steps>(asked: &Asked<'_, S>, place: &Place, played: &Played) -> Option<Place>
     requires asked { IsAskedAt S.of_rules asked.now.steps.now asked.now.game.now asked.now.played.now place.now }
-    ensures { IfOk result (λ after. IfSome after (IsPlaceOf asked.now.game.now)) }
+    ensures { IfSome result (IsPlaceOf asked.now.game.now) }
 {
     match try_pairs(asked, place, &played.pairs) {
-        Ok(after) => Ok(after),
-        Err(_) => Ok(None),
+        Ok(after) => after,
+        Err(_) => None,
     }
 }

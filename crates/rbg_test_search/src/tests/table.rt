@@ -1,7 +1,7 @@
 //! The actions of rules by position, and the words that go on from each.
 use crate::tests::odd::Odd;
 use crate::tests::tree::{Action, Tree};
-use crate::tests::words::{Word, rests_anywhere, words};
+use crate::tests::words::{Word, rests, words};
 use rbg_base::Position;
 use std::alloc::Global;
 
@@ -64,26 +64,35 @@ impl Table {
     }
 }
 
+/// Appends the next position, where that stands.
+fn lay_one(
+    alloc: Global,
+    rules: &Tree,
+    position: Position,
+    stands: Stands,
+    entries: &mut Vec<Entry>,
+) -> Result<(), Odd> {
+    let rests = rests(alloc, rules, position)?;
+    entries.push(Entry { stands, rests })?;
+    Ok(())
+}
+
 /// Appends the positions of a part of the rules in order of text.
 fn lay(alloc: Global, rules: &Tree, part: &Tree, entries: &mut Vec<Entry>) -> Result<(), Odd> {
     match part {
         Tree::Act { position, action } => {
-            let rests = rests_anywhere(alloc, rules, *position)?;
-            let stands = Stands::Action(*action);
-            entries.push(Entry { stands, rests })?;
-            Ok(())
+            lay_one(alloc, rules, *position, Stands::Action(*action), entries)
         }
         Tree::Pattern {
             position,
             positive,
             inside,
         } => {
-            let rests = rests_anywhere(alloc, rules, *position)?;
             let stands = Stands::Pattern {
                 positive: *positive,
                 words: words(alloc, inside)?,
             };
-            entries.push(Entry { stands, rests })?;
+            lay_one(alloc, rules, *position, stands, entries)?;
             lay(alloc, rules, inside, entries)
         }
         Tree::Then(parts) => {

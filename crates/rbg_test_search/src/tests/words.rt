@@ -106,6 +106,12 @@ fn join(alloc: Global, firsts: &[Word], seconds: &[Word]) -> Result<Vec<Word>, O
     Ok(joined)
 }
 
+/// Puts each of the second words behind each word of the list.
+fn put_behind(alloc: Global, before: &mut Vec<Word>, seconds: &[Word]) -> Result<(), Odd> {
+    *before = join(alloc, before.as_slice(), seconds)?;
+    Ok(())
+}
+
 /// The list of one word.
 fn only(alloc: Global, word: Word) -> Result<Vec<Word>, Odd> {
     let mut words = Vec::new(alloc);
@@ -119,7 +125,7 @@ fn repeat(alloc: Global, words: &[Word]) -> Result<Vec<Word>, Odd> {
     add_all(&mut one_or_none, words)?;
     let mut repeated = only(alloc, Word::EMPTY)?;
     for _ in 0..=LETTERS {
-        repeated = join(alloc, &repeated, &one_or_none)?;
+        put_behind(alloc, &mut repeated, &one_or_none)?;
     }
     Ok(repeated)
 }
@@ -134,7 +140,7 @@ pub(crate) fn words(alloc: Global, tree: &Tree) -> Result<Vec<Word>, Odd> {
             let mut all = only(alloc, Word::EMPTY)?;
             for part in parts {
                 let more = words(alloc, part)?;
-                all = join(alloc, &all, &more)?;
+                put_behind(alloc, &mut all, &more)?;
             }
             Ok(all)
         }
@@ -153,86 +159,76 @@ pub(crate) fn words(alloc: Global, tree: &Tree) -> Result<Vec<Word>, Odd> {
     }
 }
 
-/// What follows a position up to the end of a word, for each word of the rules that has it outside patterns.
-fn rests(alloc: Global, tree: &Tree, after: Position) -> Result<Vec<Word>, Odd> {
-    match tree {
-        Tree::Act { position, .. } => rests_of_one(alloc, *position, after),
-        Tree::Pattern { position, .. } => rests_of_one(alloc, *position, after),
-        Tree::Then(parts) => {
-            let mut all = Vec::new(alloc);
-            for part in parts {
-                let more = words(alloc, part)?;
-                all = join(alloc, &all, &more)?;
-                let within = rests(alloc, part, after)?;
-                add_all(&mut all, &within)?;
+/// Puts the words of a part behind each word of the list.
+fn put_part_behind(alloc: Global, before: &mut Vec<Word>, part: &Tree) -> Result<(), Odd> {
+    let more = words(alloc, part)?;
+    put_behind(alloc, before, &more)
+}
+
+/// Puts any number of words of a part behind each word of the list.
+fn put_star_behind(alloc: Global, before: &mut Vec<Word>, part: &Tree) -> Result<(), Odd> {
+    let once = words(alloc, part)?;
+    let many = repeat(alloc, &once)?;
+    put_behind(alloc, before, &many)
+}
+
+/// Adds what follows a position in the words of a part that have it. Where the position stands inside a pattern, the end
+/// of its words is that of the pattern's inside, and they are added to the second list.
+fn add_rests(
+    alloc: Global,
+    part: &Tree,
+    after: Position,
+    open: &mut Vec<Word>,
+    ended: &mut Vec<Word>,
+) -> Result<(), Odd> {
+    match part {
+        Tree::Act { position, .. } => {
+            if *position == after {
+                add(open, Word::EMPTY)?;
             }
-            Ok(all)
+            Ok(())
+        }
+        Tree::Pattern {
+            position,
+            inside,
+            ..
+        } => {
+            if *position == after {
+                return add(open, Word::EMPTY);
+            }
+            let mut within = Vec::new(alloc);
+            add_rests(alloc, inside, after, &mut within, ended)?;
+            add_all(ended, &within)
+        }
+        Tree::Then(parts) => {
+            let mut within = Vec::new(alloc);
+            for part in parts {
+                put_part_behind(alloc, &mut within, part)?;
+                add_rests(alloc, part, after, &mut within, ended)?;
+            }
+            add_all(open, &within)
         }
         Tree::Or(parts) => {
-            let mut all = Vec::new(alloc);
             for part in parts {
-                let within = rests(alloc, part, after)?;
-                add_all(&mut all, &within)?;
+                add_rests(alloc, part, after, open, ended)?;
             }
-            Ok(all)
+            Ok(())
         }
         Tree::Star(part) => {
-            let once = words(alloc, part)?;
-            let more = repeat(alloc, &once)?;
-            let within = rests(alloc, part, after)?;
-            join(alloc, &within, &more)
+            let mut within = Vec::new(alloc);
+            add_rests(alloc, part, after, &mut within, ended)?;
+            put_star_behind(alloc, &mut within, part)?;
+            add_all(open, &within)
         }
-    }
-}
-
-/// What follows a position in the word of one letter.
-fn rests_of_one(alloc: Global, letter: Position, after: Position) -> Result<Vec<Word>, Odd> {
-    if letter == after {
-        only(alloc, Word::EMPTY)
-    } else {
-        Ok(Vec::new(alloc))
-    }
-}
-
-/// The same in the insides of the patterns of the rules.
-fn rests_in_patterns(alloc: Global, tree: &Tree, after: Position) -> Result<Vec<Word>, Odd> {
-    match tree {
-        Tree::Act { .. } => Ok(Vec::new(alloc)),
-        Tree::Pattern { inside, .. } => {
-            let mut all = rests(alloc, inside, after)?;
-            let deeper = rests_in_patterns(alloc, inside, after)?;
-            add_all(&mut all, &deeper)?;
-            Ok(all)
-        }
-        Tree::Then(parts) => {
-            let mut all = Vec::new(alloc);
-            for part in parts {
-                let within = rests_in_patterns(alloc, part, after)?;
-                add_all(&mut all, &within)?;
-            }
-            Ok(all)
-        }
-        Tree::Or(parts) => {
-            let mut all = Vec::new(alloc);
-            for part in parts {
-                let within = rests_in_patterns(alloc, part, after)?;
-                add_all(&mut all, &within)?;
-            }
-            Ok(all)
-        }
-        Tree::Star(part) => rests_in_patterns(alloc, part, after),
     }
 }
 
 /// What follows a position up to the end of a word of the expression that has it: the rules, or the inside of a
 /// pattern. A position stands in one of them alone.
-pub(crate) fn rests_anywhere(
-    alloc: Global,
-    rules: &Tree,
-    after: Position,
-) -> Result<Vec<Word>, Odd> {
-    let mut all = rests(alloc, rules, after)?;
-    let deeper = rests_in_patterns(alloc, rules, after)?;
-    add_all(&mut all, &deeper)?;
-    Ok(all)
+pub(crate) fn rests(alloc: Global, rules: &Tree, after: Position) -> Result<Vec<Word>, Odd> {
+    let mut open = Vec::new(alloc);
+    let mut ended = Vec::new(alloc);
+    add_rests(alloc, rules, after, &mut open, &mut ended)?;
+    add_all(&mut open, &ended)?;
+    Ok(open)
 }

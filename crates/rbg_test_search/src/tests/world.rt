@@ -7,7 +7,7 @@ use rbg_base::{Piece, Player, Relation, Variable, Vertex};
 pub(crate) const BOUNDS: [i64; 3] = [4, 4, 2];
 
 /// A semi-state.
-#[derive(Clone, Copy, PartialEq, Eq)]
+#[derive(Clone, Copy)]
 pub(crate) struct World {
     pub player: Player,
     pub vertex: Vertex,

@@ -1,0 +1,142 @@
+//! What no contract says of the automaton of a game: equal lists are in it once, it lends its answers, and common actions
+//! are told at a glance.
+use rbg_auto::{Glance, Steps, compact};
+use rbg_game::load;
+use rbg_rules::Game;
+use std::alloc::Global;
+use std::test::Fail;
+
+/// The first sections of each game, up to its rules.
+const HEAD: &str = "#players = white(100), black(100)
+#pieces = e, w, b
+#variables = n(3)
+#board = rectangle(up,down,left,right,[w,e])
+#rules = ";
+
+/// Macros of texts with long rules: what they are given, nine times and ten times.
+const MACROS: &str = "\n#nine(x) = x x x x x x x x x\n#ten(x) = x x x x x x x x x x";
+
+/// Rules, and how many entries the different lists of their positions have in all.
+const RULES: [(&str, usize); 22] = [
+    ("->white {w} right [w] ->black", 5),
+    ("->white ([w])* ->black", 3),
+    ("->white (([w])* ([e])*)* ->black", 4),
+    ("->white ([w] + ([e])* right)* [$ n = n + 1] ->>", 8),
+    ("->white {? right [w]} right {e} [w] ->black", 8),
+    (
+        "->white (right + left)* {! {? right} {! left}} [w] ->black",
+        10,
+    ),
+    ("->white {e}[w] ->black right {e}[b] ->> {}", 9),
+    ("(->>)*", 1),
+    ("([w] ->white + ->white)", 3),
+    ("->white ([w] ->black + ([w])* {})", 7),
+    ("->white {! ([w])*} [w] ->black", 5),
+    ("->white ten(ten([w] [w])) ->black", 202),
+    (
+        "nine(ten(ten(->>))) nine(ten(->>)) nine(->>) ->white [w] ->black",
+        1002,
+    ),
+    ("ten(ten(ten(ten(up up))))", 20000),
+    (
+        "->white ([w] nine(ten(ten(+ [w]))) nine(ten(+ [w])) nine(+ [w])) ->black",
+        1002,
+    ),
+    (
+        "->white ([w] nine(ten(ten(+ [w]))) nine(ten(+ [w])) nine(+ [w]))* ->black",
+        1002,
+    ),
+    (
+        "->white ([w] ->black ten(+ ->black + ->black + ->black + ->black + ->black + ->black) nine(+ ->black)) {}",
+        73,
+    ),
+    (
+        "->white ten(([w] + [e])) ([w] + [e]) ([w] + [e]) ([w] + [e]) ([w] + [e]) ([w] + [e]) {}",
+        32,
+    ),
+    (
+        "->white {! ten(([w] + [e])) {}} {! ten(([w] + [e])) {}} [w] ->black",
+        47,
+    ),
+    (
+        "->white {? {e} nine(([$ n = 1] + [$ n = 2]) ([$ n = 1] + [$ n = 2])) {b} + [$ n = 0]} [w] ->black",
+        43,
+    ),
+    (
+        "->white ({e} ten(([e] + [w])) ->black + ([$ n = 1])* {})",
+        27,
+    ),
+    (
+        "->white right (([$ n = 1])* {} + left ten(([e] + [w])) ->black)",
+        28,
+    ),
+];
+
+/// The game of these rules.
+fn game_of(alloc: Global, rules: &str) -> Result<Game, Fail> {
+    let text = format!(in alloc; "{HEAD}{rules}{MACROS}")?;
+    Ok(load(alloc, text.as_bytes())?)
+}
+
+/// Whether the automaton of a game has so many entries, and lends its answers.
+fn has_entries(alloc: Global, game: &Game, entries: usize) -> Result<bool, Fail> {
+    let automaton = compact(alloc, game)?;
+    Ok(automaton.entries() == entries && automaton.lend().is_some())
+}
+
+/// Whether the automaton of the game of these rules has so many entries, and lends its answers.
+fn shares_lists(alloc: Global, rules: &str, entries: usize) -> Result<bool, Fail> {
+    has_entries(alloc, &game_of(alloc, rules)?, entries)
+}
+
+#[test]
+fn equal_lists_are_kept_once(rt: HostRuntime) -> Result<(), Fail> {
+    for example in &RULES {
+        let (rules, entries) = *example;
+        assert!(rt; shares_lists(rt.alloc(), rules, entries)?, "at {rules}");
+    }
+    Ok(())
+}
+
+/// Rules with actions of each kind.
+const ACTIONS: &str =
+    "->white {w} {w,e} {? right} right [w] {w,e,b} {$ n < 2} [$ n = n + 1] ->black";
+
+/// What is told at a glance of the positions of these rules, from 0 on to the one behind the last.
+const TOLD: [Glance; 13] = [
+    Glance::Unknown,
+    Glance::Modifies,
+    Glance::On(1),
+    Glance::OnEither(1, 0),
+    Glance::Pattern,
+    Glance::Shift(3),
+    Glance::Shift(3),
+    Glance::Modifies,
+    Glance::Unknown,
+    Glance::Unknown,
+    Glance::Unknown,
+    Glance::Modifies,
+    Glance::Unknown,
+];
+
+/// Whether the positions are told so.
+fn tells(automaton: &impl Steps) -> bool {
+    let mut same = true;
+    for position in 0..13 {
+        let told = automaton.glance(position);
+        same = same && TOLD.get(position as usize).copied() == Some(told);
+    }
+    same
+}
+
+/// Whether the positions of a game are told so.
+fn tells_of(alloc: Global, game: &Game) -> Result<bool, Fail> {
+    Ok(tells(&compact(alloc, game)?))
+}
+
+#[test]
+fn common_actions_are_told_at_a_glance(rt: HostRuntime) -> Result<(), Fail> {
+    let game = game_of(rt.alloc(), ACTIONS)?;
+    assert!(rt; tells_of(rt.alloc(), &game)?);
+    Ok(())
+}
