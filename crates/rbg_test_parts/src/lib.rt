@@ -1,5 +1,5 @@
-//! Tests of what no contract says of the automaton of positions, of a player, of serving over lines in memory, and of logs
-//! in memory.
+//! Tests of what no contract says: of the automaton of positions, of a player, of serving over lines in memory, of logs in
+//! memory, and why no match and no hall is made.
 #![tactic(auto)]
 
 #[cfg(test)]
@@ -9,4 +9,8 @@ mod choosing;
 #[cfg(test)]
 mod logs;
 #[cfg(test)]
+mod refusals;
+#[cfg(test)]
 mod serving;
+#[cfg(test)]
+mod tables;

@@ -4,7 +4,7 @@ use Rattle.std.proofs.lemmas.List.Elements.{All-push}
 use Rattle.rbg_floor.specs.Openings.{AreLoaded}
 use Rattle.rbg_floor.specs.declared.table.Table.{Table}
 use Rattle.rbg_game.specs.Loading.{Loads}
-use Rattle.rbg_test_match.proofs.tables.tables.Goals as goal
+use Rattle.rbg_test_parts.proofs.tables.tables.Goals as goal
 
 pub loop-config-preserved : goal.loop-config-preserved
 loop-config-preserved c =
