@@ -21,6 +21,16 @@ pub struct Text<'a> {
     pub bytes: Vec<u8>,
 }
 
+/// The bytes of this name, if there are any.
+pub fn bytes_named<'t>(texts: &'t [Text<'_>], name: &[u8]) -> Option<&'t [u8]> {
+    for text in texts {
+        if text.name == name {
+            return Some(text.bytes.as_slice());
+        }
+    }
+    None
+}
+
 /// What comes from the other end of a connection.
 #[derive(Drop)]
 pub struct Stream {
@@ -285,23 +295,23 @@ impl<'a> Reader<'a> {
 
     /// `<count> <text>`: adds the text that many times.
     fn add_repeated(&mut self, fields: &[u8]) -> Result<bool, AllocError> {
-        let Some(end) = fields.iter().position(|byte| *byte == b' ') else {
+        let Some((count, text)) = cut_at_space(fields) else {
             return Ok(false);
         };
-        let Some(count) = read_count(&fields[..end]) else {
+        let Some(count) = read_count(count) else {
             return Ok(false);
         };
         for _ in 0..count {
-            self.bytes.extend_from_slice(&fields[end + 1..])?;
+            self.bytes.extend_from_slice(text)?;
         }
         Ok(true)
     }
 
     /// Adds the bytes of a text.
     fn add_text(&mut self, name: &[u8]) -> Result<bool, AllocError> {
-        match self.texts.iter().find(|text| text.name == name) {
-            Some(text) => {
-                self.bytes.extend_from_slice(text.bytes.as_slice())?;
+        match bytes_named(&self.texts, name) {
+            Some(bytes) => {
+                self.bytes.extend_from_slice(bytes)?;
                 Ok(true)
             }
             None => Ok(false),
@@ -336,6 +346,16 @@ fn setting_of(line: &[u8]) -> Option<Setting> {
         b"input fails" => Some(Setting::Behind(Behind::Failure)),
         _ => None,
     }
+}
+
+/// What stands before the first space, and what stands behind it.
+fn cut_at_space(fields: &[u8]) -> Option<(&[u8], &[u8])> {
+    for (index, byte) in fields.iter().enumerate() {
+        if *byte == b' ' {
+            return Some((fields.get(..index)?, fields.get(index.saturating_add(1)..)?));
+        }
+    }
+    None
 }
 
 fn read_count(digits: &[u8]) -> Option<usize> {

@@ -38,8 +38,8 @@ mod cases;
 mod network;
 mod streams;
 
-use crate::cases::{Case, CasesError, Program, Text, read_cases};
-use crate::network::MemoryNetwork;
+use crate::cases::{Case, CasesError, Program, Text, bytes_named, read_cases};
+use crate::network::{MemoryNetwork, push_lines};
 use crate::streams::{CaseInput, CaseOutput};
 use rbg_console::{Files, Input, MAX_INPUT, MemoryFiles, Note, Status, read_bytes, read_input};
 use std::alloc::{AllocError, Global};
@@ -61,10 +61,20 @@ struct CaseFiles<'a> {
 impl CaseFiles<'_> {
     /// The bytes of a file.
     fn bytes_of(&self, name: &str) -> Option<&[u8]> {
-        match self.files.iter().find(|file| file.name == name.as_bytes()) {
-            Some(file) => Some(file.bytes.as_slice()),
+        match bytes_named(self.files, name.as_bytes()) {
+            Some(bytes) => Some(bytes),
             None => self.made.bytes_of(name),
         }
+    }
+
+    /// Whether there is no memory for a file.
+    fn lacks_memory(&self, name: &str) -> bool {
+        for lacking in self.lacking {
+            if *lacking == name.as_bytes() {
+                return true;
+            }
+        }
+        false
     }
 }
 
@@ -72,11 +82,7 @@ impl Files for CaseFiles<'_> {
     type NewFile = Vec<u8>;
 
     fn read_file(&mut self, alloc: Global, name: &str, limit: usize) -> Result<Input, AllocError> {
-        if self
-            .lacking
-            .iter()
-            .any(|lacking| *lacking == name.as_bytes())
-        {
+        if self.lacks_memory(name) {
             return Err(AllocError);
         }
         match self.bytes_of(name) {
@@ -99,10 +105,7 @@ impl Files for CaseFiles<'_> {
     fn tell(&mut self, note: &Note<'_>) {
         let mut text = Vec::new(self.alloc);
         let _written = writeln!(&mut text, "{note}");
-        for line in text.as_slice().split_inclusive(|byte| *byte == b'\n') {
-            let _head = self.told.extend_from_slice(b"news: ");
-            let _line = self.told.extend_from_slice(line);
-        }
+        let _lines = push_lines(b"news: ", &text, &mut self.told);
     }
 }
 

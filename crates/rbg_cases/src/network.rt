@@ -1,6 +1,6 @@
 //! A network in memory. A stream never waits.
 
-use crate::cases::{Stream, Text};
+use crate::cases::{Stream, Text, bytes_named};
 use rbg_program::{Clock, Log, LogFailure, Network, News};
 use std::alloc::{AllocError, Global};
 use std::cell::RefCell;
@@ -71,10 +71,7 @@ impl<'a> MemoryNetwork<'a> {
     pub fn add_logs(&self, output: &mut Vec<u8>) -> Result<(), AllocError> {
         for log in &self.logs {
             if let Ok(bytes) = log.try_borrow() {
-                for line in bytes.as_slice().split_inclusive(|byte| *byte == b'\n') {
-                    output.extend_from_slice(b"log: ")?;
-                    output.extend_from_slice(line)?;
-                }
+                push_lines(b"log: ", bytes.as_slice(), output)?;
             }
         }
         Ok(())
@@ -123,6 +120,15 @@ impl<'a> MemoryNetwork<'a> {
             stays_open: !stream.ends,
         })
     }
+}
+
+/// Appends each line behind this head.
+pub fn push_lines(head: &[u8], lines: &[u8], output: &mut Vec<u8>) -> Result<(), AllocError> {
+    for line in lines.split_inclusive(|byte| *byte == b'\n') {
+        output.extend_from_slice(head)?;
+        output.extend_from_slice(line)?;
+    }
+    Ok(())
 }
 
 /// Appends a line behind its head. A zero byte is spelt `\0`, and ends a line too.
@@ -188,7 +194,7 @@ impl<'a> Network for MemoryNetwork<'a> {
     }
 
     fn create_log(&mut self, name: &str, _sync: bool) -> io::Result<MemoryLog> {
-        if self.files.iter().any(|file| file.name == name.as_bytes()) {
+        if bytes_named(self.files, name.as_bytes()).is_some() {
             return Err(io::Error::from(ErrorKind::AlreadyExists));
         }
         self.begin_log(NEW_ROOM)

@@ -41,3 +41,13 @@ pub(crate) fn count_names(tokens: &[Token<'_>]) -> usize {
 pub(crate) fn offset_of(token: Option<Token<'_>>) -> Option<usize> {
     Some(token?.at)
 }
+
+/// Whether one of these tokens has this text.
+pub(crate) fn has_text(tokens: &[Token<'_>], text: &[u8]) -> bool {
+    for token in tokens {
+        if token.text == text {
+            return true;
+        }
+    }
+    false
+}

@@ -1,6 +1,6 @@
 //! The place of a refused board among the tokens of its section.
 
-use crate::among::{before_first, is_at};
+use crate::among::{before_first, has_text, is_at};
 use crate::sections::nth_name;
 use rbg_board::BoardError;
 use rbg_game::limits::MAX_VERTICES;
@@ -83,16 +83,6 @@ fn second_name<'a>(tokens: &'a [Token<'a>]) -> Option<Token<'a>> {
         }
     }
     None
-}
-
-/// Whether one of these tokens has this text.
-fn has_text(tokens: &[Token<'_>], text: &[u8]) -> bool {
-    for token in tokens {
-        if token.text == text {
-            return true;
-        }
-    }
-    false
 }
 
 /// The second one of two equal directions of the edges of one vertex.

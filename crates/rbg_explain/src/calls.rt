@@ -1,6 +1,6 @@
 //! Where a macro is called in a text.
 
-use crate::among::{index_of, is_at};
+use crate::among::{has_text, index_of, is_at};
 use crate::output::push_made;
 use rbg_tokens::{Symbol, Token, count_line_feeds};
 use std::alloc::{AllocError, Global};
@@ -12,18 +12,25 @@ pub fn called_lines(
     tokens: &[Token<'_>],
     name: &[u8],
 ) -> Result<Vec<usize>, AllocError> {
+    let calls = calls_of(alloc, tokens, name)?;
     let mut lines = Vec::new(alloc);
+    push_lines(text, &calls, &mut lines)?;
+    Ok(lines)
+}
+
+/// Adds the numbers of the lines of these offsets, which are in order of the text, each once.
+fn push_lines(text: &[u8], offsets: &[usize], lines: &mut Vec<usize>) -> Result<(), AllocError> {
     let mut number = 1usize;
     let mut start = 0usize;
-    for call in calls_of(alloc, tokens, name)? {
-        let between = text.get(start..call).unwrap_or(&[]);
+    for offset in offsets {
+        let between = text.get(start..*offset).unwrap_or(&[]);
         number = number.saturating_add(count_line_feeds(between));
-        start = call;
+        start = *offset;
         if lines.last() != Some(&number) {
             lines.push(number)?;
         }
     }
-    Ok(lines)
+    Ok(())
 }
 
 /// The offsets at which a macro is called, in order of the text. A call whose name is joined isn't found.
@@ -48,10 +55,18 @@ fn push_calls_in(
     let Some(equals) = index_of(definition, Symbol::Equals) else {
         return Ok(());
     };
-    let (head, body) = definition.split_at(equals);
-    if head.iter().skip(1).any(|token| token.text == name) {
+    if has_text(definition.get(1..equals).unwrap_or(&[]), name) {
         return Ok(());
     }
+    push_calls_among(definition.get(equals..).unwrap_or(&[]), name, found)
+}
+
+/// Adds the offsets at which these tokens of a body call a macro.
+fn push_calls_among(
+    body: &[Token<'_>],
+    name: &[u8],
+    found: &mut Vec<usize>,
+) -> Result<(), AllocError> {
     for (index, token) in body.iter().enumerate() {
         if token.text == name && !is_joined(body, index) {
             found.push(token.at)?;

@@ -72,16 +72,22 @@ fn further_thing(
         Thing::Players => further_name(alloc, source, SectionKind::Players, MAX_PLAYERS),
         Thing::Pieces => further_name(alloc, source, SectionKind::Pieces, MAX_PIECES),
         Thing::Variables => further_variable(alloc, source),
-        Thing::Directions => {
-            let board = section_tokens(alloc, source, SectionKind::Board)?;
-            Ok(offset_of(nth_direction(&board, MAX_DIRECTIONS)))
-        }
-        Thing::Positions => {
-            let rules = section_tokens(alloc, source, SectionKind::Rules)?;
-            let actions = actions(alloc, &rules)?;
-            Ok(start_of(actions.get(MAX_POSITIONS).copied().unwrap_or(&[])))
-        }
+        Thing::Directions => further_direction(alloc, source),
+        Thing::Positions => further_action(alloc, source),
     }
+}
+
+/// The first direction above the limit.
+fn further_direction(alloc: Global, source: &Source<'_>) -> Result<Option<usize>, AllocError> {
+    let board = section_tokens(alloc, source, SectionKind::Board)?;
+    Ok(offset_of(nth_direction(&board, MAX_DIRECTIONS)))
+}
+
+/// The first action above the limit of positions.
+fn further_action(alloc: Global, source: &Source<'_>) -> Result<Option<usize>, AllocError> {
+    let rules = section_tokens(alloc, source, SectionKind::Rules)?;
+    let actions = actions(alloc, &rules)?;
+    Ok(start_of(actions.get(MAX_POSITIONS).copied().unwrap_or(&[])))
 }
 
 /// The offset of the first token.

@@ -68,17 +68,11 @@ impl<'a> Message<'a> {
     }
 
     fn write_macro<W: Write>(&self, f: &mut Formatter<W>, error: &MacroError) -> fmt::Result {
-        let found = Found(self.found());
         match error {
             MacroError::BadDefinition { .. } => self.write_head(f),
-            MacroError::Twice { .. } => write!(f, "a second macro has the name {found}"),
+            MacroError::Twice { .. } => self.write_around(f, "a second macro has the name ", ""),
             MacroError::ArgumentCount { .. } => self.write_call(f),
-            MacroError::Depth { .. } => {
-                write!(
-                    f,
-                    "the call of {found} is more than {MAX_LEVEL} levels deep"
-                )
-            }
+            MacroError::Depth { .. } => self.write_depth(f),
             MacroError::TooManyTokens => write!(
                 f,
                 "the macros expand to more than {MAX_KEPT} tokens, or more than {MAX_READ} are read"
@@ -87,8 +81,28 @@ impl<'a> Message<'a> {
                 f,
                 "expected two tokens beside `~` that make a name or a number of at most {MAX_JOINED} bytes"
             ),
-            MacroError::Memory => write!(f, "out of memory"),
+            MacroError::Memory => f.write_str("out of memory"),
         }
+    }
+
+    /// What is said of a call within too many others.
+    fn write_depth<W: Write>(&self, f: &mut Formatter<W>) -> fmt::Result {
+        let found = Found(self.found());
+        write!(
+            f,
+            "the call of {found} is more than {MAX_LEVEL} levels deep"
+        )
+    }
+
+    /// What was found, between these words.
+    fn write_around<W: Write>(
+        &self,
+        f: &mut Formatter<W>,
+        before: &str,
+        behind: &str,
+    ) -> fmt::Result {
+        let found = Found(self.found());
+        write!(f, "{before}{found}{behind}")
     }
 
     /// How many parameters the macro has that is called here, and what stands behind its name.
@@ -99,30 +113,45 @@ impl<'a> Message<'a> {
 
     /// What is wrong with the arguments of a call.
     fn write_call<W: Write>(&self, f: &mut Formatter<W>) -> fmt::Result {
-        let found = Found(self.found());
         match self.call() {
-            Some((wanted, CallForm::NoParenthesis)) => {
-                let wanted = ArgumentCount(wanted);
-                write!(
-                    f,
-                    "expected `(` and {wanted} behind the macro's name {found}"
-                )
-            }
+            Some((wanted, CallForm::NoParenthesis)) => self.write_no_parenthesis(f, wanted),
             Some((_, CallForm::Open)) => {
-                write!(f, "expected a `)` behind the arguments of {found}")
+                self.write_around(f, "expected a `)` behind the arguments of ", "")
             }
             Some((wanted, CallForm::Arguments(count))) if count != wanted => {
-                let wanted = ArgumentCount(wanted);
-                write!(
-                    f,
-                    "expected {wanted} of {found}, separated by `;`, found {count}"
-                )
+                self.write_count(f, wanted, count)
             }
-            _ => write!(
+            _ => self.write_around(
                 f,
-                "expected a call of {found} with as many arguments as it has parameters"
+                "expected a call of ",
+                " with as many arguments as it has parameters",
             ),
         }
+    }
+
+    /// What is said of a call without a `(`.
+    fn write_no_parenthesis<W: Write>(&self, f: &mut Formatter<W>, wanted: usize) -> fmt::Result {
+        let found = Found(self.found());
+        let wanted = ArgumentCount(wanted);
+        write!(
+            f,
+            "expected `(` and {wanted} behind the macro's name {found}"
+        )
+    }
+
+    /// What is said of a call with another number of arguments.
+    fn write_count<W: Write>(
+        &self,
+        f: &mut Formatter<W>,
+        wanted: usize,
+        count: usize,
+    ) -> fmt::Result {
+        let found = Found(self.found());
+        let wanted = ArgumentCount(wanted);
+        write!(
+            f,
+            "expected {wanted} of {found}, separated by `;`, found {count}"
+        )
     }
 
     /// What is wrong with the head of a definition.
@@ -148,7 +177,6 @@ impl<'a> Message<'a> {
     }
 
     fn write_syntax<W: Write>(&self, f: &mut Formatter<W>, error: &SyntaxError) -> fmt::Result {
-        let found = Found(self.found());
         match error {
             SyntaxError::Expected { what, .. } => self.write_expected(f, *what),
             SyntaxError::MissingSection { which } => write!(f, "expected a section `#{which}`"),
@@ -156,8 +184,10 @@ impl<'a> Message<'a> {
                 f,
                 "a second section has the name `{which}`"
             ),
-            SyntaxError::TooDeep { .. } => write!(f, "more than 128 brackets are open at {found}"),
-            SyntaxError::Memory => write!(f, "out of memory"),
+            SyntaxError::TooDeep { .. } => {
+                self.write_around(f, "more than 128 brackets are open at ", "")
+            }
+            SyntaxError::Memory => f.write_str("out of memory"),
         }
     }
 
@@ -176,21 +206,15 @@ impl<'a> Message<'a> {
     }
 
     fn write_game<W: Write>(&self, f: &mut Formatter<W>, error: &GameError) -> fmt::Result {
-        let found = Found(self.found());
         match error {
             GameError::UnknownName { .. } => self.write_mismatch(f, needed_words(self.spot), ""),
             GameError::SameName { .. } => self.write_mismatch(f, "a new name", " again"),
-            GameError::Bound { .. } => write!(
+            GameError::Bound { .. } => self.write_bound(f),
+            GameError::SwitchInPattern { .. } => self.write_around(
                 f,
-                "expected a bound of at most {MAX_BOUND}, or in arithmetic a number of at most {}, found {found}",
-                i64::MAX
+                "expected an action that may be in a pattern, found the switch ",
+                "",
             ),
-            GameError::SwitchInPattern { .. } => {
-                write!(
-                    f,
-                    "expected an action that may be in a pattern, found the switch {found}"
-                )
-            }
             GameError::PatternTooDeep { .. } => {
                 write!(
                     f,
@@ -202,8 +226,18 @@ impl<'a> Message<'a> {
                 write!(f, "expected at most {most} {what}")
             }
             GameError::Board { error } => self.write_board(f, error),
-            GameError::Memory => write!(f, "out of memory"),
+            GameError::Memory => f.write_str("out of memory"),
         }
+    }
+
+    /// What is said of too great a number.
+    fn write_bound<W: Write>(&self, f: &mut Formatter<W>) -> fmt::Result {
+        let found = Found(self.found());
+        write!(
+            f,
+            "expected a bound of at most {MAX_BOUND}, or in arithmetic a number of at most {}, found {found}",
+            i64::MAX
+        )
     }
 
     fn write_board<W: Write>(&self, f: &mut Formatter<W>, error: &BoardError) -> fmt::Result {

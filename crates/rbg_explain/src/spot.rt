@@ -228,12 +228,12 @@ fn has_parameters(tokens: &[Token<'_>], name: &[u8]) -> bool {
 
 /// The tokens behind the name in the first head of a definition that has this name.
 fn behind_head<'a>(tokens: &'a [Token<'a>], name: &[u8]) -> Option<&'a [Token<'a>]> {
-    for (index, pair) in tokens.windows(2).enumerate() {
-        if let [hash, head] = pair
+    for index in 0..tokens.len() {
+        if let Some([hash, head, behind @ ..]) = tokens.get(index..)
             && hash.is(Symbol::Hash)
             && head.text == name
         {
-            return tokens.get(index.saturating_add(2)..);
+            return Some(behind);
         }
     }
     None
