@@ -13,6 +13,12 @@ pub const GAME: &[u8] = b"#players = white(100), black(100)
 #rules = ->white {e}[w][$ white=100] ->black right {e}[b] ->> {}
 ";
 
+/// A match of the small game, as a script.
+pub const SCRIPT: &[u8] = b"config 1000 3 0
+m 1 10 M0 3 0 4 0 5
+m 2 20 M1 8 1 9
+";
+
 pub const CONFIG: Config = Config {
     turn_ms: 1000,
     refusals: 3,

@@ -3,15 +3,17 @@ ghost use Rattle.std.specs.Prelude.{IfOk};
 ghost use Rattle.rbg_floor.specs.Openings.{AreLoaded};
 ghost use Rattle.rbg_game.specs.Loading.{Loads};
 
+use crate::copies::{add_copy, is_copy};
 use crate::games::{CONFIG, GAME};
+use crate::records;
 use crate::stop::Stop;
-use crate::telling::{tell_again, tell_kept, tell_memory, tell_messages};
+use crate::telling::Telling;
 use rbg_floor::{Hall, HallError, HallEvent, Table};
 use rbg_game::load;
 use rbg_hall::HallOut;
 use rbg_log::MemoryLog;
 use std::alloc::Global;
-use std::io::{self, Write};
+use std::io::Write;
 
 /// What the hall hears: a line asks for a table that there is not, two lines take the seats, so that the match begins, and
 /// white moves.
@@ -44,16 +46,14 @@ const LINES: u64 = 3;
 /// How many bytes a log can hold.
 const ROOM: usize = 1000;
 
-/// Makes the run of a name, if it is one of these, and tells whether it is.
-pub fn run<W: Write>(alloc: Global, name: &str, output: &mut W) -> Result<bool, Stop> {
-    let told = match name {
-        "hall" => make(alloc, output),
-        "hall-begin" => step(alloc, &EVENTS[..2], EVENTS[2], output),
-        "hall-step" => step(alloc, &EVENTS[..3], EVENTS[3], output),
-        _ => return Ok(false),
-    };
-    told?;
-    Ok(true)
+/// Makes the run of a name, if it is one of these; else the next module does.
+pub fn run<W: Write>(alloc: Global, name: &str, told: &mut Telling<W>) -> Result<(), Stop> {
+    match name {
+        "hall" => make(alloc, &[], told),
+        "hall-begin" => make(alloc, &EVENTS[..3], told),
+        "hall-step" => make(alloc, &EVENTS, told),
+        _ => records::run(alloc, name, told),
+    }
 }
 
 /// A table for a match of the small game.
@@ -78,118 +78,135 @@ fn tables(alloc: Global) -> Result<Vec<Table>, Stop>
     Ok(tables)
 }
 
+/// Makes a hall of one table. If it is to hear events, the run is about the last of them.
+fn make<W: Write>(
+    alloc: Global,
+    events: &[HallEvent<'_>],
+    told: &mut Telling<W>,
+) -> Result<(), Stop> {
+    let tables = tables(alloc)?;
+    let mut made = Hall::new(alloc, tables);
+    hear(alloc, &mut made, events, told)
+}
+
+fn hear<W: Write>(
+    alloc: Global,
+    made: &mut Result<(Hall<MemoryLog>, HallOut), HallError>,
+    events: &[HallEvent<'_>],
+    told: &mut Telling<W>,
+) -> Result<(), Stop> {
+    match made {
+        Ok((hall, out)) => hear_in(alloc, hall, out, events, told),
+        Err(error) => tell_error(*error, events.is_empty(), told),
+    }
+}
+
+/// Says why there is no hall, if the run is about that.
+fn tell_error<W: Write>(
+    error: HallError,
+    is_asked: bool,
+    told: &mut Telling<W>,
+) -> Result<(), Stop> {
+    if !is_asked {
+        return Err(Stop::from(error));
+    }
+    told.refusal(matches!(error, HallError::Memory), &error);
+    Ok(())
+}
+
 /// Says how many bytes are queued for each line that says something, and which ones.
-fn tell_queues<W: Write>(out: &HallOut, output: &mut W) -> io::Result<()> {
+fn tell_queues<W: Write>(out: &HallOut, told: &mut Telling<W>) {
     for line in 0..LINES {
         let bytes = out.bytes(line);
-        writeln!(output, "line {line} {} bytes", bytes.len())?;
+        told.size("line", line, bytes.len());
         if !bytes.is_empty() {
-            tell_messages(bytes, output)?;
+            told.messages(bytes);
         }
+    }
+}
+
+/// Copies the bytes that are queued for each line.
+fn copy_queues(alloc: Global, out: &HallOut, copies: &mut Vec<Vec<u8>>) -> Result<(), Stop> {
+    for line in 0..out.lines() {
+        add_copy(alloc, out.bytes(line as u64), copies)?;
     }
     Ok(())
 }
 
-/// Makes a hall of one table.
-fn make<W: Write>(alloc: Global, output: &mut W) -> Result<(), Stop> {
-    let tables = tables(alloc)?;
-    Ok(tell_made(&Hall::new(alloc, tables), output)?)
-}
-
-fn tell_made<W: Write>(
-    made: &Result<(Hall<MemoryLog>, HallOut), HallError>,
-    output: &mut W,
-) -> io::Result<()> {
-    match made {
-        Ok((_, out)) => tell_queues(out, output),
-        Err(HallError::Memory) => tell_memory(output),
-        Err(error) => writeln!(output, "refused {error}"),
+/// Whether these bytes are queued for the lines.
+fn are_queued(copies: &[Vec<u8>], out: &HallOut) -> bool {
+    let mut are_queued = out.lines() == copies.len();
+    for line in 0..out.lines() {
+        are_queued = are_queued && is_copy(copies, line, out.bytes(line as u64));
     }
+    are_queued
 }
 
-/// A hall of one table, and its queues.
-fn new_hall(alloc: Global) -> Result<(Hall<MemoryLog>, HallOut), Stop> {
-    let tables = tables(alloc)?;
-    let made = Hall::new(alloc, tables)?;
-    Ok(made)
-}
-
-/// The bytes that are queued for each line of a hall.
-#[derive(Drop)]
-struct Queued {
-    lines: Vec<Vec<u8>>,
-}
-
-impl Queued {
-    /// A copy of what is queued.
-    fn copy_of(alloc: Global, out: &HallOut) -> Result<Queued, Stop> {
-        let mut lines = Vec::new(alloc);
-        for line in 0..out.lines() as u64 {
-            lines.push(Vec::from_slice(alloc, out.bytes(line))?)?;
-        }
-        Ok(Queued { lines })
-    }
-
-    /// Whether this is what is queued.
-    fn is_in(&self, out: &HallOut) -> bool {
-        for (index, bytes) in self.lines.iter().enumerate() {
-            if out.bytes(index as u64) != bytes.as_slice() {
-                return false;
-            }
-        }
-        true
-    }
-}
-
-/// Lets a hall, whose match has a log, hear some events and then the one that the run is about.
-fn step<W: Write>(
-    alloc: Global,
-    before: &[HallEvent<'_>],
-    event: HallEvent<'_>,
-    output: &mut W,
-) -> Result<(), Stop> {
-    let (mut hall, mut out) = new_hall(alloc)?;
-    hall.keep(1, MemoryLog::new(alloc, ROOM));
-    step_from(alloc, &mut hall, &mut out, before, event, output)
-}
-
-fn step_from<W: Write>(
+/// Lets a hall, whose match has a log, hear events. If there is none, the queues are told as they are.
+fn hear_in<W: Write>(
     alloc: Global,
     hall: &mut Hall<MemoryLog>,
     out: &mut HallOut,
-    before: &[HallEvent<'_>],
-    event: HallEvent<'_>,
-    output: &mut W,
+    events: &[HallEvent<'_>],
+    told: &mut Telling<W>,
 ) -> Result<(), Stop> {
-    for earlier in before {
-        hall.step(*earlier, out)?;
+    let Some((last, before)) = events.split_last() else {
+        tell_queues(out, told);
+        return Ok(());
+    };
+    hall.keep(1, MemoryLog::new(alloc, ROOM));
+    step_all(hall, out, before)?;
+    step_last(alloc, hall, out, *last, told)
+}
+
+/// Lets the hall hear the events that come before the one that the run is about.
+fn step_all(
+    hall: &mut Hall<MemoryLog>,
+    out: &mut HallOut,
+    events: &[HallEvent<'_>],
+) -> Result<(), Stop> {
+    for event in events {
+        hall.step(*event, out)?;
     }
-    let queued = Queued::copy_of(alloc, out)?;
-    Ok(tell_step(hall, out, &queued, event, output)?)
+    Ok(())
+}
+
+fn step_last<W: Write>(
+    alloc: Global,
+    hall: &mut Hall<MemoryLog>,
+    out: &mut HallOut,
+    event: HallEvent<'_>,
+    told: &mut Telling<W>,
+) -> Result<(), Stop> {
+    let mut queued = Vec::new(alloc);
+    copy_queues(alloc, out, &mut queued)?;
+    tell_step(hall, out, queued.as_slice(), event, told);
+    Ok(())
 }
 
 /// Lets the hall hear the event. Where memory is refused, it does so again.
 fn tell_step<W: Write>(
     hall: &mut Hall<MemoryLog>,
     out: &mut HallOut,
-    queued: &Queued,
+    queued: &[Vec<u8>],
     event: HallEvent<'_>,
-    output: &mut W,
-) -> io::Result<()> {
+    told: &mut Telling<W>,
+) {
     if hall.step(event, out).is_ok() {
-        tell_queues(out, output)?;
-        return tell_log(hall.log_of(1), output);
+        tell_queues(out, told);
+        tell_log(hall.log_of(1), told);
+    } else {
+        told.memory();
+        told.kept("queues are", are_queued(queued, out));
+        let again = hall.step(event, out).is_err();
+        told.again(again && are_queued(queued, out));
     }
-    tell_memory(output)?;
-    tell_kept("queues are", queued.is_in(out), output)?;
-    let again = hall.step(event, out).is_err();
-    tell_again(again && queued.is_in(out), output)
 }
 
 /// Tells what a log holds.
-fn tell_log<W: Write>(log: Option<&MemoryLog>, output: &mut W) -> io::Result<()> {
+fn tell_log<W: Write>(log: Option<&MemoryLog>, told: &mut Telling<W>) {
     match log {
-        Some(log) => output.write_all(log.bytes()),
-        None => output.write_all(b"no log\n"),
+        Some(log) => told.bytes(log.bytes()),
+        None => told.line("no log"),
     }
 }

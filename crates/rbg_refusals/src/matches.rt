@@ -1,18 +1,21 @@
-//! Runs of messages, streams and matches.
+//! Runs of messages, streams and matches, and of the records of matches.
 ghost use Rattle.std.specs.Prelude.{◌≡◌, IfOk, length};
 ghost use Rattle.rbg_match.specs.PlayingOn.{seats_of};
 
+use crate::copies::{add_copy, is_copy};
 use crate::games::{CONFIG, GAME};
+use crate::halls;
 use crate::stop::Stop;
-use crate::telling::{tell_again, tell_kept, tell_memory, tell_messages};
+use crate::telling::{KEPT, Telling};
 use rbg_base::Memory;
 use rbg_game::load;
 use rbg_match::{Event, Match, MatchError, Outbox};
+use rbg_record::{write_record, write_record_1};
 use rbg_referee::{RefereeError, referee};
 use rbg_serving::{Give, ListClock, MemoryLine, ServeError, Served, Take, serve};
 use rbg_wire::{Inbox, Took, read_message, write_message};
 use std::alloc::Global;
-use std::io::{self, Write};
+use std::io::Write;
 
 /// White's move in the small game, as a message.
 const WHITE: &[u8] = b"M0 3 0 4 0 5\0";
@@ -43,97 +46,99 @@ const ROOM: usize = 1000;
 /// How many rounds a match is served at most.
 const ROUNDS: u64 = 100;
 
-/// Makes the run of a name, if it is one of these, and tells whether it is.
-pub fn run<W: Write>(alloc: Global, name: &str, output: &mut W) -> Result<bool, Stop> {
-    let told = match name {
-        "feed" => feed(alloc, output),
-        "write-message" => write(alloc, output),
-        "open" => open(alloc, output),
-        "step" => step(alloc, output),
-        "referee" => referee_all(alloc, output),
-        "serve" => serve_lines(alloc, output),
-        _ => return Ok(false),
-    };
-    told?;
-    Ok(true)
+/// What a run does with a match of the small game.
+#[derive(Clone, Copy)]
+enum Task {
+    Step,
+    WriteRecord,
+    WritePlainRecord,
+    Serve,
+}
+
+/// Makes the run of a name, if it is one of these; else the next module does.
+pub fn run<W: Write>(alloc: Global, name: &str, told: &mut Telling<W>) -> Result<(), Stop> {
+    match name {
+        "feed" => feed(alloc, told),
+        "write-message" => write(alloc, told),
+        "open" => open(alloc, told),
+        "step" => do_task(alloc, Task::Step, told),
+        "referee" => referee_all(alloc, told),
+        "serve" => do_task(alloc, Task::Serve, told),
+        "write-record" => do_task(alloc, Task::WriteRecord, told),
+        "write-record-1" => do_task(alloc, Task::WritePlainRecord, told),
+        _ => halls::run(alloc, name, told),
+    }
 }
 
 /// Tells the messages of an inbox, and takes them.
-fn tell_taken<W: Write>(inbox: &mut Inbox, output: &mut W) -> Result<(), Stop> {
+fn tell_taken<W: Write>(inbox: &mut Inbox, told: &mut Telling<W>) {
     for _ in 0..u64::MAX {
         match inbox.take() {
-            Some(Took::Message(text)) => tell_messages(text, output)?,
-            Some(Took::TooLong) => output.write_all(b"too long\n")?,
-            None => return Ok(()),
+            Some(Took::Message(text)) => told.messages(text),
+            Some(Took::TooLong) => told.line("too long"),
+            None => return,
         }
+    }
+}
+
+/// Feeds an inbox that has a message and a part of the next one, and takes the messages.
+fn feed<W: Write>(alloc: Global, told: &mut Telling<W>) -> Result<(), Stop> {
+    let mut inbox = Inbox::new(alloc, 4096);
+    feed_pieces(&mut inbox, told)
+}
+
+fn feed_pieces<W: Write>(inbox: &mut Inbox, told: &mut Telling<W>) -> Result<(), Stop> {
+    inbox.feed(b"M0 1\0M0")?;
+    if inbox.feed(PIECE).is_ok() {
+        tell_taken(inbox, told);
+    } else {
+        told.memory();
+        told.kept("inbox is", has_one(inbox));
     }
     Ok(())
 }
 
-/// Feeds an inbox that has a message and a part of the next one, and takes the messages.
-fn feed<W: Write>(alloc: Global, output: &mut W) -> Result<(), Stop> {
-    let mut inbox = Inbox::new(alloc, 4096);
-    inbox.feed(b"M0 1\0M0")?;
-    if inbox.feed(PIECE).is_err() {
-        tell_memory(output)?;
-        let kept = inbox.take() == Some(Took::Message(b"M0 1")) && inbox.take().is_none();
-        tell_kept("inbox is", kept, output)?;
-        return Ok(());
-    }
-    tell_taken(&mut inbox, output)
+/// Whether an inbox has its first message and no other one.
+fn has_one(inbox: &mut Inbox) -> bool {
+    inbox.take() == Some(Took::Message(b"M0 1")) && inbox.take().is_none()
 }
 
 /// Writes a message behind bytes that are there.
-fn write<W: Write>(alloc: Global, output: &mut W) -> Result<(), Stop> {
+fn write<W: Write>(alloc: Global, told: &mut Telling<W>) -> Result<(), Stop> {
+    let mut bytes = Vec::from_slice(alloc, KEPT)?;
     let message = read_message(b"E0 1 22 333 4444 55555 666666 7777777 88888888")?;
-    let mut bytes = Vec::from_slice(alloc, b"kept\0")?;
-    match write_message(&message, &mut bytes) {
-        Ok(()) => tell_messages(&bytes, output)?,
-        Err(_) => {
-            tell_memory(output)?;
-            tell_kept(
-                "bytes are",
-                bytes.as_slice() == b"kept\0".as_slice(),
-                output,
-            )?;
-        }
-    }
+    let went_well = write_message(&message, &mut bytes).is_ok();
+    told.appended(went_well, bytes.as_slice());
     Ok(())
 }
 
 /// Says how many bytes are queued for each seat.
-fn tell_sizes<W: Write>(outbox: &Outbox, output: &mut W) -> io::Result<()> {
+fn tell_sizes<W: Write>(outbox: &Outbox, told: &mut Telling<W>) {
     for seat in 1..=outbox.seats() {
-        writeln!(output, "seat {seat} {} bytes", outbox.bytes(seat).len())?;
+        told.size("seat", seat as u64, outbox.bytes(seat).len());
     }
-    Ok(())
 }
 
 /// Says what is queued for each seat.
-fn tell_outbox<W: Write>(outbox: &Outbox, output: &mut W) -> io::Result<()> {
-    tell_sizes(outbox, output)?;
+fn tell_outbox<W: Write>(outbox: &Outbox, told: &mut Telling<W>) {
+    tell_sizes(outbox, told);
     for seat in 1..=outbox.seats() {
-        tell_messages(outbox.bytes(seat), output)?;
+        told.messages(outbox.bytes(seat));
     }
-    Ok(())
 }
 
 /// Makes a match of the small game.
-fn open<W: Write>(alloc: Global, output: &mut W) -> Result<(), Stop> {
+fn open<W: Write>(alloc: Global, told: &mut Telling<W>) -> Result<(), Stop> {
     let game = load(alloc, GAME)?;
-    tell_opened(&Match::new(alloc, game, GAME, CONFIG, 0), output)
+    tell_opened(&Match::new(alloc, game, GAME, CONFIG, 0), told);
+    Ok(())
 }
 
-fn tell_opened<W: Write>(
-    opened: &Result<(Match, Outbox), MatchError>,
-    output: &mut W,
-) -> Result<(), Stop> {
+fn tell_opened<W: Write>(opened: &Result<(Match, Outbox), MatchError>, told: &mut Telling<W>) {
     match opened {
-        Ok((_, outbox)) => tell_outbox(outbox, output)?,
-        Err(MatchError::Memory) => tell_memory(output)?,
-        Err(error) => writeln!(output, "refused {error}")?,
+        Ok((_, outbox)) => tell_outbox(outbox, told),
+        Err(error) => told.refusal(matches!(error, MatchError::Memory), error),
     }
-    Ok(())
 }
 
 /// A match of the small game, and its outbox.
@@ -145,74 +150,98 @@ fn new_match(alloc: Global) -> Result<(Match, Outbox), Stop>
     Ok(made)
 }
 
-/// The bytes of two seats.
-#[derive(Drop)]
-struct Sent {
-    seats: [Vec<u8>; 2],
-}
-
-impl Sent {
-    /// A copy of what is queued for the two seats of an outbox.
-    fn copy_of(alloc: Global, outbox: &Outbox) -> Result<Sent, Stop> {
-        if outbox.seats() != 2 {
-            return Err(Stop::Wrong);
-        }
-        let seats = [
-            Vec::from_slice(alloc, outbox.bytes(1))?,
-            Vec::from_slice(alloc, outbox.bytes(2))?,
-        ];
-        Ok(Sent { seats })
-    }
-
-    /// Whether this is what is queued.
-    fn is_in(&self, outbox: &Outbox) -> bool {
-        outbox.seats() == 2
-            && outbox.bytes(1) == self.seats[0].as_slice()
-            && outbox.bytes(2) == self.seats[1].as_slice()
-    }
-}
-
-/// Lets white move in a match of the small game.
-fn step<W: Write>(alloc: Global, output: &mut W) -> Result<(), Stop> {
+/// Makes a match of the small game, and does something with it.
+fn do_task<W: Write>(alloc: Global, task: Task, told: &mut Telling<W>) -> Result<(), Stop> {
     let (mut opened, mut outbox) = new_match(alloc)?;
-    step_from(alloc, &mut opened, &mut outbox, output)
+    do_in(alloc, task, &mut opened, &mut outbox, told)
 }
 
-fn step_from<W: Write>(
+fn do_in<W: Write>(
     alloc: Global,
+    task: Task,
     opened: &mut Match,
     outbox: &mut Outbox,
-    output: &mut W,
+    told: &mut Telling<W>,
 ) -> Result<(), Stop>
     requires { length outbox.old ≡ seats_of opened.old.game }
 {
-    let before = Sent::copy_of(alloc, outbox)?;
-    Ok(tell_step(opened, outbox, &before, output)?)
+    match task {
+        Task::Step => step(alloc, opened, outbox, told),
+        Task::WriteRecord => write_played(alloc, false, opened, outbox, told),
+        Task::WritePlainRecord => write_played(alloc, true, opened, outbox, told),
+        Task::Serve => serve_match(alloc, opened, outbox, told),
+    }
+}
+
+/// Copies the bytes that are queued for each seat.
+fn copy_queues(alloc: Global, outbox: &Outbox, copies: &mut Vec<Vec<u8>>) -> Result<(), Stop> {
+    for seat in 1..=outbox.seats() {
+        add_copy(alloc, outbox.bytes(seat), copies)?;
+    }
+    Ok(())
+}
+
+/// Whether these bytes are queued for the seats.
+fn are_queued(copies: &[Vec<u8>], outbox: &Outbox) -> bool {
+    let mut are_queued = outbox.seats() == copies.len();
+    for seat in 1..=outbox.seats() {
+        are_queued = are_queued && is_copy(copies, seat - 1, outbox.bytes(seat));
+    }
+    are_queued
+}
+
+/// Lets white move in a match of the small game.
+fn step<W: Write>(
+    alloc: Global,
+    opened: &mut Match,
+    outbox: &mut Outbox,
+    told: &mut Telling<W>,
+) -> Result<(), Stop>
+    requires { length outbox.old ≡ seats_of opened.old.game }
+{
+    let mut before = Vec::new(alloc);
+    copy_queues(alloc, outbox, &mut before)?;
+    tell_step(opened, outbox, before.as_slice(), told);
+    Ok(())
 }
 
 /// Lets white move. Where memory is refused, it does so again.
 fn tell_step<W: Write>(
     opened: &mut Match,
     outbox: &mut Outbox,
-    before: &Sent,
-    output: &mut W,
-) -> io::Result<()>
+    before: &[Vec<u8>],
+    told: &mut Telling<W>,
+)
     requires { length outbox.old ≡ seats_of opened.old.game }
 {
     if opened.step(EVENTS[0], outbox).is_ok() {
-        return tell_outbox(outbox, output);
+        tell_outbox(outbox, told);
+    } else {
+        told.memory();
+        told.kept("outbox is", are_queued(before, outbox));
+        let again = opened.step(EVENTS[0], outbox).is_err();
+        told.again(again && are_queued(before, outbox));
     }
-    tell_memory(output)?;
-    tell_kept("outbox is", before.is_in(outbox), output)?;
-    let again = opened.step(EVENTS[0], outbox).is_err();
-    tell_again(again && before.is_in(outbox), output)
 }
 
-/// A match of the small game that was played to its end.
-pub fn played_match(alloc: Global) -> Result<Match, Stop> {
-    let (mut played, mut outbox) = new_match(alloc)?;
-    play_both(&mut played, &mut outbox)?;
-    Ok(played)
+/// Plays a match of the small game to its end, and writes its record, in version 1 if it is to be plain.
+fn write_played<W: Write>(
+    alloc: Global,
+    is_plain: bool,
+    played: &mut Match,
+    outbox: &mut Outbox,
+    told: &mut Telling<W>,
+) -> Result<(), Stop>
+    requires { length outbox.old ≡ seats_of played.old.game }
+{
+    play_both(played, outbox)?;
+    let written = if is_plain {
+        write_record_1(alloc, played)
+    } else {
+        write_record(alloc, played)
+    };
+    tell_written(&written, told);
+    Ok(())
 }
 
 /// Lets white move, and then black.
@@ -223,27 +252,37 @@ fn play_both(played: &mut Match, outbox: &mut Outbox) -> Result<(), Memory>
     played.step(EVENTS[1], outbox)
 }
 
-/// Referees the small game.
-fn referee_all<W: Write>(alloc: Global, output: &mut W) -> Result<(), Stop> {
-    Ok(tell_referee(alloc, output)?)
+/// Tells a record that was written.
+fn tell_written<W: Write>(written: &Result<Vec<u8>, Memory>, told: &mut Telling<W>) {
+    match written {
+        Ok(record) => told.bytes(record.as_slice()),
+        Err(_) => told.memory(),
+    }
 }
 
-fn tell_referee<W: Write>(alloc: Global, output: &mut W) -> io::Result<()> {
-    match referee(alloc, GAME, CONFIG, 0, &EVENTS) {
-        Ok(outbox) => tell_outbox(&outbox, output),
+/// Referees the small game.
+fn referee_all<W: Write>(alloc: Global, told: &mut Telling<W>) -> Result<(), Stop> {
+    tell_refereed(&referee(alloc, GAME, CONFIG, 0, &EVENTS), told);
+    Ok(())
+}
+
+fn tell_refereed<W: Write>(refereed: &Result<Outbox, RefereeError>, told: &mut Telling<W>) {
+    match refereed {
+        Ok(outbox) => tell_outbox(outbox, told),
         Err(RefereeError::Memory { done, said }) => {
-            tell_memory(output)?;
-            writeln!(output, "done {done}")?;
-            tell_sizes(&said, output)
+            told.memory();
+            told.count("done", *done as u64);
+            tell_sizes(said, told);
         }
-        Err(error) => writeln!(output, "refused {error}"),
+        Err(error) => told.refusal(false, error),
     }
 }
 
 /// The line of seat 1, which moves.
 fn moving_line(alloc: Global) -> Result<MemoryLine, Stop> {
-    let mut gives = Vec::with_capacity(alloc, 1)?;
-    gives.push(Give::Bytes(Vec::from_slice(alloc, WHITE)?))?;
+    let bytes = Vec::from_slice(alloc, WHITE)?;
+    let mut gives = Vec::new(alloc);
+    gives.push(Give::Bytes(bytes))?;
     Ok(MemoryLine::new(alloc, gives, Vec::new(alloc), ROOM)?)
 }
 
@@ -259,11 +298,17 @@ fn two_lines(alloc: Global) -> Result<[MemoryLine; 2], Stop> {
     Ok([first, failing_line(alloc)?])
 }
 
-/// Serves the small game over lines in memory.
-fn serve_lines<W: Write>(alloc: Global, output: &mut W) -> Result<(), Stop> {
+/// Serves a match of the small game over lines in memory.
+fn serve_match<W: Write>(
+    alloc: Global,
+    opened: &mut Match,
+    outbox: &mut Outbox,
+    told: &mut Telling<W>,
+) -> Result<(), Stop>
+    requires { length outbox.old ≡ seats_of opened.old.game }
+{
     let mut lines = two_lines(alloc)?;
-    let (mut opened, mut outbox) = new_match(alloc)?;
-    serve_over(alloc, &mut lines, &mut opened, &mut outbox, output)
+    serve_over(alloc, &mut lines, opened, outbox, told)
 }
 
 fn serve_over<W: Write>(
@@ -271,7 +316,7 @@ fn serve_over<W: Write>(
     lines: &mut [MemoryLine; 2],
     opened: &mut Match,
     outbox: &mut Outbox,
-    output: &mut W,
+    told: &mut Telling<W>,
 ) -> Result<(), Stop>
     requires { length outbox.old ≡ seats_of opened.old.game }
 {
@@ -280,41 +325,39 @@ fn serve_over<W: Write>(
     }
     let mut clock = ListClock::new(Vec::new(alloc));
     let served = serve(alloc, lines, opened, outbox, &mut clock, ROUNDS);
-    Ok(tell_served(served, lines, outbox, output)?)
+    tell_served(served, lines, outbox, told);
+    Ok(())
 }
 
 fn tell_served<W: Write>(
     served: Result<Served, ServeError>,
     lines: &[MemoryLine; 2],
     outbox: &Outbox,
-    output: &mut W,
-) -> io::Result<()> {
+    told: &mut Telling<W>,
+) {
     match served {
         Ok(served) => {
-            writeln!(output, "rounds {}, whole {}", served.rounds, served.whole)?;
-            tell_messages(lines[0].took(), output)?;
-            tell_messages(lines[1].took(), output)
+            told.number("rounds", served.rounds);
+            told.truth(", whole", served.whole);
+            told.messages(lines[0].took());
+            told.messages(lines[1].took());
         }
         Err(ServeError::Memory) => {
-            tell_memory(output)?;
-            tell_beginnings(lines, outbox, output)
+            told.memory();
+            tell_beginnings(lines, outbox, told);
         }
-        Err(error) => writeln!(output, "{error}"),
+        Err(error) => told.error(&error),
     }
 }
 
 /// Says whether each line took the beginning of what is queued for its seat.
-fn tell_beginnings<W: Write>(
-    lines: &[MemoryLine; 2],
-    outbox: &Outbox,
-    output: &mut W,
-) -> io::Result<()> {
+fn tell_beginnings<W: Write>(lines: &[MemoryLine; 2], outbox: &Outbox, told: &mut Telling<W>) {
     let right = outbox.seats() == 2
         && outbox.bytes(1).starts_with(lines[0].took())
         && outbox.bytes(2).starts_with(lines[1].took());
-    output.write_all(if right {
-        b"each line took the beginning of what is queued\n".as_slice()
+    told.line(if right {
+        "each line took the beginning of what is queued"
     } else {
-        b"a line took something else\n".as_slice()
-    })
+        "a line took something else"
+    });
 }

@@ -5,25 +5,19 @@ use rbg_floor::HallError;
 use rbg_game::LoadError;
 use rbg_match::MatchError;
 use rbg_moves::Over;
+use rbg_tokens::TextError;
 use rbg_wire::WireError;
 use std::alloc::AllocFailed;
-use std::io;
 
 /// Why a run tells no more.
-#[derive(Debug, Drop)]
+#[derive(Clone, Copy)]
 pub enum Stop {
     /// Memory was refused before the call that the run is about.
     Setup,
     /// What comes before that call answers otherwise than it does with ample memory.
     Wrong,
-    /// The output can't be written.
-    Output(io::Error),
-}
-
-impl From<io::Error> for Stop {
-    fn from(error: io::Error) -> Stop {
-        Stop::Output(error)
-    }
+    /// No run has the name.
+    Unknown,
 }
 
 impl From<Memory> for Stop {
@@ -35,6 +29,15 @@ impl From<Memory> for Stop {
 impl<T: Drop> From<AllocFailed<T>> for Stop {
     fn from(_error: AllocFailed<T>) -> Stop {
         Stop::Setup
+    }
+}
+
+impl From<TextError> for Stop {
+    fn from(error: TextError) -> Stop {
+        match error {
+            TextError::Memory => Stop::Setup,
+            _ => Stop::Wrong,
+        }
     }
 }
 

@@ -1,45 +1,159 @@
-//! Facts as they are printed. None of it takes memory.
+//! Facts as they are printed.
 
-use std::io::{self, Write};
+use std::fmt::{Debug, Display};
+use std::io::Write;
 
-/// Says that memory was refused.
-pub fn tell_memory<W: Write>(output: &mut W) -> io::Result<()> {
-    output.write_all(b"memory\n")
+/// What stands in a list of bytes before a run appends to it.
+pub const KEPT: &[u8] = b"kept\0";
+
+/// Prints facts, and takes no memory. Where something can't be printed, nothing is printed after it.
+#[derive(Drop)]
+pub struct Telling<W: Write> {
+    output: W,
+    /// Whether all was printed so far.
+    is_whole: bool,
 }
 
-/// Says whether something is as it was before the call.
-pub fn tell_kept<W: Write>(what: &str, kept: bool, output: &mut W) -> io::Result<()> {
-    if kept {
-        writeln!(output, "the {what} as before")
-    } else {
-        writeln!(output, "the {what} not as before")
+impl<W: Write> Telling<W> {
+    /// Nothing was printed yet.
+    pub fn new(output: W) -> Telling<W> {
+        Telling {
+            output,
+            is_whole: true,
+        }
     }
-}
 
-/// Says whether a second call answers that memory was refused too.
-pub fn tell_again<W: Write>(memory: bool, output: &mut W) -> io::Result<()> {
-    output.write_all(if memory {
-        b"again memory\n"
-    } else {
-        b"another answer\n"
-    })
-}
-
-/// Numbers behind a word, in a line.
-pub fn tell_numbers<W: Write>(word: &str, numbers: &[u32], output: &mut W) -> io::Result<()> {
-    output.write_all(word.as_bytes())?;
-    for number in numbers {
-        write!(output, " {number}")?;
+    /// Whether all was printed so far.
+    pub fn is_whole(&self) -> bool {
+        self.is_whole
     }
-    output.write_all(b"\n")
-}
 
-/// The messages of a stream, each in a line.
-pub fn tell_messages<W: Write>(stream: &[u8], output: &mut W) -> io::Result<()> {
-    let whole = stream.strip_suffix(b"\0".as_slice()).unwrap_or(stream);
-    for message in whole.split(|byte| *byte == 0) {
-        output.write_all(message)?;
-        output.write_all(b"\n")?;
+    /// Bytes as they are.
+    pub fn bytes(&mut self, bytes: &[u8]) {
+        if self.is_whole {
+            self.is_whole = self.output.write_all(bytes).is_ok();
+        }
     }
-    Ok(())
+
+    /// A value as it is shown.
+    fn shown<T: Display>(&mut self, value: &T) {
+        if self.is_whole {
+            self.is_whole = write!(self.output, "{value}").is_ok();
+        }
+    }
+
+    /// A value as it is shown to programmers, in a line.
+    pub fn inner<T: Debug>(&mut self, value: &T) {
+        if self.is_whole {
+            self.is_whole = writeln!(self.output, "{value:?}").is_ok();
+        }
+    }
+
+    /// A text.
+    pub fn text(&mut self, text: &str) {
+        self.bytes(text.as_bytes());
+    }
+
+    /// A text, and the end of its line.
+    pub fn line(&mut self, text: &str) {
+        self.text(text);
+        self.bytes(b"\n");
+    }
+
+    /// A number behind a word.
+    pub fn number(&mut self, word: &str, number: u64) {
+        self.text(word);
+        self.bytes(b" ");
+        self.shown(&number);
+    }
+
+    /// A number behind a word, in a line.
+    pub fn count(&mut self, word: &str, number: u64) {
+        self.number(word, number);
+        self.bytes(b"\n");
+    }
+
+    /// Numbers behind a word, in a line.
+    pub fn numbers(&mut self, word: &str, numbers: &[u32]) {
+        self.text(word);
+        for number in numbers {
+            self.number("", *number as u64);
+        }
+        self.bytes(b"\n");
+    }
+
+    /// How many bytes a numbered queue has.
+    pub fn size(&mut self, word: &str, number: u64, bytes: usize) {
+        self.number(word, number);
+        self.number("", bytes as u64);
+        self.line(" bytes");
+    }
+
+    /// Whether something is so, behind words.
+    pub fn truth(&mut self, words: &str, is_so: bool) {
+        self.text(words);
+        self.line(if is_so { " true" } else { " false" });
+    }
+
+    /// Memory was refused.
+    pub fn memory(&mut self) {
+        self.line("memory");
+    }
+
+    /// An error, in a line.
+    pub fn error<E: Display>(&mut self, error: &E) {
+        self.shown(error);
+        self.bytes(b"\n");
+    }
+
+    /// Memory was refused, or a call refuses something for another reason.
+    pub fn refusal<E: Display>(&mut self, is_memory: bool, error: &E) {
+        if is_memory {
+            self.memory();
+        } else {
+            self.text("refused ");
+            self.error(error);
+        }
+    }
+
+    /// Whether something is as it was before the call.
+    pub fn kept(&mut self, what: &str, is_kept: bool) {
+        self.text("the ");
+        self.text(what);
+        self.line(if is_kept {
+            " as before"
+        } else {
+            " not as before"
+        });
+    }
+
+    /// Whether a second call answers that memory was refused too.
+    pub fn again(&mut self, is_memory: bool) {
+        self.line(if is_memory {
+            "again memory"
+        } else {
+            "another answer"
+        });
+    }
+
+    /// The messages of a stream, each in a line.
+    pub fn messages(&mut self, stream: &[u8]) {
+        for byte in stream {
+            let printed = if *byte == 0 { b'\n' } else { *byte };
+            self.bytes(&[printed]);
+        }
+        if !stream.ends_with(b"\0") {
+            self.bytes(b"\n");
+        }
+    }
+
+    /// The messages of a list of bytes, or that memory was refused and whether the list is `KEPT` still.
+    pub fn appended(&mut self, went_well: bool, bytes: &[u8]) {
+        if went_well {
+            self.messages(bytes);
+        } else {
+            self.memory();
+            self.kept("bytes are", bytes == KEPT);
+        }
+    }
 }
