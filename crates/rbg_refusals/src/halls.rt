@@ -85,19 +85,9 @@ fn make<W: Write>(
     told: &mut Telling<W>,
 ) -> Result<(), Stop> {
     let tables = tables(alloc)?;
-    let mut made = Hall::new(alloc, tables);
-    hear(alloc, &mut made, events, told)
-}
-
-fn hear<W: Write>(
-    alloc: Global,
-    made: &mut Result<(Hall<MemoryLog>, HallOut), HallError>,
-    events: &[HallEvent<'_>],
-    told: &mut Telling<W>,
-) -> Result<(), Stop> {
-    match made {
-        Ok((hall, out)) => hear_in(alloc, hall, out, events, told),
-        Err(error) => tell_error(*error, events.is_empty(), told),
+    match Hall::new(alloc, tables) {
+        Ok((mut hall, mut out)) => hear(alloc, &mut hall, &mut out, events, told),
+        Err(error) => tell_error(error, events.is_empty(), told),
     }
 }
 
@@ -135,15 +125,15 @@ fn copy_queues(alloc: Global, out: &HallOut, copies: &mut Vec<Vec<u8>>) -> Resul
 
 /// Whether these bytes are queued for the lines.
 fn are_queued(copies: &[Vec<u8>], out: &HallOut) -> bool {
-    let mut are_queued = out.lines() == copies.len();
+    let mut are_same = out.lines() == copies.len();
     for line in 0..out.lines() {
-        are_queued = are_queued && is_copy(copies, line, out.bytes(line as u64));
+        are_same = are_same && is_copy(copies, line, out.bytes(line as u64));
     }
-    are_queued
+    are_same
 }
 
 /// Lets a hall, whose match has a log, hear events. If there is none, the queues are told as they are.
-fn hear_in<W: Write>(
+fn hear<W: Write>(
     alloc: Global,
     hall: &mut Hall<MemoryLog>,
     out: &mut HallOut,

@@ -12,7 +12,10 @@
 mod copies;
 mod games;
 mod halls;
+mod limits;
 mod matches;
+mod messages;
+mod moves;
 mod players;
 mod records;
 mod searches;

@@ -1,4 +1,4 @@
-//! Runs of messages, streams and matches, and of the records of matches.
+//! Runs of matches, and of their records.
 ghost use Rattle.std.specs.Prelude.{◌≡◌, IfOk, length};
 ghost use Rattle.rbg_match.specs.PlayingOn.{seats_of};
 
@@ -6,14 +6,13 @@ use crate::copies::{add_copy, is_copy};
 use crate::games::{CONFIG, GAME};
 use crate::halls;
 use crate::stop::Stop;
-use crate::telling::{KEPT, Telling};
+use crate::telling::Telling;
 use rbg_base::Memory;
 use rbg_game::load;
 use rbg_match::{Event, Match, MatchError, Outbox};
 use rbg_record::{write_record, write_record_1};
 use rbg_referee::{RefereeError, referee};
 use rbg_serving::{Give, ListClock, MemoryLine, ServeError, Served, Take, serve};
-use rbg_wire::{Inbox, Took, read_message, write_message};
 use std::alloc::Global;
 use std::io::Write;
 
@@ -37,9 +36,6 @@ const EVENTS: [Event<'static>; 2] = [
     },
 ];
 
-/// The rest of a message, and more messages.
-const PIECE: &[u8] = b" 3 0 4 0 5\0M1 8 1 9\0E0 100 0\0";
-
 /// How many bytes a line takes at most.
 const ROOM: usize = 1000;
 
@@ -58,8 +54,6 @@ enum Task {
 /// Makes the run of a name, if it is one of these; else the next module does.
 pub fn run<W: Write>(alloc: Global, name: &str, told: &mut Telling<W>) -> Result<(), Stop> {
     match name {
-        "feed" => feed(alloc, told),
-        "write-message" => write(alloc, told),
         "open" => open(alloc, told),
         "step" => do_task(alloc, Task::Step, told),
         "referee" => referee_all(alloc, told),
@@ -68,48 +62,6 @@ pub fn run<W: Write>(alloc: Global, name: &str, told: &mut Telling<W>) -> Result
         "write-record-1" => do_task(alloc, Task::WritePlainRecord, told),
         _ => halls::run(alloc, name, told),
     }
-}
-
-/// Tells the messages of an inbox, and takes them.
-fn tell_taken<W: Write>(inbox: &mut Inbox, told: &mut Telling<W>) {
-    for _ in 0..u64::MAX {
-        match inbox.take() {
-            Some(Took::Message(text)) => told.messages(text),
-            Some(Took::TooLong) => told.line("too long"),
-            None => return,
-        }
-    }
-}
-
-/// Feeds an inbox that has a message and a part of the next one, and takes the messages.
-fn feed<W: Write>(alloc: Global, told: &mut Telling<W>) -> Result<(), Stop> {
-    let mut inbox = Inbox::new(alloc, 4096);
-    feed_pieces(&mut inbox, told)
-}
-
-fn feed_pieces<W: Write>(inbox: &mut Inbox, told: &mut Telling<W>) -> Result<(), Stop> {
-    inbox.feed(b"M0 1\0M0")?;
-    if inbox.feed(PIECE).is_ok() {
-        tell_taken(inbox, told);
-    } else {
-        told.memory();
-        told.kept("inbox is", has_one(inbox));
-    }
-    Ok(())
-}
-
-/// Whether an inbox has its first message and no other one.
-fn has_one(inbox: &mut Inbox) -> bool {
-    inbox.take() == Some(Took::Message(b"M0 1")) && inbox.take().is_none()
-}
-
-/// Writes a message behind bytes that are there.
-fn write<W: Write>(alloc: Global, told: &mut Telling<W>) -> Result<(), Stop> {
-    let mut bytes = Vec::from_slice(alloc, KEPT)?;
-    let message = read_message(b"E0 1 22 333 4444 55555 666666 7777777 88888888")?;
-    let went_well = write_message(&message, &mut bytes).is_ok();
-    told.appended(went_well, bytes.as_slice());
-    Ok(())
 }
 
 /// Says how many bytes are queued for each seat.
@@ -183,11 +135,11 @@ fn copy_queues(alloc: Global, outbox: &Outbox, copies: &mut Vec<Vec<u8>>) -> Res
 
 /// Whether these bytes are queued for the seats.
 fn are_queued(copies: &[Vec<u8>], outbox: &Outbox) -> bool {
-    let mut are_queued = outbox.seats() == copies.len();
+    let mut are_same = outbox.seats() == copies.len();
     for seat in 1..=outbox.seats() {
-        are_queued = are_queued && is_copy(copies, seat - 1, outbox.bytes(seat));
+        are_same = are_same && is_copy(copies, seat - 1, outbox.bytes(seat));
     }
-    are_queued
+    are_same
 }
 
 /// Lets white move in a match of the small game.
