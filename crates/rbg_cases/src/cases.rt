@@ -336,14 +336,14 @@ fn setting_of(line: &[u8]) -> Option<Setting> {
     if let Some(count) = line.strip_prefix(b"last ") {
         return Some(Setting::Last(read_count(count)?));
     }
-    match line {
-        b"author" => Some(Setting::Author),
-        b"news" => Some(Setting::News),
-        b"logs" => Some(Setting::Logs),
-        b"sent" => Some(Setting::Sent),
-        b"output fails" => Some(Setting::OutputFails),
-        b"input endless" => Some(Setting::Behind(Behind::Zeros)),
-        b"input fails" => Some(Setting::Behind(Behind::Failure)),
+    match str::from_utf8(line).unwrap_or("") {
+        "author" => Some(Setting::Author),
+        "news" => Some(Setting::News),
+        "logs" => Some(Setting::Logs),
+        "sent" => Some(Setting::Sent),
+        "output fails" => Some(Setting::OutputFails),
+        "input endless" => Some(Setting::Behind(Behind::Zeros)),
+        "input fails" => Some(Setting::Behind(Behind::Failure)),
         _ => None,
     }
 }

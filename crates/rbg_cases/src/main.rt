@@ -115,7 +115,7 @@ fn last_lines(text: &[u8], count: usize) -> &[u8] {
     for (index, byte) in text.iter().enumerate().rev() {
         if *byte == b'\n' {
             if left == 0 {
-                return &text[index + 1..];
+                return text.get(index.saturating_add(1)..).unwrap_or(&[]);
             }
             left -= 1;
         }
