@@ -22,30 +22,18 @@ const LEVELS: &[u8] =
 #a15 = a14 a14 #a16 = a15 a15 #a17 = a16 a16 #a18 = a17 a17
 ";
 
-/// Rules that need 64 levels of macros, and 65.
-const DEEPEST: &[u8] = b"#rules = m2";
-
-const TOO_DEEP: &[u8] = b"#rules = m1";
-
-/// A macro of two words. Behind 15 doublings 65,536 tokens are kept, of 131,071 that are read.
-const MOST_KEPT: &[u8] = b"#a0 = e e\n#rules = a15";
-
-const TOO_MANY_KEPT: &[u8] = b"#a0 = e e\n#rules = a16";
-
-/// A macro of two calls of one that is nothing. Behind 17 doublings 524,287 tokens are read, and none is kept.
-const MOST_READ: &[u8] = b"#z =\n#a0 = z z\n#rules = a17";
-
-const TOO_MANY_READ: &[u8] = b"#z =\n#a0 = z z\n#rules = a18";
-
 /// Makes the run of a name, if it is one of these; else the next module does.
 pub fn run<W: Write>(alloc: Global, name: &str, told: &mut Telling<W>) -> Result<(), Stop> {
     match name {
-        "expand-deepest" => tell_limit(alloc, DEEPEST, told),
-        "expand-too-deep" => tell_limit(alloc, TOO_DEEP, told),
-        "expand-most-kept" => tell_limit(alloc, MOST_KEPT, told),
-        "expand-too-many-kept" => tell_limit(alloc, TOO_MANY_KEPT, told),
-        "expand-most-read" => tell_limit(alloc, MOST_READ, told),
-        "expand-too-many-read" => tell_limit(alloc, TOO_MANY_READ, told),
+        // Rules that need 64 levels of macros, and 65.
+        "expand-deepest" => tell_limit(alloc, b"#rules = m2", told),
+        "expand-too-deep" => tell_limit(alloc, b"#rules = m1", told),
+        // A macro of two words. Behind 15 doublings 65,536 tokens are kept, of 131,071 that are read.
+        "expand-most-kept" => tell_limit(alloc, b"#a0 = e e\n#rules = a15", told),
+        "expand-too-many-kept" => tell_limit(alloc, b"#a0 = e e\n#rules = a16", told),
+        // A macro of two calls of one that is nothing. Behind 17 doublings 524,287 tokens are read, and none is kept.
+        "expand-most-read" => tell_limit(alloc, b"#z =\n#a0 = z z\n#rules = a17", told),
+        "expand-too-many-read" => tell_limit(alloc, b"#z =\n#a0 = z z\n#rules = a18", told),
         _ => moves::run(alloc, name, told),
     }
 }

@@ -17,12 +17,6 @@ const SWITCH: Pair = Pair {
     position: 1,
 };
 
-/// An off in the game of the star.
-const OFF: Pair = Pair {
-    vertex: 0,
-    position: 2,
-};
-
 /// The move that is tried in the game of the star: two offs, and the switch.
 const STAR_MOVE: [Pair; 3] = [
     OFF,
@@ -32,6 +26,12 @@ const STAR_MOVE: [Pair; 3] = [
         position: 3,
     },
 ];
+
+/// An off in the game of the star.
+const OFF: Pair = Pair {
+    position: 2,
+    ..SWITCH
+};
 
 /// The move that is tried in the game of the pattern.
 const PATTERN_MOVE: [Pair; 2] = [

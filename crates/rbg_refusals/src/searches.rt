@@ -155,8 +155,7 @@ fn tell_valid<W: Write>(answer: Result<bool, Over>, told: &mut Telling<W>) {
 
 /// Counts the sequences of three moves from the beginning of play.
 fn count<W: Write>(alloc: Global, told: &mut Telling<W>) -> Result<(), Stop> {
-    let game = played(alloc, SQUARES)?;
-    tell_count(alloc, &game, told);
+    tell_count(alloc, &played(alloc, SQUARES)?, told);
     Ok(())
 }
 

@@ -21,19 +21,19 @@ const CONFIG: Config = Config {
 /// A turn of no time.
 const NO_TIME: Config = Config {
     turn_ms: 0,
-    refusals: 3,
+    ..CONFIG
 };
 
 /// Too long a turn.
 const LONG: Config = Config {
     turn_ms: MAX_TURN_MS + 1,
-    refusals: 3,
+    ..CONFIG
 };
 
 /// Too many refusals.
 const MANY: Config = Config {
-    turn_ms: 1000,
     refusals: MAX_REFUSALS + 1,
+    ..CONFIG
 };
 
 /// The configs of tables, and why there is no hall of them.
