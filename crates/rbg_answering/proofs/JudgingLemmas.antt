@@ -1,18 +1,14 @@
 -- Lemmas on what is answered to a game and a record.
-use Rattle.std.proofs.Common.{◌≡◌, ℕ, List, refl, sym, subst}
-use Rattle.std.specs.Prelude.{◌↔◌, Result, Ok, Err, IfOk}
+use Rattle.std.proofs.Common.{◌≡◌, ℕ, List, refl, sym, subst, ◌↔◌, Result, Ok, Err, IfOk}
 use Rattle.rbg_console.specs.declared.status.Status.{Status}
 use Rattle.rbg_console.specs.declared.status.Status.TheVariants.{Success, BadInput}
-use Rattle.rbg_record.specs.Judged.{IsBadLine, IsFormFault, IsHeavyLine, IsJudged}
-use Rattle.rbg_record.specs.Migration.{IsPlainFault}
-use Rattle.rbg_record.specs.Right.{IsRightRecord}
+use Rattle.rbg_record.proofs.Common.{IsBadLine, IsFormFault, IsHeavyLine, IsJudged, IsPlainFault, IsRightRecord, told_at}
 use Rattle.rbg_record.specs.declared.checked.Checked.{Checked}
 use Rattle.rbg_record.specs.declared.checked.Checked.TheVariants.{Good, Bad}
 use Rattle.rbg_record.specs.declared.error.RecordError.{RecordError}
 use Rattle.rbg_record.specs.declared.error.RecordError.TheVariants.{Form, Over, Memory}
 use Rattle.rbg_record.specs.declared.fault.Fault.{Fault}
 use Rattle.rbg_record.specs.declared.fault.Fault.TheVariants as faults
-use Rattle.rbg_record.specs.internal.Faults.{told_at}
 use Rattle.rbg_rules.specs.Meaning.{AbstractGame}
 use Rattle.rbg_tasks.specs.declared.task.Command.{Command}
 use Rattle.rbg_tasks.specs.declared.task.Command.TheVariants.{Replay, Migrate, Moves}

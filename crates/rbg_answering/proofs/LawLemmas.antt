@@ -1,12 +1,10 @@
 -- Answers to one task are apart, and of a right record nothing else is said than that it is good.
-use Rattle.std.proofs.Common.{◌≡◌, ◌∙◌, ℕ, ◌≤◌, List, length, inl, inr, ap, refl, sym, subst, arith}
-use Rattle.std.specs.Prelude.{◌⊎◌, Result, Ok, Err}
+use Rattle.std.proofs.Common.{◌≡◌, ◌∙◌, ℕ, ◌≤◌, List, length, inl, inr, ap, refl, sym, subst, arith, ◌⊎◌, Result, Ok, Err}
 use Rattle.rbg_console.specs.Inputs.{most_input}
 use Rattle.rbg_console.specs.declared.status.Status.{Status}
 use Rattle.rbg_console.specs.declared.status.Status.TheVariants.{Success, Refused, BadInput}
 use Rattle.rbg_game.specs.OneGame.{OneGameLaw}
-use Rattle.rbg_record.specs.Judged.{IsHeavyLine, IsJudged}
-use Rattle.rbg_record.specs.Laws.{GoodByLines, IsUndecided, OneJudgement, OnePlainFault}
+use Rattle.rbg_record.proofs.Common.{IsHeavyLine, IsJudged, GoodByLines, IsUndecided, OneJudgement, OnePlainFault}
 use Rattle.rbg_record.specs.declared.checked.Checked.{Checked}
 use Rattle.rbg_record.specs.declared.checked.Checked.TheVariants.{Good, Bad}
 use Rattle.rbg_record.specs.declared.error.RecordError.{RecordError}

@@ -1,7 +1,5 @@
 -- Lemmas on what was read.
-use Rattle.std.proofs.Common.{◌≡◌, ℕ, List, [], refl, sym, subst}
-use Rattle.std.specs.Global.{Global}
-use Rattle.std.specs.Prelude.{Option, Vec}
+use Rattle.std.proofs.Common.{◌≡◌, ℕ, List, [], refl, sym, subst, Global, Option, Vec}
 use Rattle.rbg_console.proofs.FileLemmas.{more_known}
 use Rattle.rbg_console.specs.Files.{KnownFiles, IsFileReading}
 use Rattle.rbg_console.specs.Inputs.{most_input, IsReading}

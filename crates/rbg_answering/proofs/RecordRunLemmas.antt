@@ -1,7 +1,5 @@
 -- Lemmas on the answer to a match with its record.
-use Rattle.std.proofs.Common.{◌≡◌, ◌≢◌, ◌∙◌, ℕ, List, [], refl, sym, subst, arith}
-use Rattle.std.specs.Global.{Global}
-use Rattle.std.specs.Prelude.{◌≤◌, Option, Some, None, Vec, length}
+use Rattle.std.proofs.Common.{◌≡◌, ◌≢◌, ◌∙◌, ℕ, List, [], refl, sym, subst, arith, Global, ◌≤◌, Option, Some, None, Vec, length}
 use Rattle.rbg_console.specs.Files.{KnownFiles}
 use Rattle.rbg_console.specs.Inputs.{most_input, IsAll, IsAbove}
 use Rattle.rbg_console.specs.declared.status.Status.{Status}

@@ -1,6 +1,5 @@
 -- Lemmas on runs.
-use Rattle.std.proofs.Common.{ℕ, List, subst}
-use Rattle.std.specs.Prelude.{Option}
+use Rattle.std.proofs.Common.{ℕ, List, subst, Option}
 use Rattle.rbg_console.specs.Files.{KnownFiles}
 use Rattle.rbg_console.specs.Outputs.{IsWritten}
 use Rattle.rbg_console.specs.declared.status.Status.{Status}

@@ -1,6 +1,5 @@
 -- Questions without an answer since a request for memory failed.
-use Rattle.std.proofs.Common.{◌≡◌, Result}
-use Rattle.std.specs.Result.{IfErr, IsErrAnd}
+use Rattle.std.proofs.Common.{◌≡◌, Result, IfErr, IsErrAnd}
 use Rattle.rbg_base.proofs.Errors.{passed_on}
 use Rattle.rbg_ask.specs.Answering.{IsRefused, no_memory}
 use Rattle.rbg_ask.specs.Sessions.{AbstractSession}

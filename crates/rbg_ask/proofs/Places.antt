@@ -1,7 +1,6 @@
 -- The places of a session.
-use Rattle.std.proofs.Common.{◌≡◌, ℕ, ◌+◌, ◌-◌, ◌<◌, ◌⊎◌, inl, inr, List, [], ◌∷◌, ◌++◌, length, take, drop, All, slice_get, Some, ap, sym, ◌∙◌, refl, subst, arith, append_assoc, length-append}
+use Rattle.rbg_base.proofs.Common.{◌≡◌, ℕ, ◌+◌, ◌-◌, ◌<◌, ◌⊎◌, inl, inr, List, [], ◌∷◌, ◌++◌, length, take, drop, All, slice_get, Some, ap, sym, ◌∙◌, refl, subst, arith, append_assoc, length-append, All-head, All-tail, All-nil, All-cons, All-append}
 use Rattle.std.proofs.lemmas.List.{take-append-drop, length-drop}
-use Rattle.std.proofs.lemmas.List.Elements.{All-head, All-tail, All-nil, All-cons, All-append}
 use Rattle.rbg_base.proofs.CallerLemmas.{slice_get-append_right}
 use Rattle.rbg_rules.specs.Meaning.{AbstractGame, AbstractPlace, Legal, Finished, IsPlaceOf}
 use Rattle.rbg_moves.specs.Settling.{Settles}

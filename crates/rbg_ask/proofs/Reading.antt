@@ -2,9 +2,7 @@
 use Rattle.std.proofs.Common.{◌≡◌, ℕ, ◌≤◌, Some, None, IfNone, Result, Ok, List, ◌++◌, length, decimal, codes, ap, sym, ◌∙◌, Option, append_assoc, ◌∷◌}
 use Rattle.std.specs.Result.{result_ok}
 use Rattle.rbg_wire.specs.declared.error.WireError.{WireError}
-use Rattle.rbg_wire.specs.Messages.{ArePairs, pairs_text}
-use Rattle.rbg_wire.specs.Reading.{SpellsPairs}
-use Rattle.rbg_wire.specs.Bytes.{LacksByte}
+use Rattle.rbg_wire.proofs.Common.{ArePairs, pairs_text, SpellsPairs, LacksByte}
 use Rattle.rbg_wire.proofs.ByteLemmas.{same_end}
 use Rattle.rbg_wire.proofs.FieldLemmas.{cut_fields, no_fields}
 use Rattle.rbg_ask.specs.declared.question.Question.{Question}

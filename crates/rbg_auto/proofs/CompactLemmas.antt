@@ -1,7 +1,5 @@
 -- The table of a game's rules has their steps.
-use Rattle.std.proofs.Common.{◌≡◌, ℕ, zero, suc, ◌+◌, ◌<◌, ◌⊎◌, List, [], length, get_or, refl, sym, ap, ◌∙◌, subst, inl, inr, Bool, arith}
-use Rattle.std.specs.Prelude.{replicate}
-use Rattle.std.specs.List.{range_with_len}
+use Rattle.rbg_base.proofs.Common.{◌≡◌, ℕ, zero, suc, ◌+◌, ◌<◌, ◌⊎◌, List, [], length, get_or, refl, sym, ap, ◌∙◌, subst, inl, inr, Bool, arith, replicate, range_with_len}
 use Rattle.rbg_rules.specs.declared.rule.Action.{Action}
 use Rattle.rbg_rules.specs.declared.rule.Rule.{Rule}
 use Rattle.rbg_rules.specs.Meaning.{Expression, positions_of, IsNumbered, HasNoEmptySum, expression_of}

@@ -1,8 +1,6 @@
 -- Lists in increasing order, and their members.
-use Rattle.std.proofs.Common.{ℕ, zero, suc, ◌+◌, ◌<◌, ◌≤◌, List, [], ◌∷◌, ◌++◌, refl, sym, subst, inl, inr, ◌⊎◌, arith}
+use Rattle.rbg_base.proofs.Common.{ℕ, zero, suc, ◌+◌, ◌<◌, ◌≤◌, List, [], ◌∷◌, ◌++◌, refl, sym, subst, inl, inr, ◌⊎◌, arith, Contains, range_with_len}
 use native.Mathlib.Numerals.{unary_clauses}
-use Rattle.std.specs.Prelude.{Contains}
-use Rattle.std.specs.List.{range_with_len}
 use Rattle.std.specs.List.Sorted.{IsStrictlyIncreasing}
 use Rattle.rbg_rules.proofs.PositionLemmas.{Among, Among_left, Among_right, Among-range_with_len}
 use Rattle.rbg_rules.proofs.LevelLemmas.{among_at}

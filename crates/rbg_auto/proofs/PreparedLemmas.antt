@@ -1,7 +1,5 @@
 -- What is prepared of an automaton's nodes is right to lend.
-use Rattle.std.proofs.Common.{◌≡◌, ℕ, zero, suc, ◌+◌, ◌-◌, ◌<◌, ◌≤◌, List, [], ◌∷◌, length, map, get_or, refl, sym, ap, subst, Bool, true, false, IsTrue, ◌↔◌, arith}
-use Rattle.std.specs.Prelude.{◌≢◌, if◌then◌else◌, slice_range, Vec, Some}
-use Rattle.std.specs.Global.{Global}
+use Rattle.std.proofs.Common.{◌≡◌, ℕ, zero, suc, ◌+◌, ◌-◌, ◌<◌, ◌≤◌, List, [], ◌∷◌, length, map, get_or, refl, sym, ap, subst, Bool, true, false, IsTrue, ◌↔◌, arith, ◌≢◌, if◌then◌else◌, slice_range, Vec, Some, Global}
 use Rattle.rbg_rules.specs.Meaning.{Expression, after, Ends}
 use Rattle.rbg_auto.specs.declared.span.Node.{Node}
 use Rattle.rbg_auto.specs.declared.arrays.Compact.{Compact}

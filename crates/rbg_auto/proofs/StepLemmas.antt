@@ -1,6 +1,5 @@
 -- What is laid at a position is what comes after it in the words.
-use Rattle.std.proofs.Common.{◌≡◌, ℕ, List, [], ◌∷◌, ◌++◌, refl, sym, ◌∙◌, subst, inl, inr, ◌⊎◌, Bool, true, append_assoc}
-use Rattle.std.specs.Prelude.{◌&&◌}
+use Rattle.std.proofs.Common.{◌≡◌, ℕ, List, [], ◌∷◌, ◌++◌, refl, sym, ◌∙◌, subst, inl, inr, ◌⊎◌, Bool, true, append_assoc, ◌&&◌}
 use Rattle.std.proofs.lemmas.List.{append-nil}
 use Rattle.rbg_rules.specs.Meaning.{AbstractAction, Expression, act, skip, sequence, fail, choice, star, positions_of, HasOwnAction, HasNoEmptySum, Word, Repeats, done, again}
 use Rattle.rbg_rules.proofs.CutLemmas.{Cut, in_first, in_second, cut_at, single, word_position}

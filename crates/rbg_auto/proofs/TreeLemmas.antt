@@ -1,9 +1,6 @@
 -- What is read off the trees of the program.
-use Rattle.std.proofs.Common.{◌≡◌, ℕ, ◌+◌, ◌<◌, ◌≤◌, List, [], ◌∷◌, ◌++◌, length, map, fold, take, drop, get_or, refl, sym, ap, ◌∙◌, subst, Bool, true, false, append_assoc, take-append-drop}
-use Rattle.std.specs.Prelude.{Box, Vec, All, ◌&&◌, ◌||◌}
-use Rattle.std.specs.Global.{Global}
+use Rattle.rbg_base.proofs.Common.{◌≡◌, ℕ, ◌+◌, ◌<◌, ◌≤◌, List, [], ◌∷◌, ◌++◌, length, map, fold, take, drop, get_or, refl, sym, ap, ◌∙◌, subst, Bool, true, false, append_assoc, take-append-drop, Box, Vec, All, ◌&&◌, ◌||◌, Global, fold-append, fold_push}
 use Rattle.std.proofs.lemmas.List.{append-nil, take_more, take_all, get_or-map, length-map}
-use Rattle.std.proofs.lemmas.List.Sums.{fold-append, fold_push}
 use Rattle.rbg_rules.specs.declared.rule.Action.{Action}
 use Rattle.rbg_rules.specs.declared.rule.Action.TheVariants.{Positive}
 use Rattle.rbg_rules.specs.declared.rule.Rule.{Rule}

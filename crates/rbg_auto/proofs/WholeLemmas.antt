@@ -1,6 +1,5 @@
 -- Rules that are laid whole have the steps of their words.
-use Rattle.std.proofs.Common.{◌≡◌, ℕ, List, [], ◌∷◌, ◌++◌, length, refl, sym, ap, ◌∙◌, subst, inl, inr, ◌⊎◌, Bool, true, false, arith}
-use Rattle.std.proofs.lemmas.Bool.{cases_lt}
+use Rattle.rbg_base.proofs.Common.{◌≡◌, ℕ, List, [], ◌∷◌, ◌++◌, length, refl, sym, ap, ◌∙◌, subst, inl, inr, ◌⊎◌, Bool, true, false, arith, cases_lt}
 use Rattle.rbg_rules.specs.Meaning.{AbstractAction, shift, on, off, assignment, comparison, switch, positive, negative, Expression, act, skip, sequence, fail, choice, star, HasAction, HasInside, HasOwnAction, positions_of, positions_inside, IsNumbered, Level, outermost, inside, IsLevel, HasNoEmptySum, HasNoEmptySumInside, WordOf, Start, beginning, after, Follows, Ends}
 use Rattle.rbg_rules.proofs.PositionLemmas.{Among, Among_right, Among_cases}
 use Rattle.rbg_rules.proofs.PatternLemmas.{word_own}

@@ -1,12 +1,7 @@
 -- What the crates above may cite, where std has no such lemma.
-use Rattle.std.proofs.Common.{◌≡◌, ℕ, zero, suc, ◌+◌, ◌<◌, ◌≤◌, ◌^◌, true, false, Option, Some, None, IfSome, IfNone, List, [], ◌∷◌, ◌++◌, length, get_or, take, drop, map, decimal, arith, refl, ap, subst, sym, ◌∙◌}
-use Rattle.std.proofs.lemmas.Bool.{and_parts}
-use Rattle.std.proofs.lemmas.Fmt.{digits_decimal, digits_value-decimal, decimal_injective}
+use Rattle.rbg_base.proofs.Common.{◌≡◌, ℕ, zero, suc, ◌+◌, ◌<◌, ◌≤◌, ◌^◌, true, false, Option, Some, None, IfSome, IfNone, List, [], ◌∷◌, ◌++◌, length, get_or, take, drop, map, decimal, arith, refl, ap, subst, sym, ◌∙◌, and_parts, digits_decimal, digits_value-decimal, decimal_injective, slice_get, Contains, is_some, option_map, list_all, AllZip, slice_get-map, slice_get_within, get_or_from_slice_get, slice_get_read}
 use Rattle.std.proofs.lemmas.Str.Parse.{digits_value_short}
-use Rattle.std.specs.Prelude.{slice_get, Contains, is_some, option_map}
-use Rattle.std.specs.List.{list_all, AllZip}
 use Rattle.std.proofs.lemmas.List.{get_or-append-add, length-append, take_more, map-append}
-use Rattle.std.proofs.lemmas.Option.{slice_get-map, slice_get_within, get_or_from_slice_get, slice_get_read}
 use Rattle.rbg_base.specs.Names.{is_name, is_name_start, is_name_part}
 use Rattle.rbg_base.proofs.Numerals.{digits}
 

@@ -1,4 +1,5 @@
--- What the proofs of this crate share. Crates above cite CallerLemmas and Errors.
+-- What the proofs of this crate share. Crates above cite Common, CallerLemmas and Errors.
+pub mod Common
 pub mod Numerals
 pub mod CallerLemmas
 pub mod Errors

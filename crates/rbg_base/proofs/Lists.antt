@@ -1,8 +1,6 @@
 -- Lists that stand one after another in one list.
-use Rattle.std.proofs.Common.{◌≡◌, ℕ, suc, ◌-◌, ◌<◌, ◌≤◌, List, [], ◌∷◌, ◌++◌, length, take, drop, get_or, Some, refl, sym, ap, ◌∙◌, subst, arith, length-append, length-drop}
-use Rattle.std.specs.Prelude.{All, map, slice_get, slice_range}
+use Rattle.rbg_base.proofs.Common.{◌≡◌, ℕ, suc, ◌-◌, ◌<◌, ◌≤◌, List, [], ◌∷◌, ◌++◌, length, take, drop, get_or, Some, refl, sym, ap, ◌∙◌, subst, arith, length-append, length-drop, All, map, slice_get, slice_range, slice_get-get_or}
 use Rattle.std.proofs.lemmas.List.{append_assoc, drop-append-le, take-append-le, drop_at, take_all, map_push, length-map, length-take-le}
-use Rattle.std.proofs.lemmas.Option.{slice_get-get_or}
 use Rattle.rbg_base.proofs.CallerLemmas.{slice_get-map_at}
 use Rattle.rbg_base.specs.Move.{IsMoveLength}
 use Rattle.rbg_base.specs.List.{IsSpan, lists_at}

@@ -1,6 +1,5 @@
 -- What the crates above may cite: when two graphs are one.
-use Rattle.std.proofs.Common.{◌≡◌, ℕ, ◌<◌, List, [], Option, Some, None, All, length, get_or, refl, sym, ap, ◌∙◌, arith}
-use Rattle.std.proofs.lemmas.List.{same_lists, get_or_default}
+use Rattle.rbg_base.proofs.Common.{◌≡◌, ℕ, ◌<◌, List, [], Option, Some, None, All, length, get_or, refl, sym, ap, ◌∙◌, arith, same_lists, get_or_default}
 use Rattle.rbg_board.specs.Graph.{Graph, next, HasWidth, IsGraphOf}
 
 -- two options with the same values are equal

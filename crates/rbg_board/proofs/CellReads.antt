@@ -1,10 +1,7 @@
 -- Cells that are read from a slice, and their names and edges.
-use Rattle.std.proofs.Common.{◌≡◌, ◌≢◌, ℕ, ◌+◌, ◌<◌, List, All, length, get_or, map, take, sym, ap, ◌∙◌, inl, inr, arith}
-use Rattle.std.proofs.lemmas.Bool.{cases_lt}
+use Rattle.rbg_base.proofs.Common.{◌≡◌, ◌≢◌, ℕ, ◌+◌, ◌<◌, List, All, length, get_or, map, take, sym, ap, ◌∙◌, inl, inr, arith, cases_lt}
 use Rattle.std.proofs.lemmas.List.{get_or-map, get_or-take, length-map, length-take-le}
-use Rattle.rbg_board.specs.Written.{Written, names_of, pieces_of}
-use Rattle.rbg_board.specs.Vertices.{written, written_of}
-use Rattle.rbg_board.specs.declared.graphs.Cell.{Cell}
+use Rattle.rbg_board.proofs.Common.{Written, names_of, pieces_of, written, written_of, Cell}
 
 module _ (cells : List Cell) (v : ℕ) (cell : Cell) (is_cell : v < length cells) (read : cell ≡ get_or cells v cell) where
   -- a cell that is read is the vertex at its place

@@ -1,9 +1,7 @@
 -- The first direction of a list that is a given one.
-use Rattle.std.proofs.Common.{◌≡◌, ℕ, zero, suc, ◌<◌, List, [], ◌∷◌, Option, Some, None, Contains, length, get_or, if◌then◌else◌, ◌==◌, refl, sym, ◌∙◌, inl, inr, arith, eq-eqb}
+use Rattle.rbg_base.proofs.Common.{◌≡◌, ℕ, zero, suc, ◌<◌, List, [], ◌∷◌, Option, Some, None, Contains, length, get_or, if◌then◌else◌, ◌==◌, refl, sym, ◌∙◌, inl, inr, arith, eq-eqb, get_or_default}
 use Rattle.std.proofs.lemmas.Bool.{cases_eq, cases_order, ne_eqb, cond-true, cond-false}
-use Rattle.std.proofs.lemmas.List.{get_or_default}
-use Rattle.rbg_board.specs.Cells.{AreDifferent}
-use Rattle.rbg_board.specs.Shapes.{choose, first_four, first_six}
+use Rattle.rbg_board.proofs.Common.{AreDifferent, choose, first_four, first_six}
 
 -- the two sides of a choice by equal numbers
 if_same : {A : Type 0} (d k : ℕ) (x y : A) → d ≡ k → (if d == k then x else y) ≡ x

@@ -1,13 +1,6 @@
 -- Laws of the edges: one way for each vertex and direction, and a way back.
-use Rattle.std.proofs.Common.{◌≡◌, ℕ, ◌+◌, ◌*◌, ◌<◌, List, Contains, length, get_or, map, sym, ap, ◌∙◌, subst, arith}
-use Rattle.std.proofs.lemmas.List.{get_or-map, get_or_default, length-map}
-use Rattle.std.proofs.lemmas.Option.{same_Some, slice_get_within, get_or_from_slice_get}
-use Rattle.rbg_board.specs.Cells.{Rows, cells_in, number_along, AreDifferent}
-use Rattle.rbg_board.specs.Rectangle.{RectangleSide, Up, Down, Left, Right, sides, side_opposite, SideStep}
-use Rattle.rbg_board.specs.Hexagon.{Compass, NorthWest, NorthEast, East, SouthEast, SouthWest, West, compass, compass_opposite, CompassStep}
-use Rattle.rbg_board.specs.Written.{Written, names_of, directions_in}
-use Rattle.rbg_board.specs.Shapes.{rectangle_leads, hexagon_leads}
-use Rattle.rbg_board.specs.Laws.{RectanglesLeadOneWay, HexagonsLeadOneWay, GraphsLeadOneWay, RectanglesLeadBack, HexagonsLeadBack}
+use Rattle.rbg_base.proofs.Common.{◌≡◌, ℕ, ◌+◌, ◌*◌, ◌<◌, List, Contains, length, get_or, map, sym, ap, ◌∙◌, subst, arith, get_or-map, get_or_default, length-map, same_Some, slice_get_within, get_or_from_slice_get}
+use Rattle.rbg_board.proofs.Common.{Rows, cells_in, number_along, AreDifferent, RectangleSide, Up, Down, Left, Right, sides, side_opposite, SideStep, Compass, NorthWest, NorthEast, East, SouthEast, SouthWest, West, compass, compass_opposite, CompassStep, Written, names_of, directions_in, rectangle_leads, hexagon_leads, RectanglesLeadOneWay, HexagonsLeadOneWay, GraphsLeadOneWay, RectanglesLeadBack, HexagonsLeadBack}
 use Rattle.rbg_board.proofs.Choices.{same_place}
 use Rattle.rbg_board.proofs.Layouts.{led_one_way}
 use Rattle.rbg_board.proofs.Ways.{edges_lead_back}

@@ -1,14 +1,6 @@
 -- That a table with the rows of all vertices leads as the written edges do.
-use Rattle.std.proofs.Common.{◌≡◌, ℕ, ◌+◌, ◌*◌, ◌<◌, List, [], Option, Some, None, IsSome, IfSome, Contains, length, get_or, take, drop, refl, sym, ap, ◌∙◌, subst, arith, get_or-take, get_or-drop}
-use Rattle.std.proofs.lemmas.List.{get_or-map, get_or_default, length-map}
-use Rattle.std.proofs.lemmas.Option.{slice_get-get_or, slice_get_within, get_or_from_slice_get}
-use Rattle.rbg_board.specs.Graph.{next, IsGraphOf}
-use Rattle.rbg_board.specs.Table.{graph_of_table, IsTable}
-use Rattle.rbg_board.specs.Cells.{AreDifferent}
-use Rattle.rbg_board.specs.Written.{Written, names_of, pieces_of, WrittenEdge, DirectionsDiffer, HasCount, GraphRefusal}
-use Rattle.rbg_board.specs.Wiring.{IsIndex, IsRowOf, EdgesRefusal, WiringRefusal}
-use Rattle.rbg_board.specs.declared.error.BoardError.{BoardError}
-use Rattle.rbg_board.specs.declared.error.BoardError.TheVariants.{NoCell, RowLength, TooManyVertices, SameDirection, UnknownVertex, SameVertex, Memory}
+use Rattle.rbg_base.proofs.Common.{◌≡◌, ℕ, ◌+◌, ◌*◌, ◌<◌, List, [], Option, Some, None, IsSome, IfSome, Contains, length, get_or, take, drop, refl, sym, ap, ◌∙◌, subst, arith, get_or-take, get_or-drop, get_or-map, get_or_default, length-map, slice_get-get_or, slice_get_within, get_or_from_slice_get}
+use Rattle.rbg_board.proofs.Common.{next, IsGraphOf, graph_of_table, IsTable, AreDifferent, Written, names_of, pieces_of, WrittenEdge, DirectionsDiffer, HasCount, GraphRefusal, IsIndex, IsRowOf, EdgesRefusal, WiringRefusal, BoardError, NoCell, RowLength, TooManyVertices, SameDirection, UnknownVertex, SameVertex, Memory}
 use Rattle.rbg_board.proofs.Tables.{next_row, vertex_of_next, all_entries}
 use Rattle.rbg_board.proofs.Indexing.{value_of_some}
 use Rattle.rbg_board.proofs.Wirings.{FillsRows}

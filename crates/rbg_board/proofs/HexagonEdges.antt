@@ -1,13 +1,7 @@
 -- That the code leads from each cell of a hexagon as the definition of its edges does.
-use Rattle.std.proofs.Common.{◌≡◌, ℕ, zero, suc, ◌+◌, ◌<◌, ◌≤◌, ◌⊎◌, List, Option, Some, All, nat_lt, length, refl, sym, ap, ◌∙◌, subst, inl, inr, arith}
-use Rattle.std.specs.List.{concat}
+use Rattle.rbg_base.proofs.Common.{◌≡◌, ℕ, zero, suc, ◌+◌, ◌<◌, ◌≤◌, ◌⊎◌, List, Option, Some, All, nat_lt, length, refl, sym, ap, ◌∙◌, subst, inl, inr, arith, concat}
 use Rattle.std.proofs.lemmas.Bool.{cases_lt, lt-ltb, le-ltb, cond-true, cond-false}
-use Rattle.rbg_board.specs.Graph.{Graph, IsGraphOf, UsesOnly}
-use Rattle.rbg_board.specs.Cells.{Rows, cells_in, IsCell, number_along}
-use Rattle.rbg_board.specs.Hexagon.{Compass, NorthWest, NorthEast, East, SouthEast, SouthWest, West, compass, Grows, Shrinks, SouthWestStep, SouthEastStep, CompassStep, HexagonEdge, GrowsThenShrinks, MakesHexagon}
-use Rattle.rbg_board.specs.Sites.{cells_above, site_at, vertex_above, vertex_below, IsLaidOut}
-use Rattle.rbg_board.specs.Shapes.{cell_before, at_cell, cell_left, cell_right, first_six, way_vertex, hexagon_leads}
-use Rattle.rbg_board.specs.declared.rows.Site.{Site}
+use Rattle.rbg_board.proofs.Common.{Graph, IsGraphOf, UsesOnly, Rows, cells_in, IsCell, number_along, Compass, NorthWest, NorthEast, East, SouthEast, SouthWest, West, compass, Grows, Shrinks, SouthWestStep, SouthEastStep, CompassStep, HexagonEdge, GrowsThenShrinks, MakesHexagon, cells_above, site_at, vertex_above, vertex_below, IsLaidOut, cell_before, at_cell, cell_left, cell_right, first_six, way_vertex, hexagon_leads, Site}
 use Rattle.rbg_board.proofs.Numbering.{row_of_cell}
 use Rattle.rbg_board.proofs.Layouts.{IsLed}
 use Rattle.rbg_board.proofs.Choices.{is_first_six}

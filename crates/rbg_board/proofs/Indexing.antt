@@ -1,9 +1,6 @@
 -- The place of each name, in an index that is built name by name.
-use Rattle.std.proofs.Common.{◌≡◌, ℕ, ◌+◌, ◌<◌, List, Option, Some, None, is_some, true, false, length, get_or, refl, sym, ap, ◌∙◌, inl, inr, arith}
-use Rattle.std.proofs.lemmas.Bool.{cases_lt, cases_eq}
-use Rattle.std.proofs.lemmas.Option.{same_Some}
-use Rattle.rbg_board.specs.Cells.{HasTwice, AreDifferent}
-use Rattle.rbg_board.specs.Wiring.{IsIndex}
+use Rattle.rbg_base.proofs.Common.{◌≡◌, ℕ, ◌+◌, ◌<◌, List, Option, Some, None, is_some, true, false, length, get_or, refl, sym, ap, ◌∙◌, inl, inr, arith, cases_lt, cases_eq, same_Some}
+use Rattle.rbg_board.proofs.Common.{HasTwice, AreDifferent, IsIndex}
 
 -- what is some has a value
 pub value_of_some : (o : Option ℕ) → true ≡ is_some o → (x : ℕ) × (o ≡ Some x)

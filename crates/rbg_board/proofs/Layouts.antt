@@ -1,19 +1,9 @@
 -- What the table of a board of rows says at each cell.
-use Rattle.std.proofs.Common.{◌≡◌, ℕ, zero, suc, ◌+◌, ◌*◌, ◌<◌, ◌≤◌, List, [], ◌∷◌, ◌++◌, Option, Some, None, IfSome, length, get_or, take, refl, sym, ap, ◌∙◌, subst, inl, inr, arith, add-one, length-append}
-use Rattle.std.specs.List.{flat_map, concat}
-use Rattle.std.proofs.Math.Seq.{take-length}
-use Rattle.std.proofs.lemmas.Bool.{cases_lt}
-use Rattle.std.proofs.lemmas.Grind.{flat_map-append}
-use Rattle.std.proofs.lemmas.Option.{same_Some}
+use Rattle.rbg_base.proofs.Common.{◌≡◌, ℕ, zero, suc, ◌+◌, ◌*◌, ◌<◌, ◌≤◌, List, [], ◌∷◌, ◌++◌, Option, Some, None, IfSome, length, get_or, take, refl, sym, ap, ◌∙◌, subst, inl, inr, arith, add-one, length-append, flat_map, concat, take-length, cases_lt, flat_map-append, same_Some}
 use Rattle.std.proofs.lemmas.List.{get_or_append_left, get_or-append-add, length-take-le}
 use Rattle.std.proofs.lemmas.List.Concat.{get_or-flat_map}
 use Rattle.std.proofs.lemmas.List.FromFn.{get_or-map-range_with_len, length-map-range_with_len}
-use Rattle.rbg_board.specs.Graph.{Graph, next, IsGraphOf}
-use Rattle.rbg_board.specs.Table.{graph_of_table, IsTable}
-use Rattle.rbg_board.specs.Cells.{Rows, cells_in, IsCell, number_along}
-use Rattle.rbg_board.specs.Sites.{site_at, IsRow, IsSite, ways_from, sites_along, IsLaidOut}
-use Rattle.rbg_board.specs.declared.rows.Site.{Site}
-use Rattle.rbg_board.specs.Limits.{most_vertices}
+use Rattle.rbg_board.proofs.Common.{Graph, next, IsGraphOf, graph_of_table, IsTable, Rows, cells_in, IsCell, number_along, site_at, IsRow, IsSite, ways_from, sites_along, IsLaidOut, Site, most_vertices}
 use Rattle.rbg_board.proofs.Numbering.{start_of, start-suc, start-le-all, number-lt, number-lt-start, same_cell, cell_of_number, row_of_cell}
 use Rattle.rbg_board.proofs.Tables.{all_entries, next_within, next_past, next_outside}
 

@@ -1,4 +1,5 @@
 -- What the proofs of this crate share. Crates above cite CallerLemmas.
+pub mod Common
 pub mod Tables
 pub mod Numbering
 pub mod Vectors

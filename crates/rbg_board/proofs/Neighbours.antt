@@ -1,10 +1,7 @@
 -- Which vertex lies at a cell of a site's own row, of the row above and of the row below.
-use Rattle.std.proofs.Common.{◌≡◌, ℕ, zero, suc, ◌+◌, ◌-◌, ◌<◌, Option, Some, None, if◌then◌else◌, nat_lt, refl, sym, ap, ◌∙◌, subst, inl, inr, arith, add-one}
+use Rattle.rbg_base.proofs.Common.{◌≡◌, ℕ, zero, suc, ◌+◌, ◌-◌, ◌<◌, Option, Some, None, if◌then◌else◌, nat_lt, refl, sym, ap, ◌∙◌, subst, inl, inr, arith, add-one, same_Some}
 use Rattle.std.proofs.lemmas.Bool.{cases_lt, lt-ltb, le-ltb, cond-true, cond-false}
-use Rattle.std.proofs.lemmas.Option.{same_Some}
-use Rattle.rbg_board.specs.Cells.{Rows, cells_in, IsCell, number_along}
-use Rattle.rbg_board.specs.Sites.{site_at, vertex_above, vertex_here, vertex_below}
-use Rattle.rbg_board.specs.Shapes.{cell_before, at_cell}
+use Rattle.rbg_board.proofs.Common.{Rows, cells_in, IsCell, number_along, site_at, vertex_above, vertex_here, vertex_below, cell_before, at_cell}
 use Rattle.rbg_board.proofs.Numbering.{start_of, start-suc}
 
 -- the vertex at a place of a row, if the row is long enough

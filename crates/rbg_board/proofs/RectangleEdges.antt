@@ -1,11 +1,6 @@
 -- That the code leads from each cell of a rectangle as the definition of its edges does.
-use Rattle.std.proofs.Common.{◌≡◌, ℕ, zero, suc, ◌+◌, ◌*◌, ◌<◌, ◌≤◌, List, Some, All, length, refl, sym, ap, ◌∙◌, arith}
-use Rattle.std.specs.List.{concat}
-use Rattle.rbg_board.specs.Graph.{Graph, IsGraphOf, UsesOnly}
-use Rattle.rbg_board.specs.Cells.{Rows, cells_in, IsCell, number_along}
-use Rattle.rbg_board.specs.Rectangle.{RectangleSide, Up, Down, Left, Right, sides, SideStep, RectangleEdge, IsEven, MakesRectangle}
-use Rattle.rbg_board.specs.Sites.{site_at, vertex_above, vertex_below, IsLaidOut}
-use Rattle.rbg_board.specs.Shapes.{first_four, side_vertex, rectangle_leads}
+use Rattle.rbg_base.proofs.Common.{◌≡◌, ℕ, zero, suc, ◌+◌, ◌*◌, ◌<◌, ◌≤◌, List, Some, All, length, refl, sym, ap, ◌∙◌, arith, concat}
+use Rattle.rbg_board.proofs.Common.{Graph, IsGraphOf, UsesOnly, Rows, cells_in, IsCell, number_along, RectangleSide, Up, Down, Left, Right, sides, SideStep, RectangleEdge, IsEven, MakesRectangle, site_at, vertex_above, vertex_below, IsLaidOut, first_four, side_vertex, rectangle_leads}
 use Rattle.rbg_board.proofs.Numbering.{start_of, start-suc, row_of_cell}
 use Rattle.rbg_board.proofs.Layouts.{IsLed}
 use Rattle.rbg_board.proofs.Choices.{is_first_four}

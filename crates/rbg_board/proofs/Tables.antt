@@ -1,12 +1,9 @@
 -- What a flat table says of the graph that it keeps.
-use Rattle.std.proofs.Common.{◌≡◌, ℕ, zero, suc, ◌+◌, ◌*◌, ◌/◌, ◌%◌, ◌<◌, ◌≤◌, List, [], Option, Some, None, IfSome, All, length, get_or, map, take, drop, refl, sym, ◌∙◌, subst, inl, inr, arith, get_or-drop, get_or-take, length-take, length-drop, ap}
-use Rattle.std.specs.List.{range_with_len}
-use Rattle.std.proofs.lemmas.Bool.{cases_lt}
+use Rattle.rbg_base.proofs.Common.{◌≡◌, ℕ, zero, suc, ◌+◌, ◌*◌, ◌/◌, ◌%◌, ◌<◌, ◌≤◌, List, [], Option, Some, None, IfSome, All, length, get_or, map, take, drop, refl, sym, ◌∙◌, subst, inl, inr, arith, get_or-drop, get_or-take, length-take, length-drop, ap, range_with_len, cases_lt}
 use Rattle.std.proofs.lemmas.List.{get_or_past, get_or_default, length-take-le}
 use Rattle.std.proofs.lemmas.List.FromFn.{get_or-map-range_with_len, length-map-range_with_len}
 use Rattle.std.proofs.lemmas.Nat.{row_fits, mul-add-lt, div_below, mod_below, div-add-mod'}
-use Rattle.rbg_board.specs.Graph.{Graph, next, IsClosed, HasWidth}
-use Rattle.rbg_board.specs.Table.{rows_of_table, graph_of_table, IsTable}
+use Rattle.rbg_board.proofs.Common.{Graph, next, IsClosed, HasWidth, rows_of_table, graph_of_table, IsTable}
 
 module _ (first : List ℕ) (width : ℕ) (table : List (Option ℕ)) where
   -- the row of a vertex

@@ -1,6 +1,5 @@
 -- Rows that are read from a slice of vectors.
-use Rattle.std.proofs.Common.{◌≡◌, ℕ, ◌<◌, List, [], Vec, length, get_or, sym, ap, ◌∙◌, arith}
-use Rattle.std.proofs.lemmas.List.{get_or-map}
+use Rattle.rbg_base.proofs.Common.{◌≡◌, ℕ, ◌<◌, List, [], Vec, length, get_or, sym, ap, ◌∙◌, arith, get_or-map}
 use Rattle.rbg_board.specs.Cells.{rows_of, cells_in}
 
 module _ {Z : Type 0} (vectors : List (Vec ℕ Z)) (r : ℕ) (row : Vec ℕ Z) (is_row : r < length vectors) (read : row ≡ get_or vectors r row) where

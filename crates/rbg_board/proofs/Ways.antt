@@ -1,17 +1,7 @@
 -- The ways out of a cell, one for each of the directions that a board of rows is given: what rectangles and hexagons
 -- share.
-use Rattle.std.proofs.Common.{◌≡◌, ℕ, ◌+◌, ◌<◌, List, Option, Some, None, All, Contains, length, map, get_or, option_map, refl, sym, ap, ◌∙◌, subst, inl, inr, arith}
-use Rattle.std.specs.List.{concat, slice_get}
-use Rattle.std.proofs.lemmas.List.{length-map}
-use Rattle.std.proofs.lemmas.Option.{get_or_from_slice_get, same_Some, slice_get_cases, slice_get-get_or, slice_get-map, slice_get_within}
-use Rattle.rbg_board.specs.Graph.{Graph, IsGraphOf, UsesOnly}
-use Rattle.rbg_board.specs.Cells.{Rows, IsCell, number_along, AreDifferent}
-use Rattle.rbg_board.specs.Sites.{site_at, vertex_here, IsLaidOut}
-use Rattle.rbg_board.specs.Shapes.{cell_before, at_cell, choose}
-use Rattle.rbg_board.specs.Steps.{IsStep}
-use Rattle.rbg_board.specs.RowEdges.{RowsEdge}
-use Rattle.rbg_board.specs.Laws.{RowsLeadBack}
-use Rattle.rbg_board.specs.declared.rows.Site.{Site}
+use Rattle.rbg_base.proofs.Common.{◌≡◌, ℕ, ◌+◌, ◌<◌, List, Option, Some, None, All, Contains, length, map, get_or, option_map, refl, sym, ap, ◌∙◌, subst, inl, inr, arith, concat, slice_get, length-map, get_or_from_slice_get, same_Some, slice_get_cases, slice_get-get_or, slice_get-map, slice_get_within}
+use Rattle.rbg_board.proofs.Common.{Graph, IsGraphOf, UsesOnly, Rows, IsCell, number_along, AreDifferent, site_at, vertex_here, IsLaidOut, cell_before, at_cell, choose, IsStep, RowsEdge, RowsLeadBack, Site}
 use Rattle.rbg_board.proofs.Choices.{contains_entry, choose_some, choose_at, same_place}
 use Rattle.rbg_board.proofs.Layouts.{IsLed, graph_of_layout}
 use Rattle.rbg_board.proofs.Neighbours.{at_cell_some, cell_before_some, here_some}

@@ -1,11 +1,8 @@
 -- How wide a table has to be for the directions of a list.
-use Rattle.std.proofs.Common.{◌≡◌, ℕ, zero, suc, ◌+◌, ◌<◌, ◌≤◌, max, List, [], ◌∷◌, ◌++◌, All, length, get_or, take, refl, ap, ◌∙◌, arith}
-use Rattle.std.proofs.lemmas.Grind.{flat_map-append}
+use Rattle.rbg_base.proofs.Common.{◌≡◌, ℕ, zero, suc, ◌+◌, ◌<◌, ◌≤◌, max, List, [], ◌∷◌, ◌++◌, All, length, get_or, take, refl, ap, ◌∙◌, arith, flat_map-append}
 use Rattle.std.proofs.lemmas.List.{take_more, length-map, get_or-map, append-nil}
 use Rattle.std.proofs.lemmas.List.Recursion.{max_push, max_bounds, max_least}
-use Rattle.rbg_board.specs.Cells.{width_of}
-use Rattle.rbg_board.specs.Written.{Written, directions_in, directions_of}
-use Rattle.rbg_board.specs.Wiring.{AllCovered}
+use Rattle.rbg_board.proofs.Common.{width_of, Written, directions_in, directions_of, AllCovered}
 
 -- the direction of an entry, and one more
 abbrev past : ℕ → ℕ

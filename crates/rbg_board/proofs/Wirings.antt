@@ -1,12 +1,7 @@
 -- A row of a table that is filled with the edges of a vertex, one after another.
-use Rattle.std.proofs.Common.{◌≡◌, ◌≢◌, ℕ, ◌+◌, ◌*◌, ◌<◌, ◌≤◌, List, ◌++◌, Option, Some, None, length, get_or, set, map, take, drop, sym, ap, ◌∙◌, subst, inl, inr, arith, length-append, length-drop, get_or-drop}
-use Rattle.std.proofs.lemmas.Bool.{cases_lt, cases_eq}
-use Rattle.std.proofs.lemmas.Option.{same_Some}
+use Rattle.rbg_base.proofs.Common.{◌≡◌, ◌≢◌, ℕ, ◌+◌, ◌*◌, ◌<◌, ◌≤◌, List, ◌++◌, Option, Some, None, length, get_or, set, map, take, drop, sym, ap, ◌∙◌, subst, inl, inr, arith, length-append, length-drop, get_or-drop, cases_lt, cases_eq, same_Some, row_fits}
 use Rattle.std.proofs.lemmas.List.{length-set, take-set-le, get_or-set_same, get_or-set_other, get_or-map, length-map, get_or_default, take-append-drop, drop-append-le, take-append-le, take_all, drop_at}
-use Rattle.std.proofs.lemmas.Nat.{row_fits}
-use Rattle.rbg_board.specs.Cells.{AreDifferent}
-use Rattle.rbg_board.specs.Written.{Written}
-use Rattle.rbg_board.specs.Wiring.{IsRowOf, AddsRow}
+use Rattle.rbg_board.proofs.Common.{AreDifferent, Written, IsRowOf, AddsRow}
 
 abbrev Edge : Type 0
 Edge = ℕ × ℕ

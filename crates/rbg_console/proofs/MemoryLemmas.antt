@@ -1,12 +1,7 @@
 -- Lemmas on files in memory.
-use Rattle.std.proofs.Common.{◌≡◌, ◌≢◌, ◌∙◌, ℕ, List, Bool, true, false, ap, refl, sym}
-use Rattle.std.specs.Global.{Global}
-use Rattle.std.specs.Prelude.{Some, String, Vec, string_bytes, if◌then◌else◌}
+use Rattle.std.proofs.Common.{◌≡◌, ◌≢◌, ◌∙◌, ℕ, List, Bool, true, false, ap, refl, sym, Global, Some, String, Vec, string_bytes, if◌then◌else◌, string_cmp, nat_cmp, bytes_eq}
 use Rattle.std.specs.BTreeMap.{BTreeMap, UpdatesBy, get_by_text}
-use Rattle.std.specs.String.{string_cmp}
 use Rattle.std.specs.Cmp.Lexicographic.{slice_cmp}
-use Rattle.std.specs.Ordering.{nat_cmp}
-use Rattle.std.specs.Str.{bytes_eq}
 use Rattle.std.proofs.lemmas.Map.Text.{btree_map_updates_text}
 use Rattle.std.proofs.lemmas.Slice.Eq.{bytes_eq-Decides}
 

@@ -1,10 +1,6 @@
 -- Steps of the proofs about small games.
-use Rattle.std.proofs.Common.{◌≡◌, ◌≢◌, ℕ, zero, suc, List, [], ◌∷◌, ◌++◌, refl, sym, ap, ◌∙◌, subst, ◌⊎◌, inl, inr, arith, false, ◌==◌}
-use Rattle.std.specs.Prelude.{All, Some, slice_get}
-use Rattle.std.specs.List.{list_any}
-use Rattle.std.specs.Str.{bytes_eq}
+use Rattle.rbg_base.proofs.Common.{◌≡◌, ◌≢◌, ℕ, zero, suc, List, [], ◌∷◌, ◌++◌, refl, sym, ap, ◌∙◌, subst, ◌⊎◌, inl, inr, arith, false, ◌==◌, All, Some, slice_get, list_any, bytes_eq, bytes_eq-Decides}
 use Rattle.std.proofs.lemmas.Bool.{or_parts, eq-eqb}
-use Rattle.std.proofs.lemmas.Slice.Eq.{bytes_eq-Decides}
 use Rattle.rbg_rules.specs.Meaning.{AbstractAction, Expression, act, sequence_of, HasOwnAction, IsNumbered, IsSwitchAt, HasNoSwitch, outermost, Word, Follows, after, AbstractGame, AbstractState, Applies, RunPairs, stay, modify, pass, AbstractPlace, Legal, IsLegal, stand_of, IsJoinOfWords}
 use Rattle.rbg_rules.proofs.PositionLemmas.{Among, Among_right}
 use Rattle.rbg_rules.proofs.PatternLemmas.{word_own}

@@ -1,6 +1,5 @@
 -- A star of offs, whose position is 2: so many of them, and their pairs at the vertex 0.
-use Rattle.std.proofs.Common.{◌≡◌, ℕ, zero, suc, List, [], ◌∷◌, length, refl, ap}
-use Rattle.std.proofs.lemmas.List.Elements.{All-cons, All-nil}
+use Rattle.rbg_base.proofs.Common.{◌≡◌, ℕ, zero, suc, List, [], ◌∷◌, length, refl, ap, All-cons, All-nil}
 use Rattle.rbg_rules.specs.Meaning.{off, act, Expression, IsSwitchAt, HasNoSwitch, Repeats, done, again, Word}
 
 unfoldable pub offs : ℕ → List ℕ

@@ -1,9 +1,6 @@
 -- What stands at the positions of small rules, found by computing it.
-use Rattle.std.proofs.Common.{◌≡◌, ℕ, List, [], ◌∷◌, ◌++◌, refl, sym, ap, ◌∙◌, inl, inr, ◌==◌, Bool, true, false}
-use Rattle.std.specs.Prelude.{◌&&◌, ◌||◌}
-use Rattle.std.specs.List.{list_any}
+use Rattle.rbg_base.proofs.Common.{◌≡◌, ℕ, List, [], ◌∷◌, ◌++◌, refl, sym, ap, ◌∙◌, inl, inr, ◌==◌, Bool, true, false, ◌&&◌, ◌||◌, list_any, All-cons, All-nil}
 use Rattle.std.proofs.lemmas.Bool.{or_parts, eq-eqb}
-use Rattle.std.proofs.lemmas.List.Elements.{All-cons, All-nil}
 use Rattle.std.proofs.Math.Bool.{not}
 use Rattle.rbg_rules.specs.Meaning.{AbstractAction, switch, positive, negative, Expression, act, skip, sequence, fail, choice, star, HasAction, HasInside, IsSwitchAt, IsPatternAt, HasNoSwitch, is_modifier, is_pattern, Word, AbstractGame, AbstractState, Applies}
 use Rattle.rbg_rules.proofs.PositionLemmas.{Among, Among_cases}

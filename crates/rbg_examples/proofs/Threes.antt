@@ -1,7 +1,5 @@
 -- Lists of three openings.
-use Rattle.std.proofs.Common.{◌≢◌, List, [], ◌∷◌, arith}
-use Rattle.std.specs.Prelude.{All, AllPairs}
-use Rattle.std.proofs.lemmas.List.Elements.{All-cons, All-nil}
+use Rattle.rbg_base.proofs.Common.{◌≢◌, List, [], ◌∷◌, arith, All, AllPairs, All-cons, All-nil}
 use Rattle.std.proofs.lemmas.List.Kept.{AllPairs-cons}
 use Rattle.rbg_rules.specs.Meaning.{Item}
 

@@ -1,15 +1,12 @@
 -- What is met by leaps are the candidates.
-use Rattle.std.proofs.Common.{◌≡◌, ℕ, List, [], ◌∷◌, ◌++◌, Bool, true, false, refl, sym, ap, ◌∙◌, subst, inl, inr, append_assoc}
-use Rattle.std.proofs.lemmas.List.Elements.{All-nil, All-cons, All-head, All-tail, All-append}
-use Rattle.std.specs.Prelude.{Some}
+use Rattle.rbg_base.proofs.Common.{◌≡◌, ℕ, List, [], ◌∷◌, ◌++◌, Bool, true, false, refl, sym, ap, ◌∙◌, subst, inl, inr, append_assoc, All-nil, All-cons, All-head, All-tail, All-append, Some}
 use Rattle.rbg_board.specs.Graph.{next}
 use Rattle.rbg_rules.specs.Meaning.{AbstractAction, shift, on, off, assignment, comparison, switch, positive, negative, IsNumbered, IsModifierAt, HasNoModifier, HasAction, is_modifier, Start, after, Follows, Ends, AbstractGame, AbstractState, rest, step, Acts, Applies, Run}
 use Rattle.rbg_rules.proofs.RunLemmas.{Runs_join}
 use Rattle.rbg_rules.proofs.PositionLemmas.{one_stands}
 use Rattle.rbg_rules.proofs.LocalityLemmas.{locality_law}
 use Rattle.rbg_leaps.specs.Leaps.{IsShiftAt, Leads, stay, go, IsLeap, EndsAcross}
-use Rattle.rbg_flat.specs.Candidates.{IsCandidate, MayEnd}
-use Rattle.rbg_flat.specs.Chains.{at_vertex, Holds, IsMet, first, then, EndsMet, ChainLaw}
+use Rattle.rbg_flat.proofs.Common.{IsCandidate, MayEnd, at_vertex, Holds, IsMet, first, then, EndsMet, ChainLaw}
 
 -- An action that is applied and is no modifier is a shift, or it is none and leaves all as it is.
 pub data QuietStep (game : AbstractGame) (q : ℕ) (s t : AbstractState) : Type 0 where

@@ -1,7 +1,5 @@
 -- What was looked at stays so, and what else is looked at.
-use Rattle.std.proofs.Common.{◌≡◌, ℕ, ◌/◌, ◌%◌, ◌⊎◌, inl, inr, arith}
-use Rattle.std.specs.Int.{bit_at}
-use native.Mathlib.Decide.{ℕ_discrete}
+use Rattle.rbg_base.proofs.Common.{◌≡◌, ℕ, ◌/◌, ◌%◌, ◌⊎◌, inl, inr, arith, bit_at, ℕ_discrete}
 use Rattle.rbg_flat.specs.internal.Sets.{SetsOfVertices, IsMarked, IsOpen, IsInWord, Meets, ClosesWord, IsDone, KeepsDone}
 use Rattle.rbg_flat.proofs.Trying.{marked_then, marked_before}
 

@@ -1,24 +1,11 @@
 -- Places from which nothing goes on.
-use Rattle.std.proofs.Common.{rules, ◌≡◌, ◌≢◌, ℕ, ◌+◌, ◌*◌, ◌%◌, ◌<◌, ◌≤◌, ◌⊎◌, inl, inr, List, [], ◌∷◌, ◌++◌, length, get_or, take, Bool, refl, sym, ap, subst, ◌∙◌, arith}
-use Rattle.std.specs.Prelude.{◌↔◌, Contains, IsTrue}
-use Rattle.std.specs.Int.{bit_at}
-use native.Mathlib.Decide.{ℕ_discrete}
+use Rattle.rbg_base.proofs.Common.{rules, ◌≡◌, ◌≢◌, ℕ, ◌+◌, ◌*◌, ◌%◌, ◌<◌, ◌≤◌, ◌⊎◌, inl, inr, List, [], ◌∷◌, ◌++◌, length, get_or, take, Bool, refl, sym, ap, subst, ◌∙◌, arith, ◌↔◌, Contains, IsTrue, bit_at, ℕ_discrete, bit_at-zero, length_push, All-push, All-weaker, Contains-push, Contains-push_cases, Contains-append_left}
 use Rattle.std.proofs.Math.Nat.{le-mul_of_pos_right}
-use Rattle.std.proofs.lemmas.Nat.Bits.{bit_at-zero}
-use Rattle.std.proofs.lemmas.List.{length_push}
-use Rattle.std.proofs.lemmas.List.Elements.{All-push, All-weaker, Contains-push, Contains-push_cases, Contains-append_left}
 use Rattle.std.proofs.lemmas.List.Quantifiers.{all_pairs_push}
 use Rattle.rbg_rules.specs.Meaning.{IsGame, IsModifierAt, positions_of, AbstractGame, AbstractState, IsStateOf, Start}
-use Rattle.rbg_leaps.specs.Asked.{AreTargetsFrom}
-use Rattle.rbg_leaps.specs.Leaps.{IsLeap, EndsAcross}
+use Rattle.rbg_leaps.proofs.Common.{AreTargetsFrom, IsLeap, EndsAcross}
 use Rattle.rbg_leaps.specs.declared.target.Target.{Target}
-use Rattle.rbg_flat.specs.Candidates.{IsCandidate}
-use Rattle.rbg_flat.specs.Chains.{at_vertex, Holds, IsMet, first, then, EndsMet}
-use Rattle.rbg_flat.specs.Ending.{IsDeadEnd}
-use Rattle.rbg_flat.specs.internal.Ending.{AreDead, IsDead, IsDeadTarget, IsFilledTarget}
-use Rattle.rbg_flat.specs.internal.Leading.{IsAmong}
-use Rattle.rbg_flat.specs.internal.Passing.{IsToTry}
-use Rattle.rbg_flat.specs.internal.Sets.{IsInWord}
+use Rattle.rbg_flat.proofs.Common.{IsCandidate, at_vertex, Holds, IsMet, first, then, EndsMet, IsDeadEnd, AreDead, IsDead, IsDeadTarget, IsFilledTarget, IsAmong, IsToTry, IsInWord}
 use Rattle.rbg_flat.proofs.ChainLemmas.{candidate_of, met_of, met_end_of, end_of}
 use Rattle.rbg_flat.proofs.Leadings.{one_more, among_apart, among_first, among_second, none_among}
 use Rattle.rbg_flat.proofs.Leaping.{among_leap, leap_among}

@@ -1,19 +1,10 @@
 -- What is found in the end.
-use Rattle.std.proofs.Common.{◌≡◌, ℕ, ◌+◌, ◌*◌, ◌/◌, ◌^◌, ◌<◌, ◌≤◌, ◌⊎◌, inl, inr, List, [], ◌++◌, Bool, true, false, length, get_or, refl, sym, ap, subst, ◌∙◌, arith}
-use Rattle.std.specs.Prelude.{All, IsTrue, ◌↔◌}
-use Rattle.std.proofs.lemmas.Nat.{mul-le, div-mul-add}
+use Rattle.rbg_base.proofs.Common.{◌≡◌, ℕ, ◌+◌, ◌*◌, ◌/◌, ◌^◌, ◌<◌, ◌≤◌, ◌⊎◌, inl, inr, List, [], ◌++◌, Bool, true, false, length, get_or, refl, sym, ap, subst, ◌∙◌, arith, All, IsTrue, ◌↔◌, mul-le, div-mul-add, Contains-get_or, ℕ_discrete}
 use Rattle.std.proofs.lemmas.List.{length-append, length-map}
-use Rattle.std.proofs.lemmas.List.Elements.{Contains-get_or}
-use native.Mathlib.Decide.{ℕ_discrete}
 use Rattle.rbg_rules.specs.Meaning.{AbstractAction, shift, on, off, assignment, comparison, switch, positive, negative, IsGame, HasAction, IsModifierAt, IsNumbered, is_modifier, positions_of, AbstractGame, AbstractState, Acts, Applies, Start}
 use Rattle.rbg_rules.proofs.PositionLemmas.{one_stands}
 use Rattle.rbg_state.proofs.Trying.{same_value}
-use Rattle.rbg_flat.specs.Found.{IsFound, AreFound, HasCandidates, most_candidates}
-use Rattle.rbg_flat.specs.internal.Begun.{IsBegun}
-use Rattle.rbg_flat.specs.internal.Gathering.{Lists, at_position, Gathers, Keeps, IsGone, IsKept, Gathered}
-use Rattle.rbg_flat.specs.internal.Leading.{AreOn}
-use Rattle.rbg_flat.specs.internal.Sets.{SetsOfVertices, IsMarked, IsOpen}
-use Rattle.rbg_flat.specs.internal.Places.{ForgetsPlace, IsMetAt}
+use Rattle.rbg_flat.proofs.Common.{IsFound, AreFound, HasCandidates, most_candidates, IsBegun, Lists, at_position, Gathers, Keeps, IsGone, IsKept, Gathered, AreOn, SetsOfVertices, IsMarked, IsOpen, ForgetsPlace, IsMetAt}
 use Rattle.rbg_flat.proofs.ChainLemmas.{candidate_of, met_of}
 use Rattle.rbg_flat.proofs.Numberings.{HasNumber, few_pairs}
 use Rattle.rbg_flat.proofs.Lists.{lists_none, lists_same, lists_join, lists_map}

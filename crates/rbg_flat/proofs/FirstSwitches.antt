@@ -1,11 +1,7 @@
 -- The first switch among modifiers that are kept by words.
-use Rattle.std.proofs.Common.{◌≡◌, ◌⊎◌, ◌<◌, ◌+◌, ℕ, List, Option, Some, None, All, Contains, take, length, get_or, IfSome, IfNone, inl, inr, sym, ap, subst, arith}
-use Rattle.std.proofs.lemmas.List.{take_more}
-use Rattle.std.proofs.lemmas.List.Elements.{All-push, All-weaker, All-contains, All-contains_itself, Contains-get_or, Contains-push_cases}
+use Rattle.rbg_base.proofs.Common.{◌≡◌, ◌⊎◌, ◌<◌, ◌+◌, ℕ, List, Option, Some, None, All, Contains, take, length, get_or, IfSome, IfNone, inl, inr, sym, ap, subst, arith, take_more, All-push, All-weaker, All-contains, All-contains_itself, Contains-get_or, Contains-push_cases}
 use Rattle.rbg_rules.specs.Meaning.{Expression, IsSwitchAt}
-use Rattle.rbg_flat.specs.Order.{IsBefore}
-use Rattle.rbg_flat.specs.internal.Bits.{pairs_in, first_of, first_at, IsFilled}
-use Rattle.rbg_flat.specs.declared.found.Word.{Word}
+use Rattle.rbg_flat.proofs.Common.{IsBefore, pairs_in, first_of, first_at, IsFilled, Word}
 use Rattle.rbg_flat.proofs.Spellings.{in_flat, of_flat, first_there, first_least, position_of, not_sooner}
 
 -- The first pair of a word is one of all.

@@ -1,10 +1,6 @@
 -- How words are gathered.
-use Rattle.std.proofs.Common.{◌≡◌, ℕ, ◌+◌, ◌*◌, ◌/◌, ◌%◌, ◌^◌, ◌<◌, ◌≤◌, List, Bool, true, false, get_or, sym, ap, subst, ◌∙◌, arith}
-use Rattle.std.specs.Prelude.{count_ones}
-use Rattle.std.specs.Int.{bit_at}
-use Rattle.rbg_flat.specs.internal.Gathering.{IsBitOf, PushesWord, Gathers}
-use Rattle.rbg_flat.specs.internal.Places.{IsMetAt}
-use Rattle.rbg_flat.specs.internal.Sets.{SetsOfVertices}
+use Rattle.rbg_base.proofs.Common.{◌≡◌, ℕ, ◌+◌, ◌*◌, ◌/◌, ◌%◌, ◌^◌, ◌<◌, ◌≤◌, List, Bool, true, false, get_or, sym, ap, subst, ◌∙◌, arith, count_ones, bit_at}
+use Rattle.rbg_flat.proofs.Common.{IsBitOf, PushesWord, Gathers, IsMetAt, SetsOfVertices}
 use Rattle.rbg_flat.proofs.Lists.{lists_count}
 use Rattle.rbg_flat.proofs.Ones.{counted}
 

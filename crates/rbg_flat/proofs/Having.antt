@@ -1,10 +1,6 @@
 -- Whether a pair is among modifiers that are kept by words.
-use Rattle.std.proofs.Common.{◌≡◌, ℕ, ◌+◌, ◌-◌, ◌<◌, ◌≤◌, List, All, Contains, true, false, length, take, get_or, sym, ap, subst, arith}
-use Rattle.std.proofs.lemmas.List.{take_more}
-use Rattle.std.proofs.lemmas.List.Elements.{All-contains, All-push, Contains-get_or}
-use Rattle.std.specs.Int.{bit_at}
-use Rattle.rbg_flat.specs.internal.Bits.{pairs_of, pairs_in}
-use Rattle.rbg_flat.specs.declared.found.Word.{Word}
+use Rattle.rbg_base.proofs.Common.{◌≡◌, ℕ, ◌+◌, ◌-◌, ◌<◌, ◌≤◌, List, All, Contains, true, false, length, take, get_or, sym, ap, subst, arith, take_more, All-contains, All-push, Contains-get_or, bit_at}
+use Rattle.rbg_flat.proofs.Common.{pairs_of, pairs_in, Word}
 use Rattle.rbg_flat.proofs.Spellings.{IsPairOf, pair_of, pair_there, in_flat, of_flat}
 
 module _ (w : Word) (v p : ℕ) where

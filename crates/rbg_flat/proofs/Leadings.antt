@@ -1,11 +1,7 @@
 -- Targets of leaps, one after another.
-use Rattle.std.proofs.Common.{◌≡◌, ℕ, ◌+◌, ◌<◌, ◌⊎◌, inl, inr, List, [], ◌∷◌, ◌++◌, length, get_or, take, sym, subst, arith}
-use Rattle.std.specs.Prelude.{Contains}
-use Rattle.std.proofs.lemmas.List.{take_more}
-use Rattle.std.proofs.lemmas.List.Elements.{Contains-push, Contains-push_cases, Contains-append_left}
+use Rattle.rbg_base.proofs.Common.{◌≡◌, ℕ, ◌+◌, ◌<◌, ◌⊎◌, inl, inr, List, [], ◌∷◌, ◌++◌, length, get_or, take, sym, subst, arith, Contains, take_more, Contains-push, Contains-push_cases, Contains-append_left}
 use Rattle.rbg_leaps.specs.declared.target.Target.{Target}
-use Rattle.rbg_flat.specs.internal.Sets.{SetsOfVertices, IsInWord, Meets}
-use Rattle.rbg_flat.specs.internal.Leading.{IsAmong}
+use Rattle.rbg_flat.proofs.Common.{SetsOfVertices, IsInWord, Meets, IsAmong}
 use Rattle.rbg_flat.proofs.Meetings.{meets_both}
 
 pub none_among : (v p : ℕ) → ¬ IsAmong [] v p

@@ -1,17 +1,12 @@
 -- What targets tell of leaps.
-use Rattle.std.proofs.Common.{◌≡◌, ℕ, ◌<◌, ◌≤◌, ◌⊎◌, inl, inr, List, [], ◌∷◌, ◌++◌, length, get_or, sym, subst, ◌∙◌}
-use Rattle.std.specs.Prelude.{Contains, All}
-use Rattle.std.proofs.lemmas.List.Elements.{Contains-get_or}
+use Rattle.rbg_base.proofs.Common.{◌≡◌, ℕ, ◌<◌, ◌≤◌, ◌⊎◌, inl, inr, List, [], ◌∷◌, ◌++◌, length, get_or, sym, subst, ◌∙◌, Contains, All, Contains-get_or}
 use Rattle.rbg_rules.specs.Meaning.{IsNumbered, positions_of, AbstractGame, Start, after, Follows, IsGame}
 use Rattle.rbg_rules.proofs.LocalityLemmas.{locality_law}
 use Rattle.rbg_leaps.specs.declared.target.Target.{Target}
-use Rattle.rbg_leaps.specs.Asked.{AreTargetsFrom}
+use Rattle.rbg_leaps.proofs.Common.{AreTargetsFrom, IsLeap, Leads, stay, go, row_words}
 use Rattle.rbg_board.specs.Graph.{IsClosed}
-use Rattle.rbg_leaps.specs.Leaps.{IsLeap, Leads, stay, go}
 use Rattle.rbg_leaps.proofs.ShiftLemmas.{follower_stands, action_within}
-use Rattle.rbg_flat.specs.internal.Sets.{SetsOfVertices, HasBitAt, IsMarked, IsOpen, Meets, ClosesWord}
-use Rattle.rbg_leaps.specs.Limits.{row_words}
-use Rattle.rbg_flat.specs.internal.Leading.{IsAmong, IsTargetFor, IsPositionIn, AreOn, AreSizedFor}
+use Rattle.rbg_flat.proofs.Common.{SetsOfVertices, HasBitAt, IsMarked, IsOpen, Meets, ClosesWord, IsAmong, IsTargetFor, IsPositionIn, AreOn, AreSizedFor}
 
 -- What follows stands in the rules.
 pub within : (game : AbstractGame) → IsNumbered game.rules → (f : Start) (m : List ℕ) (p : ℕ) → Follows game.rules f (m ++ p ∷ []) → (0 < p) × (p ≤ length (positions_of game.rules))

@@ -1,4 +1,5 @@
 -- Lemmas, by topic.
+pub mod Common
 pub mod ChainLemmas
 pub mod Listings
 pub mod Steps

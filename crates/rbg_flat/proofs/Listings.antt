@@ -1,18 +1,12 @@
 -- Words of bits, of which those that have bits are listed.
-use Rattle.std.proofs.Common.{◌≡◌, ◌≢◌, ℕ, ◌+◌, ◌-◌, ◌<◌, ◌≤◌, ◌⊎◌, List, [], ◌∷◌, ◌++◌, true, length, get_or, take, slice_set, sym, ap, ◌∙◌, subst, inl, inr, arith}
-use Rattle.std.specs.Prelude.{Contains, All, AllPairs, nat_eq, ◌↔◌}
-use Rattle.std.specs.List.{list_any, IsDistinct}
+use Rattle.rbg_base.proofs.Common.{◌≡◌, ◌≢◌, ℕ, ◌+◌, ◌-◌, ◌<◌, ◌≤◌, ◌⊎◌, List, [], ◌∷◌, ◌++◌, true, length, get_or, take, slice_set, sym, ap, ◌∙◌, subst, inl, inr, arith, Contains, All, AllPairs, nat_eq, ◌↔◌, list_any, IsDistinct, Decides-eqb, All-push, Contains-push, Contains-push_cases, Contains-append_left, Contains-get_or, All-contains, ℕ_discrete}
 use Rattle.std.proofs.lemmas.Bool.{eqb-true}
-use Rattle.std.proofs.lemmas.Bool.Decides.{Decides-eqb}
 use Rattle.std.proofs.lemmas.List.{length-set, length_push, get_or-set_same, get_or-set_other, length-take-le, take_more_set, take_more, get_or-take, get_or_default}
-use Rattle.std.proofs.lemmas.List.Elements.{All-push, Contains-push, Contains-push_cases, Contains-append_left, Contains-get_or, All-contains}
 use Rattle.std.proofs.lemmas.List.Quantifiers.{all_pairs_push}
 use Rattle.std.proofs.lemmas.Map.Made.{IsDistinct-from_AllPairs}
 use Rattle.std.proofs.lemmas.Map.Steps.{length-le_from_distinct_below}
 use Rattle.std.proofs.lemmas.Map.Views.{Contains-from_any}
-use native.Mathlib.Decide.{ℕ_discrete}
-use Rattle.rbg_flat.specs.internal.Sets.{IsLastOf}
-use Rattle.rbg_flat.specs.internal.Table.{AreListed}
+use Rattle.rbg_flat.proofs.Common.{IsLastOf, AreListed}
 
 module _ (words room : List ℕ) (many : ℕ) (are : AreListed words room many) where
   abbrev listed : List ℕ

@@ -1,8 +1,6 @@
 -- Lists that hold all of which something is so, each once.
-use Rattle.std.proofs.Common.{◌≡◌, ◌≢◌, ℕ, zero, suc, ◌<◌, ◌≤◌, ◌⊎◌, inl, inr, List, [], ◌∷◌, ◌++◌, length, get_or, map, sym, ap, subst, ◌∙◌, arith}
-use Rattle.std.specs.Prelude.{Contains, All, AllPairs}
+use Rattle.rbg_base.proofs.Common.{◌≡◌, ◌≢◌, ℕ, zero, suc, ◌<◌, ◌≤◌, ◌⊎◌, inl, inr, List, [], ◌∷◌, ◌++◌, length, get_or, map, sym, ap, subst, ◌∙◌, arith, Contains, All, AllPairs, All-head, All-tail, All-append, Contains-append_cases, Contains-append_left, Contains-append_right, Contains-get_or}
 use Rattle.std.proofs.lemmas.List.{length-append, length-map, get_or-map}
-use Rattle.std.proofs.lemmas.List.Elements.{All-head, All-tail, All-append, Contains-append_cases, Contains-append_left, Contains-append_right, Contains-get_or}
 use Rattle.std.proofs.lemmas.List.Kept.{AllPairs-cons}
 use Rattle.rbg_base.proofs.CallerLemmas.{Contains-map}
 use Rattle.rbg_flat.specs.internal.Gathering.{Lists}

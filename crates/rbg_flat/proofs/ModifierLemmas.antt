@@ -1,17 +1,12 @@
 -- Of which kind the actions of the program are.
-use Rattle.std.specs.Prelude.{IsTrue}
-use Rattle.std.proofs.Common.{◌≡◌, ◌<◌, ℕ, List, ◌⊎◌, Bool, true, false, inl, inr, refl, sym, ap, subst, ◌∙◌, arith}
+use Rattle.std.proofs.Common.{IsTrue, ◌≡◌, ◌<◌, ℕ, List, ◌⊎◌, Bool, true, false, inl, inr, refl, sym, ap, subst, ◌∙◌, arith}
 use Rattle.rbg_rules.specs.Meaning.{AbstractAction, shift, on, off, comparison, switch, positive, negative, Expression, HasAction, IsNumbered, IsModifierAt, IsPatternAt, is_modifier, is_pattern, AbstractGame, AbstractState, Stands}
 use Rattle.rbg_rules.specs.declared.rule.Action.{Action}
 use Rattle.rbg_rules.specs.declared.rule.Action.TheVariants.{Shift, On, Off, Assign, Compare, Switch, Positive, Negative}
 use Rattle.rbg_rules.proofs.PositionLemmas.{one_stands}
 use Rattle.rbg_leaps.proofs.ShiftLemmas.{action_within}
-use Rattle.rbg_flat.specs.declared.paths.Facts.{Facts}
-use Rattle.rbg_flat.specs.declared.paths.Kind.{Kind}
+use Rattle.rbg_flat.proofs.Common.{Facts, Kind, AreShown, IsKind, IsComparisonAt, IsSureAt, Keeps, ShowsFacts, HasNoPieces, HasPieces}
 use Rattle.rbg_flat.specs.declared.paths.Kind.TheVariants.{OnEither, Modifier, Pattern, On as OnOne, Comparison, Plain}
-use Rattle.rbg_flat.specs.Paths.{AreShown, IsKind, IsComparisonAt, IsSureAt}
-use Rattle.rbg_flat.specs.internal.Gathering.{Keeps}
-use Rattle.rbg_flat.specs.internal.Shown.{ShowsFacts, HasNoPieces, HasPieces}
 
 true_not_false : true ≡ false → ⊥
 true_not_false e = cc

@@ -1,11 +1,6 @@
 -- There are no more pairs than numbers for them.
-use Rattle.std.proofs.Common.{◌≡◌, ◌≢◌, ℕ, ◌+◌, ◌-◌, ◌*◌, ◌/◌, ◌%◌, ◌<◌, ◌≤◌, List, map, length, get_or, suc, zero, true, sym, ap, ◌∙◌, arith}
-use Rattle.std.specs.Prelude.{All, AllPairs, Contains, nat_eq}
-use Rattle.std.specs.List.{list_any, IsDistinct}
-use Rattle.std.proofs.lemmas.Nat.{div-mul-add, mod-mul-add}
+use Rattle.rbg_base.proofs.Common.{◌≡◌, ◌≢◌, ℕ, ◌+◌, ◌-◌, ◌*◌, ◌/◌, ◌%◌, ◌<◌, ◌≤◌, List, map, length, get_or, suc, zero, true, sym, ap, ◌∙◌, arith, All, AllPairs, Contains, nat_eq, list_any, IsDistinct, div-mul-add, mod-mul-add, Decides-eqb, get_or-map, length-map}
 use Rattle.std.proofs.lemmas.Bool.{eqb-true}
-use Rattle.std.proofs.lemmas.Bool.Decides.{Decides-eqb}
-use Rattle.std.proofs.lemmas.List.{get_or-map, length-map}
 use Rattle.std.proofs.lemmas.Map.Made.{IsDistinct-from_AllPairs}
 use Rattle.std.proofs.lemmas.Map.Steps.{length-le_from_distinct_below}
 use Rattle.std.proofs.lemmas.Map.Views.{Contains-from_any}

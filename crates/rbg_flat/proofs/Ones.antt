@@ -1,14 +1,8 @@
 -- The bits of a word, as a list: it has as many as are set.
-use Rattle.std.proofs.Common.{◌≡◌, ℕ, zero, suc, ◌+◌, ◌*◌, ◌/◌, ◌%◌, ◌^◌, ◌<◌, ◌⊎◌, inl, inr, List, [], ◌∷◌, length, map, refl, sym, ap, subst, ◌∙◌, arith, add-one}
-use Rattle.std.specs.Prelude.{count_ones}
-use Rattle.std.specs.Int.{bit_at}
+use Rattle.rbg_base.proofs.Common.{◌≡◌, ℕ, zero, suc, ◌+◌, ◌*◌, ◌/◌, ◌%◌, ◌^◌, ◌<◌, ◌⊎◌, inl, inr, List, [], ◌∷◌, length, map, refl, sym, ap, subst, ◌∙◌, arith, add-one, count_ones, bit_at, length-map, ones_le_self, bit_at_lowest, bit_at-suc}
 use Rattle.std.specs.Int.Count.{ones_step}
-use Rattle.std.proofs.lemmas.List.{length-map}
-use Rattle.std.proofs.lemmas.Nat.{ones_le_self}
-use Rattle.std.proofs.lemmas.Nat.Bits.{bit_at_lowest, bit_at-suc}
 use Rattle.std.proofs.Math.Nat.{pow-suc}
-use Rattle.rbg_flat.specs.internal.Bits.{with_first, next, bits}
-use Rattle.rbg_flat.specs.internal.Gathering.{Lists, IsBitOf}
+use Rattle.rbg_flat.proofs.Common.{with_first, next, bits, Lists, IsBitOf}
 use Rattle.rbg_flat.proofs.Lists.{lists_none, lists_same, lists_push, lists_join, lists_map}
 
 abbrev pub IsBit : (k n b : ℕ) → Type 0

@@ -1,19 +1,10 @@
 -- At which vertices of a word an action passes.
-use Rattle.std.proofs.Common.{◌≡◌, ◌≢◌, ℕ, ◌+◌, ◌<◌, ◌⊎◌, inl, inr, List, [], ◌∷◌, ◌++◌, length, get_or, take, sym, ap, subst, ◌∙◌, arith}
-use Rattle.std.specs.Prelude.{◌↔◌, bit_or, bit_and, Contains, slice_get, Some}
-use Rattle.std.specs.Int.{bit_at}
-use native.Mathlib.Decide.{ℕ_discrete}
-use Rattle.std.proofs.lemmas.List.{take_more}
-use Rattle.std.proofs.lemmas.List.Elements.{Contains-push, Contains-push_cases, Contains-append_left}
-use Rattle.std.proofs.lemmas.Nat.Bits.{bit_at_and, bit_at-zero}
-use Rattle.std.proofs.lemmas.Option.{get_or_from_slice_get}
-use Rattle.std.proofs.lemmas.Option.{slice_get-get_or}
+use Rattle.rbg_base.proofs.Common.{◌≡◌, ◌≢◌, ℕ, ◌+◌, ◌<◌, ◌⊎◌, inl, inr, List, [], ◌∷◌, ◌++◌, length, get_or, take, sym, ap, subst, ◌∙◌, arith, ◌↔◌, bit_or, bit_and, Contains, slice_get, Some, bit_at, ℕ_discrete, take_more, Contains-push, Contains-push_cases, Contains-append_left, bit_at_and, bit_at-zero, get_or_from_slice_get, slice_get-get_or, true, false}
 use Rattle.rbg_rules.specs.Meaning.{on, comparison, AbstractArithmetic, Acts, IsModifierAt, IsNumbered, HasAction, is_modifier, AbstractGame, AbstractState}
 use Rattle.rbg_base.specs.declared.relation.Relation.{Relation}
 use Rattle.rbg_state.proofs.Trying.{same_value}
 use Rattle.rbg_rules.proofs.MoveLemmas.{applied_acts}
 use Rattle.rbg_rules.proofs.PositionLemmas.{one_stands}
-use Rattle.std.specs.Prelude.{true, false}
 use Rattle.rbg_flat.specs.internal.Passing.{Passes, IsOneOf}
 use Rattle.rbg_leaps.proofs.Bits.{either_bit, first_bit, second_bit}
 

@@ -1,12 +1,8 @@
 -- What stands at a place of sets.
-use Rattle.std.proofs.Common.{◌≡◌, ◌≢◌, ℕ, zero, suc, ◌+◌, ◌*◌, ◌/◌, ◌%◌, ◌<◌, List, length, get_or, sym, ap, subst, ◌∙◌, slice_set, arith}
-use Rattle.std.specs.Int.{bit_at}
+use Rattle.rbg_base.proofs.Common.{◌≡◌, ◌≢◌, ℕ, zero, suc, ◌+◌, ◌*◌, ◌/◌, ◌%◌, ◌<◌, List, length, get_or, sym, ap, subst, ◌∙◌, slice_set, arith, bit_at, bit_at-zero, ℕ_discrete}
 use Rattle.std.proofs.Math.Nat.{mul_comm, div-add-mod, div-lt_iff_lt-mul}
 use Rattle.std.proofs.lemmas.List.{length-set, get_or-set_same, get_or-set_other}
-use Rattle.std.proofs.lemmas.Nat.Bits.{bit_at-zero}
-use native.Mathlib.Decide.{ℕ_discrete}
-use Rattle.rbg_flat.specs.internal.Places.{AreSetsByPlace, ForgetsPlace}
-use Rattle.rbg_flat.specs.internal.Sets.{SetsOfVertices, HasBitAt}
+use Rattle.rbg_flat.proofs.Common.{AreSetsByPlace, ForgetsPlace, SetsOfVertices, HasBitAt}
 use Rattle.rbg_flat.proofs.WordLemmas.{bit_there}
 
 -- The word at a place is cleared.

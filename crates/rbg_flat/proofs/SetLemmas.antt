@@ -1,14 +1,7 @@
 -- How sets change where a word is met, and where bits are closed.
-use Rattle.std.proofs.Common.{◌≡◌, ℕ, ◌+◌, ◌-◌, ◌*◌, ◌%◌, ◌<◌, ◌≤◌, ◌^◌, ◌⊎◌, inl, inr, List, length, get_or, refl, sym, ap, subst, ◌∙◌, slice_set, arith}
-use Rattle.std.specs.Prelude.{bit_or, bit_and}
-use Rattle.std.specs.Int.{bit_at, bit_not, w64}
-use Rattle.std.proofs.lemmas.Nat.Bits.{bit_at-zero}
+use Rattle.rbg_base.proofs.Common.{◌≡◌, ℕ, ◌+◌, ◌-◌, ◌*◌, ◌%◌, ◌<◌, ◌≤◌, ◌^◌, ◌⊎◌, inl, inr, List, length, get_or, refl, sym, ap, subst, ◌∙◌, slice_set, arith, bit_or, bit_and, bit_at, bit_not, w64, bit_at-zero, and_le_l, sum_by-set, sum_by}
 use Rattle.std.proofs.lemmas.List.{length-set}
-use Rattle.std.proofs.lemmas.Nat.{and_le_l}
-use Rattle.std.proofs.lemmas.List.Sums.{sum_by-set}
-use Rattle.std.specs.List.{sum_by}
-use Rattle.rbg_flat.specs.internal.Sets.{SetsOfVertices, sets_of, HasBitAt, IsInWord, MeetsWord, ClosesWord}
-use Rattle.rbg_flat.specs.internal.Places.{AreSetsByPlace}
+use Rattle.rbg_flat.proofs.Common.{SetsOfVertices, sets_of, HasBitAt, IsInWord, MeetsWord, ClosesWord, AreSetsByPlace}
 use Rattle.rbg_flat.proofs.WordLemmas.{added_to, added_old, added_new, taken_of, taken_gone, taken_left, known_or_new, new_in_word, or_at_most, less_left, of_word}
 
 -- A word in column c of the row of position q, at its place. The sets are seen as `old`, and are now.

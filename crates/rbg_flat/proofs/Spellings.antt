@@ -1,21 +1,8 @@
 -- Words of vertices, as lists of pairs.
-use Rattle.std.proofs.Common.{◌≡◌, ◌≢◌, ℕ, zero, suc, ◌+◌, ◌*◌, ◌/◌, ◌%◌, ◌^◌, ◌<◌, ◌≤◌, inl, inr, List, [], ◌∷◌, ◌++◌, length, map, take, drop, set, get_or, slice_get, Some, All, Contains, Bool, true, false, refl, sym, ap, subst, ◌∙◌, append_assoc, append-nil, arith, add-one}
-use Rattle.std.specs.Prelude.{IsTrue, ◌↔◌}
-use Rattle.std.specs.Int.{bit_at, trailing_zeros, w64}
-use Rattle.std.specs.List.Sorted.{IsPermutation}
+use Rattle.rbg_base.proofs.Common.{◌≡◌, ◌≢◌, ℕ, zero, suc, ◌+◌, ◌*◌, ◌/◌, ◌%◌, ◌^◌, ◌<◌, ◌≤◌, inl, inr, List, [], ◌∷◌, ◌++◌, length, map, take, drop, set, get_or, slice_get, Some, All, Contains, Bool, true, false, refl, sym, ap, subst, ◌∙◌, append_assoc, append-nil, arith, add-one, IsTrue, ◌↔◌, bit_at, trailing_zeros, w64, IsPermutation, Contains-append_cases, Contains-append_left, Contains-append_right, Contains-push_cases, All-push, flat_map-append, cases_lt, cases_order, bit_at_lowest, bit_at-suc, bit_at-zero, bit_at-trailing_zeros, bit_at_above, get_or_from_slice_get, flat_map_more, take_more, length_push, get_or_append_left, get_or_push, All-contains}
 use Rattle.std.proofs.lemmas.List.{take-append-drop, drop_more, take-set, drop-set}
-use Rattle.std.proofs.lemmas.List.Elements.{Contains-append_cases, Contains-append_left, Contains-append_right, Contains-push_cases, All-push}
 use Rattle.std.proofs.lemmas.List.Sorted.{IsPermutation-trans, IsPermutation-middle, IsPermutation-append_comm, IsPermutation-append_left, IsPermutation-append_right}
-use Rattle.std.proofs.lemmas.Grind.{flat_map-append}
-use Rattle.std.proofs.lemmas.Bool.{cases_lt, cases_order}
-use Rattle.std.proofs.lemmas.Nat.Bits.{bit_at_lowest, bit_at-suc, bit_at-zero, bit_at-trailing_zeros, bit_at_above}
-use Rattle.std.proofs.lemmas.Option.{get_or_from_slice_get}
-use Rattle.std.proofs.lemmas.List.{flat_map_more, take_more, length_push, get_or_append_left, get_or_push}
-use Rattle.std.proofs.lemmas.List.Elements.{All-contains}
-use Rattle.rbg_flat.specs.Order.{IsBefore, IsLeast}
-use Rattle.rbg_flat.specs.internal.Bits.{with_first, next, bits, pairs_of, pairs_in, first_of, IsFilled}
-use Rattle.rbg_flat.specs.internal.Gathering.{at_position, PushesWord}
-use Rattle.rbg_flat.specs.declared.found.Word.{Word}
+use Rattle.rbg_flat.proofs.Common.{IsBefore, IsLeast, with_first, next, bits, pairs_of, pairs_in, first_of, IsFilled, at_position, PushesWord, Word}
 use Rattle.rbg_flat.proofs.Ones.{bits_list, place, word_lists}
 
 -- What stands for a word where there is none.

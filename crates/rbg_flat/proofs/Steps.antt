@@ -1,9 +1,7 @@
 -- How a flat part that is being found goes on, and what it is in the end.
-use Rattle.std.proofs.Common.{◌≡◌, ℕ, inl, inr, Bool, true}
-use Rattle.std.specs.Prelude.{◌↔◌}
+use Rattle.std.proofs.Common.{◌≡◌, ℕ, inl, inr, Bool, true, ◌↔◌}
 use Rattle.rbg_rules.specs.Meaning.{Start, AbstractGame, AbstractState}
-use Rattle.rbg_flat.specs.Chains.{IsMet, first, then, EndsMet}
-use Rattle.rbg_flat.specs.internal.Begun.{Pairs, IsBegun}
+use Rattle.rbg_flat.proofs.Common.{IsMet, first, then, EndsMet, Pairs, IsBegun}
 
 module _ (game : AbstractGame) (s : AbstractState) (f : Start) where
   -- Where nothing is still, what is marked is what is met.

@@ -1,22 +1,12 @@
 -- Where no shift comes next, leaps stay where they begin.
-use Rattle.std.proofs.Common.{◌≡◌, ℕ, ◌||◌, ◌+◌, ◌/◌, ◌%◌, ◌<◌, ◌≤◌, ◌⊎◌, inl, inr, List, [], ◌∷◌, ◌++◌, Bool, true, false, length, get_or, take, refl, sym, ap, subst, ◌∙◌, arith}
-use Rattle.std.specs.Prelude.{Contains, All, IsTrue, ◌↔◌, slice_get, Some}
-use Rattle.std.specs.Int.{bit_at}
-use Rattle.std.proofs.lemmas.Bool.{cases_lt}
-use Rattle.std.proofs.lemmas.Option.{slice_get-get_or, slice_get_within, get_or_from_slice_get}
-use Rattle.std.proofs.lemmas.List.{take_more, length_push, get_or_push}
-use Rattle.std.proofs.lemmas.List.Elements.{Contains-push, Contains-push_cases, Contains-append_left, Contains-get_or, All-contains}
+use Rattle.rbg_base.proofs.Common.{◌≡◌, ℕ, ◌||◌, ◌+◌, ◌/◌, ◌%◌, ◌<◌, ◌≤◌, ◌⊎◌, inl, inr, List, [], ◌∷◌, ◌++◌, Bool, true, false, length, get_or, take, refl, sym, ap, subst, ◌∙◌, arith, Contains, All, IsTrue, ◌↔◌, slice_get, Some, bit_at, cases_lt, slice_get-get_or, slice_get_within, get_or_from_slice_get, take_more, length_push, get_or_push, Contains-push, Contains-push_cases, Contains-append_left, Contains-get_or, All-contains}
 use Rattle.rbg_rules.specs.Meaning.{IsGame, IsNumbered, positions_of, AbstractGame, after, Follows, Ends}
 use Rattle.rbg_rules.proofs.LocalityLemmas.{locality_law}
 use Rattle.rbg_auto.specs.Steps.{AreNext}
 use Rattle.rbg_leaps.specs.declared.target.Target.{Target}
-use Rattle.rbg_leaps.specs.Asked.{AreTargetsFrom}
-use Rattle.rbg_leaps.specs.Leaps.{IsShiftAt, IsLeap, EndsAcross, Leads, stay, go}
+use Rattle.rbg_leaps.proofs.Common.{AreTargetsFrom, IsShiftAt, IsLeap, EndsAcross, Leads, stay, go}
 use Rattle.rbg_base.proofs.CallerLemmas.{slice_get-append_left}
-use Rattle.rbg_flat.specs.declared.paths.Facts.{Facts}
-use Rattle.rbg_flat.specs.Paths.{IsStill, AreFacts}
-use Rattle.rbg_flat.specs.internal.Leading.{IsAmongBits, IsOnBoard, IsPositionIn, LeadsFrom, EndsFrom, LearnsEnd, AreOn}
-use Rattle.rbg_flat.specs.internal.Sets.{SetsOfVertices, IsInWord, IsMarked, IsOpen, Meets}
+use Rattle.rbg_flat.proofs.Common.{Facts, IsStill, AreFacts, IsAmongBits, IsOnBoard, IsPositionIn, LeadsFrom, EndsFrom, LearnsEnd, AreOn, SetsOfVertices, IsInWord, IsMarked, IsOpen, Meets}
 use Rattle.rbg_flat.proofs.Leaping.{within, leap_among, some_leap, target_position}
 use Rattle.rbg_flat.proofs.Meetings.{meets_both, meets_same}
 

@@ -1,6 +1,5 @@
 -- Where switches stand, and shifts.
-use Rattle.std.proofs.Common.{◌≡◌, ℕ, Bool, true, false, refl, sym, ap, ◌∙◌}
-use Rattle.std.specs.Prelude.{IsTrue, ◌↔◌}
+use Rattle.std.proofs.Common.{◌≡◌, ℕ, Bool, true, false, refl, sym, ap, ◌∙◌, IsTrue, ◌↔◌}
 use Rattle.rbg_rules.specs.Meaning.{AbstractAction, shift, off, switch, positive, negative, Expression, HasAction, IsNumbered, IsSwitchAt, Stands}
 use Rattle.rbg_rules.specs.declared.rule.Action.{Action}
 use Rattle.rbg_rules.specs.declared.rule.Action.TheVariants.{Shift, On, Off, Assign, Compare, Switch, Positive, Negative}

@@ -1,13 +1,10 @@
 -- What is to be looked at where it is met.
-use Rattle.std.proofs.Common.{◌≡◌, ℕ, ◌<◌, inl, inr, List, true, false, length, sym, ap, subst, ◌∙◌}
-use Rattle.std.specs.Prelude.{◌↔◌}
+use Rattle.std.proofs.Common.{◌≡◌, ℕ, ◌<◌, inl, inr, List, true, false, length, sym, ap, subst, ◌∙◌, ◌↔◌}
 use Rattle.rbg_board.specs.Graph.{IsClosed}
 use Rattle.rbg_base.specs.declared.relation.Relation.{Relation}
 use Rattle.rbg_rules.specs.Meaning.{on, comparison, positive, negative, Expression, AbstractArithmetic, IsGame, HasAction, IsModifierAt, IsNumbered, IsPatternAt, is_modifier, is_pattern, AbstractGame, AbstractState, IsStateOf, Start}
 use Rattle.rbg_rules.proofs.PositionLemmas.{one_stands}
-use Rattle.rbg_flat.specs.Chains.{Holds, IsMet, first, then}
-use Rattle.rbg_flat.specs.Paths.{IsComparisonAt}
-use Rattle.rbg_flat.specs.internal.Passing.{Passes, IsOneOf, IsToTry}
+use Rattle.rbg_flat.proofs.Common.{Holds, IsMet, first, then, IsComparisonAt, Passes, IsOneOf, IsToTry}
 use Rattle.rbg_flat.proofs.Leaping.{leads_on_board}
 use Rattle.rbg_flat.proofs.ModifierLemmas.{pattern_opens, comparison_quiet, no_comparison_on, no_comparison_pattern}
 use Rattle.rbg_flat.proofs.Passings.{on_passes, passes_on}

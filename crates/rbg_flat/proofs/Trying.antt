@@ -1,15 +1,8 @@
 -- A word of vertices is taken from what is open, and led on from where the action holds.
-use Rattle.std.proofs.Common.{◌≡◌, ℕ, ◌+◌, ◌*◌, ◌/◌, ◌%◌, ◌<◌, ◌⊎◌, inl, inr, List, Bool, true, get_or, refl, sym, ap, subst, ◌∙◌, arith}
-use Rattle.std.specs.Prelude.{◌↔◌}
-use Rattle.std.specs.Int.{bit_at}
+use Rattle.rbg_base.proofs.Common.{◌≡◌, ℕ, ◌+◌, ◌*◌, ◌/◌, ◌%◌, ◌<◌, ◌⊎◌, inl, inr, List, Bool, true, get_or, refl, sym, ap, subst, ◌∙◌, arith, ◌↔◌, bit_at, bit_at-zero}
 use Rattle.rbg_rules.specs.Meaning.{IsGame, IsModifierAt, AbstractGame, AbstractState, IsStateOf, Applies, Start, after}
 use Rattle.rbg_leaps.specs.Leaps.{IsLeap, EndsAcross}
-use Rattle.rbg_flat.specs.Chains.{Holds, IsMet, then, EndsMet}
-use Rattle.rbg_flat.specs.internal.Begun.{IsBegun}
-use Rattle.rbg_flat.specs.internal.Leading.{LearnsEnd, LeadsFrom, EndsFrom, AreOn, IsOnBoard}
-use Rattle.rbg_flat.specs.internal.Passing.{Passes, IsToTry}
-use Rattle.rbg_flat.specs.internal.Sets.{SetsOfVertices, IsMarked, IsOpen, IsInWord, Meets, ClosesWord, HasBitAt}
-use Rattle.std.proofs.lemmas.Nat.Bits.{bit_at-zero}
+use Rattle.rbg_flat.proofs.Common.{Holds, IsMet, then, EndsMet, IsBegun, LearnsEnd, LeadsFrom, EndsFrom, AreOn, IsOnBoard, Passes, IsToTry, SetsOfVertices, IsMarked, IsOpen, IsInWord, Meets, ClosesWord, HasBitAt}
 use Rattle.rbg_flat.proofs.Meetings.{meets_none}
 use Rattle.rbg_flat.proofs.Takings.{bit_decided, tried_holds}
 use Rattle.rbg_flat.proofs.ToTry.{holds_to_try}

@@ -1,12 +1,8 @@
 -- A word of vertices is led on from, one after another.
-use Rattle.std.proofs.Common.{◌≡◌, ◌≢◌, ℕ, ◌+◌, ◌*◌, ◌/◌, ◌%◌, ◌<◌, ◌⊎◌, inl, inr, Bool, true, refl, sym, ap, subst, ◌∙◌, arith}
-use Rattle.std.specs.Int.{bit_at}
-use Rattle.std.proofs.lemmas.Nat.Bits.{bit_at-zero, bit_at-lt}
-use native.Mathlib.Decide.{ℕ_discrete}
+use Rattle.rbg_base.proofs.Common.{◌≡◌, ◌≢◌, ℕ, ◌+◌, ◌*◌, ◌/◌, ◌%◌, ◌<◌, ◌⊎◌, inl, inr, Bool, true, refl, sym, ap, subst, ◌∙◌, arith, bit_at, bit_at-zero, bit_at-lt, ℕ_discrete}
 use Rattle.rbg_rules.specs.Meaning.{AbstractGame, after}
 use Rattle.rbg_leaps.specs.Leaps.{IsLeap, EndsAcross}
-use Rattle.rbg_flat.specs.internal.Leading.{LeadsFrom, EndsFrom, LeadsPast, EndsPast, LearnsEnd}
-use Rattle.rbg_flat.specs.internal.Sets.{SetsOfVertices, IsInWord, Meets}
+use Rattle.rbg_flat.proofs.Common.{LeadsFrom, EndsFrom, LeadsPast, EndsPast, LearnsEnd, SetsOfVertices, IsInWord, Meets}
 use Rattle.rbg_flat.proofs.Meetings.{meets_both, meets_same}
 
 not_both : {n : ℕ} → n ≡ 0 → n ≡ 1 → ⊥

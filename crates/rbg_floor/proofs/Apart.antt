@@ -1,17 +1,10 @@
 -- A table hears nothing of what lines do that ask for another one.
-use Rattle.std.proofs.Common.{◌≡◌, ℕ, List, [], ◌∷◌, ◌++◌, Bool, true, false, refl, sym, ap, ◌∙◌, append_assoc, append-nil}
+use Rattle.std.proofs.Common.{◌≡◌, ℕ, List, [], ◌∷◌, ◌++◌, Bool, true, false, refl, sym, ap, ◌∙◌, append_assoc, append-nil, ◌==◌, ◌&&◌, nat_lt, if◌then◌else◌, filter}
 use Rattle.std.proofs.lemmas.Bool.{true≢false, ne_eqb}
-use Rattle.std.specs.Prelude.{◌==◌, ◌&&◌, nat_lt, if◌then◌else◌}
-use Rattle.std.specs.List.{filter}
 use Rattle.rbg_wire.specs.Streams.{incomplete, cut}
 use Rattle.rbg_match.specs.Limits.{message_limit}
 use Rattle.rbg_hall.specs.Limits.{lines_in_all}
-use Rattle.rbg_floor.specs.Apart.{asks_for, concerns}
-use Rattle.rbg_floor.specs.Events.{AbstractHallEvent, sends, ends, ticks}
-use Rattle.rbg_floor.specs.Laws.{OthersAreUnheard}
-use Rattle.rbg_floor.specs.Lines.{over, sent_by, has_ended, stream_of, line_after, first_request}
-use Rattle.rbg_floor.specs.Own.{heard_of, heard_of_piece, heard_of_end, own_behind}
-use Rattle.rbg_floor.specs.Requests.{is_for}
+use Rattle.rbg_floor.proofs.Common.{asks_for, concerns, AbstractHallEvent, sends, ends, ticks, OthersAreUnheard, over, sent_by, has_ended, stream_of, line_after, first_request, heard_of, heard_of_piece, heard_of_end, own_behind, is_for}
 use Rattle.rbg_floor.proofs.Growing.{by_test, standing}
 use Rattle.rbg_floor.proofs.Owning.{asks_in, unasked_before, own_piece_unheard, own_end_unheard}
 

@@ -1,24 +1,12 @@
 -- A match that has begun at a table of a hall.
-use Rattle.std.proofs.Common.{◌≡◌, ℕ, ◌+◌, ◌-◌, List, [], ◌∷◌, ◌++◌, length, get_or, true, false, sym, ap, ◌∙◌, subst, append_assoc, arith, Option, Some, None, inl, inr}
+use Rattle.std.proofs.Common.{◌≡◌, ℕ, ◌+◌, ◌-◌, List, [], ◌∷◌, ◌++◌, length, get_or, true, false, sym, ap, ◌∙◌, subst, append_assoc, arith, Option, Some, None, inl, inr, nat_lt, slice_get, flat_map}
 use Rattle.std.proofs.lemmas.Bool.{true≢false, eqb-true, ltb-true}
-use Rattle.std.specs.Prelude.{nat_lt, slice_get}
-use Rattle.std.specs.List.{flat_map}
-use Rattle.rbg_match.specs.Deliveries.{bytes_for}
+use Rattle.rbg_match.proofs.Common.{bytes_for, message_limit}
 use Rattle.rbg_wire.specs.Streams.{incomplete, cut}
-use Rattle.rbg_match.specs.Limits.{message_limit}
-use Rattle.rbg_hall.specs.Laws.{Beginning, HoldsTranscript}
-use Rattle.rbg_hall.specs.Limits.{lines_in_all}
-use Rattle.rbg_hall.specs.Tables.{TableState, OwnEvent, joins}
-use Rattle.rbg_hall.specs.Tellings.{Telling, bytes_to}
+use Rattle.rbg_hall.proofs.Common.{Beginning, HoldsTranscript, lines_in_all, TableState, OwnEvent, joins, Telling, bytes_to}
 use Rattle.rbg_hall.proofs.Holding.{run_holds_transcript}
 use Rattle.rbg_hall.proofs.Places.{set_cases}
-use Rattle.rbg_floor.specs.Apart.{asks_for, concerning}
-use Rattle.rbg_floor.specs.Events.{AbstractHallEvent}
-use Rattle.rbg_floor.specs.Halls.{AbstractTable, HallState}
-use Rattle.rbg_floor.specs.Laws.{BegunMatchesHoldTranscripts, HoldsMatch, early_refusal}
-use Rattle.rbg_floor.specs.Lines.{stream_of, first_request}
-use Rattle.rbg_floor.specs.Own.{own}
-use Rattle.rbg_floor.specs.Requests.{is_for}
+use Rattle.rbg_floor.proofs.Common.{asks_for, concerning, AbstractHallEvent, AbstractTable, HallState, BegunMatchesHoldTranscripts, HoldsMatch, early_refusal, stream_of, first_request, own, is_for}
 use Rattle.rbg_floor.proofs.Apart.{dropped_sent, first_true, nothing_asked, others_are_unheard, second_true}
 use Rattle.rbg_floor.proofs.Early.{JoinsFirst, early_told, joins_before, lacks_early, nothing_before, own_joins}
 use Rattle.rbg_floor.proofs.Growing.{by_test}

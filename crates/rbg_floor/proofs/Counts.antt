@@ -1,19 +1,10 @@
 -- What a table hears doesn't depend on how many tables there are.
-use Rattle.std.proofs.Common.{◌≡◌, ℕ, zero, suc, ◌<◌, ◌≤◌, ◌^◌, List, [], ◌∷◌, ◌++◌, map, Bool, true, false, refl, sym, ap, ◌∙◌, arith, Option, Some, None, inl, inr}
+use Rattle.rbg_base.proofs.Common.{◌≡◌, ℕ, zero, suc, ◌<◌, ◌≤◌, ◌^◌, List, [], ◌∷◌, ◌++◌, map, Bool, true, false, refl, sym, ap, ◌∙◌, arith, Option, Some, None, inl, inr, decimal_injective, decimal, nat_lt, if◌then◌else◌}
 use Rattle.std.proofs.lemmas.Bool.{true≢false, eq-eqb, ne_eqb, cases_lt}
-use Rattle.std.proofs.lemmas.Fmt.{decimal_injective}
-use Rattle.std.specs.Fmt.{decimal}
-use Rattle.std.specs.Prelude.{nat_lt, if◌then◌else◌}
-use Rattle.rbg_wire.specs.Messages.{join_message, message_text}
-use Rattle.rbg_wire.specs.Streams.{Item, complete, too_long, Rest, Cut, cut}
+use Rattle.rbg_wire.proofs.Common.{join_message, message_text, Item, complete, too_long, Rest, Cut, cut}
 use Rattle.rbg_match.specs.Limits.{message_limit}
-use Rattle.rbg_hall.specs.Limits.{lines_in_all}
-use Rattle.rbg_hall.specs.Tables.{joins, arrives, says, leaves}
-use Rattle.rbg_floor.specs.Apart.{concerning}
-use Rattle.rbg_floor.specs.Events.{AbstractHallEvent, sends, ends, ticks}
-use Rattle.rbg_floor.specs.Lines.{asking, line_cut, has_ended, stream_of, line_after}
-use Rattle.rbg_floor.specs.Own.{heard_first, heard_of, heard_of_piece, heard_of_end, own_behind, own}
-use Rattle.rbg_floor.specs.Requests.{is_request, is_for, requested}
+use Rattle.rbg_hall.proofs.Common.{lines_in_all, joins, arrives, says, leaves}
+use Rattle.rbg_floor.proofs.Common.{concerning, AbstractHallEvent, sends, ends, ticks, asking, line_cut, has_ended, stream_of, line_after, heard_first, heard_of, heard_of_piece, heard_of_end, own_behind, own, is_request, is_for, requested}
 use Rattle.rbg_floor.proofs.Apart.{others_are_unheard}
 use Rattle.rbg_floor.proofs.Growing.{by_test, standing}
 use Rattle.rbg_floor.proofs.Requesting.{requested_within, same_text}

@@ -1,32 +1,20 @@
 -- What a table of a hall tells a line before its match begins.
-use Rattle.std.proofs.Common.{◌≡◌, ℕ, List, [], ◌∷◌, ◌++◌, map, Bool, true, false, refl, sym, ap, ◌∙◌, subst, append-nil, Option, Some, None, set, inl, inr}
+use Rattle.rbg_base.proofs.Common.{◌≡◌, ℕ, List, [], ◌∷◌, ◌++◌, map, Bool, true, false, refl, sym, ap, ◌∙◌, subst, append-nil, Option, Some, None, set, inl, inr, none-some, ◌==◌, nat_lt, slice_get, if◌then◌else◌, flat_map}
 use Rattle.std.proofs.lemmas.Bool.{true≢false, eq-eqb, eqb-true, ne_eqb}
 use Rattle.std.proofs.lemmas.List.Concat.{flat_map-append}
-use Rattle.std.proofs.lemmas.Option.{none-some}
-use Rattle.std.specs.Prelude.{◌==◌, nat_lt, slice_get, if◌then◌else◌}
-use Rattle.std.specs.List.{flat_map}
 use Rattle.rbg_wire.specs.declared.message.Reason.TheVariants.{OutOfTurn}
-use Rattle.rbg_wire.specs.Messages.{refusal_message, spelling}
-use Rattle.rbg_wire.specs.Streams.{Item, Rest, Cut, cut}
+use Rattle.rbg_wire.proofs.Common.{refusal_message, spelling, Item, Rest, Cut, cut}
 use Rattle.rbg_rules.specs.Meaning.{AbstractGame}
 use Rattle.rbg_match.specs.declared.config.Config.{Config}
-use Rattle.rbg_match.specs.Inputs.{AbstractEvent}
-use Rattle.rbg_match.specs.Limits.{message_limit}
-use Rattle.rbg_match.specs.Matches.{MatchState}
-use Rattle.rbg_hall.specs.Limits.{lines_in_all}
-use Rattle.rbg_hall.specs.Tables.{TableState, TableRun, OwnEvent, clock, joins, arrives, says, leaves, Plays, Hears, waits, ticks, sits, begins, is_full, comes_late, stays, waits_too, stirs, is_early, plays, frees, goes, is_moment_for_none, is_unheard, goes_unheard, SitsAt}
+use Rattle.rbg_match.proofs.Common.{AbstractEvent, message_limit, MatchState}
+use Rattle.rbg_hall.proofs.Common.{lines_in_all, TableState, TableRun, OwnEvent, clock, joins, arrives, says, leaves, Plays, Hears, waits, ticks, sits, begins, is_full, comes_late, stays, waits_too, stirs, is_early, plays, frees, goes, is_moment_for_none, is_unheard, goes_unheard, SitsAt, Telling, bytes_to, telling}
 use Rattle.rbg_hall.specs.Tables as tables
-use Rattle.rbg_hall.specs.Tellings.{Telling, bytes_to, telling}
 use Rattle.rbg_hall.proofs.Alike.{waited_before}
 use Rattle.rbg_hall.proofs.Places.{set_cases}
 use Rattle.rbg_hall.proofs.Seats.{SitsNowhere}
 use Rattle.rbg_hall.proofs.Telling.{bytes_to-append, bytes_to-other}
-use Rattle.rbg_floor.specs.Events.{AbstractHallEvent, sends, ends}
+use Rattle.rbg_floor.proofs.Common.{AbstractHallEvent, sends, ends, early_refusal, HallLine, silent, asks, over, asking, line_cut, has_ended, stream_of, line_after, first_request, heard_first, heard_of, heard_of_piece, heard_of_end, own_behind, own, requested, is_for}
 use Rattle.rbg_floor.specs.Events as events
-use Rattle.rbg_floor.specs.Laws.{early_refusal}
-use Rattle.rbg_floor.specs.Lines.{HallLine, silent, asks, over, asking, line_cut, has_ended, stream_of, line_after, first_request}
-use Rattle.rbg_floor.specs.Own.{heard_first, heard_of, heard_of_piece, heard_of_end, own_behind, own}
-use Rattle.rbg_floor.specs.Requests.{requested, is_for}
 use Rattle.rbg_floor.proofs.Growing.{by_test, standing}
 use Rattle.rbg_floor.proofs.Owning.{is_of, Lacks, asks_in, asked_later, heard_lacks}
 use Rattle.rbg_floor.proofs.Silence.{all_unmoved}

@@ -1,15 +1,11 @@
 -- A line, as more events come.
-use Rattle.std.proofs.Common.{◌≡◌, ◌≢◌, ℕ, List, [], ◌∷◌, ◌++◌, Bool, true, false, refl, sym, ap, ◌∙◌, append_assoc, append-nil, Option, Some, None}
+use Rattle.std.proofs.Common.{◌≡◌, ◌≢◌, ℕ, List, [], ◌∷◌, ◌++◌, Bool, true, false, refl, sym, ap, ◌∙◌, append_assoc, append-nil, Option, Some, None, ◌==◌, nat_lt, if◌then◌else◌}
 use Rattle.std.proofs.lemmas.Bool.{eq-eqb, ne_eqb}
-use Rattle.std.specs.Prelude.{◌==◌, nat_lt, if◌then◌else◌}
 use Rattle.rbg_wire.specs.Streams.{Item, Rest, incomplete, Cut, cut}
 use Rattle.rbg_wire.proofs.CutLemmas.{cut-append}
 use Rattle.rbg_match.specs.Limits.{message_limit}
 use Rattle.rbg_hall.specs.Limits.{lines_in_all}
-use Rattle.rbg_floor.specs.Events.{AbstractHallEvent, sends, ends, ticks}
-use Rattle.rbg_floor.specs.Lines.{HallLine, silent, asks, over, asking, line_cut, sent_by, has_ended, stream_of, line_after}
-use Rattle.rbg_floor.specs.Halls.{line_behind}
-use Rattle.rbg_floor.specs.Requests.{requested}
+use Rattle.rbg_floor.proofs.Common.{AbstractHallEvent, sends, ends, ticks, HallLine, silent, asks, over, asking, line_cut, sent_by, has_ended, stream_of, line_after, line_behind, requested}
 
 -- the bytes that an event brings of a line, and whether it ends it
 abbrev pub brings : (line : ℕ) → AbstractHallEvent → List ℕ

@@ -1,23 +1,12 @@
 -- What an event leads to in a hall.
-use Rattle.std.proofs.Common.{◌≡◌, ℕ, zero, suc, ◌+◌, ◌<◌, ◌≤◌, List, [], ◌∷◌, ◌++◌, length, set, get_or, refl, sym, ap, ◌∙◌, subst, Option, Some, None}
-use Rattle.std.proofs.lemmas.List.{get_or_past, set_past, length-map, map-set, get_or-map}
-use Rattle.std.specs.List.{flat_map}
-use Rattle.rbg_hall.specs.Tables.{OwnEvent, clock}
-use Rattle.rbg_hall.specs.Tellings.{Telling, told_to}
+use Rattle.rbg_base.proofs.Common.{◌≡◌, ℕ, zero, suc, ◌+◌, ◌<◌, ◌≤◌, List, [], ◌∷◌, ◌++◌, length, set, get_or, refl, sym, ap, ◌∙◌, subst, Option, Some, None, get_or_past, set_past, length-map, map-set, get_or-map, flat_map}
+use Rattle.rbg_hall.proofs.Common.{OwnEvent, clock, Telling, told_to}
 use Rattle.rbg_hall.proofs.Telling.{told_to-none}
 use Rattle.rbg_ledger.specs.Kept.{KeptState}
-use Rattle.rbg_floor.specs.declared.line.LinePhase.{LinePhase}
-use Rattle.rbg_floor.specs.declared.line.LinePhase.TheVariants.{Over}
-use Rattle.rbg_floor.specs.Events.{sends, ends, ticks}
-use Rattle.rbg_floor.specs.Halls.{EachHears, HearsEach, line_at, line_behind, refused_in}
+use Rattle.rbg_floor.proofs.Common.{LinePhase, Over, sends, ends, ticks, EachHears, HearsEach, line_at, line_behind, refused_in, HallLine, over, heard_of_piece, heard_of_end, EachBecomes, EachWrites, HallStops, HallWrites, KeptHearsEach, EachKeptHears, PieceHeard, TablesHear, TablesStop, said_by, hall_of, ledgers_of, line_of, lines_of, states_of}
 use Rattle.rbg_floor.specs.Halls as halls
-use Rattle.rbg_floor.specs.Lines.{HallLine, over}
-use Rattle.rbg_floor.specs.Own.{heard_of_piece, heard_of_end}
-use Rattle.rbg_floor.specs.Ledgers.{EachBecomes, EachWrites, HallStops, HallWrites, KeptHearsEach}
 use Rattle.rbg_floor.specs.Ledgers as ledgers
-use Rattle.rbg_floor.specs.internal.Hearing.{EachKeptHears, PieceHeard, TablesHear, TablesStop, said_by}
 use Rattle.rbg_floor.specs.internal.Hearing as hearing
-use Rattle.rbg_floor.specs.internal.Parts.{hall_of, ledgers_of, line_of, lines_of, states_of}
 use Rattle.rbg_floor.proofs.Ticking.{silence, silent as nobody_tells, none_hear}
 
 set_twice : {X : Type 0} (xs : List X) (i : ℕ) (x y : X) → set (set xs i x) i y ≡ set xs i y

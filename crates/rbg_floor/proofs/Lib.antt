@@ -1,4 +1,5 @@
 -- What the proofs of this crate share.
+pub mod Common
 mod Apart
 pub mod Beginnings
 mod Counts

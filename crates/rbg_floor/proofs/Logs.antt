@@ -1,19 +1,12 @@
 -- The logs of the tables of a hall.
-use Rattle.std.proofs.Common.{◌≡◌, ℕ, zero, suc, Bor, ◌↔◌, ◌+◌, ◌-◌, ◌<◌, ◌≤◌, List, [], ◌∷◌, All, length, map, set, get_or, refl, sym, ap, ◌∙◌, subst, arith, Some, None, Option, inl, inr}
-use Rattle.std.proofs.lemmas.Bool.{cases_lt}
-use Rattle.std.proofs.lemmas.List.{get_or-map, length-map}
-use Rattle.std.proofs.lemmas.Option.{none-some}
-use Rattle.std.specs.Prelude.{slice_get, IfSome}
+use Rattle.rbg_base.proofs.Common.{◌≡◌, ℕ, zero, suc, Bor, ◌↔◌, ◌+◌, ◌-◌, ◌<◌, ◌≤◌, List, [], ◌∷◌, All, length, map, set, get_or, refl, sym, ap, ◌∙◌, subst, arith, Some, None, Option, inl, inr, cases_lt, get_or-map, length-map, none-some, slice_get, IfSome}
 use Rattle.rbg_hall.specs.Tables.{TableState, HasSeat}
 use Rattle.rbg_hall.proofs.Places.{there_within}
 use Rattle.rbg_ledger.specs.declared.standing.Standing.{Standing}
 use Rattle.rbg_ledger.specs.declared.standing.Standing.TheVariants.{LogFailed}
 use Rattle.rbg_ledger.specs.Kept.{KeptState, Ledger, given, told_log}
 use Rattle.rbg_ledger.specs.Ledgers.{HasLog}
-use Rattle.rbg_floor.specs.Halls.{begun_at, begun_of}
-use Rattle.rbg_floor.specs.Ledgers.{HasLogFailed, IsLogAt, given_at, given_to, log_at, log_of}
-use Rattle.rbg_floor.specs.Serving.{HasSeatThere}
-use Rattle.rbg_floor.specs.internal.Parts.{IsPlaced, ledgers_of, states_of}
+use Rattle.rbg_floor.proofs.Common.{begun_at, begun_of, HasLogFailed, IsLogAt, given_at, given_to, log_at, log_of, HasSeatThere, IsPlaced, ledgers_of, states_of}
 
 -- how things stand with each table
 abbrev pub standings_of : {W : Type 0} → List (KeptState W) → List Standing

@@ -1,27 +1,13 @@
 -- The parts of a new hall.
-use Rattle.std.proofs.Common.{◌≡◌, ◌≢◌, ℕ, false, Result, Ok, Err, zero, suc, ◌+◌, ◌<◌, ◌≤◌, List, [], ◌∷◌, ◌++◌, length, map, reverse, get_or, set, refl, sym, ap, ◌∙◌, subst, append_assoc, arith, Some, inl, inr, replicate, All}
-use Rattle.std.proofs.lemmas.Bool.{cases_lt}
+use Rattle.rbg_base.proofs.Common.{◌≡◌, ◌≢◌, ℕ, false, Result, Ok, Err, zero, suc, ◌+◌, ◌<◌, ◌≤◌, List, [], ◌∷◌, ◌++◌, length, map, reverse, get_or, set, refl, sym, ap, ◌∙◌, subst, append_assoc, arith, Some, inl, inr, replicate, All, cases_lt, All-map, All-replicate, All-set, none-some, slice_get, IfErr, IsErrAnd}
 use Rattle.std.proofs.lemmas.List.{map-append, length-map, length-replicate, length-set, reverse-append}
-use Rattle.std.proofs.lemmas.List.Elements.{All-map, All-replicate, All-set}
-use Rattle.std.proofs.lemmas.Option.{none-some}
-use Rattle.std.specs.Prelude.{slice_get, IfErr, IsErrAnd}
 use Rattle.rbg_hall.proofs.Places.{there_within}
 use Rattle.rbg_wire.specs.Streams.{incomplete}
 use Rattle.rbg_match.specs.Config.{IsWithinLimits}
-use Rattle.rbg_hall.specs.Limits.{lines_in_all}
-use Rattle.rbg_hall.specs.Tables.{new_table}
+use Rattle.rbg_hall.proofs.Common.{lines_in_all, new_table}
 use Rattle.rbg_ledger.specs.Kept.{KeptState, no_log}
-use Rattle.rbg_floor.specs.declared.error.HallError.{HallError}
-use Rattle.rbg_floor.specs.declared.error.HallError.TheVariants.{Config, Memory, Tables}
-use Rattle.rbg_floor.specs.declared.line.LinePhase.{LinePhase}
-use Rattle.rbg_floor.specs.declared.table.Table.{Table}
-use Rattle.rbg_floor.specs.Halls.{AbstractTable, new_hall}
-use Rattle.rbg_floor.specs.Lines.{silent}
-use Rattle.rbg_floor.specs.Openings.{AreWithinLimits, IsNewHall, IsRefusedHall, MayBeTables, memory, start_of, starts_of}
+use Rattle.rbg_floor.proofs.Common.{HallError, Config, Memory, Tables, LinePhase, Table, AbstractTable, new_hall, silent, AreWithinLimits, IsNewHall, IsRefusedHall, MayBeTables, memory, start_of, starts_of, HeldHall, most_tables, AreReady, FirstHaveLimits, HaveLimits, IsFaulty, IsReady, ledgers_of, line_of, lines_of, new_kept, new_line, new_tables, states_of}
 use Rattle.rbg_floor.specs.Openings.{tables as refused_tables, config as refused_config}
-use Rattle.rbg_floor.specs.Failing.{HeldHall}
-use Rattle.rbg_floor.specs.Limits.{most_tables}
-use Rattle.rbg_floor.specs.internal.Parts.{AreReady, FirstHaveLimits, HaveLimits, IsFaulty, IsReady, ledgers_of, line_of, lines_of, new_kept, new_line, new_tables, states_of}
 
 get_of : {X : Type 0} (xs : List X) (i : ℕ) (d x : X) → slice_get xs i ≡ Some x → get_or xs i d ≡ x
 get_of [] i d x there = absurd (none-some x there)

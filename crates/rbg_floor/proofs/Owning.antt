@@ -1,16 +1,11 @@
 -- What a table hears, as more events come, and of which lines it hears nothing.
-use Rattle.std.proofs.Common.{◌≡◌, ℕ, List, [], ◌∷◌, ◌++◌, map, Bool, true, false, refl, sym, ap, ◌∙◌, subst, append_assoc, append-nil, Option, Some, None}
+use Rattle.std.proofs.Common.{◌≡◌, ℕ, List, [], ◌∷◌, ◌++◌, map, Bool, true, false, refl, sym, ap, ◌∙◌, subst, append_assoc, append-nil, Option, Some, None, ◌==◌, nat_lt, if◌then◌else◌}
 use Rattle.std.proofs.lemmas.Bool.{true≢false, eqb-true}
-use Rattle.std.specs.Prelude.{◌==◌, nat_lt, if◌then◌else◌}
 use Rattle.rbg_wire.specs.Streams.{Item, Rest, incomplete, Cut, cut}
 use Rattle.rbg_wire.proofs.CutLemmas.{cut-append}
 use Rattle.rbg_match.specs.Limits.{message_limit}
-use Rattle.rbg_hall.specs.Limits.{lines_in_all}
-use Rattle.rbg_hall.specs.Tables.{OwnEvent, clock, joins, arrives, says, leaves}
-use Rattle.rbg_floor.specs.Events.{AbstractHallEvent, sends, ends, ticks}
-use Rattle.rbg_floor.specs.Lines.{HallLine, silent, asks, over, asking, line_cut, sent_by, has_ended, stream_of, line_after, first_request}
-use Rattle.rbg_floor.specs.Own.{heard_first, heard_of_piece, heard_of_end, heard_of, own_behind, own}
-use Rattle.rbg_floor.specs.Requests.{requested, is_for}
+use Rattle.rbg_hall.proofs.Common.{lines_in_all, OwnEvent, clock, joins, arrives, says, leaves}
+use Rattle.rbg_floor.proofs.Common.{AbstractHallEvent, sends, ends, ticks, HallLine, silent, asks, over, asking, line_cut, sent_by, has_ended, stream_of, line_after, first_request, heard_first, heard_of_piece, heard_of_end, heard_of, own_behind, own, requested, is_for}
 use Rattle.rbg_floor.proofs.Growing.{by_test, brings, brings_own, sent_more, standing}
 
 behind_more : (tables table : ℕ) (before events : List AbstractHallEvent) (event : AbstractHallEvent) → own_behind tables table before (events ++ event ∷ []) ≡ own_behind tables table before events ++ heard_of tables table (λ line. line_after tables line (before ++ events)) event

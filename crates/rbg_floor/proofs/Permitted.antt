@@ -1,21 +1,10 @@
 -- What a run of a hall leaves in the queues is allowed.
-use Rattle.std.proofs.Common.{◌≡◌, ℕ, zero, suc, ◌+◌, ◌-◌, ◌<◌, List, [], ◌∷◌, ◌++◌, length, refl, sym, ap, ◌∙◌, subst, append-nil, arith, Option, Some, None, get_or, replicate}
-use Rattle.std.proofs.lemmas.List.{length-replicate, get_or-replicate}
-use Rattle.std.specs.Prelude.{slice_get}
+use Rattle.rbg_base.proofs.Common.{◌≡◌, ℕ, zero, suc, ◌+◌, ◌-◌, ◌<◌, List, [], ◌∷◌, ◌++◌, length, refl, sym, ap, ◌∙◌, subst, append-nil, arith, Option, Some, None, get_or, replicate, length-replicate, get_or-replicate, slice_get}
 use Rattle.rbg_wire.specs.declared.message.Reason.TheVariants.{NoSeat}
-use Rattle.rbg_wire.specs.Messages.{refusal_message, spelling}
-use Rattle.rbg_wire.specs.Streams.{Item}
-use Rattle.rbg_hall.specs.Limits.{lines_in_all}
-use Rattle.rbg_hall.specs.Tables.{HallOf}
-use Rattle.rbg_hall.specs.Tellings.{Telling, bytes_to, told_from, told_to}
+use Rattle.rbg_wire.proofs.Common.{refusal_message, spelling, Item}
+use Rattle.rbg_hall.proofs.Common.{lines_in_all, HallOf, Telling, bytes_to, told_from, told_to}
 use Rattle.rbg_hall.proofs.Telling.{length-told_to}
-use Rattle.rbg_floor.specs.Allowed.{IsAllowed, bytes_by, bytes_for}
-use Rattle.rbg_floor.specs.Events.{AbstractHallEvent}
-use Rattle.rbg_floor.specs.Halls.{AbstractTable, HallState}
-use Rattle.rbg_floor.specs.Laws.{RunIsAllowed}
-use Rattle.rbg_floor.specs.Lines.{stream_of, first_request}
-use Rattle.rbg_floor.specs.Own.{own}
-use Rattle.rbg_floor.specs.Requests.{requested}
+use Rattle.rbg_floor.proofs.Common.{IsAllowed, bytes_by, bytes_for, AbstractHallEvent, AbstractTable, HallState, RunIsAllowed, stream_of, first_request, own, requested}
 use Rattle.rbg_floor.proofs.Running.{Stands, refusal_for, refusal_by, told_by, run_of, run_stands}
 
 -- what a line has after this was told

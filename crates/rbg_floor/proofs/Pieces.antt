@@ -1,24 +1,14 @@
 -- What a piece of a line leads to.
-use Rattle.std.proofs.Common.{◌≡◌, ℕ, ◌+◌, ◌<◌, List, [], ◌∷◌, ◌++◌, length, map, set, get_or, refl, sym, ap, ◌∙◌, subst, append-nil, arith, Some, None}
+use Rattle.std.proofs.Common.{◌≡◌, ℕ, ◌+◌, ◌<◌, List, [], ◌∷◌, ◌++◌, length, map, set, get_or, refl, sym, ap, ◌∙◌, subst, append-nil, arith, Some, None, slice_get, if◌then◌else◌, flat_map}
 use Rattle.std.proofs.lemmas.Bool.{eq-eqb, ne_eqb}
-use Rattle.std.specs.Prelude.{slice_get, if◌then◌else◌}
-use Rattle.std.specs.List.{flat_map}
 use Rattle.rbg_wire.specs.declared.message.Reason.TheVariants.{NoSeat}
 use Rattle.rbg_wire.specs.Streams.{Item, Rest, Stream, cut, with_bytes, without_first}
 use Rattle.rbg_match.specs.Limits.{message_limit}
-use Rattle.rbg_hall.specs.Tables.{joins, arrives, says, leaves}
-use Rattle.rbg_hall.specs.Tellings.{refusal_to, told_to}
+use Rattle.rbg_hall.proofs.Common.{joins, arrives, says, leaves, refusal_to, told_to}
 use Rattle.rbg_ledger.specs.Kept.{KeptHearsFor, KeptState}
-use Rattle.rbg_floor.specs.declared.hearing.First.{First}
+use Rattle.rbg_floor.proofs.Common.{First, refused_for, refused_first, silent, asks, over, asking, line_cut, heard_first, heard_of_piece, heard_of_end, requested, is_for, IsFirst, IsTaken, HearsEachFor, PieceHeard, TablesHear, IsEmptied}
 use Rattle.rbg_floor.specs.declared.hearing.First.TheVariants.{Nothing, Table, NoTable}
-use Rattle.rbg_floor.specs.Halls.{refused_for, refused_first}
-use Rattle.rbg_floor.specs.Lines.{silent, asks, over, asking, line_cut}
-use Rattle.rbg_floor.specs.Own.{heard_first, heard_of_piece, heard_of_end}
-use Rattle.rbg_floor.specs.Requests.{requested, is_for}
-use Rattle.rbg_floor.specs.internal.First.{IsFirst, IsTaken}
 use Rattle.rbg_floor.specs.internal.First as first
-use Rattle.rbg_floor.specs.internal.Hearing.{HearsEachFor, PieceHeard, TablesHear}
-use Rattle.rbg_floor.specs.internal.Parts.{IsEmptied}
 use Rattle.rbg_floor.proofs.Taking.{first_and_others, nothing_first, nothing_heard, one_heard}
 use Rattle.rbg_floor.proofs.Ticking.{one_table, no_table as nobody_hears, silence, silent as silence_tells, none_hear}
 

@@ -1,13 +1,8 @@
 -- Which table an item asks for.
-use Rattle.std.proofs.Common.{rules, ◌≡◌, ◌≢◌, ℕ, zero, suc, ◌+◌, ◌-◌, ◌<◌, ◌≤◌, ◌^◌, List, true, false, refl, sym, ap, ◌∙◌, arith, Option, Some, None, inl, inr}
+use Rattle.rbg_base.proofs.Common.{rules, ◌≡◌, ◌≢◌, ℕ, zero, suc, ◌+◌, ◌-◌, ◌<◌, ◌≤◌, ◌^◌, List, true, false, refl, sym, ap, ◌∙◌, arith, Option, Some, None, inl, inr, none-some, bytes_eq-Decides, ◌&&◌, nat_le, IfSome, option_map, bytes_eq, if◌then◌else◌}
 use Rattle.std.proofs.lemmas.Bool.{true≢false, cases_lt, le-leb, lt-leb}
-use Rattle.std.proofs.lemmas.Option.{none-some}
-use Rattle.std.proofs.lemmas.Slice.Eq.{bytes_eq-Decides}
-use Rattle.std.specs.Prelude.{◌&&◌, nat_le, IfSome, option_map, bytes_eq, if◌then◌else◌}
-use Rattle.rbg_wire.specs.Messages.{join_message, message_text}
-use Rattle.rbg_wire.specs.Streams.{Item, complete, too_long}
-use Rattle.rbg_floor.specs.Requests.{is_request, requested}
-use Rattle.rbg_floor.specs.internal.First.{index_within}
+use Rattle.rbg_wire.proofs.Common.{join_message, message_text, Item, complete, too_long}
+use Rattle.rbg_floor.proofs.Common.{is_request, requested, index_within}
 use Rattle.rbg_floor.proofs.Growing.{by_test}
 
 -- a table that is asked for is there

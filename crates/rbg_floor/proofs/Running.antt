@@ -1,27 +1,17 @@
 -- A run of a hall gives what is allowed.
-use Rattle.std.proofs.Common.{◌≡◌, ◌≢◌, ℕ, zero, suc, ◌+◌, ◌-◌, ◌<◌, ◌≤◌, List, [], ◌∷◌, ◌++◌, length, map, Bool, true, false, refl, sym, ap, ◌∙◌, subst, append_assoc, append-nil, arith, Option, Some, None, get_or, set, replicate, inl, inr}
+use Rattle.rbg_base.proofs.Common.{◌≡◌, ◌≢◌, ℕ, zero, suc, ◌+◌, ◌-◌, ◌<◌, ◌≤◌, List, [], ◌∷◌, ◌++◌, length, map, Bool, true, false, refl, sym, ap, ◌∙◌, subst, append_assoc, append-nil, arith, Option, Some, None, get_or, set, replicate, inl, inr, none-some, ◌==◌, nat_lt, slice_get, if◌then◌else◌, flat_map}
 use Rattle.std.proofs.lemmas.Bool.{true≢false, eq-eqb, ne_eqb, eqb-true, lt-ltb, le-ltb, cases_lt}
-use Rattle.std.proofs.lemmas.Option.{none-some}
 use Rattle.std.proofs.lemmas.List.{length-set, length-replicate, get_or-set_same, get_or-set_other, get_or-replicate, set_past, get_or_past}
-use Rattle.std.specs.Prelude.{◌==◌, nat_lt, slice_get, if◌then◌else◌}
-use Rattle.std.specs.List.{flat_map}
 use Rattle.rbg_wire.specs.declared.message.Reason.TheVariants.{NoSeat}
-use Rattle.rbg_wire.specs.Messages.{refusal_message, spelling}
-use Rattle.rbg_wire.specs.Streams.{Item, Rest, incomplete, cut}
+use Rattle.rbg_wire.proofs.Common.{refusal_message, spelling, Item, Rest, incomplete, cut}
 use Rattle.rbg_wire.proofs.CutLemmas.{cut-append}
 use Rattle.rbg_match.specs.Limits.{message_limit}
-use Rattle.rbg_hall.specs.Limits.{lines_in_all}
-use Rattle.rbg_hall.specs.Tables.{TableState, TableRun, OwnEvent, new_table}
+use Rattle.rbg_hall.proofs.Common.{lines_in_all, TableState, TableRun, OwnEvent, new_table, Telling, bytes_to}
 use Rattle.rbg_hall.specs.Tables as tables
-use Rattle.rbg_hall.specs.Tellings.{Telling, bytes_to}
 use Rattle.rbg_hall.proofs.Places.{same_or_other}
 use Rattle.rbg_hall.proofs.Telling.{bytes_to-append, bytes_to-same, bytes_to-other}
-use Rattle.rbg_floor.specs.Events.{AbstractHallEvent, sends, ends, ticks}
-use Rattle.rbg_floor.specs.Halls.{AbstractTable, HallState, new_hall, line_at, line_behind, lines_behind, refused_for, refused_first, refused_in, refused_by, HearsEach, EachHears, HallSteps, HallRun}
+use Rattle.rbg_floor.proofs.Common.{AbstractHallEvent, sends, ends, ticks, AbstractTable, HallState, new_hall, line_at, line_behind, lines_behind, refused_for, refused_first, refused_in, refused_by, HearsEach, EachHears, HallSteps, HallRun, HallLine, silent, asks, over, asking, line_cut, sent_by, has_ended, stream_of, line_after, first_request, heard_of, heard_of_piece, heard_of_end, own, requested, is_for}
 use Rattle.rbg_floor.specs.Halls as halls
-use Rattle.rbg_floor.specs.Lines.{HallLine, silent, asks, over, asking, line_cut, sent_by, has_ended, stream_of, line_after, first_request}
-use Rattle.rbg_floor.specs.Own.{heard_of, heard_of_piece, heard_of_end, own}
-use Rattle.rbg_floor.specs.Requests.{requested, is_for}
 use Rattle.rbg_floor.proofs.Growing.{by_test, brings, brings_own, brings_other, sent_more, standing, line_sends, line_ends, other_sends, other_ends, clock_ticks}
 use Rattle.rbg_floor.proofs.Owning.{own_more, asks_in, asked_later, own_lacks}
 use Rattle.rbg_floor.proofs.Silence.{unheard_untold}

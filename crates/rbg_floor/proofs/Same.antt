@@ -1,23 +1,12 @@
 -- Two halls with the same table at one place.
-use Rattle.std.proofs.Common.{◌≡◌, ℕ, ◌+◌, ◌<◌, ◌^◌, List, [], ◌∷◌, length, true, false, refl, sym, ap, ◌∙◌, subst, arith, Option, Some, None}
+use Rattle.std.proofs.Common.{◌≡◌, ℕ, ◌+◌, ◌<◌, ◌^◌, List, [], ◌∷◌, length, true, false, refl, sym, ap, ◌∙◌, subst, arith, Option, Some, None, ◌==◌, ◌&&◌, nat_lt, slice_get, slice_index_or, if◌then◌else◌}
 use Rattle.std.proofs.lemmas.Bool.{true≢false, eq-eqb, eqb-true, lt-ltb, ltb-true}
-use Rattle.std.specs.Prelude.{◌==◌, ◌&&◌, nat_lt, slice_get, slice_index_or, if◌then◌else◌}
 use Rattle.rbg_wire.specs.Streams.{Item, incomplete, cut}
 use Rattle.rbg_match.specs.Limits.{message_limit}
-use Rattle.rbg_hall.specs.Limits.{lines_in_all}
-use Rattle.rbg_hall.specs.Tables.{HallOf, OwnEvent, TableRun}
-use Rattle.rbg_hall.specs.Tellings.{Telling, bytes_to}
+use Rattle.rbg_hall.proofs.Common.{lines_in_all, HallOf, OwnEvent, TableRun, Telling, bytes_to}
 use Rattle.rbg_hall.proofs.Alike.{one_table}
 use Rattle.rbg_hall.proofs.Places.{there_within}
-use Rattle.rbg_floor.specs.Allowed.{IsAllowed, bytes_by, bytes_for}
-use Rattle.rbg_floor.specs.Apart.{asks_for, concerning}
-use Rattle.rbg_floor.specs.Events.{AbstractHallEvent}
-use Rattle.rbg_floor.specs.Halls.{AbstractTable}
-use Rattle.rbg_floor.specs.Laws.{LinesHaveTheSameBytes, TablesAreApart}
-use Rattle.rbg_floor.specs.Lines.{sent_by, stream_of, first_request}
-use Rattle.rbg_floor.specs.Openings.{MayBeTables}
-use Rattle.rbg_floor.specs.Own.{own}
-use Rattle.rbg_floor.specs.Requests.{requested, is_for}
+use Rattle.rbg_floor.proofs.Common.{IsAllowed, bytes_by, bytes_for, asks_for, concerning, AbstractHallEvent, AbstractTable, LinesHaveTheSameBytes, TablesAreApart, sent_by, stream_of, first_request, MayBeTables, own, requested, is_for}
 use Rattle.rbg_floor.proofs.Apart.{chosen_other, chosen_same, dropped_sent, first_true, kept_sent, nothing_asked, second_true}
 use Rattle.rbg_floor.proofs.Counts.{same_own}
 use Rattle.rbg_floor.proofs.Growing.{by_test}

@@ -1,33 +1,20 @@
 -- What the match of a log's script sends is what is queued for the lines on the seats of its table.
-use Rattle.std.proofs.Common.{◌≡◌, ℕ, zero, suc, ◌+◌, ◌<◌, List, [], ◌∷◌, ◌++◌, length, map, get_or, replicate, Some, refl, sym, ap, ◌∙◌, subst, append_assoc, append-nil, arith, Ok, Err}
+use Rattle.rbg_base.proofs.Common.{◌≡◌, ℕ, zero, suc, ◌+◌, ◌<◌, List, [], ◌∷◌, ◌++◌, length, map, get_or, replicate, Some, refl, sym, ap, ◌∙◌, subst, append_assoc, append-nil, arith, Ok, Err, get_or-replicate, length-replicate, map-append, none-some, nat_lt, slice_get}
 use Rattle.std.proofs.lemmas.Bool.{ltb-true}
-use Rattle.std.proofs.lemmas.List.{get_or-replicate, length-replicate, map-append}
-use Rattle.std.proofs.lemmas.Option.{none-some}
-use Rattle.std.specs.Prelude.{nat_lt, slice_get}
 use Rattle.rbg_rules.specs.Meaning.{AbstractGame}
 use Rattle.rbg_match.specs.declared.config.Config.{Config}
-use Rattle.rbg_hall.specs.Limits.{lines_in_all}
-use Rattle.rbg_hall.specs.Tables.{TableRun, TableState, OwnEvent, SitsAt, new_table}
-use Rattle.rbg_hall.specs.Tellings.{Telling, bytes_to, told_to}
+use Rattle.rbg_hall.proofs.Common.{lines_in_all, TableRun, TableState, OwnEvent, SitsAt, new_table, Telling, bytes_to, told_to}
 use Rattle.rbg_hall.proofs.Telling.{told_to-append, told_to-none}
 use Rattle.rbg_ledger.specs.Kept.{KeptState, Ledger, no_log, told_log}
 use Rattle.rbg_ledger.specs.Laws.{KeptRun, SendsWhatIsTold}
 use Rattle.rbg_ledger.specs.Laws as runs
 use Rattle.rbg_ledger.proofs.Sending.{log_sends_what_is_told, run_of}
 use Rattle.rbg_serving.specs.declared.served.ServeError.TheVariants.{Rounds, Memory}
-use Rattle.rbg_serving.specs.Heard.{Heard, event_of}
-use Rattle.rbg_serving.specs.Passing.{Intake, Handles}
+use Rattle.rbg_serving.proofs.Common.{Heard, event_of, Intake, Handles}
 use Rattle.rbg_serving.specs.Passing as passing
-use Rattle.rbg_floor.specs.Apart.{asks_for}
-use Rattle.rbg_floor.specs.Events.{AbstractHallEvent}
-use Rattle.rbg_floor.specs.Failing.{HeldHall}
-use Rattle.rbg_floor.specs.Halls.{AbstractTable, HallState}
-use Rattle.rbg_floor.specs.Laws.{LoggedRun, LogSends, LogsSendWhatIsTold, ServedHallRunsOn}
+use Rattle.rbg_floor.proofs.Common.{asks_for, AbstractHallEvent, HeldHall, AbstractTable, HallState, LoggedRun, LogSends, LogsSendWhatIsTold, ServedHallRunsOn, EachWrites, KeptHearsEach, given_at, given_to, kept, log_at, log_of, own, hall_event, hall_events, of_hall}
 use Rattle.rbg_floor.specs.Laws as laws
-use Rattle.rbg_floor.specs.Ledgers.{EachWrites, KeptHearsEach, given_at, given_to, kept, log_at, log_of}
 use Rattle.rbg_floor.specs.Ledgers as ledgers
-use Rattle.rbg_floor.specs.Own.{own}
-use Rattle.rbg_floor.specs.Serving.{hall_event, hall_events, of_hall}
 use Rattle.rbg_floor.proofs.Apart.{first_true}
 use Rattle.rbg_floor.proofs.Beginnings.{early_so, told_there, unasked_lacks}
 use Rattle.rbg_floor.proofs.Early.{own_joins}

@@ -1,24 +1,13 @@
 -- A hall that is served.
-use Rattle.std.proofs.Common.{◌≡◌, ℕ, zero, suc, ◌<◌, Bool, List, [], ◌∷◌, length, true, false, refl, sym, ap, ◌∙◌, subst, arith, append-nil, Result, Ok, Err, inl, inr}
-use Rattle.std.proofs.lemmas.List.{map-append}
-use Rattle.std.specs.Prelude.{OnOk, OnErr, is_err}
+use Rattle.rbg_base.proofs.Common.{◌≡◌, ℕ, zero, suc, ◌<◌, Bool, List, [], ◌∷◌, length, true, false, refl, sym, ap, ◌∙◌, subst, arith, append-nil, Result, Ok, Err, inl, inr, map-append, OnOk, OnErr, is_err}
 use Rattle.rbg_hall.specs.Tellings.{Telling, bytes_to, told_from}
 use Rattle.rbg_hall.proofs.Telling.{length-told_to}
 use Rattle.rbg_serving.specs.declared.served.Served.{Served}
 use Rattle.rbg_serving.specs.declared.served.ServeError.{ServeError}
 use Rattle.rbg_serving.specs.declared.served.ServeError.TheVariants.{Rounds, Memory}
-use Rattle.rbg_serving.specs.Heard.{Heard, event_of}
-use Rattle.rbg_serving.specs.Passing.{Intake, Handles, Extends, ExtendAll, queued_at}
+use Rattle.rbg_serving.proofs.Common.{Heard, event_of, Intake, Handles, Extends, ExtendAll, queued_at}
 use Rattle.rbg_serving.specs.Passing as passing
-use Rattle.rbg_floor.specs.Failing.{HeldHall}
-use Rattle.rbg_floor.specs.Halls.{AbstractTable, HallState}
-use Rattle.rbg_floor.specs.Hearing.{HallHears}
-use Rattle.rbg_floor.specs.Events.{AbstractHallEvent}
-use Rattle.rbg_floor.specs.Laws.{ServedHallIsAllowed}
-use Rattle.rbg_floor.specs.Ledgers.{HallStops, HallWrites}
-use Rattle.rbg_floor.specs.Openings.{IsNewHall}
-use Rattle.rbg_floor.specs.Serving.{IsServedHall, hall_event, hall_events, of_hall}
-use Rattle.rbg_floor.specs.Wholes.{HasRun, IsOfHall}
+use Rattle.rbg_floor.proofs.Common.{HeldHall, AbstractTable, HallState, HallHears, AbstractHallEvent, ServedHallIsAllowed, HallStops, HallWrites, IsNewHall, IsServedHall, hall_event, hall_events, of_hall, HasRun, IsOfHall}
 use Rattle.rbg_floor.proofs.Wholes.{run_on, new_run, run_allowed}
 
 -- what each line has after it is told something

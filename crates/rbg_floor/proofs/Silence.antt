@@ -1,13 +1,11 @@
 -- A table tells nothing to a line of which it heard nothing.
-use Rattle.std.proofs.Common.{◌≡◌, ◌≢◌, ℕ, List, [], ◌∷◌, ◌++◌, false, refl, sym, ap, ◌∙◌, subst, Some, set}
+use Rattle.std.proofs.Common.{◌≡◌, ◌≢◌, ℕ, List, [], ◌∷◌, ◌++◌, false, refl, sym, ap, ◌∙◌, subst, Some, set, ◌==◌}
 use Rattle.std.proofs.lemmas.Bool.{true≢false, eq-eqb}
-use Rattle.std.specs.Prelude.{◌==◌}
 use Rattle.rbg_rules.specs.Meaning.{AbstractGame}
 use Rattle.rbg_match.specs.declared.config.Config.{Config}
 use Rattle.rbg_match.specs.PlayingOn.{seats_of}
-use Rattle.rbg_hall.specs.Tables.{TableState, TableRun, OwnEvent, Plays, Hears, waits, ticks, sits, begins, is_full, comes_late, stays, waits_too, stirs, is_early, plays, frees, goes, is_moment_for_none, is_unheard, goes_unheard}
+use Rattle.rbg_hall.proofs.Common.{TableState, TableRun, OwnEvent, Plays, Hears, waits, ticks, sits, begins, is_full, comes_late, stays, waits_too, stirs, is_early, plays, frees, goes, is_moment_for_none, is_unheard, goes_unheard, Telling, bytes_to}
 use Rattle.rbg_hall.specs.Tables as tables
-use Rattle.rbg_hall.specs.Tellings.{Telling, bytes_to}
 use Rattle.rbg_hall.proofs.Seats.{SitsNowhere, empty_seats, none_on, seat_freed, seat_taken}
 use Rattle.rbg_hall.proofs.Telling.{bytes_to-append, bytes_to-other}
 use Rattle.rbg_floor.proofs.Owning.{is_of, Lacks, lacks_first, lacks_next}

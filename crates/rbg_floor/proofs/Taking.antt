@@ -1,18 +1,13 @@
 -- The items that a line has completed are heard in turn.
-use Rattle.std.proofs.Common.{◌≡◌, ℕ, List, [], ◌∷◌, ◌++◌, map, drop, refl, sym, ap, ◌∙◌, subst, Some, None, append_assoc}
+use Rattle.rbg_base.proofs.Common.{◌≡◌, ℕ, List, [], ◌∷◌, ◌++◌, map, drop, refl, sym, ap, ◌∙◌, subst, Some, None, append_assoc, none-some, slice_get, OnErr, Result, Ok, Err}
 use Rattle.std.proofs.lemmas.List.{map-append, append-nil}
-use Rattle.std.proofs.lemmas.Option.{none-some}
-use Rattle.std.specs.Prelude.{slice_get, OnErr, Result, Ok, Err}
 use Rattle.rbg_wire.specs.Streams.{Item, Stream, without_first}
 use Rattle.rbg_hall.specs.declared.queues.Mark.{Mark}
-use Rattle.rbg_hall.specs.Tables.{OwnEvent, says}
-use Rattle.rbg_hall.specs.Tellings.{told_to}
-use Rattle.rbg_hall.specs.Undoing.{undone}
+use Rattle.rbg_hall.proofs.Common.{OwnEvent, says, told_to, undone}
 use Rattle.rbg_hall.proofs.Telling.{told_to-append, told_to-none}
 use Rattle.rbg_ledger.specs.Kept.{KeptFails, KeptHearsFor, KeptState}
-use Rattle.rbg_floor.specs.Ledgers.{Becomes, KeptHearsEach}
+use Rattle.rbg_floor.proofs.Common.{Becomes, KeptHearsEach, HearsEachFor}
 use Rattle.rbg_floor.specs.Ledgers as ledgers
-use Rattle.rbg_floor.specs.internal.Hearing.{HearsEachFor}
 
 -- a list that has a first element, or none
 pub first_and_others : {A : Type 0} (xs : List A) (x : A) → slice_get xs 0 ≡ Some x → xs ≡ x ∷ drop 1 xs

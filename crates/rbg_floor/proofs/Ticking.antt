@@ -1,16 +1,12 @@
 -- The tables of a hall hear in turn, or one of them hears.
-use Rattle.std.proofs.Common.{◌≡◌, ◌≢◌, ℕ, zero, suc, ◌+◌, ◌<◌, ◌≤◌, List, [], ◌∷◌, ◌++◌, length, get_or, set, refl, sym, ap, ◌∙◌, subst, append_assoc, append-nil, arith}
+use Rattle.std.proofs.Common.{◌≡◌, ◌≢◌, ℕ, zero, suc, ◌+◌, ◌<◌, ◌≤◌, List, [], ◌∷◌, ◌++◌, length, get_or, set, refl, sym, ap, ◌∙◌, subst, append_assoc, append-nil, arith, flat_map}
 use Rattle.std.proofs.lemmas.List.{length-set}
-use Rattle.std.specs.List.{flat_map}
 use Rattle.rbg_hall.specs.declared.queues.Mark.{Mark}
-use Rattle.rbg_hall.specs.Tables.{OwnEvent, clock}
-use Rattle.rbg_hall.specs.Tellings.{Telling, told_to}
-use Rattle.rbg_hall.specs.Undoing.{undone}
+use Rattle.rbg_hall.proofs.Common.{OwnEvent, clock, Telling, told_to, undone}
 use Rattle.rbg_hall.proofs.Telling.{told_to-append, told_to-none}
 use Rattle.rbg_ledger.specs.Kept.{KeptFails, KeptHearsFor, KeptState}
-use Rattle.rbg_floor.specs.Ledgers.{Becomes, KeptHearsEach}
+use Rattle.rbg_floor.proofs.Common.{Becomes, KeptHearsEach, EachKeptHears, HearsEachFor, TablesHear, TablesStop}
 use Rattle.rbg_floor.specs.Ledgers as ledgers
-use Rattle.rbg_floor.specs.internal.Hearing.{EachKeptHears, HearsEachFor, TablesHear, TablesStop}
 use Rattle.rbg_floor.specs.internal.Hearing as hearing
 use Rattle.rbg_floor.proofs.Taking.{stops_at}
 

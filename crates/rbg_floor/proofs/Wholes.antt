@@ -1,18 +1,9 @@
 -- A hall hears events in turn.
-use Rattle.std.proofs.Common.{ℕ, ◌+◌, ◌<◌, List, [], ◌∷◌, ◌++◌, length, map, take, get_or, replicate, sym, ap, ◌∙◌, subst, append_assoc}
-use Rattle.std.proofs.lemmas.List.{map-append, take_more}
-use Rattle.rbg_hall.specs.Limits.{lines_in_all}
-use Rattle.rbg_hall.specs.Tellings.{told_to}
+use Rattle.rbg_base.proofs.Common.{ℕ, ◌+◌, ◌<◌, List, [], ◌∷◌, ◌++◌, length, map, take, get_or, replicate, sym, ap, ◌∙◌, subst, append_assoc, map-append, take_more}
+use Rattle.rbg_hall.proofs.Common.{lines_in_all, told_to}
 use Rattle.rbg_hall.proofs.Telling.{told_to-append, told_to-none}
-use Rattle.rbg_floor.specs.declared.event.HallEvent.{HallEvent}
-use Rattle.rbg_floor.specs.Events.{AbstractHallEvent, event_of}
-use Rattle.rbg_floor.specs.Halls.{AbstractTable, HallState}
+use Rattle.rbg_floor.proofs.Common.{HallEvent, AbstractHallEvent, event_of, AbstractTable, HallState, HallHears, IsNewHall, HeldHall, HasRun, IsOfHall, IsAllowed}
 use Rattle.rbg_floor.specs.Halls as halls
-use Rattle.rbg_floor.specs.Hearing.{HallHears}
-use Rattle.rbg_floor.specs.Openings.{IsNewHall}
-use Rattle.rbg_floor.specs.Failing.{HeldHall}
-use Rattle.rbg_floor.specs.Wholes.{HasRun, IsOfHall}
-use Rattle.rbg_floor.specs.Allowed.{IsAllowed}
 use Rattle.rbg_floor.proofs.Permitted.{run_is_allowed}
 
 pub run_on : {starts : List AbstractTable} {events : List AbstractHallEvent} {event : AbstractHallEvent} {old new : HallState} {before after : List (List ℕ)} → HasRun starts events old before → HallHears old event new before after → HasRun starts (events ++ event ∷ []) new after

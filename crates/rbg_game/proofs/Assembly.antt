@@ -1,25 +1,14 @@
 -- The game that is made of names, a board and rules by numbers is the description's; what is wrong with the board or the rules is wrong
 -- with the description.
-use Rattle.std.proofs.Common.{◌≡◌, ℕ, ◌≤◌, List, ◌++◌, length, take, refl, sym, ap, ◌∙◌, subst, arith}
-use Rattle.std.specs.Prelude.{All}
-use Rattle.std.proofs.Math.Seq.{take-append_seam}
-use Rattle.std.proofs.lemmas.List.{map-append, length-map}
+use Rattle.rbg_base.proofs.Common.{◌≡◌, ℕ, ◌≤◌, List, ◌++◌, length, take, refl, sym, ap, ◌∙◌, subst, arith, All, take-append_seam, map-append, length-map}
 use Rattle.std.proofs.lemmas.Slice.Zip.{AllZip-long}
-use Rattle.rbg_grammar.specs.Formed.{IsWhole}
-use Rattle.rbg_grammar.specs.Tree.{SpeltBounded, SpeltBoard, rectangle, hexagon, graph, SpeltName, SpeltDescription}
+use Rattle.rbg_grammar.proofs.Common.{IsWhole, SpeltBounded, SpeltBoard, rectangle, hexagon, graph, SpeltName, SpeltDescription}
 use Rattle.rbg_rules.specs.Meaning.{Expression, IsGame, IsWithinLimits, greatest_bound}
 use Rattle.rbg_game.specs.declared.checking.boards.NamedBoard.{NamedBoard}
-use Rattle.rbg_game.specs.declared.checking.names.Things.{Things}
-use Rattle.rbg_game.specs.declared.game_error.GameError.{GameError}
+use Rattle.rbg_game.proofs.Common.{Things, GameError, game_error_of, HasBoardFault, board_directions, names_spelt, HasFault, in_board, in_rules, MakesBoard, AreThingsOf, game_by_numbers}
 use Rattle.rbg_numbering.specs.declared.error.NumberingError.{NumberingError}
-use Rattle.rbg_game.specs.GameErrors.{game_error_of}
-use Rattle.rbg_numbering.specs.Names.{Names, texts_of}
+use Rattle.rbg_numbering.proofs.Common.{Names, texts_of, Purpose, as_direction, as_piece, as_player, as_variable, names_for, HasRuleFault, IsRuleByNumbers}
 use Rattle.rbg_game.specs.Descriptions.{NamedBoard as BoardByNames, BoardIs, directions_named, holder_names, holders_of, AreBounds, IsGameOf}
-use Rattle.rbg_numbering.specs.Faults.{Purpose, as_direction, as_piece, as_player, as_variable, names_for, HasRuleFault}
-use Rattle.rbg_game.specs.Faults.{HasBoardFault, board_directions, names_spelt, HasFault, in_board, in_rules}
-use Rattle.rbg_game.specs.internal.Boards.{MakesBoard}
-use Rattle.rbg_numbering.specs.Numbered.{IsRuleByNumbers}
-use Rattle.rbg_game.specs.internal.Things.{AreThingsOf, game_by_numbers}
 use Rattle.rbg_numbering.proofs.RuleFaults.{IsAmong, among_same, rule_fault_by}
 use Rattle.rbg_game.proofs.FaultLaw.{texts_named}
 

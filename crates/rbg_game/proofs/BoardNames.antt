@@ -1,8 +1,5 @@
 -- Names by their numbers, in rows of cells and in lists.
-use Rattle.std.proofs.Common.{◌≡◌, ℕ, ◌<◌, inl, inr, List, [], ◌∷◌, length, flat_map, Contains, All, arith}
-use Rattle.std.specs.List.{AllZip, concat}
-use Rattle.std.proofs.lemmas.List.Elements.{All-nil, All-cons, All-append, Contains-append_cases}
-use Rattle.std.proofs.lemmas.Option.{slice_get_within}
+use Rattle.rbg_base.proofs.Common.{◌≡◌, ℕ, ◌<◌, inl, inr, List, [], ◌∷◌, length, flat_map, Contains, All, arith, AllZip, concat, All-nil, All-cons, All-append, Contains-append_cases, slice_get_within}
 use Rattle.rbg_grammar.specs.Tree.{SpeltName}
 use Rattle.rbg_rules.specs.Meaning.{AreDifferentNames}
 use Rattle.rbg_numbering.specs.Names.{IsNumberOf}

@@ -1,31 +1,12 @@
 -- A description with a fault is no game.
-use Rattle.std.proofs.Common.{◌≡◌, ◌≢◌, ◌↔◌, ℕ, ◌<◌, ◌≤◌, inl, inr, List, [], ◌∷◌, ◌++◌, Some, length, get_or, map}
-use Rattle.std.proofs.Common.{refl, sym, ap, ◌∙◌, subst, arith}
-use Rattle.std.specs.Prelude.{slice_get, slice_index, Contains, All}
-use Rattle.std.proofs.lemmas.List.{length-map, map-append}
-use Rattle.std.proofs.lemmas.Option.{slice_get-get_or}
-use Rattle.std.proofs.lemmas.List.Elements.{All-contains}
-use Rattle.rbg_board.specs.Cells.{Rows, HasTwice}
-use Rattle.rbg_board.specs.RowLaws.{MakesRows, RowsRefusal}
-use Rattle.rbg_board.specs.Rectangle.{RectangleEdge, HasFirstCell, LacksFirstCell, IsEven, IsFirstUneven, RectangleRefusal}
-use Rattle.rbg_board.specs.Hexagon.{HexagonEdge, HasCells, LacksCell, GrowsThenShrinks, IsFirstMisfit, HexagonRefusal}
+use Rattle.rbg_base.proofs.Common.{◌≡◌, ◌≢◌, ◌↔◌, ℕ, ◌<◌, ◌≤◌, inl, inr, List, [], ◌∷◌, ◌++◌, Some, length, get_or, map, refl, sym, ap, ◌∙◌, subst, arith, slice_get, slice_index, Contains, All, length-map, map-append, slice_get-get_or, All-contains}
+use Rattle.rbg_board.proofs.Common.{Rows, HasTwice, MakesRows, RowsRefusal, RectangleEdge, HasFirstCell, LacksFirstCell, IsEven, IsFirstUneven, RectangleRefusal, HexagonEdge, HasCells, LacksCell, GrowsThenShrinks, IsFirstMisfit, HexagonRefusal}
 use Rattle.rbg_board.specs.declared.error.BoardError.{BoardError}
 use Rattle.rbg_board.specs.declared.error.BoardError.TheVariants as board_errors
-use Rattle.rbg_grammar.specs.Tree.{SpeltName, SpeltBounded, SpeltEdge, SpeltVertex, SpeltBoard, rectangle, hexagon, graph}
-use Rattle.rbg_grammar.specs.Tree.{SpeltDescription}
+use Rattle.rbg_grammar.proofs.Common.{SpeltName, SpeltBounded, SpeltEdge, SpeltVertex, SpeltBoard, rectangle, hexagon, graph, SpeltDescription}
 use Rattle.rbg_rules.specs.Meaning.{AbstractGame, greatest_bound, most_directions, AreDifferentNames, AreLawfulNames}
-use Rattle.rbg_game.specs.declared.game_error.GameError.{GameError}
-use Rattle.rbg_game.specs.GameErrors.{game_error_of}
-use Rattle.rbg_game.specs.declared.game_error.GameError.TheVariants.{Memory}
-use Rattle.rbg_numbering.specs.Names.{texts_of}
-use Rattle.rbg_game.specs.Descriptions.{names_in}
-use Rattle.rbg_game.specs.Descriptions.{NamedBoard, board_in, IsRowsBoard, IsRectangleBoard, IsHexagonBoard, IsGraphBoard, VertexIs, BoardIs, directions_named}
-use Rattle.rbg_game.specs.Descriptions.{holder_names, holders_of, AreBounds, IsGameOf}
-use Rattle.rbg_game.specs.Faults.{StandsAgain, HasGreatBound, HaveOneName, HasRowsFault, HasBoardFault, unknown_piece, many_directions, no_rectangle, no_hexagon, no_graph, board_memory}
-use Rattle.rbg_numbering.specs.Faults.{Purpose, as_direction, as_piece, as_player, as_variable, names_for}
-use Rattle.rbg_game.specs.Faults.{board_directions, board_pieces, names_of_holders, names_spelt}
-use Rattle.rbg_game.specs.Faults.{same_holder, same_piece, great_bound, many_players, many_pieces, many_variables, in_board, in_rules, memory}
-use Rattle.rbg_game.specs.OneGame.{NoGameWithFaultLaw}
+use Rattle.rbg_game.proofs.Common.{GameError, game_error_of, Memory, names_in, NamedBoard, board_in, IsRowsBoard, IsRectangleBoard, IsHexagonBoard, IsGraphBoard, VertexIs, BoardIs, directions_named, holder_names, holders_of, AreBounds, IsGameOf, StandsAgain, HasGreatBound, HaveOneName, HasRowsFault, HasBoardFault, unknown_piece, many_directions, no_rectangle, no_hexagon, no_graph, board_memory, board_directions, board_pieces, names_of_holders, names_spelt, same_holder, same_piece, great_bound, many_players, many_pieces, many_variables, in_board, in_rules, memory, NoGameWithFaultLaw}
+use Rattle.rbg_numbering.proofs.Common.{texts_of, Purpose, as_direction, as_piece, as_player, as_variable, names_for}
 use Rattle.rbg_base.proofs.CallerLemmas.{Contains-from_get, get_from-Contains, slice_get-map_at}
 use Rattle.rbg_numbering.proofs.Lists.{map_entry, fellow}
 use Rattle.rbg_game.proofs.NameFaults.{texts_of-names}

@@ -1,17 +1,12 @@
 -- A graph with a fault is no board.
-use Rattle.std.proofs.Common.{◌≡◌, ℕ, ◌<◌, List, [], Some, length, get_or, map, sym, ap, ◌∙◌, arith}
-use Rattle.std.proofs.lemmas.List.{length-map, get_or-map}
-use Rattle.std.proofs.lemmas.List.Elements.{All-contains}
-use Rattle.std.proofs.lemmas.Option.{slice_get_within, get_or_from_slice_get}
+use Rattle.rbg_base.proofs.Common.{◌≡◌, ℕ, ◌<◌, List, [], Some, length, get_or, map, sym, ap, ◌∙◌, arith, length-map, get_or-map, All-contains, slice_get_within, get_or_from_slice_get}
 use Rattle.std.proofs.lemmas.Slice.Zip.{AllZip-long}
 use Rattle.rbg_base.proofs.CallerLemmas.{Contains-from_get}
-use Rattle.rbg_board.specs.Cells.{AreDifferent}
-use Rattle.rbg_board.specs.Written.{Written, directions_in}
+use Rattle.rbg_board.proofs.Common.{AreDifferent, Written, directions_in}
 use Rattle.rbg_board.specs.declared.error.BoardError.{BoardError}
 use Rattle.rbg_grammar.specs.Tree.{SpeltName, SpeltEdge, SpeltVertex}
 use Rattle.rbg_rules.specs.Meaning.{AreDifferentNames}
-use Rattle.rbg_game.specs.Descriptions.{NamedBoard, EdgeIs, VertexIs, vertex_names, IsGraphBoard}
-use Rattle.rbg_game.specs.Faults.{StandsTwice, HasGraphFault, no_vertex, many_vertices, same_vertex, same_direction, unknown_vertex}
+use Rattle.rbg_game.proofs.Common.{NamedBoard, EdgeIs, VertexIs, vertex_names, IsGraphBoard, StandsTwice, HasGraphFault, no_vertex, many_vertices, same_vertex, same_direction, unknown_vertex}
 use Rattle.rbg_numbering.proofs.Lists.{AllZip-at, fellow}
 
 -- different names stand once

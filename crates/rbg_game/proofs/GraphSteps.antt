@@ -1,25 +1,16 @@
 -- How the lists of a graph's names and numbers grow, vertex by vertex and edge by edge.
-use Rattle.std.proofs.Common.{◌≡◌, ℕ, ◌+◌, ◌<◌, ◌≤◌, inl, inr, List, [], ◌∷◌, ◌++◌, Some, length, get_or, map, take, slice_get, Contains, All, Option, None, MatchOption, append-nil, refl, sym, ap, ◌∙◌, subst, arith}
-use Rattle.std.specs.List.{AllZip}
-use Rattle.std.specs.Option.{unwrap_or}
+use Rattle.rbg_base.proofs.Common.{◌≡◌, ℕ, ◌+◌, ◌<◌, ◌≤◌, inl, inr, List, [], ◌∷◌, ◌++◌, Some, length, get_or, map, take, slice_get, Contains, All, Option, None, MatchOption, append-nil, refl, sym, ap, ◌∙◌, subst, arith, AllZip, unwrap_or, flat_map-append, slice_get_within, get_or_from_slice_get}
 use Rattle.std.proofs.lemmas.List.{length-map, length-take, map-append, take-map, get_or_default}
-use Rattle.std.proofs.lemmas.Grind.{flat_map-append}
-use Rattle.std.proofs.lemmas.Option.{slice_get_within, get_or_from_slice_get}
 use Rattle.rbg_board.specs.declared.error.BoardError.TheVariants as board_errors
-use Rattle.rbg_grammar.specs.Tree.{SpeltName, SpeltEdge, SpeltVertex, graph}
-use Rattle.rbg_grammar.specs.Views.{edge_of, vertex_of}
+use Rattle.rbg_grammar.proofs.Common.{SpeltName, SpeltEdge, SpeltVertex, graph, edge_of, vertex_of}
 use Rattle.rbg_grammar.specs.declared.description.Edge.{Edge}
 use Rattle.rbg_grammar.specs.declared.description.Vertex.{Vertex}
 use Rattle.rbg_numbering.specs.declared.error.NumberingError.{NumberingError}
 use Rattle.rbg_numbering.specs.declared.error.NumberingError.TheVariants as errors
-use Rattle.rbg_numbering.specs.Names.{IsNumberOf}
-use Rattle.rbg_numbering.specs.NameTables.{HasLookUpFault, not_there, no_memory}
+use Rattle.rbg_numbering.proofs.Common.{IsNumberOf, HasLookUpFault, not_there, no_memory}
 use Rattle.rbg_base.proofs.CallerLemmas.{map-take_more, slice_get-map_at, Contains-map}
 use Rattle.rbg_numbering.proofs.Lists.{slice_get-map_read, Contains-one, entry_of_front, Contains-flat_map, Contains-map_read, AllZip-at}
-use Rattle.rbg_game.specs.Descriptions.{vertex_names, directions_named, IsOrderOfFirstUse}
-use Rattle.rbg_game.specs.Faults.{board_pieces, HasGraphFault, same_vertex}
-use Rattle.rbg_game.specs.internal.Boards.{Joins}
-use Rattle.rbg_game.specs.internal.Graphs.{edge_directions, IsTarget, IsEdge, IsCell}
+use Rattle.rbg_game.proofs.Common.{vertex_names, directions_named, IsOrderOfFirstUse, board_pieces, HasGraphFault, same_vertex, Joins, edge_directions, IsTarget, IsEdge, IsCell}
 
 -- One more vertex, or one more edge.
 

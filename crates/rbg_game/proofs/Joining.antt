@@ -1,23 +1,16 @@
 -- Names that join a table: the numbers that they have, and the order in which they are first used.
-use Rattle.std.proofs.Common.{◌≡◌, ◌≢◌, ℕ, ◌+◌, ◌<◌, ◌≤◌, inl, inr, List, [], ◌∷◌, ◌++◌, Some, length, map, slice_get, slice_index, Contains, append-nil, append_assoc, refl, sym, ap, ◌∙◌, subst, arith}
-use Rattle.std.specs.List.{range_with_len}
+use Rattle.rbg_base.proofs.Common.{◌≡◌, ◌≢◌, ℕ, ◌+◌, ◌<◌, ◌≤◌, inl, inr, List, [], ◌∷◌, ◌++◌, Some, length, map, slice_get, slice_index, Contains, append-nil, append_assoc, refl, sym, ap, ◌∙◌, subst, arith, range_with_len, Contains-append_left, Contains-append_right, Contains-append_cases, slice_get_within, get_or-append_seam}
 use Rattle.std.proofs.lemmas.List.{length-map, length-append, map-append, get_or_append_left}
 use Rattle.std.proofs.lemmas.List.FromFn.{map-range_with_len_more, get_or-range_with_len}
-use Rattle.std.proofs.lemmas.List.Elements.{Contains-append_left, Contains-append_right, Contains-append_cases}
-use Rattle.std.proofs.lemmas.Option.{slice_get_within}
 use Rattle.std.proofs.lemmas.Slice.Zip.{AllZip-long, all_zipped_more}
-use Rattle.std.proofs.Math.Seq.{get_or-append_seam}
 use Rattle.rbg_base.proofs.CallerLemmas.{AllZip-weaker, Contains-from_get, get_from-Contains, slice_get-append_left}
 use Rattle.rbg_board.specs.Cells.{AreDifferent}
 use Rattle.rbg_grammar.specs.Tree.{SpeltName}
 use Rattle.rbg_rules.specs.Meaning.{AreDifferentNames}
 use Rattle.rbg_numbering.specs.declared.error.NumberingError.{NumberingError}
 use Rattle.rbg_numbering.specs.declared.error.NumberingError.TheVariants as errors
-use Rattle.rbg_numbering.specs.Names.{IsNumberOf}
-use Rattle.rbg_game.specs.Descriptions.{IsOrderOfFirstUse}
-use Rattle.rbg_numbering.specs.NameTables.{HasNameFault, same_name, no_memory}
-use Rattle.rbg_game.specs.internal.Boards.{Joins, NumbersDirections}
-use Rattle.rbg_game.specs.internal.Graphs.{AddsInOrder}
+use Rattle.rbg_numbering.proofs.Common.{IsNumberOf, HasNameFault, same_name, no_memory}
+use Rattle.rbg_game.proofs.Common.{IsOrderOfFirstUse, Joins, NumbersDirections, AddsInOrder}
 use Rattle.rbg_numbering.proofs.Lists.{slice_get-last, Contains-one}
 use Rattle.rbg_numbering.proofs.NameLemmas.{slice_get-push_cases, push_differs}
 use Rattle.rbg_numbering.proofs.LookUps.{again_alone}

@@ -1,29 +1,20 @@
 -- A layer that refuses a text leaves it no game.
-use Rattle.std.proofs.Common.{◌≡◌, ◌≢◌, ℕ, List, sym, subst}
-use Rattle.std.specs.Prelude.{Result, Ok, Err}
-use Rattle.std.specs.Result.{IfErr, IsErrAnd}
-use Rattle.rbg_tokens.specs.Token.{Lexeme}
-use Rattle.rbg_macro.specs.Sections.{SectionTokens}
-use Rattle.rbg_tokens.specs.Text.{HasTokens, HasTextFault}
-use Rattle.rbg_macro.specs.Expansion.{HasSections, HasMacroFault}
+use Rattle.std.proofs.Common.{◌≡◌, ◌≢◌, ℕ, List, sym, subst, Result, Ok, Err, IfErr, IsErrAnd}
+use Rattle.rbg_tokens.proofs.Common.{Lexeme, HasTokens, HasTextFault}
+use Rattle.rbg_macro.proofs.Common.{SectionTokens, HasSections, HasMacroFault}
 use Rattle.rbg_tokens.specs.declared.error.TextError.{TextError}
 use Rattle.rbg_macro.specs.declared.error.MacroError.{MacroError}
 use Rattle.rbg_tokens.proofs.OneReading.{tokens_once, text_refused_for_memory}
 use Rattle.rbg_macro.proofs.OneExpansion.{sections_once, sections_refused_for_memory}
-use Rattle.rbg_grammar.specs.Tree.{SpeltDescription}
+use Rattle.rbg_grammar.proofs.Common.{SpeltDescription, Spells}
 use Rattle.rbg_grammar.proofs.OneDescription.{one_description}
-use Rattle.rbg_grammar.specs.Spells.{Spells}
 use Rattle.rbg_syntax.specs.Faults.{HasFault as HasSyntaxFault}
 use Rattle.rbg_syntax.specs.declared.error.SyntaxError.{SyntaxError}
 use Rattle.rbg_syntax.specs.declared.error.SyntaxError.TheVariants.{Memory as SyntaxMemory}
 use Rattle.rbg_rules.specs.Meaning.{AbstractGame}
-use Rattle.rbg_game.specs.Descriptions.{IsGameOf}
-use Rattle.rbg_game.specs.Faults.{HasFault}
-use Rattle.rbg_game.specs.declared.game_error.GameError.{GameError}
+use Rattle.rbg_game.proofs.Common.{IsGameOf, HasFault, GameError, LoadError, HasSectionsOf, Describes, IsRefused}
 use Rattle.rbg_game.specs.declared.game_error.GameError.TheVariants.{Memory as GameMemory}
-use Rattle.rbg_game.specs.declared.error.LoadError.{LoadError}
 use Rattle.rbg_game.specs.declared.error.LoadError.TheVariants as errors
-use Rattle.rbg_game.specs.Loading.{HasSectionsOf, Describes, IsRefused}
 
 -- the sections of a text are no others
 one_source : (text : List ℕ) (a b : List SectionTokens) → HasSectionsOf text a → HasSectionsOf text b → a ≡ b

@@ -1,25 +1,12 @@
 -- Faults of names that are added after others, as faults of whole lists and of the description.
-use Rattle.std.proofs.Common.{◌≡◌, ℕ, ◌+◌, ◌<◌, ◌≤◌, List, [], ◌∷◌, ◌++◌, inl, inr, Some, length, get_or, take, map, append-nil}
-use Rattle.std.proofs.Common.{refl, sym, ap, ◌∙◌, subst, append_assoc, arith}
-use Rattle.std.specs.Prelude.{slice_get, Contains}
-use Rattle.std.proofs.lemmas.List.{take-map, map-append}
-use Rattle.std.proofs.lemmas.List.Elements.{All-append, Contains-append_left, Contains-append_right, Contains-append_cases}
-use Rattle.std.proofs.lemmas.Option.{slice_get_within}
-use Rattle.rbg_grammar.specs.Tree.{SpeltName, SpeltBounded, SpeltDescription}
-use Rattle.rbg_grammar.specs.Views.{bounded_of}
+use Rattle.rbg_base.proofs.Common.{◌≡◌, ℕ, ◌+◌, ◌<◌, ◌≤◌, List, [], ◌∷◌, ◌++◌, inl, inr, Some, length, get_or, take, map, append-nil, refl, sym, ap, ◌∙◌, subst, append_assoc, arith, slice_get, Contains, take-map, map-append, All-append, Contains-append_left, Contains-append_right, Contains-append_cases, slice_get_within}
+use Rattle.rbg_grammar.proofs.Common.{SpeltName, SpeltBounded, SpeltDescription, bounded_of}
 use Rattle.rbg_grammar.specs.declared.description.Bounded.{Bounded}
 use Rattle.rbg_rules.specs.Meaning.{greatest_bound}
-use Rattle.rbg_game.specs.declared.game_error.GameError.{GameError}
+use Rattle.rbg_game.proofs.Common.{GameError, game_error_of, holder_names, holders_of, StandsAgain, HasGreatBound, names_of_holders, HasFault, same_holder, same_piece, great_bound, memory, HasHolderFault, by_name, by_bound, AddsBounds}
 use Rattle.rbg_numbering.specs.declared.error.NumberingError.{NumberingError}
-use Rattle.rbg_game.specs.GameErrors.{game_error_of}
-use Rattle.rbg_numbering.specs.Names.{texts_of}
-use Rattle.rbg_game.specs.Descriptions.{holder_names, holders_of}
-use Rattle.rbg_game.specs.Faults.{StandsAgain, HasGreatBound, names_of_holders, HasFault}
-use Rattle.rbg_game.specs.Faults.{same_holder, same_piece, great_bound, memory}
-use Rattle.rbg_numbering.specs.NameTables.{StandsBehind, HasNameFault, same_name, no_memory}
-use Rattle.rbg_game.specs.internal.Holders.{HasHolderFault, by_name, by_bound}
+use Rattle.rbg_numbering.proofs.Common.{texts_of, StandsBehind, HasNameFault, same_name, no_memory}
 use Rattle.rbg_numbering.proofs.LookUps.{name_fault_at}
-use Rattle.rbg_game.specs.internal.Things.{AddsBounds}
 use Rattle.rbg_base.proofs.CallerLemmas.{slice_get-map_at, Contains-from_get, get_from-Contains, slice_get-append_left, slice_get-append_right, AllZip-append}
 use Rattle.rbg_numbering.proofs.Lists.{Contains-one, map_entry, entry_of_front, slice_get-map_read}
 

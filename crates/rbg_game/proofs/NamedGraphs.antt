@@ -1,23 +1,13 @@
 -- Graphs by the numbers of their names: the board, and what is wrong with it.
-use Rattle.std.proofs.Common.{◌≡◌, ◌≢◌, ℕ, suc, ◌<◌, ◌≤◌, inl, inr, List, [], ◌∷◌, Some, length, get_or, map, slice_get, Contains, All, refl, sym, ap, ◌∙◌, subst, arith}
-use Rattle.std.specs.Prelude.{Any}
-use Rattle.std.specs.List.{AllZip}
-use Rattle.std.proofs.lemmas.List.{length-map, get_or-map, get_or_default}
-use Rattle.std.proofs.lemmas.List.Elements.{All-nil, All-cons, All-contains}
-use Rattle.std.proofs.lemmas.Option.{slice_get_within, slice_get-get_or}
+use Rattle.rbg_base.proofs.Common.{◌≡◌, ◌≢◌, ℕ, suc, ◌<◌, ◌≤◌, inl, inr, List, [], ◌∷◌, Some, length, get_or, map, slice_get, Contains, All, refl, sym, ap, ◌∙◌, subst, arith, Any, AllZip, length-map, get_or-map, get_or_default, All-nil, All-cons, All-contains, slice_get_within, slice_get-get_or}
 use Rattle.std.proofs.lemmas.Slice.Zip.{AllZip-long}
-use Rattle.rbg_board.specs.Cells.{HasTwice, width_of}
-use Rattle.rbg_board.specs.Graph.{Graph, HasWidth}
-use Rattle.rbg_board.specs.Written.{Written, names_of, directions_in, directions_of, IsWritten, MakesGraph, GraphRefusal, TargetsKnown}
+use Rattle.rbg_board.proofs.Common.{HasTwice, width_of, Graph, HasWidth, Written, names_of, directions_in, directions_of, IsWritten, MakesGraph, GraphRefusal, TargetsKnown}
 use Rattle.rbg_board.specs.declared.error.BoardError.{BoardError}
 use Rattle.rbg_board.specs.declared.error.BoardError.TheVariants as board_errors
 use Rattle.rbg_grammar.specs.Tree.{SpeltName, SpeltEdge, SpeltVertex, graph}
 use Rattle.rbg_rules.specs.Meaning.{most_directions, AreDifferentNames, AreLawfulNames}
 use Rattle.rbg_numbering.specs.Names.{IsNumberOf}
-use Rattle.rbg_game.specs.Descriptions.{NamedBoard, EdgeIs, VertexIs, vertex_names, directions_named, IsOrderOfFirstUse}
-use Rattle.rbg_game.specs.Faults.{StandsTwice, HasGraphFault, no_vertex, many_vertices, same_vertex, same_direction, unknown_vertex}
-use Rattle.rbg_game.specs.internal.Boards.{HasVertices, MakesBoard}
-use Rattle.rbg_game.specs.internal.Graphs.{edge_directions, IsTarget, IsEdge, IsCell}
+use Rattle.rbg_game.proofs.Common.{NamedBoard, EdgeIs, VertexIs, vertex_names, directions_named, IsOrderOfFirstUse, StandsTwice, HasGraphFault, no_vertex, many_vertices, same_vertex, same_direction, unknown_vertex, HasVertices, MakesBoard, edge_directions, IsTarget, IsEdge, IsCell}
 use Rattle.rbg_numbering.proofs.Lists.{AllZip-at}
 
 -- Lists that go together.

@@ -1,27 +1,18 @@
 -- Boards of rows by the numbers of their names: the board, and what is wrong with it.
-use Rattle.std.proofs.Common.{◌≡◌, ◌≢◌, ◌↔◌, ℕ, ◌<◌, ◌≤◌, List, [], Some, length, get_or, slice_get, slice_index, All, Result, Ok, Err, sym, ap, ◌∙◌, subst, arith}
-use Rattle.std.specs.Prelude.{IfOk, IfErr, OnOk}
-use Rattle.std.specs.List.{AllZip, concat, range_with_len}
-use Rattle.std.proofs.lemmas.List.{length-map, get_or-map}
-use Rattle.std.proofs.lemmas.Option.{slice_get-get_or}
+use Rattle.rbg_base.proofs.Common.{◌≡◌, ◌≢◌, ◌↔◌, ℕ, ◌<◌, ◌≤◌, List, [], Some, length, get_or, slice_get, slice_index, All, Result, Ok, Err, sym, ap, ◌∙◌, subst, arith, IfOk, IfErr, OnOk, AllZip, concat, range_with_len, length-map, get_or-map, slice_get-get_or}
 use Rattle.std.proofs.lemmas.Slice.Zip.{AllZip-long}
 use Rattle.rbg_grammar.specs.Tree.{SpeltName, SpeltBoard}
-use Rattle.rbg_board.specs.Graph.{Graph, HasWidth, IsGraphOf}
-use Rattle.rbg_board.specs.Cells.{Rows, width_of}
-use Rattle.rbg_board.specs.RowLaws.{MakesRows}
+use Rattle.rbg_board.proofs.Common.{Graph, HasWidth, IsGraphOf, Rows, width_of, MakesRows}
 use Rattle.rbg_board.specs.declared.error.BoardError.{BoardError}
 use Rattle.rbg_board.specs.declared.error.BoardError.TheVariants as board_errors
 use Rattle.rbg_rules.specs.Meaning.{most_directions, AreDifferentNames}
 use Rattle.rbg_numbering.specs.declared.error.NumberingError.{NumberingError}
 use Rattle.rbg_game.specs.Descriptions.{IsRowsBoard, BoardIs, NamedBoard as DescribedBoard}
-use Rattle.rbg_game.specs.GameErrors.{game_error_of}
+use Rattle.rbg_game.proofs.Common.{game_error_of, GameError, board_pieces, HasRowsFault, HasBoardFault, unknown_piece, board_memory, MakesBoard, NumbersDirections, IsNamed, IsRefusedFor, refusal_of}
 use Rattle.rbg_game.specs.declared.checking.boards.NamedBoard.{NamedBoard}
-use Rattle.rbg_game.specs.declared.game_error.GameError.{GameError}
 use Rattle.rbg_game.specs.declared.game_error.GameError.TheVariants as errors
 use Rattle.rbg_numbering.specs.Names.{IsNumberOf, texts_of}
-use Rattle.rbg_game.specs.Faults.{board_pieces, HasRowsFault, HasBoardFault, unknown_piece, board_memory}
 use Rattle.rbg_numbering.specs.NameTables.{HasLookUpFault, not_there, no_memory as look_up_memory}
-use Rattle.rbg_game.specs.internal.Boards.{MakesBoard, NumbersDirections, IsNamed, IsRefusedFor, refusal_of}
 use Rattle.rbg_numbering.proofs.Lists.{AllZip-at}
 use Rattle.rbg_game.proofs.BoardNames.{rows_below}
 

@@ -1,14 +1,9 @@
 -- A description is at most one game, and a text is at most one.
-use Rattle.std.proofs.Common.{◌≡◌, ℕ, List, ◌++◌, Some, sym, ◌∙◌, subst}
-use Rattle.std.proofs.lemmas.Option.{same_Some}
-use Rattle.std.proofs.lemmas.List.{map-append}
+use Rattle.rbg_base.proofs.Common.{◌≡◌, ℕ, List, ◌++◌, Some, sym, ◌∙◌, subst, same_Some, map-append}
 use Rattle.rbg_grammar.specs.Tree.{SpeltBounded, SpeltDescription}
 use Rattle.rbg_rules.specs.Meaning.{AbstractGame, AreDifferentNames}
-use Rattle.rbg_numbering.specs.Names.{Names, HasDifferentNames}
-use Rattle.rbg_numbering.specs.Rules.{RuleIs}
-use Rattle.rbg_game.specs.Descriptions.{names_in}
-use Rattle.rbg_game.specs.Descriptions.{board_in, holder_names, holders_of, AreBounds, IsGameOf}
-use Rattle.rbg_game.specs.OneGame.{OneGameOfDescriptionLaw, OneGameLaw}
+use Rattle.rbg_numbering.proofs.Common.{Names, HasDifferentNames, RuleIs}
+use Rattle.rbg_game.proofs.Common.{names_in, board_in, holder_names, holders_of, AreBounds, IsGameOf, OneGameOfDescriptionLaw, OneGameLaw}
 use Rattle.rbg_game.proofs.LoadingLemmas.{one_spelt}
 use Rattle.rbg_numbering.proofs.Lists.{AllZip-once}
 use Rattle.rbg_game.proofs.OneGameLists.{front_differs}

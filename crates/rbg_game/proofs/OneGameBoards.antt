@@ -1,11 +1,6 @@
 -- What is spelt as a board is at most one.
-use Rattle.std.proofs.Common.{◌≡◌, ℕ, List, [], ◌∷◌, map, sym, ◌∙◌, subst}
-use Rattle.std.specs.List.{AllZip, concat}
-use Rattle.rbg_board.specs.Cells.{Rows, width_of}
-use Rattle.rbg_board.specs.Graph.{HasWidth, IsGraphOf}
-use Rattle.rbg_board.specs.Rectangle.{RectangleEdge, MakesRectangle}
-use Rattle.rbg_board.specs.Hexagon.{HexagonEdge, MakesHexagon}
-use Rattle.rbg_board.specs.Written.{Written, pieces_of, directions_of, WrittenEdge}
+use Rattle.rbg_base.proofs.Common.{◌≡◌, ℕ, List, [], ◌∷◌, map, sym, ◌∙◌, subst, AllZip, concat}
+use Rattle.rbg_board.proofs.Common.{Rows, width_of, HasWidth, IsGraphOf, RectangleEdge, MakesRectangle, HexagonEdge, MakesHexagon, Written, pieces_of, directions_of, WrittenEdge}
 use Rattle.rbg_board.proofs.CallerLemmas.{one_graph}
 use Rattle.rbg_grammar.specs.Tree.{SpeltName, SpeltEdge, SpeltVertex, SpeltBoard, rectangle, hexagon, graph}
 use Rattle.rbg_rules.specs.Meaning.{AreDifferentNames}

@@ -1,12 +1,10 @@
 -- Phrases that are put together are read by readers that are put together in the same way.
 use Rattle.std.proofs.Common.{◌≡◌, ◌≤◌, ◌+◌, ℕ, zero, suc, List, [], ◌∷◌, length, Bool, true, false, cond, Ok, refl, subst, arith}
-use Rattle.rbg_tokens.specs.Token.{Lexeme}
+use Rattle.rbg_tokens.proofs.Common.{Lexeme, is_symbol}
 use Rattle.rbg_tokens.specs.declared.token.Symbol.{Symbol}
 use Rattle.rbg_tokens.specs.declared.token.Symbol.TheVariants.{Comma}
 use Rattle.rbg_tokens.specs.declared.token.TokenKind.{TokenKind}
-use Rattle.rbg_tokens.specs.Kinds.{is_symbol}
-use Rattle.rbg_grammar.specs.Phrase.{Repeated, done, again, After, after, Separated, separated, Listed, nothing, listed, Within, within, WithComma, with_comma}
-use Rattle.rbg_grammar.specs.Reading.{Reading, ◌>>=◌, next_is, symbol_at, repeated_within, repeated_at, after_at, separated_at, listed_at, within_at, with_comma_at}
+use Rattle.rbg_grammar.proofs.Common.{Repeated, done, again, After, after, Separated, separated, Listed, nothing, listed, Within, within, WithComma, with_comma, Reading, ◌>>=◌, next_is, symbol_at, repeated_within, repeated_at, after_at, separated_at, listed_at, within_at, with_comma_at}
 use Rattle.rbg_grammar.proofs.Readers.{bind_ok, ok_one, IsReadBy, Always, symbol_read, symbol_next}
 
 -- each phrase begins with a token that passes the test, and such a token may follow a phrase

@@ -1,13 +1,7 @@
 -- Rules at all depths of brackets, from what is read at one.
 use Rattle.std.proofs.Common.{◌≡◌, ◌≤◌, ◌+◌, ℕ, zero, suc, List, [], ◌∷◌, ◌++◌, true, Option, Result, Ok, Err, refl, sym, ap, ◌∙◌, subst, arith, append-nil}
-use Rattle.rbg_tokens.specs.Token.{Lexeme}
-use Rattle.rbg_grammar.specs.Grammar.{AreRules}
-use Rattle.rbg_grammar.specs.Laws.{OneTooDeepLaw}
-use Rattle.rbg_grammar.specs.Spells.{IsTooDeep, open_with, open_after}
-use Rattle.rbg_tokens.specs.Kinds.{opens}
-use Rattle.rbg_grammar.specs.Tree.{SpeltRule}
-use Rattle.rbg_grammar.specs.Reading.{Fault, misfit, too_deep, Reading, ◌>>=◌, ended_at, whole_at}
-use Rattle.rbg_grammar.specs.RuleReading.{rules_at}
+use Rattle.rbg_tokens.proofs.Common.{Lexeme, opens}
+use Rattle.rbg_grammar.proofs.Common.{AreRules, OneTooDeepLaw, IsTooDeep, open_with, open_after, SpeltRule, Fault, misfit, too_deep, Reading, ◌>>=◌, ended_at, whole_at, rules_at}
 use Rattle.rbg_grammar.proofs.Nesting.{Fits, fits_bracket, front_fits, opened}
 use Rattle.rbg_grammar.proofs.Pieces.{Piece, Deep, Outcome}
 use Rattle.rbg_grammar.proofs.Readers.{ok_one}

@@ -1,7 +1,5 @@
 -- What the grammar spells is a tree without a sequence, a sum or a product of fewer than two parts.
-use Rattle.std.proofs.Common.{◌≡◌, ◌<◌, ◌&&◌, ◌||◌, ℕ, zero, suc, List, [], ◌∷◌, length, Bool, true, false, Some, refl, inl, inr, arith}
-use Rattle.std.specs.Prelude.{All}
-use Rattle.std.proofs.lemmas.List.Elements.{All-nil, All-cons, All-head, All-tail}
+use Rattle.rbg_base.proofs.Common.{◌≡◌, ◌<◌, ◌&&◌, ◌||◌, ℕ, zero, suc, List, [], ◌∷◌, length, Bool, true, false, Some, refl, inl, inr, arith, All, All-nil, All-cons, All-head, All-tail}
 use Rattle.rbg_tokens.specs.Token.{Lexeme}
 use Rattle.rbg_tokens.specs.declared.token.Symbol.{Symbol}
 use Rattle.rbg_tokens.specs.declared.token.Symbol.TheVariants as symbols
@@ -9,12 +7,9 @@ use Rattle.rbg_tokens.specs.declared.token.TokenKind.{TokenKind}
 use Rattle.rbg_tokens.specs.declared.token.TokenKind.TheVariants as kinds
 use Rattle.rbg_base.specs.declared.operator.Operator.{Operator}
 use Rattle.rbg_base.specs.declared.operator.Operator.TheVariants as operators
-use Rattle.rbg_grammar.specs.declared.expression.Rank.{Rank}
+use Rattle.rbg_grammar.proofs.Common.{Rank, SpeltExpression, SpeltOperands, no_operands, more_operands, SpeltOperand, SpeltRule, SpeltRules, no_rules, more_rules, SpeltBoard, operands_after, first_of, in_chain, rules_after, sequence_of, choice_of, one_of, Repeated, done, again, After, after, Separated, separated, Within, within, is_of_rank, is_first_of, are_of_rank, make_a_chain, has_two_rules, is_formed_expression, are_formed_operands, is_formed, are_formed, has_its_directions}
 use Rattle.rbg_grammar.specs.declared.expression.Rank.TheVariants as ranks
-use Rattle.rbg_grammar.specs.Tree.{SpeltExpression, SpeltOperands, no_operands, more_operands, SpeltOperand, SpeltRule, SpeltRules, no_rules, more_rules, SpeltBoard, operands_after, first_of, in_chain, rules_after, sequence_of, choice_of}
-use Rattle.rbg_grammar.specs.Phrase.{one_of, Repeated, done, again, After, after, Separated, separated, Within, within}
 use Rattle.rbg_grammar.specs.Grammar.{operator_of, IsOperator, IsFurtherOperand, further_operand, IsChain, chained, IsFactor, plain, minus, IsTerm, IsSumOver, IsNumberOrName, number, name, IsPrimary, IsSum, IsOpenAtom, moves, switches, keeps, IsComparison, comparison, IsAssignment, assignment, AreAssignments, assignments, IsBracketAtom, groups, stands_on, puts, compares, assigns, holds, fails, IsItem, once, starred, IsSequence, in_turn, AreRulesOver, either, IsAtom, AreRules, IsRectangle, four, IsHexagon, six, IsGraph, vertices, generated, IsBoard, rectangular, hexagonal, graphic}
-use Rattle.rbg_grammar.specs.Formed.{is_of_rank, is_first_of, are_of_rank, make_a_chain, has_two_rules, is_formed_expression, are_formed_operands, is_formed, are_formed, has_its_directions}
 
 pub both : {a b : Bool} → a ≡ true → b ≡ true → (a && b) ≡ true
 both h k = rw (h, k)

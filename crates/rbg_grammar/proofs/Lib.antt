@@ -1,4 +1,5 @@
 -- Lemmas about the grammar, about what is read of tokens, and about the trees of the code.
+pub mod Common
 pub mod AtomReaders
 pub mod Combinators
 pub mod Depths

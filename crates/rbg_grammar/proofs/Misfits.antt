@@ -1,8 +1,7 @@
 -- Where readings stop: at the first token that doesn't fit, whatever follows it, or where the tokens end.
 use Rattle.std.proofs.Common.{◌≡◌, ℕ, List, [], ◌∷◌, ◌++◌, Bool, true, false, cond, Some, None, Ok, Err, refl, sym, ap, ◌∙◌, subst, append_assoc}
 use Rattle.rbg_tokens.specs.Token.{Lexeme}
-use Rattle.rbg_grammar.specs.Reading.{misfit, too_deep, Reading, ◌>>=◌}
-use Rattle.rbg_grammar.specs.Spells.{TokenAt}
+use Rattle.rbg_grammar.proofs.Common.{misfit, too_deep, Reading, ◌>>=◌, TokenAt}
 
 -- with some tokens behind them the tokens are such a phrase, whatever follows
 pub record Begun {A : Type 0} (P : List Lexeme → A → List Lexeme → Type 0) (ts : List Lexeme) : Type 0 where

@@ -1,16 +1,10 @@
 -- Sections spell at most one description.
 use Rattle.std.proofs.Common.{◌≡◌, ℕ, List, [], ◌∷◌, true, ap, sym, ◌∙◌, refl, subst, inl, inr}
-use Rattle.rbg_tokens.specs.Token.{Lexeme}
+use Rattle.rbg_tokens.proofs.Common.{Lexeme, is_name_kind, is_symbol}
 use Rattle.rbg_macro.specs.Sections.{SectionTokens}
 use Rattle.rbg_macro.specs.declared.source.SectionKind.{SectionKind}
 use Rattle.rbg_tokens.specs.declared.token.Symbol.TheVariants.{Comma}
-use Rattle.rbg_tokens.specs.Kinds.{is_name_kind, is_symbol}
-use Rattle.rbg_grammar.specs.Grammar.{IsBounded, bounded, ArePlayers, AreVariables, ArePieces, IsBoard, AreRules}
-use Rattle.rbg_grammar.specs.Reading.{Reading, next_is, bounded_at, name_at, separated_at, listed_at, board_at}
-use Rattle.rbg_grammar.specs.RuleReading.{rules_at}
-use Rattle.rbg_grammar.specs.Sections.{sections_of}
-use Rattle.rbg_grammar.specs.Spells.{HasSection, IsSection, MayHaveVariables, Spells}
-use Rattle.rbg_grammar.specs.Tree.{SpeltBounded, SpeltName, SpeltBoard, SpeltRule, SpeltDescription}
+use Rattle.rbg_grammar.proofs.Common.{IsBounded, bounded, ArePlayers, AreVariables, ArePieces, IsBoard, AreRules, Reading, next_is, bounded_at, name_at, separated_at, listed_at, board_at, rules_at, sections_of, HasSection, IsSection, MayHaveVariables, Spells, SpeltBounded, SpeltName, SpeltBoard, SpeltRule, SpeltDescription}
 use Rattle.rbg_grammar.proofs.Combinators.{Stops, EndsList, listed_read}
 use Rattle.rbg_grammar.proofs.Readers.{IsReadBy, Always, ok_one, name_next}
 use Rattle.rbg_grammar.proofs.RuleReaders.{EndsRules, nothing_ends_rules, rules_read}

@@ -3,8 +3,7 @@ use Rattle.std.proofs.Common.{◌≡◌, ℕ, List, [], ◌∷◌, ◌++◌, sym
 use Rattle.rbg_tokens.specs.Token.{Lexeme}
 use Rattle.rbg_macro.specs.Sections.{SectionTokens}
 use Rattle.rbg_macro.specs.declared.source.SectionKind.{SectionKind}
-use Rattle.rbg_grammar.specs.Laws.{OnePlaceLaw}
-use Rattle.rbg_grammar.specs.Spells.{IsSpelt, CanGoOn, IsMisfit, EndsEarly}
+use Rattle.rbg_grammar.proofs.Common.{OnePlaceLaw, IsSpelt, CanGoOn, IsMisfit, EndsEarly}
 
 -- two places of a list: the same, or one before the other
 data Places (xs ys : List Lexeme) (x y : Lexeme) : Type 0 where

@@ -3,9 +3,7 @@ use Rattle.std.proofs.Common.{ℕ, List}
 use Rattle.rbg_tokens.specs.Token.{Lexeme}
 use Rattle.rbg_tokens.specs.declared.token.Symbol.{Symbol}
 use Rattle.rbg_tokens.specs.declared.token.Symbol.TheVariants.{OpenBrace, CloseBrace, Question, Exclamation}
-use Rattle.rbg_grammar.specs.Tree.{SpeltExpression, SpeltRule, act, positive, negative}
-use Rattle.rbg_grammar.specs.Phrase.{IsSymbol, After}
-use Rattle.rbg_grammar.specs.Grammar.{IsBracketAtom, holds, fails}
+use Rattle.rbg_grammar.proofs.Common.{SpeltExpression, SpeltRule, act, positive, negative, IsSymbol, After, IsBracketAtom, holds, fails}
 
 pub data IsPattern (sign : Symbol) (Rules : List Lexeme → SpeltRule → List Lexeme → Type 0) : List Lexeme → ℕ × SpeltRule → List Lexeme → Type 0 where
   pattern : {ts first last rest : List Lexeme} {at end : ℕ} {r : SpeltRule} → IsSymbol OpenBrace ts at first → After sign Rules first r last → IsSymbol CloseBrace last end rest → IsPattern sign Rules ts (at, r) rest

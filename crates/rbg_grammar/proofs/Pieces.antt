@@ -1,12 +1,9 @@
 -- A phrase's own tokens, apart from what follows; and tokens that begin a phrase up to a bracket that is one too many.
 use Rattle.std.proofs.Common.{◌≡◌, ◌+◌, ℕ, suc, List, [], ◌∷◌, ◌++◌, true, false, Ok, Err, refl, sym, ap, ◌∙◌, subst, arith, append_assoc}
-use Rattle.rbg_tokens.specs.Token.{Lexeme}
+use Rattle.rbg_tokens.proofs.Common.{Lexeme, opens, closes}
 use Rattle.rbg_tokens.specs.declared.token.Symbol.{Symbol}
 use Rattle.rbg_tokens.specs.declared.token.TokenKind.TheVariants as kinds
-use Rattle.rbg_grammar.specs.Phrase.{IsSymbol, symbol}
-use Rattle.rbg_grammar.specs.Spells.{open_with, open_after}
-use Rattle.rbg_tokens.specs.Kinds.{opens, closes}
-use Rattle.rbg_grammar.specs.Reading.{misfit, too_deep, Reading, ◌>>=◌}
+use Rattle.rbg_grammar.proofs.Common.{IsSymbol, symbol, open_with, open_after, misfit, too_deep, Reading, ◌>>=◌}
 use Rattle.rbg_grammar.proofs.Nesting.{Fits, open_after-append, fits_append, opened, closed, passed, plain_fits}
 
 -- The tokens of a phrase spell it whatever follows them. Their brackets match, and at most so many are open at once.

@@ -1,19 +1,13 @@
 -- When a function reads a phrase: what it gives is such a phrase, and each such phrase is given.
-use Rattle.std.specs.Prelude.{is_some}
-use Rattle.std.proofs.Common.{◌≡◌, ◌≤◌, ◌+◌, ℕ, List, [], ◌∷◌, length, Bool, true, false, cond, Option, Some, None, Result, Ok, Err, refl, sym, ap, subst, arith}
+use Rattle.rbg_base.proofs.Common.{is_some, ◌≡◌, ◌≤◌, ◌+◌, ℕ, List, [], ◌∷◌, length, Bool, true, false, cond, Option, Some, None, Result, Ok, Err, refl, sym, ap, subst, arith, bytes_eq, bytes_eq-Decides}
 use denote.Enum.Bare.{same_true, true_same}
-use Rattle.std.specs.Str.{bytes_eq}
-use Rattle.std.proofs.lemmas.Slice.Eq.{bytes_eq-Decides}
 use Rattle.rbg_base.specs.Decimals.{number_of_digits}
-use Rattle.rbg_tokens.specs.Token.{Lexeme}
+use Rattle.rbg_tokens.proofs.Common.{Lexeme, is_name_kind, is_number_kind, is_symbol}
 use Rattle.rbg_tokens.specs.contracts.token.Symbol.{the_type}
 use Rattle.rbg_tokens.specs.declared.token.Symbol.{Symbol}
 use Rattle.rbg_tokens.specs.declared.token.TokenKind.{TokenKind}
 use Rattle.rbg_tokens.specs.declared.token.TokenKind.TheVariants as kinds
-use Rattle.rbg_tokens.specs.Kinds.{is_name_kind, is_number_kind, is_symbol}
-use Rattle.rbg_grammar.specs.Tree.{SpeltName, SpeltNumber}
-use Rattle.rbg_grammar.specs.Phrase.{IsSymbol, symbol, IsName, name, IsNumber, number, IsWord, word, IsOneOf, one_of}
-use Rattle.rbg_grammar.specs.Reading.{Fault, misfit, Reading, ◌>>=◌, next_is, token_at, symbol_at, name_at, number_at, word_at, is_in, or_misfit, one_of_at}
+use Rattle.rbg_grammar.proofs.Common.{SpeltName, SpeltNumber, IsSymbol, symbol, IsName, name, IsNumber, number, IsWord, word, IsOneOf, one_of, Fault, misfit, Reading, ◌>>=◌, next_is, token_at, symbol_at, name_at, number_at, word_at, is_in, or_misfit, one_of_at}
 
 pub bind_ok : {A B : Type 0} (r : Result A Fault) (f : A → Result B Fault) (y : B) → (r >>= f) ≡ Ok y → (x : A) × (r ≡ Ok x) × (f x ≡ Ok y)
 bind_ok (Ok x) f y e = (x, refl, e)

@@ -1,20 +1,15 @@
 -- Where the readings of arithmetic and of rules stop.
 use Rattle.std.proofs.Common.{◌≡◌, ℕ, zero, suc, List, [], ◌∷◌, ◌++◌, drop, Bool, true, false, cond, Some, None, Result, Ok, Err, refl, ap, ◌∙◌, inl, inr}
-use Rattle.rbg_tokens.specs.Token.{Lexeme}
+use Rattle.rbg_tokens.proofs.Common.{Lexeme, opens, is_name_kind, is_number_kind, is_symbol}
 use Rattle.rbg_tokens.specs.declared.token.Symbol.{Symbol}
 use Rattle.rbg_tokens.specs.declared.token.Symbol.TheVariants.{DoubleArrow, Arrow, DoubleEquals, Equals, Plus, Minus, Star, OpenParenthesis, CloseParenthesis, OpenBracket, CloseBracket, OpenBrace, CloseBrace, Comma, Dollar, Question, Exclamation}
 use Rattle.rbg_tokens.specs.declared.token.TokenKind.{TokenKind}
 use Rattle.rbg_tokens.specs.declared.token.TokenKind.TheVariants as kinds
 use Rattle.rbg_base.specs.declared.relation.Relation.TheVariants as relations
 use Rattle.rbg_base.specs.declared.operator.Operator.TheVariants as operators
-use Rattle.rbg_grammar.specs.declared.expression.Rank.{Rank}
+use Rattle.rbg_grammar.proofs.Common.{Rank, SpeltExpression, SpeltRule, SpeltAction, act, shift, switch, assign, compare, positive, negative, star, first_of, in_chain, sequence_of, IsSymbol, Separated, separated, within, Fault, misfit, Reading, ◌>>=◌, TakesSome, next_is, symbol_at, name_at, one_of_at, repeated_at, after_at, listed_at, within_at, open_atom_at, on_at, off_at, in_sequence, too_deep_at, pattern_at, is_operator, number_or_name_at, factor_at, further_operand_at, chain_at, operand_at, sum_over_at, primary_at, sum_at, comparison_at, assignment_at, assignments_at, in_choice, positive_at, negative_at, in_braces_at, in_brackets_at, bracket_atom_at, item_at, begins_atom, sequence_at, rules_over_at, atom_at, rules_at}
 use Rattle.rbg_grammar.specs.declared.expression.Rank.TheVariants as ranks
-use Rattle.rbg_grammar.specs.Tree.{SpeltExpression, SpeltRule, SpeltAction, act, shift, switch, assign, compare, positive, negative, star, first_of, in_chain, sequence_of}
-use Rattle.rbg_grammar.specs.Phrase.{IsSymbol, Separated, separated, within}
 use Rattle.rbg_grammar.specs.Grammar.{relation_of, operator_of, IsOperator, IsFurtherOperand, further_operand, IsChain, chained, IsFactor, plain, minus, IsSumOver, IsNumberOrName, number as a_number, name as a_name, IsPrimary, IsSum, IsRelation, IsOpenAtom, moves, switches, keeps, IsComparison, comparison, IsAssignment, assignment, AreAssignments, assignments, IsBracketAtom, groups, stands_on, puts, compares, assigns, IsItem, once, starred, IsSequence, in_turn, AreRulesOver, either, IsAtom, AreRules}
-use Rattle.rbg_grammar.specs.Reading.{Fault, misfit, Reading, ◌>>=◌, TakesSome, next_is, symbol_at, name_at, one_of_at, repeated_at, after_at, listed_at, within_at, open_atom_at, on_at, off_at, in_sequence}
-use Rattle.rbg_tokens.specs.Kinds.{opens, is_name_kind, is_number_kind, is_symbol}
-use Rattle.rbg_grammar.specs.RuleReading.{too_deep_at, pattern_at, is_operator, number_or_name_at, factor_at, further_operand_at, chain_at, operand_at, sum_over_at, primary_at, sum_at, comparison_at, assignment_at, assignments_at, in_choice, positive_at, negative_at, in_braces_at, in_brackets_at, bracket_atom_at, item_at, begins_atom, sequence_at, rules_over_at, atom_at, rules_at}
 use Rattle.rbg_grammar.proofs.Patterns.{IsPattern, pattern, positive_is, negative_is}
 use Rattle.rbg_grammar.proofs.Misfits.{Judged, Judges, Behind, seen, given, bind, choose, choose_at, same_reader}
 use Rattle.rbg_grammar.proofs.MisfitCombinators.{one_of_judged, symbol_judged, name_judged, number_judged, after_judged, closed_as, closed_at, closed_judged, made_judged, within_judged, repeated_judged, separated_judged}

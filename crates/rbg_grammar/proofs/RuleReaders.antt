@@ -1,19 +1,13 @@
 -- The readers of rules.
 use Rattle.std.proofs.Common.{◌≡◌, ◌≤◌, ◌+◌, ℕ, zero, suc, List, [], ◌∷◌, length, drop, Bool, true, false, cond, Ok, refl, ◌∙◌, subst, arith, inl, inr}
-use Rattle.rbg_tokens.specs.Token.{Lexeme}
+use Rattle.rbg_tokens.proofs.Common.{Lexeme, opens, is_name_kind, is_symbol}
 use Rattle.rbg_tokens.specs.declared.token.Symbol.{Symbol}
 use Rattle.rbg_tokens.specs.declared.token.Symbol.TheVariants.{Equals, Plus, Minus, Star, Slash, OpenParenthesis, CloseParenthesis, OpenBracket, CloseBracket, OpenBrace, CloseBrace, Comma, Dollar, Question, Exclamation}
 use Rattle.rbg_tokens.specs.declared.token.TokenKind.{TokenKind}
 use Rattle.rbg_tokens.specs.declared.token.TokenKind.TheVariants as kinds
 use Rattle.rbg_base.specs.declared.relation.Relation.{Relation}
-use Rattle.rbg_grammar.specs.declared.expression.Rank.{Rank}
+use Rattle.rbg_grammar.proofs.Common.{Rank, SpeltName, SpeltExpression, SpeltRule, SpeltAction, act, assign, positive, negative, star, sequence_of, IsSymbol, symbol, IsName, Repeated, After, Separated, separated, Listed, nothing, listed, Within, within, relation_of, IsRelation, IsSum, IsOpenAtom, IsComparison, comparison, IsAssignment, assignment, AreAssignments, assignments, IsBracketAtom, groups, stands_on, puts, compares, assigns, holds, fails, IsItem, once, starred, IsSequence, in_turn, AreRulesOver, either, IsAtom, AreRules, Reading, ◌>>=◌, next_is, is_in, symbol_at, name_at, listed_at, repeated_at, after_at, separated_at, within_at, open_atom_at, on_at, off_at, in_sequence, too_deep_at, is_operator, comparison_at, assignment_at, assignments_at, in_choice, pattern_at, positive_at, negative_at, in_braces_at, in_brackets_at, bracket_atom_at, item_at, begins_atom, sequence_at, rules_over_at, atom_at, rules_at, sum_at}
 use Rattle.rbg_grammar.specs.declared.expression.Rank.TheVariants as ranks
-use Rattle.rbg_grammar.specs.Tree.{SpeltName, SpeltExpression, SpeltRule, SpeltAction, act, assign, positive, negative, star, sequence_of}
-use Rattle.rbg_grammar.specs.Phrase.{IsSymbol, symbol, IsName, Repeated, After, Separated, separated, Listed, nothing, listed, Within, within}
-use Rattle.rbg_grammar.specs.Grammar.{relation_of, IsRelation, IsSum, IsOpenAtom, IsComparison, comparison, IsAssignment, assignment, AreAssignments, assignments, IsBracketAtom, groups, stands_on, puts, compares, assigns, holds, fails, IsItem, once, starred, IsSequence, in_turn, AreRulesOver, either, IsAtom, AreRules}
-use Rattle.rbg_grammar.specs.Reading.{Reading, ◌>>=◌, next_is, is_in, symbol_at, name_at, listed_at, repeated_at, after_at, separated_at, within_at, open_atom_at, on_at, off_at, in_sequence}
-use Rattle.rbg_tokens.specs.Kinds.{opens, is_name_kind, is_symbol}
-use Rattle.rbg_grammar.specs.RuleReading.{too_deep_at, is_operator, comparison_at, assignment_at, assignments_at, in_choice, pattern_at, positive_at, negative_at, in_braces_at, in_brackets_at, bracket_atom_at, item_at, begins_atom, sequence_at, rules_over_at, atom_at, rules_at, sum_at}
 use Rattle.rbg_grammar.proofs.Readers.{bind_ok, ok_one, IsReadBy, Always, symbol_read, symbol_next, name_read, one_of_complete, one_of_read, one_of_test, next_test-symbol}
 use Rattle.rbg_grammar.proofs.Combinators.{FirstThen, first_then, Made, made, made_read, both_read, repeated_read, Begins, Stops, after_read, within_read, separated_read, may_follow}
 use Rattle.rbg_grammar.proofs.Patterns.{IsPattern, pattern, positive_is, negative_is}

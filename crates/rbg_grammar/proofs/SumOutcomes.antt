@@ -1,17 +1,12 @@
 -- What one more bracket makes of readings of arithmetic.
 use Rattle.std.proofs.Common.{◌≡◌, ℕ, zero, suc, List, [], ◌∷◌, Bool, true, false, cond, Ok, Err, refl, ap, inl, inr, arith}
-use Rattle.rbg_tokens.specs.Token.{Lexeme}
+use Rattle.rbg_tokens.proofs.Common.{Lexeme, opens, is_number_kind, is_symbol}
 use Rattle.rbg_tokens.specs.declared.token.Symbol.TheVariants.{Minus, OpenParenthesis, CloseParenthesis}
 use Rattle.rbg_tokens.specs.declared.token.TokenKind.TheVariants as kinds
 use Rattle.rbg_base.specs.declared.operator.Operator.{Operator}
-use Rattle.rbg_grammar.specs.declared.expression.Rank.{Rank}
+use Rattle.rbg_grammar.proofs.Common.{Rank, SpeltExpression, SpeltOperand, first_of, in_chain, IsName, name, IsNumber, symbol, Repeated, done, After, Within, within, too_deep, Reading, ◌>>=◌, next_is, name_at, number_at, one_of_at, repeated_at, after_at, within_at, is_operator, number_or_name_at, factor_at, further_operand_at, chain_at, operand_at, sum_over_at, primary_at, sum_at}
 use Rattle.rbg_grammar.specs.declared.expression.Rank.TheVariants as ranks
-use Rattle.rbg_grammar.specs.Tree.{SpeltExpression, SpeltOperand, first_of, in_chain}
-use Rattle.rbg_grammar.specs.Phrase.{IsName, name, IsNumber, symbol, Repeated, done, After, Within, within}
 use Rattle.rbg_grammar.specs.Grammar.{operator_of, IsOperator, IsFurtherOperand, further_operand, IsChain, chained, IsFactor, plain, minus, IsTerm, IsSumOver, IsNumberOrName, number as a_number, name as a_name, IsPrimary, IsSum}
-use Rattle.rbg_tokens.specs.Kinds.{opens, is_number_kind, is_symbol}
-use Rattle.rbg_grammar.specs.Reading.{too_deep, Reading, ◌>>=◌, next_is, name_at, number_at, one_of_at, repeated_at, after_at, within_at}
-use Rattle.rbg_grammar.specs.RuleReading.{is_operator, number_or_name_at, factor_at, further_operand_at, chain_at, operand_at, sum_over_at, primary_at, sum_at}
 use Rattle.rbg_grammar.proofs.Pieces.{Piece, Deep, Outcome}
 use Rattle.rbg_grammar.proofs.Readers.{kind_of-is_symbol, one_of_read}
 use Rattle.rbg_grammar.proofs.SharedOutcomes.{bind_same, map_outcome, seen_outcome, either_outcome, later, both_outcome, none_sample, no_bracket, one_of_piece, one_of_never, name_outcome, number_outcome, repeated_outcome, after_outcome, bracket_outcome}

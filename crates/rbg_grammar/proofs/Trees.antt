@@ -1,21 +1,9 @@
 -- What the trees of the code stand for, level by level.
-use Rattle.std.proofs.Common.{◌≡◌, ◌∙◌, ℕ, List, [], ◌∷◌, Option, length, map, option_map, rules, refl, arith, Vec, vec_len}
-use Rattle.std.proofs.lemmas.List.{length-map}
-use Rattle.rbg_grammar.specs.Reading.{in_sequence}
-use Rattle.rbg_grammar.specs.RuleReading.{in_choice}
-use Rattle.std.specs.declared.alloc.Global.{Global}
-use Rattle.std.specs.declared.boxed.Box.{Box}
-use Rattle.rbg_grammar.specs.Tree.{SpeltExpression, SpeltRule, SpeltAction, no_rules, no_operands, rules_after, operands_after, in_chain}
-use Rattle.rbg_grammar.specs.Views.{name_of, number_of, expression_of, operand_of, action_of, rule_of}
-use Rattle.rbg_grammar.specs.declared.names.Name.{Name}
-use Rattle.rbg_grammar.specs.declared.names.Number.{Number}
-use Rattle.rbg_grammar.specs.declared.expression.Expression.{Expression}
+use Rattle.rbg_base.proofs.Common.{◌≡◌, ◌∙◌, ℕ, List, [], ◌∷◌, Option, length, map, option_map, rules, refl, arith, Vec, vec_len, length-map, Global, Box}
+use Rattle.rbg_grammar.proofs.Common.{in_sequence, in_choice, SpeltExpression, SpeltRule, SpeltAction, no_rules, no_operands, rules_after, operands_after, in_chain, name_of, number_of, expression_of, operand_of, action_of, rule_of, Name, Number, Expression, Operand, Rule, Action}
 use Rattle.rbg_grammar.specs.declared.expression.Expression as expressions
-use Rattle.rbg_grammar.specs.declared.expression.Operand.{Operand}
 use Rattle.rbg_base.specs.declared.relation.Relation.{Relation}
-use Rattle.rbg_grammar.specs.declared.rule.Rule.{Rule}
 use Rattle.rbg_grammar.specs.declared.rule.Rule as rules'
-use Rattle.rbg_grammar.specs.declared.rule.Action.{Action}
 use Rattle.rbg_grammar.specs.declared.rule.Action as actions
 
 pub rule_of-Act : (a : Action) → rule_of (rules'.Act a) ≡ SpeltRule.act (action_of a)

@@ -1,9 +1,7 @@
 -- What the sections spell has the parts that each description has.
 use Rattle.std.proofs.Common.{List}
 use Rattle.rbg_macro.specs.Sections.{SectionTokens}
-use Rattle.rbg_grammar.specs.Tree.{SpeltDescription}
-use Rattle.rbg_grammar.specs.Spells.{Spells}
-use Rattle.rbg_grammar.specs.Formed.{IsWhole}
+use Rattle.rbg_grammar.proofs.Common.{SpeltDescription, Spells, IsWhole}
 use Rattle.rbg_grammar.proofs.FormedTrees.{rules_formed, board_directions, some_separated}
 
 pub spelt_whole : (sections : List SectionTokens) (d : SpeltDescription) → Spells sections d → IsWhole d

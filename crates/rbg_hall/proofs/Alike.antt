@@ -1,26 +1,15 @@
 -- What a table hears decides what its lines are told, but for the keeper's moves and questions above the limits.
-use Rattle.std.proofs.Common.{◌≡◌, ℕ, ◌+◌, List, [], ◌∷◌, ◌++◌, refl, sym, ap, ◌∙◌, subst, append_assoc, append-nil, arith, Option, Some, None, is_some, inl, inr}
-use Rattle.std.proofs.lemmas.Bool.{cases_lt}
-use Rattle.std.proofs.lemmas.Option.{none-some}
-use Rattle.std.specs.Prelude.{slice_get, slice_set}
-use Rattle.std.specs.List.{flat_map}
+use Rattle.rbg_base.proofs.Common.{◌≡◌, ℕ, ◌+◌, List, [], ◌∷◌, ◌++◌, refl, sym, ap, ◌∙◌, subst, append_assoc, append-nil, arith, Option, Some, None, is_some, inl, inr, cases_lt, none-some, slice_get, slice_set, flat_map}
 use Rattle.rbg_wire.specs.declared.message.Reason.TheVariants.{OutOfTurn, NoSeat}
-use Rattle.rbg_wire.specs.Streams.{Item}
-use Rattle.rbg_wire.specs.Whole.{whole_item}
+use Rattle.rbg_wire.proofs.Common.{Item, whole_item}
 use Rattle.rbg_rules.specs.Meaning.{IsNumbered, AbstractGame}
 use Rattle.rbg_match.specs.declared.config.Config.{Config}
-use Rattle.rbg_match.specs.Deliveries.{bytes_for}
-use Rattle.rbg_match.specs.Inputs.{AbstractEvent, piece, end_of_stream}
-use Rattle.rbg_match.specs.Limits.{message_limit}
-use Rattle.rbg_match.specs.Matches.{MatchState}
-use Rattle.rbg_match.specs.PlayingOn.{seats_of}
-use Rattle.rbg_match.specs.Transcript.{Transcript}
+use Rattle.rbg_match.proofs.Common.{bytes_for, AbstractEvent, piece, end_of_stream, message_limit, MatchState, seats_of, Transcript}
 use Rattle.rbg_match.proofs.OneTranscriptLemmas.{one_transcript}
 use Rattle.rbg_hall.specs.Laws.{Beginning, ChooseAlike, Hands, HandsEach, HoldsTranscript, OneTable, TakesLast, late_refusal, ticks, stirs, plays, goes, late, stirs_not, says_not, goes_not}
 use Rattle.rbg_hall.specs.Laws as laws
-use Rattle.rbg_hall.specs.Tables.{TableState, TableRun, OwnEvent, clock, joins, arrives, says, leaves, Plays, Hears, SitsAt, HasSeat, HasNoSeat, IsFirstFree, AreTaken, new_table}
+use Rattle.rbg_hall.proofs.Common.{TableState, TableRun, OwnEvent, clock, joins, arrives, says, leaves, Plays, Hears, SitsAt, HasSeat, HasNoSeat, IsFirstFree, AreTaken, new_table, Telling, bytes_to, refusal_to}
 use Rattle.rbg_hall.specs.Tables as tables
-use Rattle.rbg_hall.specs.Tellings.{Telling, bytes_to, refusal_to}
 use Rattle.rbg_hall.proofs.Holding.{run_holds_transcript}
 use Rattle.rbg_hall.proofs.Seats.{SitsNowhere, SeatsDiffer, all_differ, one_differ, no_seats, seat_or_none}
 

@@ -2,10 +2,7 @@
 use Rattle.std.proofs.Common.{◌≡◌, ℕ, zero, suc, List, [], ◌++◌, length, replicate, get_or, refl, sym, ap, ◌∙◌}
 use Rattle.rbg_rules.specs.Meaning.{AbstractGame}
 use Rattle.rbg_match.specs.declared.config.Config.{Config}
-use Rattle.rbg_match.specs.Deliveries.{AreMarks, Delivery, delivered, queued}
-use Rattle.rbg_match.specs.Matches.{MatchState, HasHistory, Opens}
-use Rattle.rbg_match.specs.PlayingOn.{seats_of}
-use Rattle.rbg_match.specs.Transcript.{greetings}
+use Rattle.rbg_match.proofs.Common.{AreMarks, Delivery, delivered, queued, MatchState, HasHistory, Opens, seats_of, greetings}
 use Rattle.rbg_match.proofs.Delivering.{delivered-queued}
 use Rattle.rbg_hall.specs.internal.Running.{IsRunning}
 

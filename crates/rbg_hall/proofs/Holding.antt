@@ -1,30 +1,22 @@
 -- A run of a table holds a transcript of its match.
-use Rattle.std.proofs.Common.{◌≡◌, ℕ, zero, suc, ◌+◌, ◌<◌, List, [], ◌∷◌, ◌++◌, length, get_or, false, refl, sym, ap, ◌∙◌, subst, append_assoc, arith, Option, Some, None, replicate}
+use Rattle.rbg_base.proofs.Common.{◌≡◌, ℕ, zero, suc, ◌+◌, ◌<◌, List, [], ◌∷◌, ◌++◌, length, get_or, false, refl, sym, ap, ◌∙◌, subst, append_assoc, arith, Option, Some, None, replicate, none-some, ◌==◌, slice_get, slice_set, if◌then◌else◌, flat_map}
 use Rattle.std.proofs.lemmas.Bool.{ne_eqb}
 use Rattle.std.proofs.lemmas.List.{append-nil, length-replicate, length-set}
 use Rattle.std.proofs.lemmas.List.Concat.{flat_map-append}
-use Rattle.std.proofs.lemmas.Option.{none-some}
-use Rattle.std.specs.Prelude.{◌==◌, slice_get, slice_set, if◌then◌else◌}
-use Rattle.std.specs.List.{flat_map}
 use Rattle.rbg_wire.specs.declared.message.Reason.TheVariants.{NoSeat}
 use Rattle.rbg_wire.specs.declared.outcome.Outcome.{Outcome}
 use Rattle.rbg_wire.specs.Messages.{refusal_message, spelling}
 use Rattle.rbg_rules.specs.Meaning.{AbstractGame}
 use Rattle.rbg_match.specs.declared.config.Config.{Config}
-use Rattle.rbg_match.specs.Deliveries.{Delivery, bytes_for, delivered, delivered_from}
-use Rattle.rbg_match.specs.Inputs.{AbstractEvent, timed_inputs_in}
-use Rattle.rbg_match.specs.Matches.{MatchState, Opens, Steps, StepsAll}
+use Rattle.rbg_match.proofs.Common.{Delivery, bytes_for, delivered, delivered_from, AbstractEvent, timed_inputs_in, MatchState, Opens, Steps, StepsAll, seats_of}
 use Rattle.rbg_match.specs.Matches as matches
-use Rattle.rbg_match.specs.PlayingOn.{seats_of}
 use Rattle.rbg_match.proofs.AllEvents.{all_handled}
 use Rattle.rbg_match.proofs.Delivering.{delivered-none, delivered-queued, length-delivered}
 use Rattle.rbg_match.proofs.EndedLemmas.{ended_play_stays}
 use Rattle.rbg_match.proofs.WholeMatch.{seats_of_opened, stepped_is_transcript}
-use Rattle.rbg_hall.specs.Laws.{Beginning, Hands, HandsEach, RunHoldsTranscript, TakesLast, late_refusal, late, stirs_not, says_not, goes_not}
+use Rattle.rbg_hall.proofs.Common.{Beginning, Hands, HandsEach, RunHoldsTranscript, TakesLast, late_refusal, late, stirs_not, says_not, goes_not, TableState, TableRun, OwnEvent, joins, Plays, Hears, waits, ticks, sits, begins, is_full, comes_late, stays, waits_too, stirs, is_early, plays, frees, goes, is_moment_for_none, is_unheard, goes_unheard, SitsAt, HasNoSeat, Telling, bytes_to, telling, to_lines}
 use Rattle.rbg_hall.specs.Laws as laws
-use Rattle.rbg_hall.specs.Tables.{TableState, TableRun, OwnEvent, joins, Plays, Hears, waits, ticks, sits, begins, is_full, comes_late, stays, waits_too, stirs, is_early, plays, frees, goes, is_moment_for_none, is_unheard, goes_unheard, SitsAt, HasNoSeat}
 use Rattle.rbg_hall.specs.Tables as tables
-use Rattle.rbg_hall.specs.Tellings.{Telling, bytes_to, telling, to_lines}
 use Rattle.rbg_hall.proofs.Places.{there_within}
 use Rattle.rbg_hall.proofs.Seats.{SitsNowhere, SeatsDiffer, all_differ, differ_taken, none_on, own_on}
 use Rattle.rbg_hall.proofs.Telling.{bytes_to-append, bytes_to-other, extended_at}

@@ -1,4 +1,5 @@
 -- What the proofs of this crate share.
+pub mod Common
 pub mod Alike
 mod Emptying
 pub mod Holding

@@ -1,15 +1,8 @@
 -- A table plays on.
-use Rattle.std.proofs.Common.{◌≡◌, ℕ, List, Option, Some, Result, refl, sym, subst}
-use Rattle.std.specs.Prelude.{OnOk}
+use Rattle.std.proofs.Common.{◌≡◌, ℕ, List, Option, Some, Result, refl, sym, subst, OnOk}
 use Rattle.rbg_match.specs.declared.config.Config.{Config}
-use Rattle.rbg_match.specs.Inputs.{AbstractEvent}
-use Rattle.rbg_match.specs.Matches.{MatchState}
-use Rattle.rbg_hall.specs.declared.table.Phase.{Phase}
-use Rattle.rbg_hall.specs.declared.table.Phase.TheVariants.{Begun}
-use Rattle.rbg_hall.specs.Tables.{TableState}
-use Rattle.rbg_hall.specs.internal.Hearing.{PlaysFor}
-use Rattle.rbg_hall.specs.internal.Parts.{game_in, begun_in}
-use Rattle.rbg_hall.specs.internal.Running.{StepsFor}
+use Rattle.rbg_match.proofs.Common.{AbstractEvent, MatchState}
+use Rattle.rbg_hall.proofs.Common.{Phase, Begun, TableState, PlaysFor, game_in, begun_in, StepsFor}
 use Rattle.rbg_hall.proofs.Seated.{ok_so, plays_for}
 
 abbrev pub table_of : (text : List ℕ) → Config → List (Option ℕ) → Phase → TableState

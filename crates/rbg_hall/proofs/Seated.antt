@@ -1,22 +1,13 @@
 -- A table's match begins and plays.
-use Rattle.std.proofs.Common.{◌≡◌, ℕ, List, [], ◌++◌, replicate, ◌∷◌, Vec, Option, Some, None, Result, Ok, Err, true, false, ◌+◌, set, refl, sym, ap, ◌∙◌, subst}
-use Rattle.rbg_match.specs.Inputs.{AbstractEvent, moment_alone, piece, end_of_stream}
-use Rattle.rbg_match.specs.Matches.{MatchState, Steps}
-use Rattle.rbg_match.specs.PlayingOn.{seats_of}
+use Rattle.std.proofs.Common.{◌≡◌, ℕ, List, [], ◌++◌, replicate, ◌∷◌, Vec, Option, Some, None, Result, Ok, Err, true, false, ◌+◌, set, refl, sym, ap, ◌∙◌, subst, slice_get, is_none, OnOk, IfOk}
+use Rattle.rbg_match.proofs.Common.{AbstractEvent, moment_alone, piece, end_of_stream, MatchState, Steps, seats_of, message_limit}
 use Rattle.rbg_rules.specs.Meaning.{AbstractGame}
-use Rattle.std.specs.Prelude.{slice_get, is_none, OnOk, IfOk}
 use Rattle.std.proofs.lemmas.Bool.{true≢false}
 use Rattle.rbg_wire.specs.declared.message.Reason.TheVariants.{OutOfTurn, NoSeat}
-use Rattle.rbg_wire.specs.Streams.{Item}
-use Rattle.rbg_wire.specs.Whole.{whole_item}
-use Rattle.rbg_match.specs.Limits.{message_limit}
-use Rattle.rbg_hall.specs.Tables.{TableState, Plays, Hears, clock, joins, arrives, says, leaves, waits, ticks, sits, is_full, comes_late, stays, waits_too, stirs, is_early, frees, goes, is_moment_for_none, is_unheard, goes_unheard, SitsAt, HasNoSeat, AreTaken}
+use Rattle.rbg_wire.proofs.Common.{Item, whole_item}
+use Rattle.rbg_hall.proofs.Common.{TableState, Plays, Hears, clock, joins, arrives, says, leaves, waits, ticks, sits, is_full, comes_late, stays, waits_too, stirs, is_early, frees, goes, is_moment_for_none, is_unheard, goes_unheard, SitsAt, HasNoSeat, AreTaken, refusal_to, to_lines, told_to, PlaysFor, BeginsFor, IsFirstAt, HearsFor, StepsFor}
 use Rattle.rbg_hall.specs.Tables as tables
-use Rattle.rbg_hall.specs.Tellings.{refusal_to, to_lines, told_to}
-use Rattle.rbg_hall.specs.internal.Hearing.{PlaysFor, BeginsFor, IsFirstAt}
-use Rattle.rbg_hall.specs.Hearing.{HearsFor}
 use Rattle.rbg_hall.specs.internal.Hearing as hearing
-use Rattle.rbg_hall.specs.internal.Running.{StepsFor}
 use Rattle.rbg_hall.proofs.Telling.{told_to-none}
 
 -- a table whose match has begun lets it handle an event

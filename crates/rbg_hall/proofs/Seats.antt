@@ -1,14 +1,10 @@
 -- Who sits on a list of seats, and what a line is told there.
-use Rattle.std.proofs.Common.{◌≡◌, ◌≢◌, ℕ, zero, suc, List, [], ◌∷◌, ◌++◌, refl, sym, ap, ◌∙◌, subst, arith, append-nil, Option, Some, None, replicate, set, get_or, inl, inr}
-use Rattle.std.proofs.lemmas.Option.{none-some}
-use Rattle.std.specs.Prelude.{slice_get, ◌⊎◌}
+use Rattle.rbg_base.proofs.Common.{◌≡◌, ◌≢◌, ℕ, zero, suc, List, [], ◌∷◌, ◌++◌, refl, sym, ap, ◌∙◌, subst, arith, append-nil, Option, Some, None, replicate, set, get_or, inl, inr, none-some, slice_get, ◌⊎◌}
 use Rattle.rbg_rules.specs.Meaning.{AbstractGame}
 use Rattle.rbg_match.specs.declared.config.Config.{Config}
 use Rattle.rbg_match.specs.PlayingOn.{seats_of}
-use Rattle.rbg_hall.specs.Laws.{LinesHaveOneSeat}
-use Rattle.rbg_hall.specs.Tables.{TableState, TableRun, OwnEvent, Plays, Hears, waits, ticks, sits, begins, is_full, comes_late, stays, waits_too, stirs, is_early, plays, frees, goes, is_moment_for_none, is_unheard, goes_unheard}
+use Rattle.rbg_hall.proofs.Common.{LinesHaveOneSeat, TableState, TableRun, OwnEvent, Plays, Hears, waits, ticks, sits, begins, is_full, comes_late, stays, waits_too, stirs, is_early, plays, frees, goes, is_moment_for_none, is_unheard, goes_unheard, Telling, bytes_to, told_on, to_lines}
 use Rattle.rbg_hall.specs.Tables as tables
-use Rattle.rbg_hall.specs.Tellings.{Telling, bytes_to, told_on, to_lines}
 use Rattle.rbg_hall.proofs.Places.{set_cases, same_or_other}
 use Rattle.rbg_hall.proofs.Telling.{bytes_to-append, bytes_to-same, bytes_to-other}
 

@@ -1,13 +1,9 @@
 -- What each line has, as more is queued, and as it is taken back.
-use Rattle.std.proofs.Common.{◌≡◌, ◌≢◌, ℕ, zero, suc, ◌+◌, ◌<◌, ◌≤◌, List, [], ◌∷◌, ◌++◌, length, map, take, get_or, set, refl, sym, ap, ◌∙◌, subst, arith, append_assoc, Vec, Result, Ok, Err, Option}
-use Rattle.std.specs.Prelude.{OnOk, is_ok, if◌then◌else◌}
+use Rattle.rbg_base.proofs.Common.{◌≡◌, ◌≢◌, ℕ, zero, suc, ◌+◌, ◌<◌, ◌≤◌, List, [], ◌∷◌, ◌++◌, length, map, take, get_or, set, refl, sym, ap, ◌∙◌, subst, arith, append_assoc, Vec, Result, Ok, Err, Option, OnOk, is_ok, if◌then◌else◌, take-append_seam}
 use Rattle.std.proofs.lemmas.List.{append-nil, set-get_or, get_or-set_same, get_or-map, map-set, length-map}
 use Rattle.std.proofs.lemmas.List.Concat.{flat_map-append}
 use Rattle.std.proofs.lemmas.Bool.{eq-eqb, ne_eqb}
-use Rattle.std.proofs.Math.Seq.{take-append_seam}
-use Rattle.rbg_hall.specs.Tellings.{Telling, bytes_to, told_from, told_to, telling, told_on, to_lines}
-use Rattle.rbg_hall.specs.declared.queues.Mark.{Mark}
-use Rattle.rbg_hall.specs.Undoing.{cut_back, undone}
+use Rattle.rbg_hall.proofs.Common.{Telling, bytes_to, told_from, told_to, telling, told_on, to_lines, Mark, cut_back, undone}
 
 -- what one queue has, where each of them gets more by its number
 pub extended_at : (more : ℕ → List ℕ) (extended : ℕ → List (List ℕ) → List (List ℕ)) → ((number : ℕ) (queue : List ℕ) (others : List (List ℕ)) → extended number (queue ∷ others) ≡ (queue ++ more number) ∷ extended (suc number) others) → (first : ℕ) (queues : List (List ℕ)) (index : ℕ) → index < length queues → get_or (extended first queues) index [] ≡ get_or queues index [] ++ more (first + index)

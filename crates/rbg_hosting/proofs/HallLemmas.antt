@@ -1,13 +1,6 @@
 -- Lemmas on why a hall has no printed lines.
-use Rattle.std.proofs.Common.{◌≡◌, ℕ, ◌≤◌, List, All, Some, length, map, slice_get, sym, subst}
-use Rattle.std.specs.Global.{Vec}
-use Rattle.std.proofs.lemmas.List.{length-map}
-use Rattle.std.proofs.lemmas.List.Elements.{All-get_or}
-use Rattle.std.proofs.lemmas.Option.{slice_get_within, get_or_from_slice_get}
-use Rattle.rbg_floor.specs.Events.{AbstractHallEvent}
-use Rattle.rbg_floor.specs.Halls.{AbstractTable}
-use Rattle.rbg_floor.specs.Limits.{most_tables}
-use Rattle.rbg_floor.specs.Openings.{IsRefusedHall}
+use Rattle.rbg_base.proofs.Common.{◌≡◌, ℕ, ◌≤◌, List, All, Some, length, map, slice_get, sym, subst, Vec, length-map, All-get_or, slice_get_within, get_or_from_slice_get}
+use Rattle.rbg_floor.proofs.Common.{AbstractHallEvent, AbstractTable, most_tables, IsRefusedHall}
 use Rattle.rbg_floor.specs.Openings.IsRefusedHall.{tables as wrong_tables, config as wrong_config, memory as no_memory}
 use Rattle.rbg_floor.specs.Wholes.{IsOfHall as IsAllowedHall}
 use Rattle.rbg_floor.specs.declared.error.HallError.{HallError}

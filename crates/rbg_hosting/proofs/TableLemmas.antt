@@ -1,11 +1,8 @@
 -- Lemmas on the tables of descriptions.
-use Rattle.std.proofs.Common.{◌≡◌, ℕ, ◌+◌, ◌<◌, List, [], ◌∷◌, ◌++◌, All, length, take, drop, get_or, ap, sym, ◌∙◌, refl, subst}
-use Rattle.std.specs.Global.{Vec}
+use Rattle.rbg_base.proofs.Common.{◌≡◌, ℕ, ◌+◌, ◌<◌, List, [], ◌∷◌, ◌++◌, All, length, take, drop, get_or, ap, sym, ◌∙◌, refl, subst, Vec, All-nil, All-push}
 use Rattle.std.proofs.lemmas.List.{length-append, map-append, take-append-drop, take_more, drop_more}
-use Rattle.std.proofs.lemmas.List.Elements.{All-nil, All-push}
 use Rattle.rbg_floor.specs.declared.table.Table.{Table}
-use Rattle.rbg_floor.specs.Halls.{AbstractTable}
-use Rattle.rbg_floor.specs.Openings.{AreLoaded, start_of, starts_of}
+use Rattle.rbg_floor.proofs.Common.{AbstractTable, AreLoaded, start_of, starts_of}
 use Rattle.rbg_game.specs.Loading.{Loads}
 use Rattle.rbg_match.specs.declared.config.Config.{Config}
 use Rattle.rbg_refereeing.specs.declared.error.RefereeingError.{RefereeingError}

@@ -1,6 +1,5 @@
 -- Cases that can't both be, and what is in an option.
-use Rattle.std.proofs.Common.{◌≡◌, ℕ, Bool, true, false}
-use Rattle.std.specs.Prelude.{Some, None}
+use Rattle.std.proofs.Common.{◌≡◌, ℕ, Bool, true, false, Some, None}
 
 pub not_both : {b : Bool} → b ≡ true → b ≡ false → ⊥
 not_both e f = cc

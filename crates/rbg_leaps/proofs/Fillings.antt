@@ -1,19 +1,8 @@
 -- Nothing is missing where all was gathered, and that stays so.
-use Rattle.std.proofs.Common.{◌≡◌, ◌≢◌, ℕ, ◌+◌, ◌-◌, ◌*◌, ◌<◌, ◌≤◌, ◌⊎◌, List, length, get_or, set, Bool, true, false, refl, sym, ap, ◌∙◌, subst, inl, inr, zero, suc, arith}
-use Rattle.std.specs.Prelude.{All, Contains, IsTrue, replicate}
+use Rattle.rbg_base.proofs.Common.{◌≡◌, ◌≢◌, ℕ, ◌+◌, ◌-◌, ◌*◌, ◌<◌, ◌≤◌, ◌⊎◌, List, length, get_or, set, Bool, true, false, refl, sym, ap, ◌∙◌, subst, inl, inr, zero, suc, arith, All, Contains, IsTrue, replicate, All-contains}
 use Rattle.std.proofs.lemmas.List.{get_or-set_same, get_or-set_other}
-use Rattle.std.proofs.lemmas.List.Elements.{All-contains}
 use Rattle.rbg_rules.specs.Meaning.{AbstractGame}
-use Rattle.rbg_leaps.specs.declared.lists.Lists.{Lists}
-use Rattle.rbg_leaps.specs.declared.table.Entry.{Entry}
-use Rattle.rbg_leaps.specs.declared.table.Table.{Table}
-use Rattle.rbg_leaps.specs.declared.target.Target.{Target}
-use Rattle.rbg_leaps.specs.Entries.{end_of, IsWithin}
-use Rattle.rbg_leaps.specs.Leaps.{IsShiftAt}
-use Rattle.rbg_leaps.specs.Made.{no_entry}
-use Rattle.rbg_leaps.specs.internal.Interned.{list_at, may_end_at}
-use Rattle.rbg_leaps.specs.internal.Steps.{Comes, EndsBy, IsOnly}
-use Rattle.rbg_leaps.specs.internal.Tables.{entry_at, Tells, IsSoundTable, IsSoundEntry, IsGathered, IsUnder, IsToldBy, IsToldFrom, IsWhole, IsWholeFrom, IsClosed, Keeps, Grows, Shares, KeepsTold, AddsAll, LeadsBack, LeadsForth, LeadsOneWay, Fills, FillsOne, FillsUpTo, FillsDownTo, FillsRightly, IsMarked, LeadsToMarked, AreFilled}
+use Rattle.rbg_leaps.proofs.Common.{Lists, Entry, Table, Target, end_of, IsWithin, IsShiftAt, no_entry, list_at, may_end_at, Comes, EndsBy, IsOnly, entry_at, Tells, IsSoundTable, IsSoundEntry, IsGathered, IsUnder, IsToldBy, IsToldFrom, IsWhole, IsWholeFrom, IsClosed, Keeps, Grows, Shares, KeepsTold, AddsAll, LeadsBack, LeadsForth, LeadsOneWay, Fills, FillsOne, FillsUpTo, FillsDownTo, FillsRightly, IsMarked, LeadsToMarked, AreFilled}
 use Rattle.rbg_leaps.proofs.Places.{below_or_not, same_or_not, one_place, same_item, LastPlace, before, last, last_place}
 use Rattle.rbg_leaps.proofs.Tabling.{entry_gathered, entry_same, entry_within, table_grown, table_shared, whole_end, within_at}
 use Rattle.rbg_leaps.proofs.Targets.{keeps_none, keeps_same, keeps_more, keeps_fewer, tells_kept, tells_before}

@@ -1,20 +1,9 @@
 -- Nodes stay what they are when lists are kept.
-use Rattle.std.proofs.Common.{◌≡◌, ℕ, ◌+◌, ◌<◌, ◌≤◌, List, [], ◌∷◌, ◌++◌, length, get_or, refl, sym, ap, ◌∙◌, subst, inl, inr, arith}
-use Rattle.std.specs.Prelude.{Bool, slice_range, All}
+use Rattle.std.proofs.Common.{◌≡◌, ℕ, ◌+◌, ◌<◌, ◌≤◌, List, [], ◌∷◌, ◌++◌, length, get_or, refl, sym, ap, ◌∙◌, subst, inl, inr, arith, Bool, slice_range, All}
 use Rattle.std.proofs.lemmas.List.{length-append, get_or_append_left, get_or_push}
 use Rattle.rbg_rules.specs.Meaning.{Expression, positive, negative, IsNumbered, IsLevel, outermost, inside, positions_of, IsStart, AbstractGame, Start, beginning, after}
 use Rattle.rbg_auto.specs.declared.steps.Expr.TheVariants.{Rules, Inside}
-use Rattle.rbg_leaps.specs.declared.branches.Branch.{Branch}
-use Rattle.rbg_leaps.specs.declared.lists.Lists.{Lists}
-use Rattle.rbg_leaps.specs.declared.origin.Origin.{Origin}
-use Rattle.rbg_leaps.specs.declared.origin.Origin.TheVariants.{Begin, After}
-use Rattle.rbg_leaps.specs.declared.interner.Node.{Node}
-use Rattle.rbg_leaps.specs.declared.interner.Interner.{Interner}
-use Rattle.rbg_leaps.specs.Origin.{start_of}
-use Rattle.rbg_leaps.specs.internal.Branches.{no_branch, IsBranch, AreBranches}
-use Rattle.rbg_leaps.specs.internal.Spans.{IsNodeWithin, no_node}
-use Rattle.rbg_leaps.specs.internal.Interned.{node_in, list_at, may_end_at, IsKept, ExtendsInterner, IsNodeOf, AreListsUpTo, origin_node, AreListsOf, branches_at}
-use Rattle.rbg_leaps.specs.internal.Steps.{IsAnswerAt}
+use Rattle.rbg_leaps.proofs.Common.{Branch, Lists, Origin, Begin, After, Node, Interner, start_of, no_branch, IsBranch, AreBranches, IsNodeWithin, no_node, node_in, list_at, may_end_at, IsKept, ExtendsInterner, IsNodeOf, AreListsUpTo, origin_node, AreListsOf, branches_at, IsAnswerAt}
 use Rattle.rbg_leaps.proofs.Places.{any_default, part_item, part_long, part_short, extends_none, extends_more, part_extended, item_extended, longer, LastPlace, before, last, last_place}
 use Rattle.rbg_leaps.proofs.ShiftLemmas.{action_within}
 

@@ -1,24 +1,11 @@
 -- The entries of nodes, side by side.
-use Rattle.std.proofs.Common.{◌≡◌, ℕ, ◌+◌, ◌*◌, ◌<◌, ◌≤◌, List, [], ◌∷◌, ◌++◌, length, get_or, take, sym, ap, ◌∙◌, subst, arith}
-use Rattle.std.specs.Prelude.{All, slice_range}
+use Rattle.rbg_base.proofs.Common.{◌≡◌, ℕ, ◌+◌, ◌*◌, ◌<◌, ◌≤◌, List, [], ◌∷◌, ◌++◌, length, get_or, take, sym, ap, ◌∙◌, subst, arith, All, slice_range, All-append, All-drop, All-take}
 use Rattle.std.proofs.lemmas.List.{length-append, length-take-le, length-drop, get_or_append_left, get_or_push, get_or-append-add}
-use Rattle.std.proofs.lemmas.List.Elements.{All-append, All-drop, All-take}
 use Rattle.std.proofs.Math.Nat.{mul-le-mul_right}
 use Rattle.std.proofs.lemmas.Slice.{between_is}
 use Rattle.rbg_rules.specs.Meaning.{Expression, IsStart, IsNumbered, inside, AbstractGame, Start, beginning, after}
 use Rattle.rbg_auto.specs.declared.steps.Expr.TheVariants.{Rules, Inside}
-use Rattle.rbg_leaps.specs.declared.asking.Leaps.{Leaps}
-use Rattle.rbg_leaps.specs.declared.lists.Lists.{Lists}
-use Rattle.rbg_leaps.specs.declared.origin.Origin.{Origin}
-use Rattle.rbg_leaps.specs.declared.origin.Origin.TheVariants.{Begin, After}
-use Rattle.rbg_leaps.specs.declared.table.Entry.{Entry}
-use Rattle.rbg_leaps.specs.declared.table.Table.{Table}
-use Rattle.rbg_leaps.specs.declared.target.Target.{Target}
-use Rattle.rbg_leaps.specs.Entries.{IsWithin}
-use Rattle.rbg_leaps.specs.Made.{no_entry, entry_in, entry_of, IsEntry, AreLeapsOf}
-use Rattle.rbg_leaps.specs.Origin.{start_of}
-use Rattle.rbg_leaps.specs.internal.Interned.{IsNodeOf, AreListsOf, origin_node}
-use Rattle.rbg_leaps.specs.internal.Tables.{AreLaid, IsFilled}
+use Rattle.rbg_leaps.proofs.Common.{Leaps, Lists, Origin, Begin, After, Entry, Table, Target, IsWithin, no_entry, entry_in, entry_of, IsEntry, AreLeapsOf, start_of, IsNodeOf, AreListsOf, origin_node, AreLaid, IsFilled}
 use Rattle.rbg_leaps.proofs.Places.{part_item, same_item, LastPlace, before, last, last_place}
 use Rattle.rbg_leaps.proofs.Interning.{node_there}
 use Rattle.rbg_leaps.proofs.ShiftLemmas.{action_within}

@@ -1,4 +1,5 @@
 -- Lemmas, by topic.
+pub mod Common
 pub mod Bits
 pub mod Cases
 pub mod Fillings

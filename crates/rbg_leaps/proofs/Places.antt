@@ -1,8 +1,5 @@
 -- Numbers, places in lists, and lists that are extended.
-use Rattle.std.proofs.Common.{◌≡◌, ◌≢◌, ℕ, ◌+◌, ◌*◌, ◌/◌, ◌%◌, ◌<◌, ◌≤◌, ◌⊎◌, List, [], ◌∷◌, ◌++◌, append_assoc, length, get_or, take, drop, Bool, true, false, refl, sym, ap, ◌∙◌, inl, inr, zero, suc, arith}
-use Rattle.std.specs.Prelude.{◌==◌, Decides, slice_range}
-use Rattle.std.proofs.lemmas.Bool.Decides.{Decides-eqb}
-use Rattle.std.proofs.lemmas.Nat.{div-mul-add, mod-mul-add}
+use Rattle.rbg_base.proofs.Common.{◌≡◌, ◌≢◌, ℕ, ◌+◌, ◌*◌, ◌/◌, ◌%◌, ◌<◌, ◌≤◌, ◌⊎◌, List, [], ◌∷◌, ◌++◌, append_assoc, length, get_or, take, drop, Bool, true, false, refl, sym, ap, ◌∙◌, inl, inr, zero, suc, arith, ◌==◌, Decides, slice_range, Decides-eqb, div-mul-add, mod-mul-add}
 use Rattle.std.proofs.lemmas.List.{append-nil, length-append, length-take-le, length-drop, get_or-drop, get_or-take, get_or_append_left, take-append-le}
 use Rattle.std.proofs.lemmas.Slice.{between_is}
 use Rattle.rbg_leaps.specs.internal.Interned.{Extends}

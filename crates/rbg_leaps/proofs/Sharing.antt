@@ -1,15 +1,7 @@
 -- An entry that shares what is told behind a shift.
-use Rattle.std.proofs.Common.{◌≡◌, ◌+◌, ◌*◌, ◌<◌, ◌∙◌, ◌⊎◌, ℕ, length, get_or, sym, ap, subst}
-use Rattle.std.specs.Prelude.{Bool, Contains, IsTrue}
+use Rattle.std.proofs.Common.{◌≡◌, ◌+◌, ◌*◌, ◌<◌, ◌∙◌, ◌⊎◌, ℕ, length, get_or, sym, ap, subst, Bool, Contains, IsTrue}
 use Rattle.rbg_rules.specs.Meaning.{IsNumbered, AbstractGame, after}
-use Rattle.rbg_leaps.specs.declared.lists.Lists.{Lists}
-use Rattle.rbg_leaps.specs.declared.table.Entry.{Entry}
-use Rattle.rbg_leaps.specs.declared.table.Table.{Table}
-use Rattle.rbg_leaps.specs.Entries.{end_of}
-use Rattle.rbg_leaps.specs.Leaps.{IsShiftAt}
-use Rattle.rbg_leaps.specs.internal.Tables.{entry_at, IsSoundEntry, IsSoundTable, IsUnder, IsToldAt}
-use Rattle.rbg_leaps.specs.internal.Interned.{list_at, may_end_at, IsNodeOf, AreListsOf}
-use Rattle.rbg_leaps.specs.internal.Steps.{Comes}
+use Rattle.rbg_leaps.proofs.Common.{Lists, Entry, Table, end_of, IsShiftAt, entry_at, IsSoundEntry, IsSoundTable, IsUnder, IsToldAt, list_at, may_end_at, IsNodeOf, AreListsOf, Comes}
 use Rattle.rbg_leaps.proofs.Fillings.{told_behind}
 use Rattle.rbg_leaps.proofs.ShiftLemmas.{shift_within}
 use Rattle.rbg_leaps.proofs.Tabling.{place_there, entry_on}

@@ -1,11 +1,7 @@
 -- Which positions are shifts, and where one comes by them.
-use Rattle.std.proofs.Common.{◌≡◌, ℕ, ◌+◌, ◌<◌, ◌≤◌, List, [], ◌∷◌, ◌++◌, length, get_or, zero, suc, refl, sym, ap, ◌∙◌, subst, inl, inr, arith}
-use Rattle.std.specs.Prelude.{◌↔◌, Option, Some, None, IfSome, IfNone, All, Contains, IsTrue, true, false}
-use Rattle.std.specs.List.{range_with_len}
-use Rattle.std.specs.Option.{is_some}
+use Rattle.rbg_base.proofs.Common.{◌≡◌, ℕ, ◌+◌, ◌<◌, ◌≤◌, List, [], ◌∷◌, ◌++◌, length, get_or, zero, suc, refl, sym, ap, ◌∙◌, subst, inl, inr, arith, ◌↔◌, Option, Some, None, IfSome, IfNone, All, Contains, IsTrue, true, false, range_with_len, is_some, All-weaker, All-contains_itself}
 use Rattle.std.proofs.lemmas.List.{get_or_push, get_or_append_left, length-append}
 use Rattle.std.proofs.Math.ListN.{get_or-eq_default}
-use Rattle.std.proofs.lemmas.List.Elements.{All-weaker, All-contains_itself}
 use Rattle.rbg_board.specs.Graph.{next}
 use Rattle.rbg_rules.specs.declared.rule.Action.{Action}
 use Rattle.rbg_rules.specs.declared.rule.Action.TheVariants.{Shift, On, Off, Assign, Compare, Switch, Positive, Negative}
@@ -13,8 +9,7 @@ use Rattle.rbg_rules.specs.Meaning.{AbstractAction, shift, on, off, assignment, 
 use Rattle.rbg_rules.proofs.PositionLemmas.{Among, Among_right, has_position, one_stands}
 use Rattle.rbg_rules.proofs.PatternLemmas.{own_stands, stands_inside, word_own}
 use Rattle.rbg_auto.specs.Steps.{AreAllThatFollow}
-use Rattle.rbg_leaps.specs.Leaps.{IsShiftAt}
-use Rattle.rbg_leaps.specs.internal.Steps.{AreDirections, AreDirectionsUpTo, Comes, by_shift, by_other, IsUpToLast}
+use Rattle.rbg_leaps.proofs.Common.{IsShiftAt, AreDirections, AreDirectionsUpTo, Comes, by_shift, by_other, IsUpToLast}
 use Rattle.rbg_leaps.proofs.Cases.{no_some}
 
 -- An action of a level stands in the rules.

@@ -1,15 +1,8 @@
 -- One step in the rules and on the board, and all steps in a row.
-use Rattle.std.proofs.Common.{◌≡◌, ℕ, ◌<◌, List, [], ◌∷◌, ◌++◌, length, get_or, subst, arith}
-use Rattle.std.specs.Prelude.{Contains, IsTrue, Bool}
-use Rattle.std.proofs.lemmas.List.Elements.{All-contains}
+use Rattle.rbg_base.proofs.Common.{◌≡◌, ℕ, ◌<◌, List, [], ◌∷◌, ◌++◌, length, get_or, subst, arith, Contains, IsTrue, Bool, All-contains}
 use Rattle.rbg_rules.specs.Meaning.{IsNumbered, AbstractGame, Start, after, Follows, Ends}
 use Rattle.rbg_rules.proofs.LocalityLemmas.{locality_law}
-use Rattle.rbg_leaps.specs.declared.lists.Lists.{Lists}
-use Rattle.rbg_leaps.specs.declared.table.Table.{Table}
-use Rattle.rbg_leaps.specs.Leaps.{IsShiftAt, Leads, stay, go}
-use Rattle.rbg_leaps.specs.internal.Tables.{entry_at, TellsAt, IsToldAt, AreAllClosed}
-use Rattle.rbg_leaps.specs.internal.Interned.{list_at, IsNodeOf, AreListsOf}
-use Rattle.rbg_leaps.specs.internal.Steps.{Comes, by_shift, by_other, IsAnswerAt, IsLeapBy, EndsBy}
+use Rattle.rbg_leaps.proofs.Common.{Lists, Table, IsShiftAt, Leads, stay, go, entry_at, TellsAt, IsToldAt, AreAllClosed, list_at, IsNodeOf, AreListsOf, Comes, by_shift, by_other, IsAnswerAt, IsLeapBy, EndsBy}
 use Rattle.rbg_leaps.proofs.ShiftLemmas.{follower_within}
 
 -- A position that isn't a shift is a leap where one is.

@@ -1,22 +1,9 @@
 -- A table that is being made: what stays right when it grows.
-use Rattle.std.proofs.Common.{◌≡◌, ◌≢◌, ℕ, ◌+◌, ◌-◌, ◌*◌, ◌/◌, ◌<◌, ◌≤◌, ◌⊎◌, List, length, get_or, Bool, true, false, refl, sym, ap, ◌∙◌, subst, inl, inr, zero, suc, arith}
-use Rattle.std.specs.Prelude.{All, Contains, IsTrue, slice_range, replicate}
-use Rattle.std.proofs.lemmas.List.{length-replicate}
+use Rattle.rbg_base.proofs.Common.{◌≡◌, ◌≢◌, ℕ, ◌+◌, ◌-◌, ◌*◌, ◌/◌, ◌<◌, ◌≤◌, ◌⊎◌, List, length, get_or, Bool, true, false, refl, sym, ap, ◌∙◌, subst, inl, inr, zero, suc, arith, All, Contains, IsTrue, slice_range, replicate, length-replicate}
 use Rattle.std.proofs.Math.ListN.{get_or-eq_default}
 use Rattle.std.proofs.Math.Nat.{mul-le-mul_right}
 use Rattle.rbg_rules.specs.Meaning.{IsNumbered, AbstractGame, Start, after}
-use Rattle.rbg_leaps.specs.declared.lists.Lists.{Lists}
-use Rattle.rbg_leaps.specs.declared.table.Entry.{Entry}
-use Rattle.rbg_leaps.specs.declared.table.Table.{Table}
-use Rattle.rbg_leaps.specs.declared.target.Target.{Target}
-use Rattle.rbg_leaps.specs.Asked.{IsEndOf, AreTargetsFrom}
-use Rattle.rbg_leaps.specs.Leaps.{IsShiftAt, IsLeap}
-use Rattle.rbg_leaps.specs.Entries.{end_of, IsWithin}
-use Rattle.rbg_leaps.specs.Limits.{row_words}
-use Rattle.rbg_leaps.specs.Made.{no_entry, IsEntry}
-use Rattle.rbg_leaps.specs.internal.Interned.{list_at, may_end_at, IsNodeOf, AreListsOf}
-use Rattle.rbg_leaps.specs.internal.Steps.{Comes, IsLeapBy, EndsBy}
-use Rattle.rbg_leaps.specs.internal.Tables.{entry_at, no_target, target_at, Tells, IsTargetOf, IsTargetBy, AreSound, AreSoundBy, TellsAt, IsSoundEntry, IsSoundTable, Keeps, Grows, IsGathered, Shares, IsFilled, IsClosed, StaysClosed, AreClosedFrom}
+use Rattle.rbg_leaps.proofs.Common.{Lists, Entry, Table, Target, IsEndOf, AreTargetsFrom, IsShiftAt, IsLeap, end_of, IsWithin, row_words, no_entry, IsEntry, list_at, may_end_at, IsNodeOf, AreListsOf, Comes, IsLeapBy, EndsBy, entry_at, no_target, target_at, Tells, IsTargetOf, IsTargetBy, AreSound, AreSoundBy, TellsAt, IsSoundEntry, IsSoundTable, Keeps, Grows, IsGathered, Shares, IsFilled, IsClosed, StaysClosed, AreClosedFrom}
 use Rattle.rbg_leaps.proofs.Places.{any_default, below_or_not, same_or_not, one_place, part_item, part_long, part_short}
 use Rattle.rbg_leaps.proofs.Steppings.{leap_here, leap_on, ends_here, ends_on, all_told, all_ends_told}
 use Rattle.rbg_leaps.proofs.Targets.{keeps_none, keeps_same, keeps_more, sound_kept, sound_none}

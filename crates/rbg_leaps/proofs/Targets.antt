@@ -1,14 +1,9 @@
 -- Targets: what their bits tell, and lists to which they are added.
 use native.Mathlib.Numerals.{unary_clauses}
-use Rattle.std.proofs.Common.{◌≡◌, ◌≢◌, ℕ, ◌+◌, ◌*◌, ◌/◌, ◌%◌, ◌^◌, ◌<◌, ◌≤◌, ◌⊎◌, List, [], ◌∷◌, ◌++◌, length, set, Bool, refl, sym, ap, ◌∙◌, subst, inl, inr, zero, arith}
-use Rattle.std.specs.Prelude.{bit_or}
-use Rattle.std.specs.Int.{bit_at, w64}
-use Rattle.std.proofs.lemmas.Nat.Bits.{bit_at-zero, bit_at_set_same, bit_at_set_other}
+use Rattle.rbg_base.proofs.Common.{◌≡◌, ◌≢◌, ℕ, ◌+◌, ◌*◌, ◌/◌, ◌%◌, ◌^◌, ◌<◌, ◌≤◌, ◌⊎◌, List, [], ◌∷◌, ◌++◌, length, set, Bool, refl, sym, ap, ◌∙◌, subst, inl, inr, zero, arith, bit_or, bit_at, w64, bit_at-zero, bit_at_set_same, bit_at_set_other}
 use Rattle.std.proofs.lemmas.List.{length-append, length-set, get_or-set_same, get_or-set_other, get_or_append_left, get_or_push}
 use Rattle.rbg_rules.specs.Meaning.{AbstractGame}
-use Rattle.rbg_leaps.specs.declared.target.Target.{Target}
-use Rattle.rbg_leaps.specs.Asked.{IsEndOf}
-use Rattle.rbg_leaps.specs.internal.Tables.{no_target, target_at, Tells, IsTargetOf, AreSound, IsTargetBy, AreSoundBy, Keeps, AddsTarget, AddsUpTo, AddsAll}
+use Rattle.rbg_leaps.proofs.Common.{Target, IsEndOf, no_target, target_at, Tells, IsTargetOf, AreSound, IsTargetBy, AreSoundBy, Keeps, AddsTarget, AddsUpTo, AddsAll}
 use Rattle.rbg_leaps.proofs.Bits.{either_bit, first_bit, second_bit}
 use Rattle.rbg_leaps.proofs.Places.{same_or_not, LastPlace, before, last, last_place}
 

@@ -1,16 +1,9 @@
 -- What is written when a table hears an event, and what a failure leaves.
-use Rattle.std.proofs.Common.{◌≡◌, ℕ, zero, suc, ◌+◌, ◌<◌, ◌^◌, Bool, List, [], ◌∷◌, ◌++◌, length, take, Option, Some, None, is_none, refl, sym, ap, ◌∙◌, subst, append_assoc}
-use Rattle.std.specs.Prelude.{IfErr, IsErrAnd, IsErrOf, OnErr, OnOk, Result, Ok, Err}
-use Rattle.std.proofs.Math.Seq.{take-append-add}
-use Rattle.std.proofs.lemmas.Option.{none-some}
-use Rattle.std.proofs.lemmas.Result.{IfErr-at_err}
+use Rattle.rbg_base.proofs.Common.{◌≡◌, ℕ, zero, suc, ◌+◌, ◌<◌, ◌^◌, Bool, List, [], ◌∷◌, ◌++◌, length, take, Option, Some, None, is_none, refl, sym, ap, ◌∙◌, subst, append_assoc, IfErr, IsErrAnd, IsErrOf, OnErr, OnOk, Result, Ok, Err, take-append-add, none-some, IfErr-at_err}
 use Rattle.rbg_game.specs.Loading.{Loads}
 use Rattle.rbg_match.specs.declared.config.Config.{Config}
-use Rattle.rbg_match.specs.Inputs.{AbstractEvent}
-use Rattle.rbg_match.specs.Matches.{MatchState}
-use Rattle.rbg_hall.specs.Hearing.{HearsFor}
-use Rattle.rbg_hall.specs.Tables.{TableState, OwnEvent, Plays, Hears, waits, ticks, sits, begins, is_full, comes_late, stays, waits_too, stirs, is_early, plays, frees, goes, is_moment_for_none, is_unheard, goes_unheard}
-use Rattle.rbg_hall.specs.Tellings.{Telling}
+use Rattle.rbg_match.proofs.Common.{AbstractEvent, MatchState}
+use Rattle.rbg_hall.proofs.Common.{HearsFor, TableState, OwnEvent, Plays, Hears, waits, ticks, sits, begins, is_full, comes_late, stays, waits_too, stirs, is_early, plays, frees, goes, is_moment_for_none, is_unheard, goes_unheard, Telling}
 use Rattle.rbg_hall.proofs.Seats.{one_differ}
 use Rattle.rbg_log.specs.declared.keeping.WriteError.{WriteError}
 use Rattle.rbg_log.specs.declared.keeping.WriteError.TheVariants.{Memory, Log}

@@ -1,22 +1,13 @@
 -- A table keeps the log of its match.
-use Rattle.std.proofs.Common.{◌≡◌, ℕ, Bor, ◌+◌, ◌<◌, ◌^◌, Bool, true, false, List, [], ◌∷◌, ◌++◌, All, map, Option, Some, None, is_none, refl, sym, ap, subst, append-nil}
-use Rattle.std.specs.Prelude.{slice_set, option_copied, IfSome, OnErr, OnOk, Result, Ok, Err}
+use Rattle.rbg_base.proofs.Common.{◌≡◌, ℕ, Bor, ◌+◌, ◌<◌, ◌^◌, Bool, true, false, List, [], ◌∷◌, ◌++◌, All, map, Option, Some, None, is_none, refl, sym, ap, subst, append-nil, slice_set, option_copied, IfSome, OnErr, OnOk, Result, Ok, Err, All-nil, none-some}
 use Rattle.std.proofs.lemmas.Bool.{true≢false}
-use Rattle.std.proofs.lemmas.List.Elements.{All-nil}
-use Rattle.std.proofs.lemmas.Option.{none-some}
 use Rattle.rbg_rules.specs.Meaning.{AbstractGame}
 use Rattle.rbg_match.specs.declared.config.Config.{Config}
-use Rattle.rbg_match.specs.Deliveries.{delivered}
-use Rattle.rbg_match.specs.Inputs.{AbstractEvent, piece, end_of_stream}
-use Rattle.rbg_match.specs.Limits.{message_limit}
-use Rattle.rbg_match.specs.Matches.{MatchState, Opens, Steps}
+use Rattle.rbg_match.proofs.Common.{delivered, AbstractEvent, piece, end_of_stream, message_limit, MatchState, Opens, Steps}
 use Rattle.rbg_script.specs.Events.{EventHasSpelling}
 use Rattle.rbg_wire.specs.Whole.{whole_item}
-use Rattle.rbg_hall.specs.Hearing.{HearsFor}
-use Rattle.rbg_hall.specs.Laws.{Hands}
+use Rattle.rbg_hall.proofs.Common.{HearsFor, Hands, TableState, OwnEvent, Plays, Hears, waits, ticks, sits, begins, is_full, comes_late, stays, waits_too, stirs, is_early, plays, frees, goes, is_moment_for_none, is_unheard, goes_unheard, Telling}
 use Rattle.rbg_hall.specs.Laws as laws
-use Rattle.rbg_hall.specs.Tables.{TableState, OwnEvent, Plays, Hears, waits, ticks, sits, begins, is_full, comes_late, stays, waits_too, stirs, is_early, plays, frees, goes, is_moment_for_none, is_unheard, goes_unheard}
-use Rattle.rbg_hall.specs.Tellings.{Telling}
 use Rattle.rbg_hall.proofs.Holding.{step_on}
 use Rattle.rbg_hall.proofs.Seats.{SeatsDiffer, no_seats, one_differ}
 use Rattle.rbg_log.specs.Logs.{Appends, Logs, event_lines, first_line, scripted}

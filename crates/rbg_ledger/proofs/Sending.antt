@@ -1,25 +1,18 @@
 -- What the match of a log's script sends is what the lines on the seats are told.
-use Rattle.std.proofs.Common.{◌≡◌, ℕ, ◌+◌, ◌<◌, ◌^◌, List, [], ◌∷◌, ◌++◌, All, length, map, get_or, replicate, Option, Some, None, is_none, refl, sym, ap, ◌∙◌, subst, append-nil, append_assoc}
-use Rattle.std.specs.Prelude.{slice_get}
+use Rattle.rbg_base.proofs.Common.{◌≡◌, ℕ, ◌+◌, ◌<◌, ◌^◌, List, [], ◌∷◌, ◌++◌, All, length, map, get_or, replicate, Option, Some, None, is_none, refl, sym, ap, ◌∙◌, subst, append-nil, append_assoc, slice_get, none-some}
 use Rattle.std.proofs.lemmas.List.{length-replicate, length-set}
-use Rattle.std.proofs.lemmas.Option.{none-some}
 use Rattle.rbg_game.specs.Loading.{Loads}
 use Rattle.rbg_wire.specs.declared.message.Reason.TheVariants.{NoSeat}
 use Rattle.rbg_wire.specs.Messages.{refusal_message, spelling}
 use Rattle.rbg_rules.specs.Meaning.{AbstractGame}
 use Rattle.rbg_match.specs.declared.config.Config.{Config}
-use Rattle.rbg_match.specs.Deliveries.{bytes_for, delivered}
-use Rattle.rbg_match.specs.Inputs.{AbstractEvent}
-use Rattle.rbg_match.specs.Matches.{MatchState, Opens, Steps}
-use Rattle.rbg_match.specs.PlayingOn.{seats_of}
+use Rattle.rbg_match.proofs.Common.{bytes_for, delivered, AbstractEvent, MatchState, Opens, Steps, seats_of}
 use Rattle.rbg_match.proofs.Delivering.{length-delivered}
 use Rattle.rbg_match.proofs.WholeMatch.{seats_of_opened}
 use Rattle.rbg_script.specs.Events.{EventHasSpelling}
-use Rattle.rbg_hall.specs.Laws.{Beginning, Hands, HoldsTranscript, TakesLast}
+use Rattle.rbg_hall.proofs.Common.{Beginning, Hands, HoldsTranscript, TakesLast, TableState, TableRun, OwnEvent, joins, Plays, Hears, SitsAt, HasNoSeat, Telling, bytes_to, telling, to_lines}
 use Rattle.rbg_hall.specs.Laws as laws
-use Rattle.rbg_hall.specs.Tables.{TableState, TableRun, OwnEvent, joins, Plays, Hears, SitsAt, HasNoSeat}
 use Rattle.rbg_hall.specs.Tables as tables
-use Rattle.rbg_hall.specs.Tellings.{Telling, bytes_to, telling, to_lines}
 use Rattle.rbg_hall.proofs.Alike.{same_early}
 use Rattle.rbg_hall.proofs.Holding.{delivered_at, from_nothing, run_holds_transcript, seen_later, step_on}
 use Rattle.rbg_hall.proofs.Places.{there_within}

@@ -1,31 +1,15 @@
 -- Each text spells one thing at most.
-use Rattle.std.proofs.Common.{◌≡◌, ℕ, Option, Some, None, List, [], ◌∷◌, ◌++◌, decimal, codes, All, ap, sym, ◌∙◌, refl, arith, append_assoc}
-use Rattle.std.specs.Prelude.{IsTrue}
-use Rattle.std.specs.List.{flat_map, AllByRecursion}
-use Rattle.std.proofs.lemmas.Fmt.{decimal_injective}
-use Rattle.std.proofs.lemmas.List.Elements.{All-head, All-tail}
+use Rattle.rbg_base.proofs.Common.{◌≡◌, ℕ, Option, Some, None, List, [], ◌∷◌, ◌++◌, decimal, codes, All, ap, sym, ◌∙◌, refl, arith, append_assoc, IsTrue, flat_map, AllByRecursion, decimal_injective, All-head, All-tail}
 use Rattle.rbg_base.specs.Names.{is_name}
 use Rattle.rbg_wire.specs.declared.outcome.Outcome.{Outcome}
-use Rattle.rbg_wire.specs.Bytes.{LacksByte}
-use Rattle.rbg_wire.specs.Messages.{outcome_text, pairs_text}
-use Rattle.rbg_wire.specs.Reading.{SpellsOutcome}
-use Rattle.rbg_wire.specs.Words.{words_of}
+use Rattle.rbg_wire.proofs.Common.{LacksByte, outcome_text, pairs_text, SpellsOutcome, words_of, line_of, lines_of}
 use Rattle.rbg_wire.proofs.NumberLemmas.{lacks_byte-decimal}
 use Rattle.rbg_wire.proofs.OutcomeLemmas.{outcome_text-kind, one_outcome}
 use Rattle.rbg_wire.proofs.PairLemmas.{one_spelled}
 use Rattle.rbg_wire.proofs.WordLemmas.{words_of-spaced, same_words, some_word}
-use Rattle.rbg_wire.specs.Lines.{line_of, lines_of}
 use Rattle.rbg_wire.proofs.ByteLemmas.{different, other_first, same_cut, same_end}
 use Rattle.rbg_wire.proofs.FieldLemmas.{same_fields}
-use Rattle.rbg_lines.specs.declared.entry.Entry.{Entry}
-use Rattle.rbg_lines.specs.declared.entry.Entry.TheVariants.{Move, End}
-use Rattle.rbg_lines.specs.declared.entry.Timed.{Timed}
-use Rattle.rbg_lines.specs.declared.heading.Start.{Start}
-use Rattle.rbg_lines.specs.declared.heading.Version.{Version}
-use Rattle.rbg_lines.specs.declared.heading.Version.TheVariants.{One, Two}
-use Rattle.rbg_lines.specs.Entries.{SpellsEntry, SpellsTimed, entry_text, timed_text}
-use Rattle.rbg_lines.specs.Heading.{version_text, start_text, SpellsPlayers, SpellsStart}
-use Rattle.rbg_lines.specs.Laws.{EntriesAreApart, HeadingsAreApart, LinesAreApart}
+use Rattle.rbg_lines.proofs.Common.{Entry, Move, End, Timed, Start, Version, One, Two, SpellsEntry, SpellsTimed, entry_text, timed_text, version_text, start_text, SpellsPlayers, SpellsStart, EntriesAreApart, HeadingsAreApart, LinesAreApart}
 use Rattle.rbg_lines.proofs.Lacking.{no_letter-decimal, name_lacks}
 
 -- The fields of a line.

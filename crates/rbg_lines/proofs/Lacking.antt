@@ -1,28 +1,14 @@
 -- Bytes that the spellings lack.
-use Rattle.std.proofs.Common.{◌≡◌, ◌≢◌, ℕ, ◌<◌, ◌^◌, true, false, Some, None, List, [], ◌∷◌, ◌++◌, decimal, codes, All, sym, ◌∙◌, refl, subst, arith}
-use Rattle.std.specs.Prelude.{IsTrue, not, ◌==◌}
-use Rattle.std.specs.List.{flat_map, list_all}
-use Rattle.std.proofs.lemmas.Bool.{and_parts}
-use Rattle.std.proofs.lemmas.Fmt.{digits_decimal}
+use Rattle.rbg_base.proofs.Common.{◌≡◌, ◌≢◌, ℕ, ◌<◌, ◌^◌, true, false, Some, None, List, [], ◌∷◌, ◌++◌, decimal, codes, All, sym, ◌∙◌, refl, subst, arith, IsTrue, not, ◌==◌, flat_map, list_all, and_parts, digits_decimal, All-nil, All-cons, All-append, All-head, All-tail, All-from_get_or}
 use Rattle.std.proofs.lemmas.Str.Parse.{not_in_digits}
-use Rattle.std.proofs.lemmas.List.Elements.{All-nil, All-cons, All-append, All-head, All-tail, All-from_get_or}
 use Rattle.rbg_base.proofs.CallerLemmas.{name_parts}
 use Rattle.rbg_base.proofs.Numerals.{digits}
 use Rattle.rbg_base.specs.Names.{is_name, is_name_part}
 use Rattle.rbg_wire.specs.declared.outcome.Outcome.{Outcome}
 use Rattle.rbg_wire.specs.declared.outcome.Outcome.TheVariants.{Finished, Time, Refusals, Gone, Heavy}
-use Rattle.rbg_wire.specs.Bytes.{LacksByte}
-use Rattle.rbg_wire.specs.Messages.{outcome_text, OutcomeHasSpelling, pairs_text, pair_text, IsShortPair}
+use Rattle.rbg_wire.proofs.Common.{LacksByte, outcome_text, OutcomeHasSpelling, pairs_text, pair_text, IsShortPair}
 use Rattle.rbg_wire.proofs.NumberLemmas.{lacks_byte-decimal}
-use Rattle.rbg_lines.specs.declared.entry.Entry.{Entry}
-use Rattle.rbg_lines.specs.declared.entry.Entry.TheVariants.{Move, End}
-use Rattle.rbg_lines.specs.declared.entry.Timed.{Timed}
-use Rattle.rbg_lines.specs.declared.heading.Start.{Start}
-use Rattle.rbg_lines.specs.declared.heading.Version.{Version}
-use Rattle.rbg_lines.specs.declared.heading.Version.TheVariants.{One, Two}
-use Rattle.rbg_lines.specs.Entries.{EntryHasSpelling, TimedHasSpelling, entry_text, timed_text}
-use Rattle.rbg_lines.specs.Heading.{version_text, start_text, players_text, StartHasSpelling, HaveNames}
-use Rattle.rbg_lines.specs.Laws.{SpellingsAreLines}
+use Rattle.rbg_lines.proofs.Common.{Entry, Move, End, Timed, Start, Version, One, Two, EntryHasSpelling, TimedHasSpelling, entry_text, timed_text, version_text, start_text, players_text, StartHasSpelling, HaveNames, SpellingsAreLines}
 
 -- a number has no letter
 pub no_letter-decimal : (byte n : ℕ) → 57 < byte → n < 2 ^ 64 → LacksByte byte (decimal n)

@@ -1,23 +1,13 @@
 -- What the calls find that read a line, and what they leave out.
-use Rattle.std.proofs.Common.{◌≡◌, ℕ, ◌<◌, ◌≤◌, ◌^◌, Some, None, Result, Ok, Err, IfOk, List, [], ◌∷◌, ◌++◌, length, decimal, codes, All, ap, sym, ◌∙◌, refl, subst}
-use Rattle.std.specs.Prelude.{IsTrue}
+use Rattle.std.proofs.Common.{◌≡◌, ℕ, ◌<◌, ◌≤◌, ◌^◌, Some, None, Result, Ok, Err, IfOk, List, [], ◌∷◌, ◌++◌, length, decimal, codes, All, ap, sym, ◌∙◌, refl, subst, IsTrue}
 use Rattle.std.specs.Result.{result_ok}
 use Rattle.rbg_base.specs.Names.{is_name}
 use Rattle.rbg_wire.specs.declared.error.WireError.{WireError}
 use Rattle.rbg_wire.specs.declared.outcome.Outcome.{Outcome}
-use Rattle.rbg_wire.specs.Messages.{ArePairs, pairs_text}
-use Rattle.rbg_wire.specs.Reading.{SpellsPairs, SpellsOutcome}
-use Rattle.rbg_wire.specs.Words.{words_of, BeginsWithNumber}
+use Rattle.rbg_wire.proofs.Common.{ArePairs, pairs_text, SpellsPairs, SpellsOutcome, words_of, BeginsWithNumber}
 use Rattle.rbg_wire.proofs.ByteLemmas.{same_end}
 use Rattle.rbg_wire.proofs.FieldLemmas.{with_rest}
-use Rattle.rbg_lines.specs.declared.entry.Entry.{Entry}
-use Rattle.rbg_lines.specs.declared.entry.Entry.TheVariants.{Move, End}
-use Rattle.rbg_lines.specs.declared.entry.Timed.{Timed}
-use Rattle.rbg_lines.specs.declared.heading.Start.{Start}
-use Rattle.rbg_lines.specs.declared.heading.Version.{Version}
-use Rattle.rbg_lines.specs.declared.heading.Version.TheVariants.{One, Two}
-use Rattle.rbg_lines.specs.Entries.{SpellsEntry, SpellsTimed, entry_text}
-use Rattle.rbg_lines.specs.Heading.{version_text, SpellsPlayers, SpellsStart}
+use Rattle.rbg_lines.proofs.Common.{Entry, Move, End, Timed, Start, Version, One, Two, SpellsEntry, SpellsTimed, entry_text, version_text, SpellsPlayers, SpellsStart}
 use Rattle.rbg_lines.proofs.Apart.{move_text, play_text, end_text, timed_fields, start_fields, spells_outcome, one_version, spelled_names, names_spelled}
 
 -- What an entry's fields are.

@@ -1,17 +1,11 @@
 -- A record, followed line by line to a place.
-use Rattle.std.proofs.Common.{◌≡◌, ◌≢◌, ℕ, ◌+◌, Bool, true, false, List, [], ◌∷◌, ◌++◌, length, refl, sym, ap, ◌∙◌, subst, arith}
-use Rattle.std.specs.Prelude.{◌==◌}
+use Rattle.std.proofs.Common.{◌≡◌, ◌≢◌, ℕ, ◌+◌, Bool, true, false, List, [], ◌∷◌, ◌++◌, length, refl, sym, ap, ◌∙◌, subst, arith, ◌==◌}
 use Rattle.std.proofs.lemmas.Bool.{eqb-true, true≢false}
 use Rattle.rbg_lines.specs.Lines.{IsFirstLine}
 use Rattle.rbg_record.proofs.Deciding.{good_by_lines}
 use Rattle.rbg_record.proofs.SoFarLemmas.{place_in_game, read_none, read_more, read_good}
-use Rattle.rbg_record.specs.ByLine.{IsReachedIn}
-use Rattle.rbg_record.specs.Judged.{BeginsWith}
-use Rattle.rbg_record.specs.Lines.{Reached, version_next, nothing_next, Leads, LeadTo}
+use Rattle.rbg_record.proofs.Common.{IsReachedIn, BeginsWith, Reached, version_next, nothing_next, Leads, LeadTo, place_in, IsRightRecord, IsReadSoFar}
 use Rattle.rbg_record.specs.Lines as lines
-use Rattle.rbg_record.specs.Reaching.{place_in}
-use Rattle.rbg_record.specs.Right.{IsRightRecord}
-use Rattle.rbg_record.specs.internal.SoFar.{IsReadSoFar}
 use Rattle.rbg_rules.specs.Meaning.{AbstractPlace, IsPlaceOf, AbstractGame}
 use Rattle.rbg_listing.specs.Behind.{IsPlaceBehind}
 use Rattle.rbg_listing.specs.internal.Following.{EndsAt, ends_at, IsAt}

@@ -1,6 +1,5 @@
 -- Lemmas on what is listed.
-use Rattle.std.proofs.Common.{◌≡◌, ◌⊎◌, ℕ, Bool, true, false, List, [], inl, inr, ap, refl, subst, arith}
-use Rattle.std.specs.Prelude.{Contains, Result, Ok, Err, OnOk, length}
+use Rattle.std.proofs.Common.{◌≡◌, ◌⊎◌, ℕ, Bool, true, false, List, [], inl, inr, ap, refl, subst, arith, Contains, Result, Ok, Err, OnOk, length}
 use Rattle.rbg_moves.specs.Listing.{IsListed}
 use Rattle.rbg_moves.specs.declared.list.Listed.{Listed}
 use Rattle.rbg_rules.specs.Meaning.{AbstractPlace, Finished, AbstractGame}

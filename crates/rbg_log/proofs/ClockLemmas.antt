@@ -1,6 +1,5 @@
 -- A clock that goes on from a moment, and what logs take.
-use Rattle.std.proofs.Common.{◌≡◌, ℕ, List, [], ◌∷◌, ◌++◌, sym, ◌∙◌, subst, append-nil}
-use Rattle.std.proofs.lemmas.List.{map-append}
+use Rattle.rbg_base.proofs.Common.{◌≡◌, ℕ, List, [], ◌∷◌, ◌++◌, sym, ◌∙◌, subst, append-nil, map-append}
 use Rattle.rbg_log.specs.Clocks.{TellsLater, later_by}
 use Rattle.rbg_log.specs.Logs.{AppendsFront}
 

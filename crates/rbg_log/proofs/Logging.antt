@@ -1,14 +1,10 @@
 -- The log of a match through a call.
-use Rattle.std.proofs.Common.{◌≡◌, ◌⊎◌, inl, inr, ℕ, ◌<◌, ◌^◌, List, [], ◌∷◌, ◌++◌, length, map, take, All, Result, Ok, Err, refl, sym, ap, ◌∙◌, subst, arith, append-nil}
-use Rattle.std.specs.Prelude.{OnOk, OnErr}
+use Rattle.rbg_base.proofs.Common.{◌≡◌, ◌⊎◌, inl, inr, ℕ, ◌<◌, ◌^◌, List, [], ◌∷◌, ◌++◌, length, map, take, All, Result, Ok, Err, refl, sym, ap, ◌∙◌, subst, arith, append-nil, OnOk, OnErr, All-nil, All-append, flat_map-append}
 use Rattle.std.proofs.lemmas.List.{map-append, take_all}
-use Rattle.std.proofs.lemmas.List.Elements.{All-nil, All-append}
-use Rattle.std.proofs.lemmas.Grind.{flat_map-append}
 use Rattle.rbg_game.specs.Loading.{Loads}
 use Rattle.rbg_rules.specs.Meaning.{AbstractGame}
 use Rattle.rbg_match.specs.declared.config.Config.{Config}
-use Rattle.rbg_match.specs.Inputs.{AbstractEvent, piece, end_of_stream, moment_alone, moment_of}
-use Rattle.rbg_match.specs.Matches.{MatchState, Opens, Steps, StepsAll}
+use Rattle.rbg_match.proofs.Common.{AbstractEvent, piece, end_of_stream, moment_alone, moment_of, MatchState, Opens, Steps, StepsAll}
 use Rattle.rbg_referee.specs.Refereed.{IsRefereed, OpensText}
 use Rattle.rbg_referee.specs.Played.{IsMatchOf}
 use Rattle.rbg_referee.proofs.RefereedLemmas.{refereed_with}
@@ -21,11 +17,8 @@ use Rattle.rbg_wire.specs.Lines.{line_of, lines_of}
 use Rattle.rbg_serving.specs.declared.served.Served.{Served}
 use Rattle.rbg_serving.specs.declared.served.ServeError.{ServeError}
 use Rattle.rbg_serving.specs.declared.served.ServeError.TheVariants.{Rounds, Memory}
-use Rattle.rbg_serving.specs.Heard.{Heard}
-use Rattle.rbg_serving.specs.Passing.{Intake, Handles}
+use Rattle.rbg_serving.proofs.Common.{Heard, Intake, Handles, ServesOver, EndsServing, LacksMemory, Told}
 use Rattle.rbg_serving.specs.Passing as passing
-use Rattle.rbg_serving.specs.Serving.{ServesOver, EndsServing, LacksMemory}
-use Rattle.rbg_serving.specs.Told.{Told}
 use Rattle.rbg_log.specs.declared.logged.LoggedMatch.{LoggedMatch}
 use Rattle.rbg_log.specs.Logs.{Appends, IsLog, Logs, LogsPart, event_lines, first_line, scripted}
 use Rattle.rbg_log.specs.Serving.{IsOverAt, IsTimed, LeavesLog, LogLacks, LogSteps, of_log}

@@ -1,21 +1,13 @@
 -- The events that are written lead a match to where all events do.
-use Rattle.std.proofs.Common.{◌≡◌, ℕ, ◌<◌, ◌≤◌, true, false, Bool, List, [], ◌∷◌, ◌++◌, is_some, Option, Some, None, refl, sym, ap, ◌∙◌, subst, arith, append-nil}
-use Rattle.std.specs.Prelude.{max, min, if◌then◌else◌}
+use Rattle.rbg_base.proofs.Common.{◌≡◌, ℕ, ◌<◌, ◌≤◌, true, false, Bool, List, [], ◌∷◌, ◌++◌, is_some, Option, Some, None, refl, sym, ap, ◌∙◌, subst, arith, append-nil, max, min, if◌then◌else◌, none-some}
 use Rattle.std.proofs.lemmas.Bool.{ltb-true, false≢true}
-use Rattle.std.proofs.lemmas.Option.{none-some}
 use Rattle.rbg_wire.specs.Streams.{Rest}
 use Rattle.rbg_wire.specs.declared.outcome.Outcome.{Outcome}
 use Rattle.rbg_rules.specs.Meaning.{AbstractGame}
 use Rattle.rbg_match.specs.declared.config.Config.{Config}
-use Rattle.rbg_match.specs.Deliveries.{Delivery, delivered}
-use Rattle.rbg_match.specs.Handling.{tick, HandlesInTime, Handles}
+use Rattle.rbg_match.proofs.Common.{Delivery, delivered, tick, HandlesInTime, Handles, AbstractEvent, piece, end_of_stream, moment_alone, Streams, counted, moment_of, inputs_in, inputs_at, rests_after, streams_after, timed_inputs_in, latest_moment, MatchState, Opens, Steps, StepsAll, AbstractPlay, due_of, HandlesAll}
 use Rattle.rbg_match.specs.Handling as handling
-use Rattle.rbg_match.specs.Inputs.{AbstractEvent, piece, end_of_stream, moment_alone, Streams, counted, moment_of, inputs_in, inputs_at, rests_after, streams_after, timed_inputs_in}
-use Rattle.rbg_match.specs.Limits.{latest_moment}
-use Rattle.rbg_match.specs.Matches.{MatchState, Opens, Steps, StepsAll}
 use Rattle.rbg_match.specs.Matches as matches
-use Rattle.rbg_match.specs.Play.{AbstractPlay, due_of}
-use Rattle.rbg_match.specs.Transcript.{HandlesAll}
 use Rattle.rbg_match.proofs.Delivering.{delivered-none}
 use Rattle.rbg_match.proofs.OneByOne.{HandlesEach, none, more, all_to_each}
 use Rattle.rbg_log.specs.Laws.{WrittenIsEnough}

@@ -1,11 +1,7 @@
 -- What is written of an event, by what the match tells.
-use Rattle.std.proofs.Common.{◌≡◌, ℕ, Bool, List, [], ◌∷◌, Option, Some, None, is_some, refl, sym, ap, ◌∙◌}
-use Rattle.std.specs.Prelude.{MatchOption, if◌then◌else◌}
-use Rattle.std.proofs.lemmas.Option.{none-some}
+use Rattle.rbg_base.proofs.Common.{◌≡◌, ℕ, Bool, List, [], ◌∷◌, Option, Some, None, is_some, refl, sym, ap, ◌∙◌, MatchOption, if◌then◌else◌, none-some}
 use Rattle.rbg_wire.specs.declared.outcome.Outcome.{Outcome}
-use Rattle.rbg_match.specs.Inputs.{AbstractEvent, counted, moment_of}
-use Rattle.rbg_match.specs.Matches.{MatchState}
-use Rattle.rbg_match.specs.Play.{due_of}
+use Rattle.rbg_match.proofs.Common.{AbstractEvent, counted, moment_of, MatchState, due_of}
 use Rattle.rbg_log.specs.Written.{at_moment, is_quiet, written}
 
 same_number : (a b : ℕ) → ◌≡◌ {A = Option ℕ} (Some a) (Some b) → a ≡ b

@@ -1,18 +1,11 @@
 -- The arguments of a call, as the code cuts them.
-use Rattle.std.proofs.Common.{ℕ, ◌≡◌, ◌+◌, ◌-◌, ◌<◌, ◌≤◌, Bool, true, false, cond, List, [], ◌∷◌, ◌++◌, length, get_or, take, drop, map, Option, None, Some, option_map, refl, sym, ap, ◌∙◌, arith, append_assoc, zero, suc, length-drop, drop-cons}
+use Rattle.std.proofs.Common.{ℕ, ◌≡◌, ◌+◌, ◌-◌, ◌<◌, ◌≤◌, Bool, true, false, cond, List, [], ◌∷◌, ◌++◌, length, get_or, take, drop, map, Option, None, Some, option_map, refl, sym, ap, ◌∙◌, arith, append_assoc, zero, suc, length-drop, drop-cons, Bor, slice_range}
 use Rattle.std.proofs.Math.ListN.{drop_of_length-le}
 use Rattle.std.proofs.lemmas.List.{map-append, append-nil, drop-map, length-map, get_or-drop, take_more}
-use Rattle.std.specs.Borrow.{Bor}
-use Rattle.std.specs.List.{slice_range}
-use Rattle.rbg_macro.specs.declared.read_token.ReadToken.{ReadToken}
-use Rattle.rbg_macro.specs.Call.{Arguments, arguments, arguments_by, nesting, Within, Cuts, Ends, Mismatched, closing, cutting, with_token, with_argument}
-use Rattle.rbg_macro.specs.internal.Calls.{AreArguments}
+use Rattle.rbg_macro.proofs.Common.{ReadToken, Arguments, arguments, arguments_by, nesting, Within, Cuts, Ends, Mismatched, closing, cutting, with_token, with_argument, AreArguments, lists_in, read_lexeme}
 use Rattle.rbg_tokens.specs.declared.token.TokenKind.{TokenKind}
-use Rattle.rbg_tokens.specs.Kinds.{opens, closes, is_symbol}
+use Rattle.rbg_tokens.proofs.Common.{opens, closes, is_symbol, Lexeme}
 use Rattle.rbg_tokens.specs.declared.token.Symbol.TheVariants as symbols
-use Rattle.rbg_macro.specs.internal.Template.{lists_in}
-use Rattle.rbg_macro.specs.internal.ReadTokens.{read_lexeme}
-use Rattle.rbg_tokens.specs.Token.{Lexeme}
 
 -- arguments with complete ones, and the beginning of one, before them
 abbrev pub with_front : List (List Lexeme) → List Lexeme → Arguments → Arguments

@@ -1,11 +1,6 @@
 -- Calls of macros with parameters, as the code finds them.
-use Rattle.std.proofs.Common.{ℕ, ◌≡◌, ◌+◌, ◌≤◌, true, false, nat_eq, List, [], ◌∷◌, length, drop, map, Some, refl, sym, ap, ◌∙◌, arith, add-one}
-use Rattle.std.proofs.lemmas.Bool.Decides.{nat_tests}
-use Rattle.rbg_macro.specs.declared.macros.Template.{Template}
-use Rattle.rbg_macro.specs.Call.{arguments, Calls, meets, called}
-use Rattle.rbg_macro.specs.internal.Calls.{AreArguments, begins_with_parenthesis}
-use Rattle.rbg_macro.specs.Macro.{Macro, filled}
-use Rattle.rbg_macro.specs.internal.Template.{item_in, macro_of, IsNamed}
+use Rattle.rbg_base.proofs.Common.{ℕ, ◌≡◌, ◌+◌, ◌≤◌, true, false, nat_eq, List, [], ◌∷◌, length, drop, map, Some, refl, sym, ap, ◌∙◌, arith, add-one, nat_tests}
+use Rattle.rbg_macro.proofs.Common.{Template, arguments, Calls, meets, called, AreArguments, begins_with_parenthesis, Macro, filled, item_in, macro_of, IsNamed}
 use Rattle.rbg_tokens.specs.Token.{Lexeme}
 
 called_with : (m : Macro) (behind rest : List Lexeme) (lists : List (List Lexeme)) (n : ℕ) → begins_with_parenthesis behind ≡ true → rest ≡ drop 1 behind →

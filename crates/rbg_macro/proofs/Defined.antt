@@ -1,22 +1,11 @@
 -- What a part defines, and what parts define together.
-use Rattle.std.proofs.Common.{ℕ, ◌≡◌, ◌+◌, ◌<◌, ◌≤◌, Bool, true, false, not, cond, List, [], ◌∷◌, ◌++◌, length, get_or, take, drop, map, None, Some, Result, Ok, Err, refl, sym, ap, ◌∙◌, arith, append_assoc, length-drop, add_comm, add-one, drop-cons}
+use Rattle.rbg_base.proofs.Common.{ℕ, ◌≡◌, ◌+◌, ◌<◌, ◌≤◌, Bool, true, false, not, cond, List, [], ◌∷◌, ◌++◌, length, get_or, take, drop, map, None, Some, Result, Ok, Err, refl, sym, ap, ◌∙◌, arith, append_assoc, length-drop, add_comm, add-one, drop-cons, prefix_len_stops, list_any, position_or_len, bytes_eq}
 use Rattle.std.proofs.Math.ListN.{drop_of_length-le}
-use Rattle.std.proofs.lemmas.List.Sums.{prefix_len_stops}
 use Rattle.std.proofs.lemmas.List.{append-nil, take-map, drop-map, drop-drop, get_or-drop}
-use Rattle.std.specs.List.{list_any, position_or_len}
-use Rattle.std.specs.Str.{bytes_eq}
-use Rattle.rbg_macro.specs.declared.error.MacroError.{MacroError}
-use Rattle.rbg_macro.specs.declared.macros.Template.{Template}
-use Rattle.rbg_macro.specs.declared.source.SectionKind.{SectionKind}
+use Rattle.rbg_macro.proofs.Common.{MacroError, Template, SectionKind, AddsDefined, with_one_more, BeginsDefinition, Definitions, Defined, A_Section, A_Macro, Part, expect, behind_equals, behind_name, section_named, defined, definitions, definitions_of, parts, part_of, is_hash_token, first_at, with_section, Macro, body_of, macro_of, item_in, SectionTokens}
 use Rattle.rbg_tokens.specs.declared.token.Token.{Token}
-use Rattle.rbg_macro.specs.internal.Defines.{AddsDefined, with_one_more, BeginsDefinition}
-use Rattle.rbg_macro.specs.Definition.{Definitions, Defined, A_Section, A_Macro, Part, expect, behind_equals, behind_name, section_named, defined, definitions, definitions_of, parts, part_of, is_hash_token, first_at, with_section}
-use Rattle.rbg_tokens.specs.Kinds.{is_name_kind, is_symbol}
+use Rattle.rbg_tokens.proofs.Common.{is_name_kind, is_symbol, Lexeme, lexeme_of}
 use Rattle.rbg_tokens.specs.declared.token.Symbol.TheVariants as symbols
-use Rattle.rbg_macro.specs.Macro.{Macro, body_of}
-use Rattle.rbg_macro.specs.internal.Template.{macro_of, item_in}
-use Rattle.rbg_tokens.specs.Token.{Lexeme, lexeme_of}
-use Rattle.rbg_macro.specs.Sections.{SectionTokens}
 
 pub defined_section : (earlier : List Macro) (part : Part) (name : Lexeme) (ts body : List Lexeme) (kind : SectionKind) →
     expect (λ t. is_name_kind t.kind) part.end part.tokens ≡ Ok (name, ts) → Some kind ≡ section_named name.text →

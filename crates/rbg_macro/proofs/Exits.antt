@@ -1,7 +1,5 @@
 -- Errors that are passed on to the caller.
-use Rattle.rbg_macro.specs.declared.error.MacroError.{MacroError}
-use Rattle.rbg_macro.specs.declared.error.MacroError.TheVariants.{BadDefinition, Twice, ArgumentCount, Depth, TooManyTokens, BadJoin, Memory}
-use Rattle.rbg_macro.specs.Errors.{UnlessMemory}
+use Rattle.rbg_macro.proofs.Common.{MacroError, BadDefinition, Twice, ArgumentCount, Depth, TooManyTokens, BadJoin, Memory, UnlessMemory}
 
 pub unless_weaker : (P Q : MacroError → Type 0) → ((f : MacroError) → P f → Q f) → (e : MacroError) → UnlessMemory P e → UnlessMemory Q e
 unless_weaker P Q weaker (BadDefinition at) h = weaker (BadDefinition at) h

@@ -1,12 +1,6 @@
 -- Where expansion fails.
 use Rattle.std.proofs.Common.{ℕ, ◌≡◌, ◌+◌, ◌-◌, ◌<◌, ◌≤◌, List, ◌∷◌, length, arith}
-use Rattle.rbg_macro.specs.declared.error.MacroError.{MacroError}
-use Rattle.rbg_macro.specs.declared.error.MacroError.TheVariants.{TooManyTokens}
-use Rattle.rbg_macro.specs.declared.limits.TheConstants.{MAX_LEVEL, MAX_READ}
-use Rattle.rbg_macro.specs.Call.{Calls, meets}
-use Rattle.rbg_macro.specs.internal.Calls.{IsNoCall}
-use Rattle.rbg_macro.specs.Expansion.{FailsReading, too_many_read, no_call, in_call}
-use Rattle.rbg_macro.specs.Macro.{Macro}
+use Rattle.rbg_macro.proofs.Common.{MacroError, TooManyTokens, MAX_LEVEL, MAX_READ, Calls, meets, IsNoCall, FailsReading, too_many_read, no_call, in_call, Macro}
 use Rattle.rbg_tokens.specs.Token.{Lexeme}
 
 pub fails_without_call : (macros : List Macro) (d n k : ℕ) (t : Lexeme) (ts : List Lexeme) (e : MacroError) → IsNoCall macros t ts e → FailsReading macros d n k (t ∷ ts) e

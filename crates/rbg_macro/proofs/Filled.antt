@@ -1,13 +1,9 @@
 -- Bodies with arguments put in, item by item.
-use Rattle.std.proofs.Common.{ℕ, ◌≡◌, ◌+◌, ◌-◌, ◌<◌, ◌≤◌, List, [], ◌∷◌, ◌++◌, length, get_or, take, map, sym, ap, ◌∙◌, arith}
+use Rattle.rbg_base.proofs.Common.{ℕ, ◌≡◌, ◌+◌, ◌-◌, ◌<◌, ◌≤◌, List, [], ◌∷◌, ◌++◌, length, get_or, take, map, sym, ap, ◌∙◌, arith, flat_map-append, Bor}
 use Rattle.std.proofs.lemmas.List.{map-append, take_more, append-nil, length-map, take-map, get_or-map}
 use Rattle.std.proofs.lemmas.List.Folds.{length-flat_map-take}
-use Rattle.std.proofs.lemmas.Grind.{flat_map-append}
-use Rattle.std.specs.Borrow.{Bor}
 use Rattle.rbg_macro.specs.declared.macros.BodyItem.{BodyItem as KeptItem}
-use Rattle.rbg_macro.specs.declared.read_token.ReadToken.{ReadToken}
-use Rattle.rbg_macro.specs.Macro.{filled, filled_item}
-use Rattle.rbg_macro.specs.internal.Template.{item_in, lists_in}
+use Rattle.rbg_macro.proofs.Common.{ReadToken, filled, filled_item, item_in, lists_in}
 use Rattle.rbg_tokens.specs.Token.{Lexeme}
 
 -- the length of the items so far

@@ -1,18 +1,10 @@
 -- The heads of definitions, as the code reads them.
-use Rattle.std.proofs.Common.{ℕ, ◌≡◌, ◌+◌, ◌<◌, ◌≤◌, Bool, true, false, ◌&&◌, ◌||◌, cond, List, [], ◌∷◌, ◌++◌, length, get_or, drop, map, Ok, Err, refl, sym, ap, ◌∙◌, arith, length-drop}
+use Rattle.rbg_base.proofs.Common.{ℕ, ◌≡◌, ◌+◌, ◌<◌, ◌≤◌, Bool, true, false, ◌&&◌, ◌||◌, cond, List, [], ◌∷◌, ◌++◌, length, get_or, drop, map, Ok, Err, refl, sym, ap, ◌∙◌, arith, length-drop, Bor, list_any, bytes_eq}
 use Rattle.std.proofs.lemmas.List.{drop-drop, drop-map, map-append, length-map}
-use Rattle.std.specs.Borrow.{Bor}
-use Rattle.std.specs.List.{list_any}
-use Rattle.std.specs.Str.{bytes_eq}
-use Rattle.rbg_macro.specs.declared.error.MacroError.{MacroError}
-use Rattle.rbg_macro.specs.declared.error.MacroError.TheVariants.{BadDefinition}
+use Rattle.rbg_macro.proofs.Common.{MacroError, BadDefinition, parameter_list, is_new_name, AddsParameter, texts_in}
 use Rattle.rbg_tokens.specs.declared.token.Token.{Token}
-use Rattle.rbg_macro.specs.Definition.{parameter_list, is_new_name}
-use Rattle.rbg_macro.specs.internal.Defines.{AddsParameter}
-use Rattle.rbg_tokens.specs.Kinds.{is_name_kind, is_symbol}
+use Rattle.rbg_tokens.proofs.Common.{is_name_kind, is_symbol, Lexeme, lexeme_of}
 use Rattle.rbg_tokens.specs.declared.token.Symbol.TheVariants as symbols
-use Rattle.rbg_macro.specs.internal.Template.{texts_in}
-use Rattle.rbg_tokens.specs.Token.{Lexeme, lexeme_of}
 
 -- a text among those behind references
 pub among_texts : (text : List ℕ) (keys : List (Bor (List ℕ))) → list_any (λ k. bytes_eq text k.now) keys ≡ list_any (bytes_eq text) (texts_in keys)

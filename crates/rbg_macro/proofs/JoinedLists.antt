@@ -1,26 +1,11 @@
 -- Joined lists, as the code keeps and makes them.
-use Rattle.std.proofs.Common.{ℕ, ◌≡◌, ◌+◌, ◌-◌, ◌<◌, ◌≤◌, true, false, List, [], ◌∷◌, ◌++◌, length, get_or, take, drop, map, Option, Result, Ok, Err, refl, sym, subst, ap, ◌∙◌, arith, append_assoc, add-one, drop-cons, suc, length-drop}
+use Rattle.rbg_base.proofs.Common.{ℕ, ◌≡◌, ◌+◌, ◌-◌, ◌<◌, ◌≤◌, true, false, List, [], ◌∷◌, ◌++◌, length, get_or, take, drop, map, Option, Result, Ok, Err, refl, sym, subst, ap, ◌∙◌, arith, append_assoc, add-one, drop-cons, suc, length-drop, or_parts, All, list_any, All-push}
 use Rattle.std.proofs.Math.ListN.{drop_of_length-le}
-use Rattle.std.proofs.lemmas.Bool.{or_parts}
 use Rattle.std.proofs.lemmas.List.{map-append, append-nil, drop-drop, drop-map, length-map, take_rest}
-use Rattle.std.specs.List.{All, list_any}
-use Rattle.rbg_macro.specs.declared.error.MacroError.{MacroError}
-use Rattle.rbg_macro.specs.declared.error.MacroError.TheVariants.{BadJoin}
-use Rattle.rbg_macro.specs.declared.joining.JoinedToken.{JoinedToken}
-use Rattle.rbg_macro.specs.declared.joining.JoinedToken.TheVariants.{Single, Joined}
-use Rattle.rbg_macro.specs.declared.read_token.ReadToken.{ReadToken}
+use Rattle.rbg_macro.proofs.Common.{MacroError, BadJoin, JoinedToken, Single, Joined, ReadToken, joined_word, IsJoinedWithin, word_at, JoinsChain, AddsChain, FailsChain, begins_with_tilde, IsMarked, IsMarkedWord, Word, lexeme_in_word, word_of, lexeme_in, Span, Macro, joined, joined_from, behind, read_lexeme}
 use Rattle.rbg_tokens.specs.declared.token.TokenKind.{TokenKind}
-use Rattle.rbg_macro.specs.internal.Joined.{joined_word, IsJoinedWithin, word_at, JoinsChain, AddsChain, FailsChain, begins_with_tilde}
-use Rattle.rbg_macro.specs.internal.Marks.{IsMarked, IsMarkedWord, Word, lexeme_in_word, word_of}
-use Rattle.rbg_macro.specs.internal.Span.{lexeme_in}
-use Rattle.rbg_macro.specs.declared.buffer.Span.{Span}
-use Rattle.rbg_macro.specs.Macro.{Macro}
-use Rattle.rbg_macro.specs.Joining.{joined, joined_from, behind}
-use Rattle.rbg_tokens.specs.Kinds.{is_symbol}
+use Rattle.rbg_tokens.proofs.Common.{is_symbol, Lexeme}
 use Rattle.rbg_tokens.specs.declared.token.Symbol.TheVariants as symbols
-use Rattle.rbg_macro.specs.internal.ReadTokens.{read_lexeme}
-use Rattle.rbg_tokens.specs.Token.{Lexeme}
-use Rattle.std.proofs.lemmas.List.Elements.{All-push}
 use Rattle.rbg_macro.proofs.Marks.{word_added}
 use Rattle.rbg_macro.proofs.Spans.{same_lexeme, whole_of}
 

@@ -1,4 +1,5 @@
 -- Lemmas.
+pub mod Common
 mod Arguments
 mod CallLemmas
 mod Chains

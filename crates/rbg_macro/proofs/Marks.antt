@@ -1,22 +1,11 @@
 -- Marks: a look-up by name gives a number, and the number gives the macro's template.
-use Rattle.std.proofs.Common.{ℕ, ◌≡◌, ◌+◌, ◌-◌, ◌<◌, ◌≤◌, true, List, [], ◌∷◌, ◌++◌, length, get_or, take, drop, map, Option, None, Some, is_some, MatchOption, slice_get, refl, sym, subst, ap, ◌∙◌, zero, suc}
+use Rattle.rbg_base.proofs.Common.{ℕ, ◌≡◌, ◌+◌, ◌-◌, ◌<◌, ◌≤◌, true, List, [], ◌∷◌, ◌++◌, length, get_or, take, drop, map, Option, None, Some, is_some, MatchOption, slice_get, refl, sym, subst, ap, ◌∙◌, zero, suc, All-push, All-take, All-drop, All-nil, All-cons, All-head, All-tail, All-get_or, get_or_from_slice_get, slice_get_within, Bor, All, AllZip, slice_range, bytes_eq}
 use Rattle.std.proofs.lemmas.List.{take_more, take_all, map-append, length-append}
-use Rattle.std.proofs.lemmas.List.Elements.{All-push, All-take, All-drop, All-nil, All-cons, All-head, All-tail, All-get_or}
-use Rattle.std.proofs.lemmas.Option.{get_or_from_slice_get, slice_get_within}
-use Rattle.std.specs.Borrow.{Bor}
-use Rattle.std.specs.List.{All, AllZip, slice_range}
 use Rattle.std.specs.Map.{lookup}
-use Rattle.std.specs.Str.{bytes_eq}
 use Rattle.rbg_base.proofs.CallerLemmas.{AllZip-push_one, none_of_not_some}
 use Rattle.rbg_macro.specs.declared.macros.BodyItem.{BodyItem as KeptItem}
-use Rattle.rbg_macro.specs.declared.macros.Template.{Template}
-use Rattle.rbg_macro.specs.declared.read_token.ReadToken.{ReadToken}
-use Rattle.rbg_tokens.specs.Kinds.{is_name_kind}
-use Rattle.rbg_macro.specs.Macro.{Macro, macro_named}
-use Rattle.rbg_macro.specs.internal.Marks.{AreMarkedLists, FillsMarks, IsMarkedWord, KeepsMarks, Word, lexeme_in_word, word_of, IsNumberOf, IsMarked, IsMarkedItem, IsMarkedTemplate, IsTemplateAt}
-use Rattle.rbg_macro.specs.internal.Template.{macro_of, macro_in, item_in, IsNamed}
-use Rattle.rbg_macro.specs.internal.ReadTokens.{read_lexeme}
-use Rattle.rbg_tokens.specs.Token.{Lexeme}
+use Rattle.rbg_macro.proofs.Common.{Template, ReadToken, Macro, macro_named, AreMarkedLists, FillsMarks, IsMarkedWord, KeepsMarks, Word, lexeme_in_word, word_of, IsNumberOf, IsMarked, IsMarkedItem, IsMarkedTemplate, IsTemplateAt, macro_of, macro_in, item_in, IsNamed, read_lexeme}
+use Rattle.rbg_tokens.proofs.Common.{is_name_kind, Lexeme}
 use Rattle.rbg_macro.proofs.Names.{lookup_none, lookup_some}
 
 -- the macro whose template is at an index

@@ -1,18 +1,10 @@
 -- Macros and parameters by name: a map's or a set's look-ups, as those in the lists that contracts see.
-use Rattle.std.proofs.Common.{ℕ, ◌≡◌, ◌+◌, Bool, true, false, ◌||◌, cond, not, List, [], ◌∷◌, ◌++◌, map, Option, None, Some, is_some, MatchOption, position, refl, sym, ap, ◌∙◌, find}
-use Rattle.std.proofs.lemmas.Bool.{or_parts}
-use Rattle.std.proofs.lemmas.List.{length-map}
-use Rattle.std.specs.List.{list_any, position_or_len}
+use Rattle.rbg_base.proofs.Common.{ℕ, ◌≡◌, ◌+◌, Bool, true, false, ◌||◌, cond, not, List, [], ◌∷◌, ◌++◌, map, Option, None, Some, is_some, MatchOption, position, refl, sym, ap, ◌∙◌, find, or_parts, length-map, list_any, position_or_len, Bor, option_copied, bytes_eq}
 use Rattle.std.specs.Map.{lookup}
-use Rattle.std.specs.Borrow.{Bor}
-use Rattle.std.specs.Option.{option_copied}
-use Rattle.std.specs.Str.{bytes_eq}
 use Rattle.indexmap.specs.IndexMap.{insert_entry}
-use Rattle.rbg_macro.specs.declared.macros.Template.{Template}
-use Rattle.rbg_tokens.specs.Kinds.{is_name_kind}
+use Rattle.rbg_macro.proofs.Common.{Template, macro_of, macro_in, texts_in, IsNamed}
+use Rattle.rbg_tokens.proofs.Common.{is_name_kind, Lexeme}
 use Rattle.rbg_macro.specs.Macro.{macro_named, item_of, Word, Place}
-use Rattle.rbg_macro.specs.internal.Template.{macro_of, macro_in, texts_in, IsNamed}
-use Rattle.rbg_tokens.specs.Token.{Lexeme}
 
 -- whether a name is there
 pub has_lookup : (name : List ℕ) (es : List (Bor (List ℕ) × Template)) → is_some (lookup (λ k. bytes_eq name k.now) es) ≡ list_any (λ m. bytes_eq name m.name) (map macro_in es)

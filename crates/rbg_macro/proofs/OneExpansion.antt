@@ -1,16 +1,7 @@
 -- Tokens have one expansion at most, and those that have one have no fault.
-use Rattle.std.proofs.Common.{ℕ, ◌≡◌, ◌+◌, ◌<◌, ◌≤◌, List, [], ◌∷◌, ◌++◌, length, Ok, refl, sym, ap, ◌∙◌, arith, length-append, subst, inl, inr}
-use Rattle.std.proofs.lemmas.List.Sums.{sum_by-append}
-use Rattle.rbg_macro.specs.declared.error.MacroError.{MacroError}
-use Rattle.rbg_macro.specs.declared.error.MacroError.TheVariants.{BadDefinition, Twice, ArgumentCount, Depth, TooManyTokens, BadJoin, Memory}
-use Rattle.rbg_macro.specs.declared.limits.TheConstants.{MAX_KEPT, MAX_LEVEL, MAX_READ}
-use Rattle.rbg_macro.specs.Call.{Stays, Calls, NoCall, meets}
-use Rattle.rbg_macro.specs.Definition.{Definitions}
-use Rattle.rbg_macro.specs.Expansion.{Expands, list, Reads, nothing, stays, call, Fails, too_many_read, no_join, reading, FailsReading, too_many_kept, behind_kept, no_call, too_deep, in_call, behind_call, ExpandsAll, none, one_more, FailsAll, here, later, kept, HasSections, HasFault, HasMacroFault}
-use Rattle.rbg_macro.specs.Joining.{joined}
-use Rattle.rbg_macro.specs.Macro.{Macro}
+use Rattle.rbg_base.proofs.Common.{ℕ, ◌≡◌, ◌+◌, ◌<◌, ◌≤◌, List, [], ◌∷◌, ◌++◌, length, Ok, refl, sym, ap, ◌∙◌, arith, length-append, subst, inl, inr, sum_by-append}
+use Rattle.rbg_macro.proofs.Common.{MacroError, BadDefinition, Twice, ArgumentCount, Depth, TooManyTokens, BadJoin, Memory, MAX_KEPT, MAX_LEVEL, MAX_READ, Stays, Calls, NoCall, meets, Definitions, Expands, list, Reads, nothing, stays, call, Fails, too_many_read, no_join, reading, FailsReading, too_many_kept, behind_kept, no_call, too_deep, in_call, behind_call, ExpandsAll, none, one_more, FailsAll, here, later, kept, HasSections, HasFault, HasMacroFault, joined, Macro, SectionTokens}
 use Rattle.rbg_tokens.specs.Token.{Lexeme}
-use Rattle.rbg_macro.specs.Sections.{SectionTokens}
 
 -- a list that expands is joined, and the joined list is read
 record IsRead (macros : List Macro) (d : ℕ) (ts us : List Lexeme) (n : ℕ) : Type 0 where

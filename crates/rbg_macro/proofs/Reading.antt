@@ -1,18 +1,9 @@
 -- How far a joined list was read.
-use Rattle.std.proofs.Common.{ℕ, ◌≡◌, ◌+◌, ◌<◌, ◌≤◌, List, [], ◌∷◌, ◌++◌, length, get_or, drop, map, refl, sym, ap, ◌∙◌, arith, append_assoc, length-append, length-drop, drop-cons, add-one}
-use Rattle.std.specs.Prelude.{Vec, vec_len}
-use Rattle.std.specs.Global.{Global}
+use Rattle.std.proofs.Common.{ℕ, ◌≡◌, ◌+◌, ◌<◌, ◌≤◌, List, [], ◌∷◌, ◌++◌, length, get_or, drop, map, refl, sym, ap, ◌∙◌, arith, append_assoc, length-append, length-drop, drop-cons, add-one, Vec, vec_len, Global}
 use Rattle.std.proofs.Math.ListN.{drop_of_length-le}
 use Rattle.std.proofs.lemmas.List.{append-nil, drop-map, drop-drop, length-map}
-use Rattle.rbg_macro.specs.declared.error.MacroError.{MacroError}
-use Rattle.rbg_macro.specs.declared.expansion.ExpandedTokens.{ExpandedTokens}
-use Rattle.rbg_macro.specs.declared.limits.TheConstants.{MAX_KEPT}
-use Rattle.rbg_macro.specs.declared.read_token.ReadToken.{ReadToken}
-use Rattle.rbg_macro.specs.Call.{Stays, meets}
-use Rattle.rbg_macro.specs.Expansion.{Expands, list, Reads, nothing, stays, call, Fails, no_join, reading, FailsReading, too_many_kept, behind_kept, in_call, behind_call}
-use Rattle.rbg_macro.specs.Macro.{Macro}
+use Rattle.rbg_macro.proofs.Common.{MacroError, ExpandedTokens, MAX_KEPT, ReadToken, Stays, meets, Expands, list, Reads, nothing, stays, call, Fails, no_join, reading, FailsReading, too_many_kept, behind_kept, in_call, behind_call, Macro, read_lexeme}
 use Rattle.rbg_macro.specs.internal.ExpandedTokens.{IsWithinLimits, ReadsOn, ReadsJoined, FailsJoined, GivesWay, IsTooMany, no_join as joins_not, reading as fails_reading}
-use Rattle.rbg_macro.specs.internal.ReadTokens.{read_lexeme}
 use Rattle.rbg_tokens.specs.Token.{Lexeme}
 
 -- The list was read up to a place. If the rest expands to something, then the list expands to what was kept, followed

@@ -1,24 +1,10 @@
 -- How far the sections were expanded.
-use Rattle.std.proofs.Common.{ℕ, ◌≡◌, ◌+◌, ◌-◌, ◌<◌, ◌≤◌, List, [], ◌∷◌, ◌++◌, length, get_or, drop, map, refl, sym, ap, ◌∙◌, arith, append_assoc, length-append, drop-cons, suc}
+use Rattle.rbg_base.proofs.Common.{ℕ, ◌≡◌, ◌+◌, ◌-◌, ◌<◌, ◌≤◌, List, [], ◌∷◌, ◌++◌, length, get_or, drop, map, refl, sym, ap, ◌∙◌, arith, append_assoc, length-append, drop-cons, suc, All-push, All-weaker, sum_by_push, All}
 use Rattle.std.proofs.Math.ListN.{drop_of_length-le}
 use Rattle.std.proofs.lemmas.List.{append-nil, map-append}
-use Rattle.std.proofs.lemmas.List.Elements.{All-push, All-weaker}
-use Rattle.std.proofs.lemmas.List.Sums.{sum_by_push}
-use Rattle.std.specs.List.{All}
-use Rattle.rbg_macro.specs.declared.definition.SectionBody.{SectionBody}
-use Rattle.rbg_macro.specs.declared.error.MacroError.{MacroError}
-use Rattle.rbg_macro.specs.declared.error.MacroError.TheVariants.{TooManyTokens}
-use Rattle.rbg_macro.specs.declared.expansion.ExpandedTokens.{ExpandedTokens}
-use Rattle.rbg_macro.specs.declared.limits.TheConstants.{MAX_READ}
-use Rattle.rbg_macro.specs.declared.source.SectionSpan.{SectionSpan}
-use Rattle.rbg_macro.specs.internal.Defines.{section_of}
-use Rattle.rbg_macro.specs.Expansion.{list, Fails, too_many_read, no_join, reading, ExpandsAll, none, one_more, FailsAll, here, later, kept, ExpandsWithin}
-use Rattle.rbg_macro.specs.Errors.{UnlessMemory}
-use Rattle.rbg_macro.specs.Macro.{Macro}
+use Rattle.rbg_macro.proofs.Common.{SectionBody, MacroError, TooManyTokens, ExpandedTokens, MAX_READ, SectionSpan, section_of, list, Fails, too_many_read, no_join, reading, ExpandsAll, none, one_more, FailsAll, here, later, kept, ExpandsWithin, UnlessMemory, Macro, section_in, IsSectionWithin, SectionTokens}
 use Rattle.rbg_macro.specs.internal.ExpandedTokens.{IsWithinLimits, ReadsJoined, FailsJoined, ReadsSection, no_join as joins_not, reading as fails_reading}
-use Rattle.rbg_macro.specs.internal.Span.{section_in, IsSectionWithin}
 use Rattle.rbg_tokens.specs.Token.{Lexeme}
-use Rattle.rbg_macro.specs.Sections.{SectionTokens}
 use Rattle.rbg_macro.proofs.Exits.{unless_weaker}
 use Rattle.rbg_macro.proofs.Spans.{slice_of_front, slice_of_end}
 

@@ -1,13 +1,8 @@
 -- Tokens whose bytes are in a buffer that grows.
-use Rattle.std.proofs.Common.{ℕ, ◌≡◌, ◌+◌, ◌-◌, ◌<◌, ◌≤◌, List, [], ◌∷◌, ◌++◌, length, get_or, take, drop, map, Some, slice_get, refl, sym, ap, ◌∙◌, arith, length-append, length-drop, suc}
-use Rattle.std.specs.List.{All, slice_range}
-use Rattle.std.proofs.Math.Seq.{take-length, drop-append_seam}
+use Rattle.rbg_base.proofs.Common.{ℕ, ◌≡◌, ◌+◌, ◌-◌, ◌<◌, ◌≤◌, List, [], ◌∷◌, ◌++◌, length, get_or, take, drop, map, Some, slice_get, refl, sym, ap, ◌∙◌, arith, length-append, length-drop, suc, All, slice_range, take-length, drop-append_seam, get_or_from_slice_get, slice_get_read}
 use Rattle.std.proofs.lemmas.List.{take-append-le, drop-append-le, map-append, length-take, take-append-drop, get_or-take, get_or-drop}
-use Rattle.std.proofs.lemmas.Option.{get_or_from_slice_get, slice_get_read}
-use Rattle.rbg_macro.specs.declared.buffer.Span.{Span}
-use Rattle.rbg_macro.specs.declared.buffer.KeptToken.{KeptToken}
+use Rattle.rbg_macro.proofs.Common.{Span, KeptToken, lexeme_in, kept_lexeme, IsKeptAs, IsKeptWithin, IsSpanWithin}
 use Rattle.rbg_macro.specs.declared.buffer.KeptToken.TheVariants.{OfText, Joined}
-use Rattle.rbg_macro.specs.internal.Span.{lexeme_in, kept_lexeme, IsKeptAs, IsKeptWithin, IsSpanWithin}
 use Rattle.rbg_tokens.specs.Token.{Lexeme}
 
 -- a range that ends within the first list

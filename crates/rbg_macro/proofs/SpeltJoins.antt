@@ -1,20 +1,13 @@
 -- What joining makes of texts that spell a token of their kind.
-use Rattle.std.proofs.Common.{ℕ, ◌≡◌, ◌+◌, Bool, true, false, ◌&&◌, ◌||◌, cond, nat_le, List, [], ◌∷◌, ◌++◌, length, Option, None, Some, Result, Ok, Err, refl, subst}
-use Rattle.std.proofs.lemmas.Bool.{and_parts}
+use Rattle.rbg_base.proofs.Common.{ℕ, ◌≡◌, ◌+◌, Bool, true, false, ◌&&◌, ◌||◌, cond, nat_le, List, [], ◌∷◌, ◌++◌, length, Option, None, Some, Result, Ok, Err, refl, subst, and_parts, list_all}
 use Rattle.std.proofs.lemmas.List.Folds.{list_all-append}
 use Rattle.std.specs.Char.{is_ascii_digit}
-use Rattle.std.specs.List.{list_all}
 use Rattle.rbg_base.specs.Names.{is_name, is_name_start, is_name_part}
-use Rattle.rbg_macro.specs.declared.error.MacroError.{MacroError}
-use Rattle.rbg_macro.specs.declared.error.MacroError.TheVariants.{BadJoin}
-use Rattle.rbg_macro.specs.declared.limits.TheConstants.{MAX_JOINED}
+use Rattle.rbg_macro.proofs.Common.{MacroError, BadJoin, MAX_JOINED, joined_kind, joined_token, with_kind, behind, join_at, joined_from, joined}
 use Rattle.rbg_tokens.specs.declared.token.TokenKind.{TokenKind}
 use Rattle.rbg_tokens.specs.declared.token.TokenKind.TheVariants.{Name, Number, Symbol as A_Symbol}
-use Rattle.rbg_macro.specs.Joining.{joined_kind, joined_token, with_kind, behind, join_at, joined_from, joined}
-use Rattle.rbg_tokens.specs.Kinds.{is_symbol}
+use Rattle.rbg_tokens.proofs.Common.{is_symbol, is_number, Spells, IsLexeme, Lexeme}
 use Rattle.rbg_tokens.specs.declared.token.Symbol.TheVariants as symbols
-use Rattle.rbg_tokens.specs.Spelling.{is_number, Spells, IsLexeme}
-use Rattle.rbg_tokens.specs.Token.{Lexeme}
 use Rattle.rbg_tokens.proofs.Words.{name_parts, number_digits}
 use Rattle.rbg_tokens.proofs.SpeltTokens.{Spelt}
 

@@ -2,9 +2,7 @@
 use Rattle.std.proofs.Common.{◌≡◌, ℕ, List, [], ◌∷◌, ◌++◌, Option, Some, None, is_some, refl, sym, ap, ◌∙◌, subst, append_assoc}
 use Rattle.std.proofs.lemmas.List.{append-nil}
 use Rattle.rbg_wire.specs.declared.outcome.Outcome.{Outcome}
-use Rattle.rbg_match.specs.Deliveries.{Delivery, delivered}
-use Rattle.rbg_match.specs.Inputs.{AbstractEvent, Streams, streams_after, timed_inputs_in, timed_inputs_of}
-use Rattle.rbg_match.specs.Transcript.{HandlesAll}
+use Rattle.rbg_match.proofs.Common.{Delivery, delivered, AbstractEvent, Streams, streams_after, timed_inputs_in, timed_inputs_of, HandlesAll}
 use Rattle.rbg_match.specs.Transcript as transcript
 use Rattle.rbg_match.specs.Matches.{MatchState, Steps, StepsAll, none, more}
 use Rattle.rbg_match.proofs.Delivering.{delivered-none}

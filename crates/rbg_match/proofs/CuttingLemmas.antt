@@ -1,22 +1,11 @@
 -- How a seat's stream is cut into pieces does not matter.
-use Rattle.std.proofs.Common.{◌≡◌, ℕ, zero, suc, ◌-◌, ◌<◌, ◌≤◌, Bool, true, false, List, [], ◌∷◌, ◌++◌, length, map, set, refl, sym, ap, ◌∙◌, subst, append_assoc, arith}
-use Rattle.std.specs.Prelude.{◌&&◌, nat_le, min, if◌then◌else◌}
-use Rattle.std.specs.List.{concat}
+use Rattle.rbg_base.proofs.Common.{◌≡◌, ℕ, zero, suc, ◌-◌, ◌<◌, ◌≤◌, Bool, true, false, List, [], ◌∷◌, ◌++◌, length, map, set, refl, sym, ap, ◌∙◌, subst, append_assoc, arith, ◌&&◌, nat_le, min, if◌then◌else◌, concat, max-eq_left, le-max_right}
 use Rattle.std.proofs.lemmas.Bool.{and_parts, leb-true}
-use Rattle.std.proofs.Math.Nat.{max-eq_left, le-max_right}
 use Rattle.std.proofs.lemmas.List.{append-nil, length-set, get_or-set_same, map-append}
 use Rattle.rbg_wire.specs.Streams.{Rest, incomplete, Cut, cut, after_items}
 use Rattle.rbg_wire.proofs.CutLemmas.{cut-append}
 use Rattle.rbg_rules.specs.Meaning.{AbstractGame}
-use Rattle.rbg_match.specs.declared.config.Config.{Config}
-use Rattle.rbg_match.specs.Deliveries.{Delivery}
-use Rattle.rbg_match.specs.Handling.{AbstractInput, tick, sent}
-use Rattle.rbg_match.specs.Inputs.{AbstractEvent, piece, TimedInput, Streams, counted, has_seat, rest_of, cut_of, inputs_in, rests_after, inputs_at, timed_inputs_in, streams_after, streams_at_start, timed_inputs_of}
-use Rattle.rbg_match.specs.Laws.{Cutting}
-use Rattle.rbg_match.specs.Limits.{latest_moment, message_limit}
-use Rattle.rbg_match.specs.Play.{AbstractPlay}
-use Rattle.rbg_match.specs.PlayingOn.{seats_of}
-use Rattle.rbg_match.specs.Transcript.{HandlesAll}
+use Rattle.rbg_match.proofs.Common.{Config, Delivery, AbstractInput, tick, sent, AbstractEvent, piece, TimedInput, Streams, counted, has_seat, rest_of, cut_of, inputs_in, rests_after, inputs_at, timed_inputs_in, streams_after, streams_at_start, timed_inputs_of, Cutting, latest_moment, message_limit, AbstractPlay, seats_of, HandlesAll}
 use Rattle.rbg_match.proofs.AllEvents.{streams_through}
 use Rattle.rbg_match.proofs.Events.{inputs_of_piece, left_of_piece}
 use Rattle.rbg_match.proofs.Transcripts.{of_other_inputs}

@@ -1,9 +1,8 @@
 -- What each seat's bytes are, as more is said.
-use Rattle.std.proofs.Common.{◌≡◌, ℕ, zero, suc, ◌+◌, ◌<◌, List, [], ◌∷◌, ◌++◌, length, map, replicate, refl, sym, ap, ◌∙◌, arith, add-one, get_or, set, append_assoc, ◌≢◌}
+use Rattle.rbg_base.proofs.Common.{◌≡◌, ℕ, zero, suc, ◌+◌, ◌<◌, List, [], ◌∷◌, ◌++◌, length, map, replicate, refl, sym, ap, ◌∙◌, arith, add-one, get_or, set, append_assoc, ◌≢◌, range_with_len}
 use Rattle.std.proofs.lemmas.List.{append-nil}
 use Rattle.std.proofs.lemmas.List.Concat.{flat_map-append}
 use Rattle.std.proofs.lemmas.Bool.{eq-eqb, ne_eqb}
-use Rattle.std.specs.List.{range_with_len}
 use Rattle.rbg_wire.specs.Messages.{AbstractMessage, spelling}
 use Rattle.rbg_match.specs.Deliveries.{Delivery, to_seat, to_each, to_others, bytes_for, queued, delivered_from, delivered}
 

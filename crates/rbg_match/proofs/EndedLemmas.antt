@@ -1,17 +1,9 @@
 -- What has ended stays as it is.
-use Rattle.std.proofs.Common.{◌≡◌, ℕ, List, [], ◌++◌, Option, Some, None, refl, sym, ap, ◌∙◌}
-use Rattle.std.proofs.lemmas.Option.{none-some}
+use Rattle.rbg_base.proofs.Common.{◌≡◌, ℕ, List, [], ◌++◌, Option, Some, None, refl, sym, ap, ◌∙◌, none-some}
 use Rattle.rbg_wire.specs.declared.outcome.Outcome.{Outcome}
 use Rattle.rbg_rules.specs.Meaning.{AbstractGame}
-use Rattle.rbg_match.specs.declared.config.Config.{Config}
-use Rattle.rbg_match.specs.Deliveries.{Delivery}
-use Rattle.rbg_match.specs.Play.{AbstractPlay}
-use Rattle.rbg_match.specs.Handling.{AbstractInput, Handles, after_end, overdue, in_time}
-use Rattle.rbg_match.specs.Inputs.{AbstractEvent, TimedInput}
-use Rattle.rbg_match.specs.Laws.{EndedPlayStays, EndedMatchStays}
-use Rattle.rbg_match.specs.Transcript.{HandlesAll}
+use Rattle.rbg_match.proofs.Common.{Config, Delivery, AbstractPlay, AbstractInput, Handles, after_end, overdue, in_time, AbstractEvent, TimedInput, EndedPlayStays, EndedMatchStays, HandlesAll, MatchState, StepsAll}
 use Rattle.rbg_match.specs.Transcript as transcript
-use Rattle.rbg_match.specs.Matches.{MatchState, StepsAll}
 use Rattle.rbg_match.specs.Matches as matches
 
 -- play that has ended is not in play

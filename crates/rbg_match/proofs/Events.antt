@@ -1,17 +1,10 @@
 -- The inputs that an event stands for are handled in turn.
-use Rattle.std.proofs.Common.{◌≡◌, ℕ, ◌-◌, ◌<◌, Bool, true, false, List, [], ◌∷◌, ◌++◌, length, map, get_or, set, refl, sym, ap, ◌∙◌, subst, append_assoc}
-use Rattle.std.specs.Prelude.{◌&&◌, nat_le}
+use Rattle.std.proofs.Common.{◌≡◌, ℕ, ◌-◌, ◌<◌, Bool, true, false, List, [], ◌∷◌, ◌++◌, length, map, get_or, set, refl, sym, ap, ◌∙◌, subst, append_assoc, ◌&&◌, nat_le}
 use Rattle.std.proofs.lemmas.List.{append-nil, get_or-map, map-set, length-map}
 use Rattle.rbg_wire.specs.Streams.{Rest, Stream, incomplete, Cut, cut}
 use Rattle.rbg_rules.specs.Meaning.{AbstractGame}
-use Rattle.rbg_match.specs.declared.config.Config.{Config}
-use Rattle.rbg_match.specs.Limits.{message_limit}
-use Rattle.rbg_match.specs.Deliveries.{Delivery}
-use Rattle.rbg_match.specs.Play.{AbstractPlay}
-use Rattle.rbg_match.specs.Handling.{AbstractInput, tick, gone, sent, Handles}
-use Rattle.rbg_match.specs.Inputs.{TimedInput, AbstractEvent, piece, end_of_stream, has_seat, cut_of, inputs_in, inputs_at, rests_after}
+use Rattle.rbg_match.proofs.Common.{Config, message_limit, Delivery, AbstractPlay, AbstractInput, tick, gone, sent, Handles, TimedInput, AbstractEvent, piece, end_of_stream, has_seat, cut_of, inputs_in, inputs_at, rests_after, rests_of}
 use Rattle.rbg_match.specs.Transcript.{HandlesAll, none, more}
-use Rattle.rbg_match.specs.internal.Inboxes.{rests_of}
 
 -- one input is handled
 pub one_handled : {game : AbstractGame} {config : Config} {play after : AbstractPlay} {moment : ℕ} {input : AbstractInput} {said : List Delivery} → Handles game config play moment input after said → HandlesAll game config play (inputs_at moment (input ∷ [])) after said

@@ -1,11 +1,7 @@
 -- How play goes on, step by step.
 use Rattle.std.proofs.Common.{◌≡◌, ℕ, suc, ◌+◌, ◌≤◌, List, [], ◌++◌, ◌∙◌, subst, arith, add-one, add-one-le, append_assoc, Ok}
 use Rattle.rbg_moves.specs.Limits.{most_keeper_moves}
-use Rattle.rbg_match.specs.declared.turns.Progress.TheVariants.{KeeperMoved, Settled}
-use Rattle.rbg_match.specs.Deliveries.{Delivery}
-use Rattle.rbg_match.specs.Play.{AbstractPlay}
-use Rattle.rbg_match.specs.PlayingOn.{PlaysOn, keeper}
-use Rattle.rbg_match.specs.internal.Replies.{RefereeState, Replies, PlaysOnOnce, gone_on}
+use Rattle.rbg_match.proofs.Common.{KeeperMoved, Settled, Delivery, AbstractPlay, PlaysOn, keeper, RefereeState, Replies, PlaysOnOnce, gone_on}
 use Rattle.rbg_match.proofs.Replying.{nothing_done, gone_on-twice}
 
 -- Play has come from its start to this state by so many keeper moves in a row: what it goes on to from here, it goes on to from

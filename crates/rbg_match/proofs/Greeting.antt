@@ -1,14 +1,9 @@
 -- The greetings of one more seat, and the names in them.
-use Rattle.std.proofs.Common.{◌≡◌, ℕ, suc, ◌+◌, ◌-◌, ◌<◌, List, [], ◌∷◌, ◌++◌, length, take, Some, slice_get, refl, ap, ◌∙◌, subst, arith}
-use Rattle.std.specs.List.{flat_map, enumerate_from}
-use Rattle.std.specs.Prelude.{All, IsTrue}
+use Rattle.rbg_base.proofs.Common.{◌≡◌, ℕ, suc, ◌+◌, ◌-◌, ◌<◌, List, [], ◌∷◌, ◌++◌, length, take, Some, slice_get, refl, ap, ◌∙◌, subst, arith, flat_map, enumerate_from, All, IsTrue, slice_get_within, get_or_from_slice_get, All-take}
 use Rattle.rbg_base.specs.Names.{is_name}
 use Rattle.std.proofs.lemmas.List.{append-nil, take_more, length-take-le}
-use Rattle.std.proofs.lemmas.Option.{slice_get_within, get_or_from_slice_get}
-use Rattle.std.proofs.lemmas.List.Elements.{All-take}
 use Rattle.rbg_rules.specs.Meaning.{IsGame, AbstractGame}
-use Rattle.rbg_match.specs.declared.config.Config.{Config}
-use Rattle.rbg_match.specs.Transcript.{greeting, greetings}
+use Rattle.rbg_match.proofs.Common.{Config, greeting, greetings}
 
 greetings_from : (text : List ℕ) (config : Config) (first : ℕ) (names : List (List ℕ)) (name : List ℕ) → flat_map (λ (one : ℕ × List ℕ). greeting text config one.0 one.1) (enumerate_from first (names ++ name ∷ [])) ≡ flat_map (λ (one : ℕ × List ℕ). greeting text config one.0 one.1) (enumerate_from first names) ++ greeting text config (first + length names) name
 greetings_from text config first [] name = let same : first + 0 ≡ first = omega arith in rw same (append-nil (greeting text config first name))

@@ -5,10 +5,7 @@ use Rattle.rbg_wire.specs.declared.message.Reason.{Reason}
 use Rattle.rbg_wire.specs.declared.outcome.Outcome.TheVariants.{Refusals}
 use Rattle.rbg_wire.specs.Messages.{end_message, refusal_message}
 use Rattle.rbg_rules.specs.Meaning.{AbstractGame}
-use Rattle.rbg_match.specs.declared.config.Config.{Config}
-use Rattle.rbg_match.specs.Deliveries.{Delivery, to_each, to_seat}
-use Rattle.rbg_match.specs.Play.{AbstractPlay, ended, refusals_of, refused}
-use Rattle.rbg_match.specs.Handling.{AbstractInput, Handles, Refuses, after_end, spent}
+use Rattle.rbg_match.proofs.Common.{Config, Delivery, to_each, to_seat, AbstractPlay, ended, refusals_of, refused, AbstractInput, Handles, Refuses, after_end, spent}
 
 -- an option is there, or not, as its test says
 pub is_there : {A : Type 0} (o : Option A) → is_some o ≡ true → (x : A) × (o ≡ Some x)

@@ -1,33 +1,16 @@
 -- The history of a match is kept, whatever its inputs are.
-use Rattle.std.proofs.Common.{◌≡◌, ℕ, ◌≤◌, List, [], ◌∷◌, ◌++◌, length, map, true, false, Bool, Some, None, Result, Ok, Err, refl, sym, ap, ◌∙◌, subst, arith}
-use Rattle.std.specs.Prelude.{◌≢◌, IfOk, OnOk, All, nat_le, if◌then◌else◌}
+use Rattle.rbg_base.proofs.Common.{◌≡◌, ℕ, ◌≤◌, List, [], ◌∷◌, ◌++◌, length, map, true, false, Bool, Some, None, Result, Ok, Err, refl, sym, ap, ◌∙◌, subst, arith, ◌≢◌, IfOk, OnOk, All, nat_le, if◌then◌else◌, none-some, min-le_right, length-map, All-nil, All-cons, All-head, All-tail, All-map, All-weaker}
 use Rattle.std.proofs.lemmas.Bool.{and_parts, leb-true}
-use Rattle.std.proofs.lemmas.Option.{none-some}
-use Rattle.std.proofs.Math.Nat.{min-le_right}
-use Rattle.std.proofs.lemmas.List.{length-map}
-use Rattle.std.proofs.lemmas.List.Elements.{All-nil, All-cons, All-head, All-tail, All-map, All-weaker}
 use Rattle.rbg_wire.specs.declared.message.Reason.{Reason}
 use Rattle.rbg_wire.specs.declared.outcome.Outcome.{Outcome}
 use Rattle.rbg_wire.specs.Streams.{Rest, Item, Stream}
 use Rattle.rbg_rules.specs.Meaning.{AbstractGame}
-use Rattle.rbg_match.specs.declared.config.Config.{Config}
-use Rattle.rbg_match.specs.declared.made.Made.{Made}
-use Rattle.rbg_match.specs.Config.{IsWithinLimits}
-use Rattle.rbg_match.specs.Deliveries.{Delivery}
+use Rattle.rbg_match.proofs.Common.{Config, Made, IsWithinLimits, Delivery, AbstractInput, tick, gone, sent, Refuses, Judges, HandlesInTime, Handles, LeadsTo, FitsOutcome, HasTurnSince, IsInTurn, IsHistory, MadeInTurn, AbstractEvent, piece, end_of_stream, moment_alone, TimedInput, Streams, counted_first, has_seat, cut_of, inputs_in, inputs_at, rests_of, latest_moment, MatchState, Opens, HasHistory, AbstractPlay, mover_of, refused, turn_begun, PlaysOn, seats_of, HandlesAll}
 use Rattle.rbg_match.specs.Handling as handling
-use Rattle.rbg_match.specs.Handling.{AbstractInput, tick, gone, sent, Refuses, Judges, HandlesInTime, Handles}
 use Rattle.rbg_match.specs.History as history
-use Rattle.rbg_match.specs.History.{LeadsTo, FitsOutcome, HasTurnSince, IsInTurn, IsHistory, MadeInTurn}
-use Rattle.rbg_match.specs.Inputs.{AbstractEvent, piece, end_of_stream, moment_alone, TimedInput, Streams, counted_first, has_seat, cut_of, inputs_in, inputs_at}
-use Rattle.rbg_match.specs.internal.Inboxes.{rests_of}
 use Rattle.rbg_base.specs.Move.{most_pairs}
-use Rattle.rbg_match.specs.Limits.{latest_moment}
-use Rattle.rbg_match.specs.Matches.{MatchState, Opens, HasHistory}
-use Rattle.rbg_match.specs.Play.{AbstractPlay, mover_of, refused, turn_begun}
 use Rattle.rbg_match.specs.PlayingOn as on
-use Rattle.rbg_match.specs.PlayingOn.{PlaysOn, seats_of}
 use Rattle.rbg_match.specs.Transcript as transcript
-use Rattle.rbg_match.specs.Transcript.{HandlesAll}
 
 -- the seat is one of the game
 abbrev pub IsSeat : AbstractGame → ℕ → Type 0

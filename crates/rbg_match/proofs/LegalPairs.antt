@@ -1,6 +1,5 @@
 -- The pairs of a legal move have a spelling.
-use Rattle.std.proofs.Common.{ℕ, List, length, Result, Ok, Err, Option, Some, None}
-use Rattle.std.specs.Prelude.{IfOk, IfSome}
+use Rattle.std.proofs.Common.{ℕ, List, length, Result, Ok, Err, Option, Some, None, IfOk, IfSome}
 use Rattle.rbg_rules.specs.Meaning.{AbstractGame, IsGame, AbstractPlace, IsLegal, IsPlaceOf}
 use Rattle.rbg_base.specs.Move.{IsMoveLength}
 use Rattle.rbg_wire.specs.Messages.{ArePairs}

@@ -1,3 +1,4 @@
+pub mod Common
 pub mod Delivering
 pub mod Sayings
 pub mod Replying

@@ -1,8 +1,6 @@
 -- What each seat had is taken back by how long it was.
-use Rattle.std.proofs.Common.{◌≡◌, ◌≢◌, ℕ, zero, suc, ◌+◌, ◌<◌, List, [], ◌∷◌, ◌++◌, length, map, take, get_or, set, refl, sym, ap, ◌∙◌, arith, inl, inr, Vec}
-use Rattle.std.proofs.lemmas.Bool.{cases_lt}
+use Rattle.rbg_base.proofs.Common.{◌≡◌, ◌≢◌, ℕ, zero, suc, ◌+◌, ◌<◌, List, [], ◌∷◌, ◌++◌, length, map, take, get_or, set, refl, sym, ap, ◌∙◌, arith, inl, inr, Vec, cases_lt, take-append_seam}
 use Rattle.std.proofs.lemmas.List.{ext_get_or, get_or-map, length-map, get_or-set_same, get_or-set_other}
-use Rattle.std.proofs.Math.Seq.{take-append_seam}
 use Rattle.rbg_match.specs.Deliveries.{AreMarks, Delivery, bytes_for, delivered_from, delivered}
 use Rattle.rbg_match.proofs.Delivering.{length-delivered}
 

@@ -2,12 +2,7 @@
 use Rattle.std.proofs.Common.{◌≡◌, List, [], ◌∷◌, ◌++◌, refl, sym, ap, ◌∙◌, subst, append_assoc}
 use Rattle.std.proofs.lemmas.List.{append-nil}
 use Rattle.rbg_rules.specs.Meaning.{AbstractGame}
-use Rattle.rbg_match.specs.declared.config.Config.{Config}
-use Rattle.rbg_match.specs.Deliveries.{Delivery}
-use Rattle.rbg_match.specs.Play.{AbstractPlay}
-use Rattle.rbg_match.specs.Handling.{Handles}
-use Rattle.rbg_match.specs.Inputs.{TimedInput}
-use Rattle.rbg_match.specs.Transcript.{HandlesAll}
+use Rattle.rbg_match.proofs.Common.{Config, Delivery, AbstractPlay, Handles, TimedInput, HandlesAll}
 use Rattle.rbg_match.specs.Transcript as transcript
 use Rattle.rbg_match.proofs.Events.{one_handled, handles-append}
 

@@ -1,32 +1,21 @@
 -- Two transcripts of the same inputs in which the keeper makes the same moves are equal until one of them ends because a
 -- question was above the limits.
-use Rattle.std.proofs.Common.{◌≡◌, ◌-◌, ℕ, suc, ◌<◌, ◌≤◌, ◌==◌, Bool, true, false, set, List, [], ◌∷◌, ◌++◌, length, map, Some, refl, sym, ap, ◌∙◌, subst, append_assoc, arith}
+use Rattle.rbg_base.proofs.Common.{◌≡◌, ◌-◌, ℕ, suc, ◌<◌, ◌≤◌, ◌==◌, Bool, true, false, set, List, [], ◌∷◌, ◌++◌, length, map, Some, refl, sym, ap, ◌∙◌, subst, append_assoc, arith, if◌then◌else◌, All, filter, filter-append, All-nil, All-head, All-tail, All-append, All-weaker}
 use Rattle.std.proofs.lemmas.Bool.{ne_eqb}
-use Rattle.std.specs.Prelude.{if◌then◌else◌, All, filter}
 use Rattle.std.proofs.lemmas.List.{append-nil, append_cancel_left, map-append, length-set, length-replicate}
-use Rattle.std.proofs.lemmas.List.Elements.{filter-append, All-nil, All-head, All-tail, All-append, All-weaker}
 use Rattle.rbg_wire.specs.declared.message.Reason.{Reason}
 use Rattle.rbg_wire.specs.declared.outcome.Outcome.{Outcome}
 use Rattle.rbg_wire.specs.declared.outcome.Outcome.TheVariants.{Heavy}
-use Rattle.rbg_wire.specs.Messages.{move_message, end_message}
+use Rattle.rbg_wire.proofs.Common.{move_message, end_message, Rest, incomplete}
 use Rattle.rbg_wire.proofs.PairLemmas.{one_move}
 use Rattle.rbg_rules.specs.Meaning.{IsNumbered, AbstractGame, AbstractPlace, Legal}
 use Rattle.rbg_rules.proofs.PlaceLemmas.{one_place_law}
-use Rattle.rbg_match.specs.declared.config.Config.{Config}
-use Rattle.rbg_match.specs.declared.made.Made.{Made}
-use Rattle.rbg_match.specs.Deliveries.{Delivery, to_each}
+use Rattle.rbg_match.proofs.Common.{Config, Made, Delivery, to_each, AbstractPlay, mover_of, ended, moved, PlaysOn, MayBeAsked, seats_of, AbstractInput, Refuses, Judges, HandlesInTime, Handles, AbstractEvent, piece, end_of_stream, moment_alone, TimedInput, Streams, streams_at_start, streams_after, counted, moment_of, has_seat, cut_of, rests_after, timed_inputs_in, timed_inputs_of, keeper_pairs, keeper_run, IsHeavyEnd, HaveOneKeeper, StopsWithin, AreAlike, equal, one_stops, other_stops, OneUntilHeavy, OneTranscript, greetings}
 use Rattle.rbg_moves.specs.Limits.{most_keeper_moves}
 use Rattle.rbg_base.specs.Move.{most_pairs}
-use Rattle.rbg_match.specs.Play.{AbstractPlay, mover_of, ended, moved}
-use Rattle.rbg_match.specs.PlayingOn.{PlaysOn, MayBeAsked, seats_of}
 use Rattle.rbg_match.specs.PlayingOn as on
-use Rattle.rbg_match.specs.Handling.{AbstractInput, Refuses, Judges, HandlesInTime, Handles}
 use Rattle.rbg_match.specs.Handling as handling
-use Rattle.rbg_match.specs.Inputs.{AbstractEvent, piece, end_of_stream, moment_alone, TimedInput, Streams, streams_at_start, streams_after, counted, moment_of, has_seat, cut_of, rests_after, timed_inputs_in, timed_inputs_of}
-use Rattle.rbg_match.specs.Laws.{keeper_pairs, keeper_run, IsHeavyEnd, HaveOneKeeper, StopsWithin, AreAlike, equal, one_stops, other_stops, OneUntilHeavy, OneTranscript}
-use Rattle.rbg_wire.specs.Streams.{Rest, incomplete}
 use Rattle.rbg_match.proofs.Histories.{IsInputOf, IsInputAt, timed_of_event}
-use Rattle.rbg_match.specs.Transcript.{greetings}
 use Rattle.rbg_match.proofs.EndedLemmas.{not_both, stays_at_input}
 use Rattle.rbg_match.proofs.OneByOne.{HandlesEach, none, more, all_to_each}
 

@@ -2,18 +2,7 @@
 use Rattle.std.proofs.Common.{◌≡◌, ℕ, zero, suc, false, List, [], ◌∷◌, ◌++◌, length, replicate, refl, ap, sym, ◌∙◌, subst}
 use Rattle.rbg_wire.specs.Streams.{Stream, incomplete}
 use Rattle.rbg_rules.specs.Meaning.{AbstractGame}
-use Rattle.rbg_match.specs.declared.config.Config.{Config}
-use Rattle.rbg_match.specs.Config.{IsWithinLimits}
-use Rattle.rbg_match.specs.Limits.{message_limit}
-use Rattle.rbg_match.specs.Deliveries.{Delivery}
-use Rattle.rbg_match.specs.Play.{AbstractPlay, play_at_start}
-use Rattle.rbg_match.specs.PlayingOn.{PlaysOn, seats_of}
-use Rattle.rbg_match.specs.Inputs.{Streams, counted_first, streams_at_start}
-use Rattle.rbg_match.specs.internal.Inboxes.{AreNew, rests_of}
-use Rattle.rbg_match.specs.Transcript.{greetings}
-use Rattle.rbg_match.specs.Matches.{MatchState, Opens}
-use Rattle.rbg_match.specs.internal.Opening.{match_begun, referee_at_start}
-use Rattle.rbg_match.specs.internal.Replies.{RefereeState, gone_on}
+use Rattle.rbg_match.proofs.Common.{Config, IsWithinLimits, message_limit, Delivery, AbstractPlay, play_at_start, PlaysOn, seats_of, Streams, counted_first, streams_at_start, AreNew, rests_of, greetings, MatchState, Opens, match_begun, referee_at_start, RefereeState, gone_on}
 use Rattle.rbg_match.proofs.Delivering.{delivered-append, delivered-queued}
 
 -- the rests of new inboxes

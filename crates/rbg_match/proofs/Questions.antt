@@ -1,6 +1,5 @@
 -- What refused questions tell.
-use Rattle.std.proofs.Common.{◌≡◌, ◌⊎◌, inl, inr, ap, Result, Ok, Err}
-use Rattle.std.specs.Prelude.{IfErr}
+use Rattle.std.proofs.Common.{◌≡◌, ◌⊎◌, inl, inr, ap, Result, Ok, Err, IfErr}
 
 -- what holds where a question is too deep, and where it is too wide
 pub where_above : {T E P : Type 0} (result : Result T E) (deep wide : E) → ((result ≡ Err deep) ⊎ (result ≡ Err wide) → P) → IfErr result (λ over. (over ≡ deep) ⊎ (over ≡ wide) → P)

@@ -1,19 +1,9 @@
 -- Calls of a referee, one after another.
-use Rattle.std.proofs.Common.{◌≡◌, ℕ, ◌-◌, ◌<◌, ◌≤◌, arith, List, [], ◌++◌, sym, ap, ◌∙◌, subst, Result, Ok, None}
-use Rattle.std.specs.Prelude.{IfOk, IsErr}
+use Rattle.rbg_base.proofs.Common.{◌≡◌, ℕ, ◌-◌, ◌<◌, ◌≤◌, arith, List, [], ◌++◌, sym, ap, ◌∙◌, subst, Result, Ok, None, IfOk, IsErr, All-set, none-some, IfOk-weaker, IfOk-from_err}
 use Rattle.std.proofs.lemmas.List.{length-set}
-use Rattle.std.proofs.lemmas.List.Elements.{All-set}
-use Rattle.std.proofs.lemmas.Option.{none-some}
-use Rattle.std.proofs.lemmas.Result.{IfOk-weaker, IfOk-from_err}
 use Rattle.rbg_wire.specs.declared.outcome.Outcome.{Outcome}
 use Rattle.rbg_rules.specs.Meaning.{AbstractGame, AbstractPlace, IsPlaceOf}
-use Rattle.rbg_match.specs.declared.config.Config.{Config}
-use Rattle.rbg_match.specs.Deliveries.{Delivery}
-use Rattle.rbg_match.specs.Limits.{most_refusals}
-use Rattle.rbg_match.specs.Play.{AbstractPlay, ended, moved, refusals_of, refused}
-use Rattle.rbg_match.specs.internal.Playable.{IsPlayOf}
-use Rattle.rbg_match.specs.internal.Replies.{RefereeState, Reply, Replies, IsReferee, gone_on}
-use Rattle.rbg_match.specs.internal.Saying.{Says}
+use Rattle.rbg_match.proofs.Common.{Config, Delivery, most_refusals, AbstractPlay, ended, moved, refusals_of, refused, IsPlayOf, RefereeState, Reply, Replies, IsReferee, gone_on, Says}
 use Rattle.rbg_match.proofs.Delivering.{delivered-append, delivered-none}
 use Rattle.rbg_match.proofs.Sayings.{length-says}
 

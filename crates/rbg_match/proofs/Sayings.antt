@@ -1,11 +1,7 @@
 -- Calls that queue messages, one after another.
-use Rattle.std.proofs.Common.{◌≡◌, ℕ, ◌+◌, ◌-◌, ◌<◌, ◌≤◌, List, [], ◌++◌, length, map, get_or, set, refl, sym, ap, ◌∙◌, subst, arith, Result, Ok, Err, Vec}
-use Rattle.std.specs.Prelude.{OnOk, OnErr, IsErr}
-use Rattle.std.proofs.lemmas.Result.{IfOk-from_err}
-use Rattle.std.proofs.lemmas.List.{set-get_or, map-set, get_or-map, length-map}
+use Rattle.rbg_base.proofs.Common.{◌≡◌, ℕ, ◌+◌, ◌-◌, ◌<◌, ◌≤◌, List, [], ◌++◌, length, map, get_or, set, refl, sym, ap, ◌∙◌, subst, arith, Result, Ok, Err, Vec, OnOk, OnErr, IsErr, IfOk-from_err, set-get_or, map-set, get_or-map, length-map}
 use Rattle.rbg_wire.specs.Messages.{AbstractMessage, spelling}
-use Rattle.rbg_match.specs.Deliveries.{Delivery, delivered, to_seat}
-use Rattle.rbg_match.specs.internal.Saying.{Says}
+use Rattle.rbg_match.proofs.Common.{Delivery, delivered, to_seat, Says}
 use Rattle.rbg_match.proofs.Delivering.{delivered-append, delivered-none, delivered-one, length-delivered}
 
 -- what was said next stands behind what was said first

@@ -3,14 +3,9 @@ use Rattle.std.proofs.Common.{◌≡◌, ℕ, ◌+◌, ◌<◌, ◌≤◌, List,
 use Rattle.rbg_wire.specs.declared.message.Reason.{Reason}
 use Rattle.rbg_wire.specs.declared.outcome.Outcome.{Outcome}
 use Rattle.rbg_rules.specs.Meaning.{AbstractGame}
-use Rattle.rbg_match.specs.declared.config.Config.{Config}
-use Rattle.rbg_match.specs.Deliveries.{Delivery}
-use Rattle.rbg_match.specs.Play.{AbstractPlay, due_of}
-use Rattle.rbg_match.specs.PlayingOn.{PlaysOn}
+use Rattle.rbg_match.proofs.Common.{Config, Delivery, AbstractPlay, due_of, PlaysOn, AbstractInput, tick, Refuses, Judges, HandlesInTime, Handles, TimedInput, inputs_at}
 use Rattle.rbg_match.specs.PlayingOn as on
-use Rattle.rbg_match.specs.Handling.{AbstractInput, tick, Refuses, Judges, HandlesInTime, Handles}
 use Rattle.rbg_match.specs.Handling as handling
-use Rattle.rbg_match.specs.Inputs.{TimedInput, inputs_at}
 use Rattle.rbg_match.proofs.EndedLemmas.{stays_at_input}
 use Rattle.rbg_match.proofs.OneByOne.{HandlesEach, none, more, parted, joined}
 

@@ -1,12 +1,7 @@
 -- What one event changes in a match.
-use Rattle.std.proofs.Common.{◌≡◌, ℕ, true, false, List, [], ◌∷◌, is_some, refl, sym, ◌∙◌}
-use Rattle.std.proofs.lemmas.Option.{none-some}
+use Rattle.rbg_base.proofs.Common.{◌≡◌, ℕ, true, false, List, [], ◌∷◌, is_some, refl, sym, ◌∙◌, none-some}
 use Rattle.rbg_rules.specs.Meaning.{AbstractGame}
-use Rattle.rbg_match.specs.declared.config.Config.{Config}
-use Rattle.rbg_match.specs.Play.{AbstractPlay}
-use Rattle.rbg_match.specs.Inputs.{TimedInput, AbstractEvent, timed_inputs_in}
-use Rattle.rbg_match.specs.Transcript.{HandlesAll, none}
-use Rattle.rbg_match.specs.Matches.{MatchState, Steps}
+use Rattle.rbg_match.proofs.Common.{Config, AbstractPlay, TimedInput, AbstractEvent, timed_inputs_in, HandlesAll, none, MatchState, Steps}
 use Rattle.rbg_match.proofs.Delivering.{delivered-none}
 use Rattle.rbg_match.proofs.HandlingLemmas.{is_there, handles_after_end}
 use Rattle.rbg_match.proofs.Events.{one_handled, handles-append}

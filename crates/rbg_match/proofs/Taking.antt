@@ -3,12 +3,8 @@ use Rattle.std.proofs.Common.{◌≡◌, ℕ, List, [], ◌∷◌, ◌++◌, map
 use Rattle.std.proofs.lemmas.List.{map-append, append-nil}
 use Rattle.rbg_wire.specs.Streams.{Item, Stream, without_first}
 use Rattle.rbg_wire.proofs.Items.{first_and_others, nothing_first}
-use Rattle.rbg_match.specs.Deliveries.{Delivery}
-use Rattle.rbg_match.specs.Play.{AbstractPlay}
-use Rattle.rbg_match.specs.Handling.{AbstractInput, sent, Handles}
-use Rattle.rbg_match.specs.Inputs.{TimedInput, inputs_at}
+use Rattle.rbg_match.proofs.Common.{Delivery, AbstractPlay, AbstractInput, sent, Handles, TimedInput, inputs_at, RefereeState, Replies, HandlesNow, gone_on}
 use Rattle.rbg_match.specs.Transcript.{none, more}
-use Rattle.rbg_match.specs.internal.Replies.{RefereeState, Replies, HandlesNow, gone_on}
 use Rattle.rbg_match.proofs.Replying.{nothing_done, gone_on-twice}
 
 -- inputs of one more thing

@@ -1,18 +1,8 @@
 -- A moment of the clock behind an event that isn't earlier changes nothing.
-use Rattle.std.proofs.Common.{◌≡◌, ℕ, ◌≤◌, List, [], ◌∷◌, ◌++◌, map, refl, sym, ap, ◌∙◌, subst, arith}
-use Rattle.std.specs.Prelude.{min, if◌then◌else◌}
-use Rattle.std.proofs.Math.Nat.{max-eq_left, le-max_right}
+use Rattle.rbg_base.proofs.Common.{◌≡◌, ℕ, ◌≤◌, List, [], ◌∷◌, ◌++◌, map, refl, sym, ap, ◌∙◌, subst, arith, min, if◌then◌else◌, max-eq_left, le-max_right}
 use Rattle.rbg_wire.specs.Streams.{Rest}
 use Rattle.rbg_rules.specs.Meaning.{AbstractGame}
-use Rattle.rbg_match.specs.declared.config.Config.{Config}
-use Rattle.rbg_match.specs.Deliveries.{Delivery}
-use Rattle.rbg_match.specs.Handling.{AbstractInput, tick, gone, sent}
-use Rattle.rbg_match.specs.Inputs.{AbstractEvent, piece, end_of_stream, moment_alone, moment_of, TimedInput, Streams, counted, counted_first, has_seat, cut_of, inputs_in, inputs_at, timed_inputs_in, streams_after, streams_at_start, timed_inputs_of}
-use Rattle.rbg_match.specs.Laws.{TickBehind, TickAtStart}
-use Rattle.rbg_match.specs.Limits.{latest_moment}
-use Rattle.rbg_match.specs.Play.{AbstractPlay}
-use Rattle.rbg_match.specs.PlayingOn.{seats_of}
-use Rattle.rbg_match.specs.Transcript.{HandlesAll}
+use Rattle.rbg_match.proofs.Common.{Config, Delivery, AbstractInput, tick, gone, sent, AbstractEvent, piece, end_of_stream, moment_alone, moment_of, TimedInput, Streams, counted, counted_first, has_seat, cut_of, inputs_in, inputs_at, timed_inputs_in, streams_after, streams_at_start, timed_inputs_of, TickBehind, TickAtStart, latest_moment, AbstractPlay, seats_of, HandlesAll}
 use Rattle.rbg_match.proofs.AllEvents.{streams_through}
 use Rattle.rbg_match.proofs.CuttingLemmas.{timed_inputs_of-append}
 use Rattle.rbg_match.proofs.OneByOne.{all_to_each, each_to_all}

@@ -1,11 +1,7 @@
 -- Other inputs that are handled the same have the same transcript.
 use Rattle.std.proofs.Common.{ℕ, List}
 use Rattle.rbg_rules.specs.Meaning.{AbstractGame}
-use Rattle.rbg_match.specs.declared.config.Config.{Config}
-use Rattle.rbg_match.specs.Deliveries.{Delivery}
-use Rattle.rbg_match.specs.Inputs.{TimedInput}
-use Rattle.rbg_match.specs.Play.{AbstractPlay}
-use Rattle.rbg_match.specs.Transcript.{HandlesAll, InputTranscript}
+use Rattle.rbg_match.proofs.Common.{Config, Delivery, TimedInput, AbstractPlay, HandlesAll, InputTranscript}
 
 pub of_other_inputs : {game : AbstractGame} {text : List ℕ} {config : Config} {now : ℕ} {inputs : List TimedInput} {play : AbstractPlay} {said : List Delivery} (others : List TimedInput) (one : InputTranscript game text config now inputs play said) → HandlesAll game config one.opened others play one.replies → InputTranscript game text config now others play said
 of_other_inputs others one handles = record {

@@ -1,22 +1,10 @@
 -- Every transcript tells a history.
-use Rattle.std.proofs.Common.{◌≡◌, ℕ, ◌≤◌, List, [], ◌∷◌, length, Option, Some, None, refl, sym, ap, ◌∙◌, subst, arith}
-use Rattle.std.specs.Prelude.{min}
-use Rattle.std.proofs.Math.Nat.{le-max_left, min-le_right}
-use Rattle.std.proofs.lemmas.List.{length-replicate}
-use Rattle.std.proofs.lemmas.Option.{none-some}
+use Rattle.rbg_base.proofs.Common.{◌≡◌, ℕ, ◌≤◌, List, [], ◌∷◌, length, Option, Some, None, refl, sym, ap, ◌∙◌, subst, arith, min, le-max_left, min-le_right, length-replicate, none-some}
 use Rattle.rbg_wire.specs.declared.outcome.Outcome.{Outcome}
 use Rattle.rbg_wire.specs.Streams.{incomplete}
 use Rattle.rbg_rules.specs.Meaning.{AbstractGame}
-use Rattle.rbg_match.specs.declared.config.Config.{Config}
-use Rattle.rbg_match.specs.Config.{IsWithinLimits}
-use Rattle.rbg_match.specs.Deliveries.{Delivery}
+use Rattle.rbg_match.proofs.Common.{Config, IsWithinLimits, Delivery, IsHistory, AbstractEvent, Streams, counted, counted_first, moment_of, streams_after, streams_at_start, timed_inputs_in, timed_inputs_of, TranscriptHasHistory, latest_moment, AbstractPlay, seats_of}
 use Rattle.rbg_match.specs.History as history
-use Rattle.rbg_match.specs.History.{IsHistory}
-use Rattle.rbg_match.specs.Inputs.{AbstractEvent, Streams, counted, counted_first, moment_of, streams_after, streams_at_start, timed_inputs_in, timed_inputs_of}
-use Rattle.rbg_match.specs.Laws.{TranscriptHasHistory}
-use Rattle.rbg_match.specs.Limits.{latest_moment}
-use Rattle.rbg_match.specs.Play.{AbstractPlay}
-use Rattle.rbg_match.specs.PlayingOn.{seats_of}
 use Rattle.rbg_match.proofs.Histories.{plays_on_keeps, handles_all_keeps, kept_later, some_input, timed_of_event}
 use Rattle.rbg_match.proofs.OneByOne.{HandlesEach, none, parted, all_to_each, each_to_all}
 use Rattle.rbg_match.proofs.OneTranscriptLemmas.{each_stays, as_many}

@@ -1,14 +1,7 @@
 -- A match that opens and handles events in turn has a transcript.
-use Rattle.std.proofs.Common.{◌≡◌, ℕ, List, [], ◌++◌, length, refl, sym, ap, ◌∙◌, subst, replicate}
-use Rattle.std.proofs.lemmas.List.{length-replicate}
+use Rattle.rbg_base.proofs.Common.{◌≡◌, ℕ, List, [], ◌++◌, length, refl, sym, ap, ◌∙◌, subst, replicate, length-replicate}
 use Rattle.rbg_rules.specs.Meaning.{AbstractGame}
-use Rattle.rbg_match.specs.declared.config.Config.{Config}
-use Rattle.rbg_match.specs.Deliveries.{Delivery, queued, delivered}
-use Rattle.rbg_match.specs.PlayingOn.{seats_of}
-use Rattle.rbg_match.specs.Inputs.{timed_inputs_of}
-use Rattle.rbg_match.specs.Transcript.{HandlesAll, greetings}
-use Rattle.rbg_match.specs.Matches.{MatchState, Opens}
-use Rattle.rbg_match.specs.Laws.{SteppedIsTranscript}
+use Rattle.rbg_match.proofs.Common.{Config, Delivery, queued, delivered, seats_of, timed_inputs_of, HandlesAll, greetings, MatchState, Opens, SteppedIsTranscript}
 use Rattle.rbg_match.proofs.Delivering.{delivered-queued, delivered-queued_more, length-delivered}
 use Rattle.rbg_match.proofs.AllEvents.{all_handled}
 

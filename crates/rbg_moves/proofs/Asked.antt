@@ -1,6 +1,5 @@
 -- What is said of a question that was asked at a place, and handed on to who asked.
-use Rattle.std.proofs.Common.{◌≡◌, ℕ, ◌+◌, ◌-◌, ◌^◌, ◌≤◌, min, List, [], length, Bool, false, Option, Some, None, refl, sym, ap, ◌∙◌, subst, inl, inr}
-use Rattle.std.specs.Prelude.{Result, Ok, Err, IsErrAnd, IfSome, IfNone}
+use Rattle.std.proofs.Common.{◌≡◌, ℕ, ◌+◌, ◌-◌, ◌^◌, ◌≤◌, min, List, [], length, Bool, false, Option, Some, None, refl, sym, ap, ◌∙◌, subst, inl, inr, Result, Ok, Err, IsErrAnd, IfSome, IfNone}
 use Rattle.rbg_base.specs.Move.{most_pairs, IsMoveLength}
 use Rattle.rbg_rules.specs.Meaning.{most_modifiers, IsNumbered, AbstractGame, AbstractState, Start, AbstractPlace, Finished, IsLegal, stand_of, Question, find_move, list_moves, try_move}
 use Rattle.rbg_search.specs.Searching.{Searching, Tally}

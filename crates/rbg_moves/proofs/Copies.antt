@@ -1,6 +1,5 @@
 -- A copy of a place's semi-state stands where the place does; and so does one from which all changes were taken back.
-use Rattle.std.proofs.Common.{◌≡◌, ℕ, length, ap, ◌∙◌}
-use Rattle.std.specs.Prelude.{Option}
+use Rattle.std.proofs.Common.{◌≡◌, ℕ, length, ap, ◌∙◌, Option}
 use Rattle.rbg_rules.specs.Meaning.{AbstractState, AbstractPlace}
 use Rattle.rbg_state.specs.History.{History, IsAfter}
 

@@ -1,13 +1,7 @@
 -- Pairs are followed one after another, and what is counted meanwhile is counted of the question whether they are a move.
-use Rattle.std.proofs.Common.{◌≡◌, ℕ, suc, ◌<◌, List, [], ◌∷◌, length, Bool, false, refl, sym, ◌∙◌, subst, arith}
-use Rattle.std.specs.Prelude.{Option, Some, None, Result, Ok, Err, IfOk, IfSome, OnOk}
-use Rattle.std.proofs.lemmas.Result.{IfOk-weaker}
+use Rattle.rbg_base.proofs.Common.{◌≡◌, ℕ, suc, ◌<◌, List, [], ◌∷◌, length, Bool, false, refl, sym, ◌∙◌, subst, arith, Option, Some, None, Result, Ok, Err, IfOk, IfSome, OnOk, IfOk-weaker}
 use Rattle.rbg_rules.specs.Meaning.{IsNumbered, IsSwitchAt, AbstractState, AbstractPlace, stand_of, Legal, reach, try_move, IsDeep}
-use Rattle.rbg_search.specs.Counting.{CountsOpenings, IsOverBudget}
-use Rattle.rbg_search.specs.Forced.{CountsForced}
-use Rattle.rbg_search.specs.Passing.{GoesOn}
-use Rattle.rbg_search.specs.Searching.{Searching}
-use Rattle.rbg_search.specs.Taken.{CountsPairs}
+use Rattle.rbg_search.proofs.Common.{CountsOpenings, IsOverBudget, CountsForced, GoesOn, Searching, CountsPairs}
 use Rattle.rbg_search.specs.declared.over.Over.{Over}
 use Rattle.rbg_search.specs.declared.over.Over.TheVariants.{Deep, Wide}
 use Rattle.rbg_search.proofs.CallerLemmas.{try_begins, deep_begin, over_begin, deep_behind, over_on, counts_reached, counts_on}

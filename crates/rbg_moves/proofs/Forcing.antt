@@ -1,13 +1,10 @@
 -- Which openings are forced of the questions about moves, and that they were taken up.
-use Rattle.std.proofs.Common.{◌≡◌, ◌≢◌, ℕ, zero, suc, ◌-◌, ◌<◌, ◌≤◌, List, [], ◌∷◌, ◌++◌, length, Bool, true, false, refl, sym, ap, subst, inl, inr, arith}
-use Rattle.std.specs.Prelude.{All, Contains, Some}
-use Rattle.std.proofs.lemmas.List.Elements.{All-head, All-contains, All-weaker}
+use Rattle.rbg_base.proofs.Common.{◌≡◌, ◌≢◌, ℕ, zero, suc, ◌-◌, ◌<◌, ◌≤◌, List, [], ◌∷◌, ◌++◌, length, Bool, true, false, refl, sym, ap, subst, inl, inr, arith, All, Contains, Some, All-head, All-contains, All-weaker}
 use Rattle.rbg_rules.specs.Meaning.{IsNumbered, IsSwitchAt, Start, after, AbstractGame, AbstractState, Applies, switch, stay, modify, AbstractPlace, stand_of, Legal, IsLegal, Finished, most_openings, most_modifiers, Question, try_move, find_move, list_moves, reach, pattern, Item, IsMove, AnswersBehind, GoesTo, IsForcedTo, Forced, at, behind, IsForcedDeep}
 use Rattle.rbg_rules.proofs.PlaceLemmas.{RunPairs_join}
 use Rattle.rbg_rules.proofs.MoveLemmas.{Applies_one}
 use Rattle.rbg_pairs.specs.Flat.{IsNext, IsFlatPart}
-use Rattle.rbg_search.specs.Forced.{CountsForced, TakesBehind}
-use Rattle.rbg_search.specs.Passing.{Passes, finding, listing}
+use Rattle.rbg_search.proofs.Common.{CountsForced, TakesBehind, Passes, finding, listing, CountsAllForced}
 use Rattle.rbg_search.proofs.Forcing.{ForcesOn, all_counted, none_deep, takes_none, takes_more, forced_at_once, forced_behind}
 use Rattle.rbg_moves.specs.Limits.{FitsLimits}
 use Rattle.rbg_moves.specs.internal.Stepping.{at_vertex, place_behind}
@@ -15,7 +12,6 @@ use Rattle.rbg_moves.specs.internal.Asking.{question_of, is_cut}
 use Rattle.rbg_moves.specs.internal.Gathering.{Gathers, IsLegalBy, IsSwitchOr}
 use Rattle.rbg_moves.proofs.Steps.{legal_on}
 use Rattle.rbg_moves.proofs.Gathering.{none_wanted}
-use Rattle.rbg_search.specs.Forced.{CountsAllForced}
 
 -- ---- a move is a legal list of pairs
 

@@ -1,10 +1,6 @@
 -- A walk takes the modifiers that come next in turn, and goes on behind each.
-use Rattle.std.proofs.Common.{◌≡◌, ◌≢◌, ℕ, zero, suc, ◌+◌, ◌-◌, ◌<◌, ◌≤◌, List, [], ◌∷◌, ◌++◌, length, Bool, true, false, Option, refl, sym, ap, subst, arith}
-use Rattle.std.specs.Prelude.{All, Contains, IsOk, Result, Ok, Err}
-use Rattle.std.specs.List.Sorted.{IsPermutation}
-use Rattle.std.proofs.lemmas.List.{length_push}
+use Rattle.rbg_base.proofs.Common.{◌≡◌, ◌≢◌, ℕ, zero, suc, ◌+◌, ◌-◌, ◌<◌, ◌≤◌, List, [], ◌∷◌, ◌++◌, length, Bool, true, false, Option, refl, sym, ap, subst, arith, All, Contains, IsOk, Result, Ok, Err, IsPermutation, length_push, All-head, All-nil, All-push, All-tail}
 use Rattle.std.proofs.lemmas.List.Sorted.{All-permutation, IsPermutation-append_right, IsPermutation-refl}
-use Rattle.std.proofs.lemmas.List.Elements.{All-head, All-nil, All-push, All-tail}
 use Rattle.rbg_base.specs.Move.{most_pairs}
 use Rattle.rbg_rules.specs.Meaning.{IsNumbered, IsModifierAt, IsSwitchAt, Start, after, AbstractGame, AbstractState, IsStateOf, Applies, IsGame, AbstractPlace, stand_of, IsLegal, Question, try_move, reach, GoesTo}
 use Rattle.rbg_rules.proofs.MoveLemmas.{Applies_one}
@@ -12,11 +8,7 @@ use Rattle.rbg_rules.proofs.TableLemmas.{numbered_action}
 use Rattle.rbg_state.specs.History.{History}
 use Rattle.rbg_pairs.specs.Flat.{IsNext, IsFlatPart}
 use Rattle.rbg_pairs.proofs.Meetings.{met_once}
-use Rattle.rbg_search.specs.Answered.{IsAnswered, HasReached}
-use Rattle.rbg_search.specs.Forced.{CountsForced}
-use Rattle.rbg_search.specs.Passing.{GoesOn, CountsUpTo, IsTooDeep, from_here, somewhere}
-use Rattle.rbg_search.specs.Searching.{Searching}
-use Rattle.rbg_search.specs.Taken.{CountsPairs}
+use Rattle.rbg_search.proofs.Common.{IsAnswered, HasReached, CountsForced, GoesOn, CountsUpTo, IsTooDeep, from_here, somewhere, Searching, CountsPairs}
 use Rattle.rbg_search.specs.declared.over.Over.{Over}
 use Rattle.rbg_search.specs.declared.over.Over.TheVariants.{Deep, Wide}
 use Rattle.rbg_search.proofs.CallerLemmas.{find_begins, list_begins, counts_begin, counts_weaker, counts_more, counts_end, counts_reached, over_begin, over_more, deep_begin, deep_more, row_none}

@@ -1,7 +1,5 @@
 -- What a walk has found in the end.
-use Rattle.std.proofs.Common.{◌≡◌, ◌≢◌, ℕ, zero, suc, ◌<◌, ◌≤◌, List, [], length, Bool, true, false, refl, sym, ◌∙◌, subst, arith}
-use Rattle.std.specs.Prelude.{All, AllPairs, Contains, IsErrAnd, Result, Ok, Err}
-use Rattle.std.specs.List.Sorted.{IsPermutation}
+use Rattle.std.proofs.Common.{◌≡◌, ◌≢◌, ℕ, zero, suc, ◌<◌, ◌≤◌, List, [], length, Bool, true, false, refl, sym, ◌∙◌, subst, arith, All, AllPairs, Contains, IsErrAnd, Result, Ok, Err, IsPermutation}
 use Rattle.std.proofs.lemmas.List.{map-id}
 use Rattle.std.proofs.lemmas.List.Sorted.{IsPermutation-sym, All-permutation, Contains-permutation, length_permutation}
 use Rattle.rbg_rules.specs.Meaning.{AbstractGame, AbstractPlace, IsLegal, Question, list_moves}

@@ -1,6 +1,5 @@
 -- What is said of an answer or of an error.
-use Rattle.std.proofs.Common.{◌≡◌}
-use Rattle.std.specs.Prelude.{Result, Ok, Err, OnErr}
+use Rattle.std.proofs.Common.{◌≡◌, Result, Ok, Err, OnErr}
 
 -- What holds anyway holds after an error.
 pub on_err : {X E : Type 0} (r : Result X E) (P : Type 0) → P → OnErr r P

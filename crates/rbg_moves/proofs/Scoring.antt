@@ -1,8 +1,6 @@
 -- The scores of the first players.
-use Rattle.std.proofs.Common.{◌≡◌, ℕ, ◌+◌, ◌-◌, ◌<◌, ◌^◌, List, [], ◌∷◌, ◌++◌, length, take, All, slice_get, Some, ap, ◌∙◌, arith, refl}
+use Rattle.rbg_base.proofs.Common.{◌≡◌, ℕ, ◌+◌, ◌-◌, ◌<◌, ◌^◌, List, [], ◌∷◌, ◌++◌, length, take, All, slice_get, Some, ap, ◌∙◌, arith, refl, All-push, slice_get_within, get_or_from_slice_get}
 use Rattle.std.proofs.lemmas.List.{take_more, length-append}
-use Rattle.std.proofs.lemmas.List.Elements.{All-push}
-use Rattle.std.proofs.lemmas.Option.{slice_get_within, get_or_from_slice_get}
 
 -- the scores are the first so many values, and numbers of 64 bits
 pub record HasScored (values : List ℕ) (players : ℕ) (scores : List ℕ) : Type 0 where

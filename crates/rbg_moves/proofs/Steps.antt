@@ -1,15 +1,12 @@
 -- How a list of pairs is legal by its first pair.
-use Rattle.std.proofs.Common.{◌≡◌, ℕ, ◌<◌, length, List, [], ◌∷◌, ◌++◌, Bool, true, false, refl, sym, ap, ◌∙◌, subst, append_assoc}
-use Rattle.std.specs.Prelude.{Option, Some, None}
-use Rattle.std.proofs.lemmas.List.Elements.{All-head, All-tail, All-cons, All-append}
+use Rattle.rbg_base.proofs.Common.{◌≡◌, ℕ, ◌<◌, length, List, [], ◌∷◌, ◌++◌, Bool, true, false, refl, sym, ap, ◌∙◌, subst, append_assoc, Option, Some, None, All-head, All-tail, All-cons, All-append}
 use Rattle.rbg_rules.specs.Meaning.{switch, IsNumbered, IsModifierAt, IsSwitchAt, HasNoSwitch, is_modifier, Start, after, Follows, AbstractGame, AbstractState, IsStateOf, Applies, Run, RunPairs, stay, modify, pass, AbstractPlace, stand_of, Legal, IsPlaceOf, IsGame, try_move}
 use Rattle.rbg_rules.proofs.MoveLemmas.{Applies_one}
 use Rattle.rbg_rules.proofs.PlaceLemmas.{RunPairs_join}
 use Rattle.rbg_rules.proofs.LocalityLemmas.{locality_law}
-use Rattle.rbg_pairs.specs.Flat.{IsNext}
+use Rattle.rbg_pairs.proofs.Common.{IsNext, IsPositionOf}
 use Rattle.rbg_moves.specs.internal.Stepping.{at_vertex, place_behind, IsStep, IsValidAt, IsTried, IsMadeFrom, made, goes_on}
 use Rattle.rbg_search.specs.Passing.{GoesOn, trying}
-use Rattle.rbg_pairs.specs.Start.{IsPositionOf}
 use Rattle.rbg_pairs.proofs.Starts.{action_position}
 use Rattle.rbg_pairs.proofs.Closures.{quiet_place}
 use Rattle.rbg_search.proofs.Behinds.{run_stays}

@@ -1,11 +1,7 @@
 -- What a question counts, and what a workspace counts of one that was answered.
 use Rattle.std.proofs.Common.{◌≡◌, ℕ, ◌+◌, ◌-◌, ◌^◌, min, true, ap, ◌∙◌, subst}
 use Rattle.rbg_rules.specs.Meaning.{AbstractGame, AbstractState, Start, after, AbstractPlace, stand_of, Question}
-use Rattle.rbg_search.specs.Counting.{CountsOpenings}
-use Rattle.rbg_search.specs.Forced.{CountsAllForced}
-use Rattle.rbg_search.specs.Passing.{GoesOn}
-use Rattle.rbg_search.specs.Searching.{Searching, Tally}
-use Rattle.rbg_search.specs.Taken.{CountsPairs}
+use Rattle.rbg_search.proofs.Common.{CountsOpenings, CountsAllForced, GoesOn, Searching, Tally, CountsPairs}
 use Rattle.rbg_search.proofs.Takings.{behind_part, takes_then, takes_part_of}
 use Rattle.rbg_moves.specs.Tallying.{IsTallied}
 

@@ -1,13 +1,8 @@
 -- Actions by numbers, and what is wrong with one.
-use Rattle.std.proofs.Common.{◌≡◌, ℕ, suc, ◌+◌, ◌<◌, List, [], ◌∷◌, ◌++◌, Option, Some, None, Vec, option_map, true, false, length, map, refl, sym, ap, ◌∙◌, subst, arith}
-use Rattle.std.specs.Prelude.{slice_get}
-use Rattle.std.specs.Global.{Global}
-use Rattle.std.specs.List.{AllZip, range_with_len}
-use Rattle.std.proofs.lemmas.Bool.{and_parts}
+use Rattle.rbg_base.proofs.Common.{◌≡◌, ℕ, suc, ◌+◌, ◌<◌, List, [], ◌∷◌, ◌++◌, Option, Some, None, Vec, option_map, true, false, length, map, refl, sym, ap, ◌∙◌, subst, arith, slice_get, Global, AllZip, range_with_len, and_parts}
 use Rattle.std.proofs.lemmas.List.{length-append}
 use Rattle.rbg_base.specs.declared.relation.Relation.{Relation}
-use Rattle.rbg_grammar.specs.Formed.{is_formed_action, is_formed_expression}
-use Rattle.rbg_grammar.specs.Tree.{SpeltName, SpeltRule, SpeltAction}
+use Rattle.rbg_grammar.proofs.Common.{is_formed_action, is_formed_expression, SpeltName, SpeltRule, SpeltAction}
 use Rattle.rbg_grammar.specs.Views.{name_of, expression_of as spelt_expression_of, action_of as spelt_action_of}
 use Rattle.rbg_grammar.specs.declared.expression.Expression.{Expression as SyntaxExpression}
 use Rattle.rbg_grammar.specs.declared.names.Name.{Name}
@@ -20,14 +15,9 @@ use Rattle.rbg_rules.specs.declared.rule.Action.{Action}
 use Rattle.rbg_rules.specs.declared.rule.Action.TheVariants.{Shift, On, Off, Assign, Compare, Switch, Positive, Negative}
 use Rattle.rbg_rules.specs.declared.rule.Rule.TheVariants.{Act}
 use Rattle.rbg_rules.proofs.TreeLemmas.{act_is, within_Act}
-use Rattle.rbg_numbering.specs.declared.error.NumberingError.{NumberingError}
-use Rattle.rbg_numbering.specs.declared.error.NumberingError.TheVariants.{SwitchInPattern}
-use Rattle.rbg_numbering.specs.Names.{Names, IsNumberOf}
-use Rattle.rbg_numbering.specs.Rules.{ArithmeticIs, ActionIs}
-use Rattle.rbg_numbering.specs.Faults.{shifts, stands_on, puts, assigns, gives_turn, HasArithmeticFault, assigned, left_side, right_side, this, actions_of}
+use Rattle.rbg_numbering.proofs.Common.{NumberingError, SwitchInPattern, Names, IsNumberOf, ArithmeticIs, ActionIs, shifts, stands_on, puts, assigns, gives_turn, HasArithmeticFault, assigned, left_side, right_side, this, actions_of, IsLawful, AddsRule, HasFaultFrom, from_use, from_arithmetic, from_switch, from_memory}
 use Rattle.rbg_numbering.specs.NameTables.{HasLookUpFault, not_there, no_memory as look_up_memory}
 use Rattle.rbg_numbering.specs.internal.Actions.{is_spelt_pattern, IsPlayer, player_names, HasActionFault, of_use, of_expression, of_switch, no_memory, IsActionHere}
-use Rattle.rbg_numbering.specs.internal.Steps.{IsLawful, AddsRule, HasFaultFrom, from_use, from_arithmetic, from_switch, from_memory}
 use Rattle.rbg_numbering.proofs.Lists.{slice_get-last}
 
 -- What a spelt action of each kind is.

@@ -1,13 +1,7 @@
 -- Arithmetic by numbers: sums and products that grow at their ends, and faults of parts.
-use Rattle.std.proofs.Common.{◌≡◌, ℕ, zero, suc, ◌+◌, ◌<◌, ◌≤◌, ◌^◌, List, [], ◌∷◌, ◌++◌, inl, inr, true, Some, length, map, take, drop, get_or, ◌-◌, refl, sym, ap, ◌∙◌, subst, arith, Vec}
-use Rattle.std.specs.Prelude.{Contains, All, Box}
-use Rattle.std.specs.Global.{Global}
-use Rattle.std.proofs.lemmas.Bool.{and_parts}
+use Rattle.rbg_base.proofs.Common.{◌≡◌, ℕ, zero, suc, ◌+◌, ◌<◌, ◌≤◌, ◌^◌, List, [], ◌∷◌, ◌++◌, inl, inr, true, Some, length, map, take, drop, get_or, ◌-◌, refl, sym, ap, ◌∙◌, subst, arith, Vec, Contains, All, Box, Global, and_parts, All-nil, All-cons}
 use Rattle.std.proofs.lemmas.List.{get_or-map, length-map, get_or-take, length-take, take_all}
-use Rattle.std.proofs.lemmas.List.Elements.{All-nil, All-cons}
-use Rattle.rbg_grammar.specs.Formed.{is_formed_expression, are_formed_operands, make_a_chain}
-use Rattle.rbg_grammar.specs.Tree.{SpeltName, SpeltNumber, SpeltExpression, SpeltOperand, SpeltOperands, no_operands, more_operands, operands_after}
-use Rattle.rbg_grammar.specs.Views.{name_of, number_of, expression_of, operand_of}
+use Rattle.rbg_grammar.proofs.Common.{is_formed_expression, are_formed_operands, make_a_chain, SpeltName, SpeltNumber, SpeltExpression, SpeltOperand, SpeltOperands, no_operands, more_operands, operands_after, name_of, number_of, expression_of, operand_of}
 use Rattle.rbg_grammar.specs.declared.expression.Expression.{Expression}
 use Rattle.rbg_grammar.specs.declared.expression.Expression as expressions
 use Rattle.rbg_grammar.specs.declared.expression.Operand.{Operand}
@@ -20,13 +14,7 @@ use Rattle.rbg_rules.specs.declared.arithmetic.Arithmetic.{Arithmetic}
 use Rattle.rbg_rules.specs.declared.arithmetic.Arithmetic.TheVariants as arithmetics
 use Rattle.rbg_rules.specs.declared.arithmetic.Operation.{Operation}
 use Rattle.rbg_rules.proofs.Bridge.{arithmetic_of-Negated, arithmetic_of-Chain, operation_of_roll}
-use Rattle.rbg_numbering.specs.declared.error.NumberingError.{NumberingError}
-use Rattle.rbg_numbering.specs.declared.error.NumberingError.TheVariants.{NumberTooGreat}
-use Rattle.rbg_numbering.specs.Names.{Names}
-use Rattle.rbg_numbering.specs.Rules.{ArithmeticIs, ChainIs}
-use Rattle.rbg_numbering.specs.Faults.{HasPart, itself, in_negated, in_chain, SomeOperandHasPart, earlier_operand, last_operand, HasArithmeticFault, unknown_value, great_number, arithmetic_memory}
-use Rattle.rbg_numbering.specs.NameTables.{HasLookUpFault, not_there, no_memory}
-use Rattle.rbg_numbering.specs.internal.Arithmetic.{Combines}
+use Rattle.rbg_numbering.proofs.Common.{NumberingError, NumberTooGreat, Names, ArithmeticIs, ChainIs, HasPart, itself, in_negated, in_chain, SomeOperandHasPart, earlier_operand, last_operand, HasArithmeticFault, unknown_value, great_number, arithmetic_memory, HasLookUpFault, not_there, no_memory, Combines}
 use Rattle.rbg_base.proofs.CallerLemmas.{map-take_more}
 use Rattle.rbg_numbering.proofs.Lists.{Contains-one}
 

@@ -1,4 +1,5 @@
 -- Lemmas on the definitions of specs/, by topic.
+pub mod Common
 pub mod Lists
 pub mod NameLemmas
 pub mod LookUps

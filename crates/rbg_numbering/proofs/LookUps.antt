@@ -1,12 +1,7 @@
 -- Faults of names that are looked up in a table or added to it.
-use Rattle.std.proofs.Common.{◌≡◌, ℕ, zero, suc, List, [], ◌∷◌, ◌++◌, Some, take, append-nil}
-use Rattle.std.proofs.Common.{refl, sym, ap, ◌∙◌, subst, arith}
-use Rattle.std.specs.Prelude.{slice_get, Contains}
-use Rattle.std.proofs.lemmas.Option.{slice_get_within}
+use Rattle.rbg_base.proofs.Common.{◌≡◌, ℕ, zero, suc, List, [], ◌∷◌, ◌++◌, Some, take, append-nil, refl, sym, ap, ◌∙◌, subst, arith, slice_get, Contains, slice_get_within}
 use Rattle.rbg_grammar.specs.Tree.{SpeltName}
-use Rattle.rbg_numbering.specs.declared.error.NumberingError.{NumberingError}
-use Rattle.rbg_numbering.specs.declared.error.NumberingError.TheVariants.{UnknownName, SameName}
-use Rattle.rbg_numbering.specs.Names.{texts_of}
+use Rattle.rbg_numbering.proofs.Common.{NumberingError, UnknownName, SameName, texts_of}
 use Rattle.rbg_numbering.specs.NameTables.{HasLookUpFault, not_there, no_memory as look_up_memory, StandsBehind, HasNameFault, same_name, no_memory}
 use Rattle.rbg_numbering.proofs.Lists.{Contains-one}
 

@@ -1,28 +1,17 @@
 -- Names of the language are ASCII, and so texts; lists of different names.
-use Rattle.std.proofs.Common.{◌≡◌, ℕ, zero, suc, ◌<◌, List, [], ◌∷◌, ◌++◌, ◌⊎◌, inl, inr, true, Bool, Some, None, length, get_or, refl, sym, ◌∙◌, ap, arith, slice_get}
-use Rattle.std.proofs.Common.{Vec, Option, MatchOption, is_some, false, subst, BTreeMap}
+use Rattle.rbg_base.proofs.Common.{◌≡◌, ℕ, zero, suc, ◌<◌, List, [], ◌∷◌, ◌++◌, ◌⊎◌, inl, inr, true, Bool, Some, None, length, get_or, refl, sym, ◌∙◌, ap, arith, slice_get, Vec, Option, MatchOption, is_some, false, subst, BTreeMap, Global, Contains, is_eq, nat_cmp, IsUtf8, bytes_eq, nat_tests, bytes_eq-Decides, length-map, map-append, get_or-map, All-push, All-weaker, All-get_or, AllPass-from_list_all}
 use Rattle.std.specs.BTreeMap.{Updates}
 use Rattle.std.specs.Cmp.{eq_by_cmp_equiv}
 use Rattle.std.specs.Cmp.Lexicographic.{slice_cmp, nat_list_cmp_total, nat_list_eq_equiv}
-use Rattle.std.specs.Global.{Global}
-use Rattle.std.specs.List.{Contains}
 use Rattle.std.specs.Map.{lookup, IsKeyTest, AreApart, KeepsOthers}
-use Rattle.std.specs.Ordering.{is_eq, nat_cmp}
-use Rattle.std.specs.Str.{IsUtf8, bytes_eq}
 use Rattle.std.proofs.lemmas.Bool.{true≢false}
-use Rattle.std.proofs.lemmas.Bool.Decides.{nat_tests}
-use Rattle.std.proofs.lemmas.Slice.Eq.{bytes_eq-Decides}
 use Rattle.std.proofs.lemmas.Map.Text.{is_eq-slice_cmp}
-use Rattle.std.proofs.lemmas.List.{length-map, map-append, get_or-map}
-use Rattle.std.proofs.lemmas.List.Elements.{All-push, All-weaker, All-get_or}
-use Rattle.std.proofs.lemmas.List.Sums.{AllPass-from_list_all}
 use Rattle.std.proofs.lemmas.Str.{IsUtf8-from_ascii}
 use Rattle.std.proofs.lemmas.Str.Ascii.{IsAscii-from_all}
 use Rattle.rbg_base.specs.Names.{is_name, is_name_part}
 use Rattle.rbg_base.proofs.CallerLemmas.{name_parts, Contains-from_get, get_from-Contains, slice_get-append_left}
 use Rattle.rbg_rules.specs.Meaning.{AreDifferentNames, AreLawfulNames, AreNames}
-use Rattle.rbg_numbering.specs.NameTables.{bytes_of}
-use Rattle.rbg_numbering.specs.internal.Tables.{GivesPlaces, number_for}
+use Rattle.rbg_numbering.proofs.Common.{bytes_of, GivesPlaces, number_for}
 use Rattle.rbg_numbering.proofs.Lists.{slice_get-last}
 
 name_part_is_ascii : (b : ℕ) → is_name_part b ≡ true → b < 128

@@ -1,12 +1,9 @@
 -- The rules of a description are at most one expression: where names differ their numbers are determined, and so are positions that are
 -- counted in order of text.
-use Rattle.std.proofs.Common.{◌≡◌, ℕ, zero, suc, ◌+◌, List, [], ◌∷◌, ◌++◌, inl, inr, Some, None, length, refl, sym, ap, ◌∙◌, subst}
-use Rattle.std.specs.List.{range_with_len}
-use Rattle.std.proofs.lemmas.Option.{same_Some}
+use Rattle.rbg_base.proofs.Common.{◌≡◌, ℕ, zero, suc, ◌+◌, List, [], ◌∷◌, ◌++◌, inl, inr, Some, None, length, refl, sym, ap, ◌∙◌, subst, range_with_len, same_Some}
 use Rattle.rbg_grammar.specs.Tree.{SpeltExpression, SpeltOperands, no_operands, more_operands, SpeltRule, SpeltRules, no_rules, more_rules, SpeltAction}
 use Rattle.rbg_rules.specs.Meaning.{AbstractArithmetic, number, variable, piece_count, negated, AbstractAction, shift, on, off, assignment, comparison, switch, positive, negative, Expression, act, skip, sequence, fail, choice, star, positions_of, positions_inside, IsNumbered, operated}
-use Rattle.rbg_numbering.specs.Names.{Names, IsNumberOf, HasDifferentNames}
-use Rattle.rbg_numbering.specs.Rules.{ArithmeticIs, ChainIs, ActionIs, RuleIs, PartsAre}
+use Rattle.rbg_numbering.proofs.Common.{Names, IsNumberOf, HasDifferentNames, ArithmeticIs, ChainIs, ActionIs, RuleIs, PartsAre}
 use Rattle.rbg_base.proofs.CallerLemmas.{Contains-from_get}
 use Rattle.rbg_numbering.proofs.Lists.{AllZip-once}
 

@@ -1,21 +1,9 @@
 -- Where a rule has a fault there are no rules by numbers.
-use Rattle.std.proofs.Common.{◌≡◌, ◌≢◌, ℕ, suc, ◌+◌, ◌≤◌, refl, List, [], ◌∷◌, ◌++◌, Option, Some, None, ◌⊎◌, inl, inr, length, get_or, ap, sym, ◌∙◌, subst, arith}
-use Rattle.std.specs.Prelude.{Contains}
-use Rattle.std.specs.List.{AllZip}
+use Rattle.rbg_base.proofs.Common.{◌≡◌, ◌≢◌, ℕ, suc, ◌+◌, ◌≤◌, refl, List, [], ◌∷◌, ◌++◌, Option, Some, None, ◌⊎◌, inl, inr, length, get_or, ap, sym, ◌∙◌, subst, arith, Contains, AllZip}
 use Rattle.std.proofs.lemmas.List.{length-append}
 use Rattle.rbg_grammar.specs.Tree.{SpeltName, SpeltExpression, SpeltOperands, no_operands, SpeltRule, SpeltRules, no_rules, more_rules, SpeltAction}
 use Rattle.rbg_rules.specs.Meaning.{AbstractArithmetic, AbstractAction, switch, Expression, skip, sequence, fail, choice, NestsWithin, InsideNestsWithin, HasAction, HasInside, positions_of, positions_inside, IsPatternOf, IsLevel, inside as level_of, most_positions, most_nested_patterns}
-use Rattle.rbg_numbering.specs.declared.error.NumberingError.{NumberingError}
-use Rattle.rbg_numbering.specs.declared.error.NumberingError.TheVariants.{Memory}
-use Rattle.rbg_numbering.specs.Names.{Names, IsNumberOf}
-use Rattle.rbg_numbering.specs.Rules.{ArithmeticIs, ChainIs, ActionIs, RuleIs, PartsAre}
-use Rattle.rbg_numbering.specs.Faults.{HasUnknown, Purpose, as_piece, as_variable, names_for, Uses, shifts, stands_on, puts, assigns, gives_turn}
-use Rattle.rbg_numbering.specs.Faults.{HasPart, itself, in_negated, in_chain, SomeOperandHasPart, earlier_operand, last_operand}
-use Rattle.rbg_numbering.specs.Faults.{HasArithmeticFault, unknown_value, great_number, arithmetic_memory, HasExpression, assigned, left_side, right_side}
-use Rattle.rbg_numbering.specs.Faults.{HasSpeltAction, this, in_sequence, in_choice, in_star, in_positive, in_negative, SomeHasSpeltAction, earlier, last, actions_in, actions_in_all, actions_of}
-use Rattle.rbg_numbering.specs.Faults.{IsSpeltPattern, positive_pattern, negative_pattern, HasPattern, HasPatternInside, in_none, in_one_more}
-use Rattle.rbg_numbering.specs.Faults.{HasRuleFault, unknown_use, in_arithmetic, switch_in_pattern, deep_pattern, many_positions, rule_memory}
-use Rattle.rbg_numbering.specs.Numbered.{HasNoSwitchInPattern}
+use Rattle.rbg_numbering.proofs.Common.{NumberingError, Memory, Names, IsNumberOf, ArithmeticIs, ChainIs, ActionIs, RuleIs, PartsAre, HasUnknown, Purpose, as_piece, as_variable, names_for, Uses, shifts, stands_on, puts, assigns, gives_turn, HasPart, itself, in_negated, in_chain, SomeOperandHasPart, earlier_operand, last_operand, HasArithmeticFault, unknown_value, great_number, arithmetic_memory, HasExpression, assigned, left_side, right_side, HasSpeltAction, this, in_sequence, in_choice, in_star, in_positive, in_negative, SomeHasSpeltAction, earlier, last, actions_in, actions_in_all, actions_of, IsSpeltPattern, positive_pattern, negative_pattern, HasPattern, HasPatternInside, in_none, in_one_more, HasRuleFault, unknown_use, in_arithmetic, switch_in_pattern, deep_pattern, many_positions, rule_memory, HasNoSwitchInPattern}
 use Rattle.rbg_base.proofs.CallerLemmas.{Contains-from_get}
 use Rattle.rbg_numbering.proofs.Lists.{Contains-one, AllZip-at}
 use Rattle.rbg_numbering.proofs.Reaching.{reaches}

@@ -1,23 +1,13 @@
 -- What every rule by numbers has: names of the game, no empty sum, patterns nested within the limit, no switch in a pattern.
-use Rattle.std.proofs.Common.{◌≡◌, ℕ, ◌+◌, ◌<◌, ◌≤◌, ◌⊎◌, inl, inr, List, [], ◌∷◌, true, Some, None, length, sym, ap, ◌∙◌, subst, arith}
-use Rattle.std.specs.Prelude.{All}
-use Rattle.std.specs.List.{AllZip, range_with_len}
-use Rattle.std.proofs.lemmas.Bool.{and_parts}
+use Rattle.rbg_base.proofs.Common.{◌≡◌, ℕ, ◌+◌, ◌<◌, ◌≤◌, ◌⊎◌, inl, inr, List, [], ◌∷◌, true, Some, None, length, sym, ap, ◌∙◌, subst, arith, All, AllZip, range_with_len, and_parts, All-nil, All-cons, slice_get_within}
 use Rattle.std.proofs.lemmas.List.FromFn.{length-range_with_len}
-use Rattle.std.proofs.lemmas.List.Elements.{All-nil, All-cons}
-use Rattle.std.proofs.lemmas.Option.{slice_get_within}
 use Rattle.rbg_base.specs.declared.operator.Operator.{Operator}
 use Rattle.rbg_base.specs.declared.operator.Operator.TheVariants.{Plus, Minus, Times, Over}
-use Rattle.rbg_grammar.specs.Formed.{is_formed, are_formed, is_formed_action, has_two_rules}
-use Rattle.rbg_grammar.specs.Tree.{SpeltName, SpeltExpression, SpeltOperands, no_operands, more_operands, SpeltRule, SpeltRules, no_rules, more_rules, SpeltAction}
+use Rattle.rbg_grammar.proofs.Common.{is_formed, are_formed, is_formed_action, has_two_rules, SpeltName, SpeltExpression, SpeltOperands, no_operands, more_operands, SpeltRule, SpeltRules, no_rules, more_rules, SpeltAction}
 use Rattle.rbg_rules.specs.Meaning.{AbstractArithmetic, AbstractAction, shift, on, off, assignment, comparison, switch, positive, negative, Expression, act, skip, sequence, fail, choice, star, HasNoEmptySum, HasNoEmptySumInside, NestsWithin, InsideNestsWithin, HasNamesOf, IsActionOf, most_nested_patterns, HasAction, HasInside, positions_of, AbstractGame, operated, expression_of}
 use Rattle.rbg_rules.specs.declared.rule.Action.{Action}
 use Rattle.rbg_rules.specs.declared.rule.Rule.{Rule}
-use Rattle.rbg_numbering.specs.Names.{Names, IsNumberOf}
-use Rattle.rbg_numbering.specs.Rules.{ArithmeticIs, ChainIs, ActionIs, RuleIs, PartsAre}
-use Rattle.rbg_numbering.specs.Faults.{actions_in}
-use Rattle.rbg_numbering.specs.Numbered.{HasAsMany, HasNoSwitchInPattern, IsRuleByNumbers}
-use Rattle.rbg_numbering.specs.internal.Steps.{IsLawful, IsLawfulAction, AddsRule}
+use Rattle.rbg_numbering.proofs.Common.{Names, IsNumberOf, ArithmeticIs, ChainIs, ActionIs, RuleIs, PartsAre, actions_in, HasAsMany, HasNoSwitchInPattern, IsRuleByNumbers, IsLawful, IsLawfulAction, AddsRule}
 use Rattle.rbg_numbering.proofs.Reaching.{reaches}
 
 -- No sum is empty.

@@ -1,13 +1,7 @@
 -- The trees of the code and what they spell: rules by numbers, part for part.
-use Rattle.std.proofs.Common.{◌≡◌, ℕ, suc, ◌+◌, ◌-◌, ◌<◌, ◌≤◌, List, [], ◌∷◌, ◌++◌, Vec, true, length, map, take, get_or, sym, ap, ◌∙◌, subst, arith}
-use Rattle.std.specs.Prelude.{Box, All, ◌&&◌}
-use Rattle.std.specs.Global.{Global}
-use Rattle.std.proofs.lemmas.Bool.{and_parts}
+use Rattle.rbg_base.proofs.Common.{◌≡◌, ℕ, suc, ◌+◌, ◌-◌, ◌<◌, ◌≤◌, List, [], ◌∷◌, ◌++◌, Vec, true, length, map, take, get_or, sym, ap, ◌∙◌, subst, arith, Box, All, ◌&&◌, Global, and_parts, All-nil, All-cons}
 use Rattle.std.proofs.lemmas.List.{length-append, length-map, get_or-map, take-map, take_all}
-use Rattle.std.proofs.lemmas.List.Elements.{All-nil, All-cons}
-use Rattle.rbg_grammar.specs.Formed.{is_formed, are_formed, is_formed_action, has_two_rules}
-use Rattle.rbg_grammar.specs.Tree.{SpeltRule, SpeltRules, no_rules, more_rules, rules_after, SpeltAction}
-use Rattle.rbg_grammar.specs.Views.{rule_of, action_of}
+use Rattle.rbg_grammar.proofs.Common.{is_formed, are_formed, is_formed_action, has_two_rules, SpeltRule, SpeltRules, no_rules, more_rules, rules_after, SpeltAction, rule_of, action_of}
 use Rattle.rbg_grammar.specs.declared.rule.Action.{Action as SyntaxAction}
 use Rattle.rbg_grammar.specs.declared.rule.Action as actions
 use Rattle.rbg_grammar.specs.declared.rule.Rule.{Rule as SyntaxRule}
@@ -16,10 +10,7 @@ use Rattle.rbg_grammar.proofs.Trees.{rule_of-Act, rule_of-Then, rule_of-Or, rule
 use Rattle.rbg_rules.specs.declared.rule.Action.{Action}
 use Rattle.rbg_rules.specs.declared.rule.Action.TheVariants.{Positive, Negative}
 use Rattle.rbg_rules.specs.declared.rule.Rule.{Rule}
-use Rattle.rbg_numbering.specs.declared.error.NumberingError.{NumberingError}
-use Rattle.rbg_numbering.specs.Names.{Names}
-use Rattle.rbg_numbering.specs.internal.Actions.{OpensPattern}
-use Rattle.rbg_numbering.specs.internal.Steps.{actions_in_list, AddsRule, AddsParts, HasFaultFrom}
+use Rattle.rbg_numbering.proofs.Common.{NumberingError, Names, OpensPattern, actions_in_list, AddsRule, AddsParts, HasFaultFrom}
 use Rattle.rbg_base.proofs.CallerLemmas.{map-take_more}
 use Rattle.rbg_numbering.proofs.StepLemmas.{parts_more, Opens, opens_positive, opens_negative, spelt_pattern_of}
 use Rattle.rbg_numbering.proofs.StepFaults.{fault_in_parts, fault_inside}

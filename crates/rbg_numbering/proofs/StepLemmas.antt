@@ -1,10 +1,6 @@
 -- What parts of the rules add to the table of actions, put together.
-use Rattle.std.proofs.Common.{◌≡◌, ℕ, zero, suc, ◌+◌, ◌-◌, ◌<◌, ◌≤◌, List, [], ◌∷◌, ◌++◌, Vec, true, length, map, take, fold, get_or, refl, sym, ap, ◌∙◌, subst, append_assoc, append-nil, arith, Some}
-use Rattle.std.specs.Prelude.{Box, slice_get}
-use Rattle.std.specs.Global.{Global}
-use Rattle.std.specs.List.{range_with_len}
+use Rattle.rbg_base.proofs.Common.{◌≡◌, ℕ, zero, suc, ◌+◌, ◌-◌, ◌<◌, ◌≤◌, List, [], ◌∷◌, ◌++◌, Vec, true, length, map, take, fold, get_or, refl, sym, ap, ◌∙◌, subst, append_assoc, append-nil, arith, Some, Box, slice_get, Global, range_with_len, All-nil, All-push}
 use Rattle.std.proofs.lemmas.List.{length-append, map-append}
-use Rattle.std.proofs.lemmas.List.Elements.{All-nil, All-push}
 use Rattle.rbg_grammar.specs.Tree.{SpeltRule, SpeltRules, no_rules, more_rules, rules_after, SpeltAction}
 use Rattle.rbg_rules.specs.Meaning.{Expression, act, skip, sequence, fail, choice, star, most_positions, positions_of, IsWithin, expression_of, action_of, action_at, shows_pattern}
 use Rattle.rbg_rules.specs.declared.rule.Action.{Action}
@@ -13,11 +9,7 @@ use Rattle.rbg_rules.specs.declared.rule.Rule.{Rule}
 use Rattle.rbg_rules.specs.declared.rule.Rule.TheVariants.{Pattern, Then, Or, Star}
 use Rattle.rbg_rules.proofs.Bridge.{expression_of-Then, expression_of-Or, expression_of-Star}
 use Rattle.rbg_rules.proofs.TreeLemmas.{pattern_is, within_Pattern, within_Then, within_Or, within_Star, all_within_more, all_same_with_more}
-use Rattle.rbg_numbering.specs.Names.{Names}
-use Rattle.rbg_numbering.specs.Rules.{RuleIs, PartsAre}
-use Rattle.rbg_numbering.specs.Faults.{actions_in, actions_in_all, actions_of, IsSpeltPattern, positive_pattern, negative_pattern}
-use Rattle.rbg_numbering.specs.internal.Actions.{OpensPattern}
-use Rattle.rbg_numbering.specs.internal.Steps.{IsLawful, actions_in_list, Numbers, AddsRule, AreNumbered, AddsParts}
+use Rattle.rbg_numbering.proofs.Common.{Names, RuleIs, PartsAre, actions_in, actions_in_all, actions_of, IsSpeltPattern, positive_pattern, negative_pattern, OpensPattern, IsLawful, actions_in_list, Numbers, AddsRule, AreNumbered, AddsParts}
 use Rattle.rbg_base.proofs.CallerLemmas.{slice_get-append_left}
 use Rattle.rbg_numbering.proofs.Lists.{slice_get-last}
 

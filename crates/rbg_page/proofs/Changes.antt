@@ -1,11 +1,8 @@
 -- What has changed between two lists.
-use Rattle.std.proofs.Common.{◌≡◌, ℕ, suc, ◌+◌, ◌<◌, Bool, true, false, List, [], ◌∷◌, ◌++◌, length, take, Some, slice_get, get_or, if◌then◌else◌, refl, ap, sym, ◌∙◌, append_assoc, append-nil, arith}
-use Rattle.std.specs.Prelude.{◌==◌}
-use Rattle.std.specs.List.{flat_map}
+use Rattle.rbg_base.proofs.Common.{◌≡◌, ℕ, suc, ◌+◌, ◌<◌, Bool, true, false, List, [], ◌∷◌, ◌++◌, length, take, Some, slice_get, get_or, if◌then◌else◌, refl, ap, sym, ◌∙◌, append_assoc, append-nil, arith, ◌==◌, flat_map, slice_get_within, slice_get-get_or}
 use Rattle.std.proofs.lemmas.List.{length-append, length-take-le, set_at}
 use Rattle.std.proofs.lemmas.List.Concat.{flat_map-append}
 use Rattle.std.proofs.lemmas.Bool.{eqb-true}
-use Rattle.std.proofs.lemmas.Option.{slice_get_within, slice_get-get_or}
 use Rattle.rbg_page.specs.Places.{change_at, change_text, changed, changes_from, changes_text}
 use Rattle.rbg_page.proofs.Writing.{take_next}
 

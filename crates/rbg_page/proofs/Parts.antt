@@ -1,7 +1,5 @@
 -- What the parts of a page are made of.
-use Rattle.std.proofs.Common.{◌≡◌, ℕ, Bool, List, [], ◌∷◌, ◌++◌, length, codes, refl}
-use Rattle.std.specs.Prelude.{Vec}
-use Rattle.std.specs.Global.{Global}
+use Rattle.std.proofs.Common.{◌≡◌, ℕ, Bool, List, [], ◌∷◌, ◌++◌, length, codes, refl, Vec, Global}
 use Rattle.rbg_rules.specs.Meaning.{AbstractGame, AbstractPlace}
 use Rattle.rbg_game.specs.declared.layout.Layout.{Layout}
 use Rattle.rbg_numbering.specs.NameTables.{bytes_of}

@@ -1,7 +1,5 @@
 -- Texts in a page have no byte that begins or ends a tag or an attribute.
-use Rattle.std.proofs.Common.{◌≡◌, ℕ, Bool, true, false, ◌&&◌, ◌||◌, not, List, [], ◌∷◌, codes, if◌then◌else◌, refl, ap, ◌∙◌}
-use Rattle.std.specs.Prelude.{◌==◌}
-use Rattle.std.specs.List.{list_all}
+use Rattle.rbg_base.proofs.Common.{◌≡◌, ℕ, Bool, true, false, ◌&&◌, ◌||◌, not, List, [], ◌∷◌, codes, if◌then◌else◌, refl, ap, ◌∙◌, ◌==◌, list_all}
 use Rattle.std.proofs.lemmas.List.Folds.{list_all-append}
 use Rattle.rbg_page.specs.Texts.{entity, escaped}
 use Rattle.rbg_page.specs.Laws.{is_plain}

@@ -1,28 +1,20 @@
 -- What was read of a record, line by line, and what it tells.
-use Rattle.std.proofs.Common.{◌≡◌, ℕ, ◌+◌, List, [], ◌∷◌, ◌++◌, Option, refl, ap, sym, ◌∙◌, subst}
+use Rattle.std.proofs.Common.{◌≡◌, ℕ, ◌+◌, List, [], ◌∷◌, ◌++◌, Option, refl, ap, sym, ◌∙◌, subst, IfSome, IfNone, Some, None, unwrap_or}
 use Rattle.rbg_rules.specs.Meaning.{AbstractGame, IsPlaceOf}
-use Rattle.rbg_lines.specs.Lines.{IsFirstLine}
+use Rattle.rbg_lines.proofs.Common.{IsFirstLine, SpellsEntry, SpellsTimed}
 use Rattle.rbg_record.specs.declared.fault.Fault.{Fault}
 use Rattle.rbg_record.specs.declared.fault.Fault.TheVariants.{Form, Bad, Over, Memory}
-use Rattle.rbg_record.specs.Lines.{Reached, version_next, nothing_next, Leads}
+use Rattle.rbg_record.proofs.Common.{Reached, version_next, nothing_next, Leads, IsJudged, IsReachedIn, told_at, IsReadSoFar, BeginsWith, with_moment}
 use Rattle.rbg_record.proofs.Deciding.{good_by_lines}
-use Rattle.rbg_record.specs.Judged.{IsJudged}
-use Rattle.rbg_record.specs.ByLine.{IsReachedIn}
-use Rattle.rbg_record.specs.internal.Faults.{told_at}
-use Rattle.rbg_record.specs.internal.SoFar.{IsReadSoFar}
 use Rattle.rbg_record.proofs.SoFarLemmas.{place_in_game, read_good, read_more, read_none}
-use Rattle.rbg_record.specs.Judged.{BeginsWith}
 use Rattle.rbg_page.specs.Pages.{IsRefused}
 use Rattle.rbg_page.specs.Telling.{Told, Tells, IsMoveIn, told_first, told_more}
 use Rattle.rbg_page.specs.Telling as telling
 use Rattle.rbg_page.specs.internal.Reading.{refusal_at}
 use Rattle.rbg_page.specs.Telling.{IsByPlayer, IsPlayersMove, IsTelling}
-use Rattle.rbg_record.specs.Lines.{with_moment}
 use Rattle.rbg_lines.specs.declared.entry.Entry.{Entry}
 use Rattle.rbg_lines.specs.declared.entry.Timed.{Timed}
 use Rattle.rbg_lines.specs.declared.heading.Version.TheVariants.{One, Two}
-use Rattle.rbg_lines.specs.Entries.{SpellsEntry, SpellsTimed}
-use Rattle.std.specs.Prelude.{IfSome, IfNone, Some, None, unwrap_or}
 
 -- The lines before the rest are right in turn, and this is what they tell.
 pub record IsToldSoFar (game : AbstractGame) (bytes : List ℕ) (reached : Reached) (rest : List ℕ) (line : ℕ) (told : Told) : Type 0 where

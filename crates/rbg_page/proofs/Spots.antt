@@ -1,9 +1,5 @@
 -- The rows of a board.
-use Rattle.std.proofs.Common.{◌≡◌, ℕ, Bool, ◌+◌, ◌<◌, List, [], ◌++◌, max, length, take, get_or, slice_get, Some, refl, ap, sym, ◌∙◌, arith}
-use Rattle.std.specs.Prelude.{Vec}
-use Rattle.std.specs.Global.{Global}
-use Rattle.std.proofs.lemmas.List.{take_more, length-map, get_or-map}
-use Rattle.std.proofs.lemmas.Option.{get_or_from_slice_get}
+use Rattle.rbg_base.proofs.Common.{◌≡◌, ℕ, Bool, ◌+◌, ◌<◌, List, [], ◌++◌, max, length, take, get_or, slice_get, Some, refl, ap, sym, ◌∙◌, arith, Vec, Global, take_more, length-map, get_or-map, get_or_from_slice_get}
 use Rattle.rbg_numbering.specs.NameTables.{bytes_of}
 use Rattle.std.proofs.lemmas.List.Recursion.{max_push}
 use Rattle.rbg_page.specs.declared.drawing.Spot.{Spot}

@@ -1,7 +1,5 @@
 -- The pieces of a place.
-use Rattle.std.proofs.Common.{◌≡◌, ◌<◌, length, sym, ◌∙◌}
-use Rattle.std.specs.Prelude.{All}
-use Rattle.std.proofs.lemmas.List.Elements.{All-from_get_or}
+use Rattle.rbg_base.proofs.Common.{◌≡◌, ◌<◌, length, sym, ◌∙◌, All, All-from_get_or}
 use Rattle.rbg_rules.specs.Meaning.{AbstractGame, AbstractPlace, IsPlaceOf}
 
 -- all pieces of a place are those of the game

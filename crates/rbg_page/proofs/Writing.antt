@@ -1,9 +1,7 @@
 -- Texts of lists, written item by item.
-use Rattle.std.proofs.Common.{◌≡◌, ℕ, suc, ◌+◌, ◌<◌, List, [], ◌∷◌, ◌++◌, length, take, Some, slice_get, get_or, ap, sym, ◌∙◌, append_assoc, append-nil, arith}
-use Rattle.std.specs.List.{flat_map, enumerate_from}
+use Rattle.rbg_base.proofs.Common.{◌≡◌, ℕ, suc, ◌+◌, ◌<◌, List, [], ◌∷◌, ◌++◌, length, take, Some, slice_get, get_or, ap, sym, ◌∙◌, append_assoc, append-nil, arith, flat_map, enumerate_from, slice_get_within, get_or_from_slice_get}
 use Rattle.std.proofs.lemmas.List.{take_more, length-take-le}
 use Rattle.std.proofs.lemmas.List.Concat.{flat_map-append}
-use Rattle.std.proofs.lemmas.Option.{slice_get_within, get_or_from_slice_get}
 
 -- one part more of a text
 pub more : (old mid new text part : List ℕ) → mid ≡ old ++ text → new ≡ mid ++ part → new ≡ old ++ (text ++ part)

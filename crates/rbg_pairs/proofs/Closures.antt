@@ -1,14 +1,12 @@
 -- What is reached step by step is what runs without a modifier reach.
-use Rattle.std.proofs.Common.{◌≡◌, ℕ, ◌⊎◌, List, [], ◌∷◌, ◌++◌, Bool, true, false, refl, sym, ap, ◌∙◌, subst, inl, inr, append_assoc}
-use Rattle.std.proofs.lemmas.List.Elements.{All-nil, All-head, All-tail, All-push}
+use Rattle.rbg_base.proofs.Common.{◌≡◌, ℕ, ◌⊎◌, List, [], ◌∷◌, ◌++◌, Bool, true, false, refl, sym, ap, ◌∙◌, subst, inl, inr, append_assoc, All-nil, All-head, All-tail, All-push}
 use Rattle.rbg_rules.specs.Meaning.{IsNumbered, IsModifierAt, HasNoModifier, is_modifier, Start, after, Follows, Ends, AbstractGame, AbstractState, rest, step, Applies, Run, RunPairs, stay, modify, pass, SomeWordRuns, SameButVertex}
 use Rattle.rbg_rules.proofs.RunLemmas.{Runs_join}
 use Rattle.rbg_rules.proofs.PositionLemmas.{one_stands}
 use Rattle.rbg_rules.proofs.PlaceLemmas.{quiet_acts, same_state, RunPairs_join, Runs-RunPairs}
 use Rattle.rbg_rules.proofs.LocalityLemmas.{locality_law}
 use Rattle.rbg_flat.specs.Candidates.{MayEnd}
-use Rattle.rbg_pairs.specs.Flat.{IsNext}
-use Rattle.rbg_pairs.specs.Closure.{at_vertex, Leads, IsReached, first, then, IsFound, EndsFlat, RunsBehind}
+use Rattle.rbg_pairs.proofs.Common.{IsNext, at_vertex, Leads, IsReached, first, then, IsFound, EndsFlat, RunsBehind}
 
 -- An action that stands where no modifier does is none.
 pub quiet_action : (game : AbstractGame) (p : ℕ) {s t : AbstractState} (applied : Applies game p s t) → ¬ IsModifierAt game.rules p → is_modifier applied.action ≡ false

@@ -1,12 +1,10 @@
 -- What becomes of an action of which an automaton tells at once.
-use Rattle.std.proofs.Common.{◌≡◌, ◌⊎◌, ℕ, zero, suc, [], ◌∷◌, true, false, inl, inr, sym, ap, refl, ◌∙◌, arith}
-use Rattle.std.specs.Prelude.{Contains, Option, Some, None, slice_index}
+use Rattle.std.proofs.Common.{◌≡◌, ◌⊎◌, ℕ, zero, suc, [], ◌∷◌, true, false, inl, inr, sym, ap, refl, ◌∙◌, arith, Contains, Option, Some, None, slice_index}
 use Rattle.rbg_board.specs.Graph.{next}
 use Rattle.rbg_rules.specs.Meaning.{AbstractAction, shift, on, off, switch, positive, negative, Expression, IsNumbered, HasAction, IsPatternAt, is_modifier, is_pattern, AbstractGame, AbstractState, Acts}
 use Rattle.rbg_rules.proofs.MoveLemmas.{applied_acts}
 use Rattle.rbg_rules.proofs.PositionLemmas.{one_stands}
-use Rattle.rbg_pairs.specs.Closure.{at_vertex}
-use Rattle.rbg_pairs.specs.Part.{IsTrialAt}
+use Rattle.rbg_pairs.proofs.Common.{at_vertex, IsTrialAt}
 use Rattle.rbg_state.specs.declared.state.trials.Trial.TheVariants.{Invalid, Modifies, LeadsTo}
 use Rattle.rbg_pairs.proofs.Modifiers.{leads_on}
 

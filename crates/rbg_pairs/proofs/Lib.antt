@@ -1,4 +1,5 @@
 -- Lemmas, by topic.
+pub mod Common
 pub mod Closures
 pub mod Meetings
 pub mod Starts

@@ -1,21 +1,11 @@
 -- What a mark says of the pairs that were met.
-use Rattle.std.proofs.Common.{◌≡◌, ◌≢◌, ℕ, ◌+◌, ◌*◌, ◌/◌, ◌%◌, ◌<◌, ◌≤◌, List, [], ◌∷◌, ◌++◌, length, get_or, take, set, append_assoc, Bool, true, false, refl, sym, ap, ◌∙◌, subst, inl, inr, arith}
-use Rattle.std.specs.Prelude.{◌==◌, All, AllPairs, Contains}
+use Rattle.rbg_base.proofs.Common.{◌≡◌, ◌≢◌, ℕ, ◌+◌, ◌*◌, ◌/◌, ◌%◌, ◌<◌, ◌≤◌, List, [], ◌∷◌, ◌++◌, length, get_or, take, set, append_assoc, Bool, true, false, refl, sym, ap, ◌∙◌, subst, inl, inr, arith, ◌==◌, All, AllPairs, Contains, All-nil, All-push, Contains-append_left, Contains-push, Contains-push_cases, Contains-get_or, All-contains, All-weaker, ℕ_discrete, bit_at, w64, bit_or, ◌^◌, zero, suc, replicate, bit_and, bit_at_and, bit_at-lt, bit_at-zero, bit_at_set_same, bit_at_set_other, length-replicate}
 use Rattle.std.proofs.lemmas.Nat.{div-mul-add, rows as products}
 use Rattle.std.proofs.lemmas.List.{get_or-set_same, get_or-set_other, length-set, length-take, get_or-take, append-nil, take_more, take_more_set}
 use Rattle.std.proofs.Math.Nat.{mul-le-mul_right}
-use Rattle.std.proofs.lemmas.List.Elements.{All-nil, All-push, Contains-append_left, Contains-push, Contains-push_cases, Contains-get_or, All-contains, All-weaker}
 use Rattle.std.proofs.lemmas.List.Quantifiers.{all_pairs_push}
-use native.Mathlib.Decide.{ℕ_discrete}
 use Rattle.rbg_flat.proofs.Numberings.{one_pair}
 use Rattle.rbg_pairs.specs.Meeting.{HasMark, Adds, MeetsAll, AreMarked, is_marked, mark_at, SetsMark}
-use Rattle.std.specs.Int.{bit_at}
-use Rattle.std.specs.Int.{w64}
-use Rattle.std.specs.Prelude.{bit_or, ◌^◌, zero, suc}
-use Rattle.std.proofs.Common.{replicate}
-use Rattle.std.specs.Prelude.{bit_and}
-use Rattle.std.proofs.lemmas.Nat.Bits.{bit_at_and, bit_at-lt, bit_at-zero, bit_at_set_same, bit_at_set_other}
-use Rattle.std.proofs.lemmas.List.{length-replicate}
 
 abbrev pub pair : ℕ → ℕ → ℕ × ℕ
 pair v p = (v, p)

@@ -5,8 +5,7 @@ use Rattle.rbg_rules.proofs.MoveLemmas.{Applies_one}
 use Rattle.rbg_state.specs.Trials.{IsTrial}
 use Rattle.rbg_state.specs.declared.state.trials.Trial.{Trial}
 use Rattle.rbg_state.specs.declared.state.trials.Trial.TheVariants.{Invalid, Modifies, LeadsTo}
-use Rattle.rbg_pairs.specs.Closure.{at_vertex, Leads}
-use Rattle.rbg_pairs.specs.Part.{IsTrialAt}
+use Rattle.rbg_pairs.proofs.Common.{at_vertex, Leads, IsTrialAt}
 
 -- An action that is no modifier leads to the one vertex where it ends.
 pub leads_on : (game : AbstractGame) → IsNumbered game.rules → (s : AbstractState) (v q u : ℕ) → ¬ IsModifierAt game.rules q → Applies game q (at_vertex s v) (at_vertex s u) → Leads game s v q u × ((w : ℕ) → Leads game s v q w → w ≡ u)

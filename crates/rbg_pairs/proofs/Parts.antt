@@ -1,18 +1,9 @@
 -- How a flat part is found, pair by pair.
-use Rattle.std.proofs.Common.{◌≡◌, ◌≢◌, ℕ, ◌+◌, ◌<◌, ◌⊎◌, List, [], ◌∷◌, ◌++◌, length, get_or, take, Bool, true, false, ◌||◌, refl, sym, ap, ◌∙◌, subst, inl, inr, arith}
-use Rattle.std.proofs.lemmas.List.{take_more, take-append-le}
-use Rattle.std.proofs.lemmas.Option.{slice_get_within, get_or_from_slice_get}
-use Rattle.std.specs.Prelude.{Some, slice_get, All, AllPairs, Contains, Decides}
-use Rattle.std.proofs.lemmas.List.Elements.{All-nil, All-push, All-append, All-weaker, All-contains, All-contains_itself, Contains-append_left, Contains-push, Contains-push_cases, Contains-get_or}
+use Rattle.rbg_base.proofs.Common.{◌≡◌, ◌≢◌, ℕ, ◌+◌, ◌<◌, ◌⊎◌, List, [], ◌∷◌, ◌++◌, length, get_or, take, Bool, true, false, ◌||◌, refl, sym, ap, ◌∙◌, subst, inl, inr, arith, take_more, take-append-le, slice_get_within, get_or_from_slice_get, Some, slice_get, All, AllPairs, Contains, Decides, All-nil, All-push, All-append, All-weaker, All-contains, All-contains_itself, Contains-append_left, Contains-push, Contains-push_cases, Contains-get_or, Decides-or}
 use Rattle.std.proofs.lemmas.List.Quantifiers.{all_pairs_push}
-use Rattle.std.proofs.lemmas.Bool.Decides.{Decides-or}
 use Rattle.rbg_rules.specs.Meaning.{Expression, IsNumbered, positions_of, Start, after, Follows, Ends, AbstractGame, AbstractState}
 use Rattle.rbg_auto.specs.Steps.{AreAllThatFollow}
-use Rattle.rbg_pairs.specs.Flat.{IsFlatPart}
-use Rattle.rbg_pairs.specs.Closure.{at_vertex, Leads, IsReached, first, then, IsFound, LeadsToEnd, EndsFlat}
-use Rattle.rbg_pairs.specs.Meeting.{Met, HasMark, MeetsAll}
-use Rattle.rbg_pairs.specs.Start.{IsPositionOf}
-use Rattle.rbg_pairs.specs.Part.{IsTrialAt, SomeLeadsToEnd, IsPart, HasMarksOf}
+use Rattle.rbg_pairs.proofs.Common.{IsFlatPart, at_vertex, Leads, IsReached, first, then, IsFound, LeadsToEnd, EndsFlat, Met, HasMark, MeetsAll, IsPositionOf, IsTrialAt, SomeLeadsToEnd, IsPart, HasMarksOf}
 use Rattle.rbg_state.specs.declared.state.trials.Trial.TheVariants.{Invalid, Modifies, LeadsTo}
 use Rattle.rbg_pairs.proofs.Closures.{found_next, next_found, may_end_flat, flat_may_end}
 use Rattle.rbg_pairs.proofs.Starts.{follower_position}

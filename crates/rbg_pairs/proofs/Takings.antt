@@ -1,12 +1,8 @@
 -- What one turn of the inner loop does.
-use Rattle.std.proofs.Common.{◌≡◌, ◌≢◌, ℕ, ◌+◌, ◌*◌, ◌/◌, ◌<◌, ◌≤◌, List, [], ◌∷◌, ◌++◌, length, get_or, take, inl, inr, refl, sym, ap, subst, ◌∙◌, arith}
-use Rattle.std.specs.Prelude.{All, AllPairs, Contains}
+use Rattle.rbg_base.proofs.Common.{◌≡◌, ◌≢◌, ℕ, ◌+◌, ◌*◌, ◌/◌, ◌<◌, ◌≤◌, List, [], ◌∷◌, ◌++◌, length, get_or, take, inl, inr, refl, sym, ap, subst, ◌∙◌, arith, All, AllPairs, Contains, All-weaker, Contains-push_cases}
 use Rattle.std.proofs.lemmas.List.{length-take-le, length-take, length-append, get_or-take, take_more, take-append-le}
-use Rattle.std.proofs.lemmas.List.Elements.{All-weaker, Contains-push_cases}
 use Rattle.rbg_rules.specs.Meaning.{Expression, IsPatternAt, AbstractGame}
-use Rattle.rbg_pairs.specs.Start.{IsPositionOf}
-use Rattle.rbg_pairs.specs.Meeting.{HasMark, MeetsAll}
-use Rattle.rbg_pairs.specs.internal.Taking.{marks_of, AreMet, Lengthens}
+use Rattle.rbg_pairs.proofs.Common.{IsPositionOf, HasMark, MeetsAll, marks_of, AreMet, Lengthens}
 use Rattle.rbg_pairs.proofs.Meetings.{met_once}
 use Rattle.rbg_pairs.proofs.Parts.{marks_there}
 

@@ -1,7 +1,5 @@
 -- Why sequences are not counted: an error of a question, of the keeper's moves, of what is behind a move, of a sum.
-use Rattle.std.proofs.Common.{◌≡◌, ℕ, zero, suc, ◌-◌, ◌<◌, ◌⊎◌, List, length, get_or, take, Option, Some, None, Result, Err, inl, inr, refl, subst, sym, arith}
-use Rattle.std.specs.Prelude.{AllPairs}
-use Rattle.std.specs.Option.{ok_or}
+use Rattle.std.proofs.Common.{◌≡◌, ℕ, zero, suc, ◌-◌, ◌<◌, ◌⊎◌, List, length, get_or, take, Option, Some, None, Result, Err, inl, inr, refl, subst, sym, arith, AllPairs, ok_or}
 use Rattle.std.proofs.lemmas.List.{length-take, get_or-take}
 use Rattle.rbg_rules.specs.Meaning.{AbstractGame, AbstractPlace, Legal, list_moves, IsHeavyToFind, IsTooHard}
 use Rattle.rbg_search.specs.declared.over.Over.{Over}

@@ -1,7 +1,5 @@
 -- The moves that are listed, and the one that is chosen among them.
-use Rattle.std.proofs.Common.{◌≡◌, ℕ, List, [], length, subst, arith, Bool, true, false, refl, sym, Option, Some, None}
-use Rattle.std.specs.Prelude.{Contains, IfSome, IfNone}
-use Rattle.std.proofs.lemmas.List.Elements.{All-nil, All-contains}
+use Rattle.rbg_base.proofs.Common.{◌≡◌, ℕ, List, [], length, subst, arith, Bool, true, false, refl, sym, Option, Some, None, Contains, IfSome, IfNone, All-nil, All-contains}
 use Rattle.rbg_rules.specs.Meaning.{AbstractGame, IsGame, AbstractPlace, IsLegal, Finished, IsPlaceOf}
 use Rattle.rbg_moves.specs.Listing.{IsListed}
 use Rattle.rbg_base.specs.Move.{IsMoveLength}

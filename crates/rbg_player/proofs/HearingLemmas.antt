@@ -1,14 +1,10 @@
 -- What a player does where it hears one message.
-use Rattle.std.proofs.Common.{◌≡◌, ℕ, ◌⊎◌, List, [], ◌∷◌, ◌++◌, Some, None, Result, Ok, Err, false, sym, ap, subst, inl, inr, ◌∙◌, refl}
-use Rattle.std.specs.Prelude.{IfErr, OnOk}
+use Rattle.rbg_base.proofs.Common.{◌≡◌, ℕ, ◌⊎◌, List, [], ◌∷◌, ◌++◌, Some, None, Result, Ok, Err, false, sym, ap, subst, inl, inr, ◌∙◌, refl, IfErr, OnOk, none-some}
 use Rattle.std.proofs.lemmas.List.{append-nil}
-use Rattle.std.proofs.lemmas.Option.{none-some}
 use Rattle.rbg_wire.specs.declared.message.Reason.{Reason}
 use Rattle.rbg_wire.specs.declared.message.Reason.TheVariants.{NoSeat}
 use Rattle.rbg_wire.specs.declared.outcome.Outcome.{Outcome}
-use Rattle.rbg_wire.specs.Messages.{AbstractMessage, who_message, game_message, limits_message, move_message, refusal_message, end_message, join_message, spelling}
-use Rattle.rbg_wire.specs.Reading.{SpellsMessage, HasFewPairs}
-use Rattle.rbg_wire.specs.Streams.{complete}
+use Rattle.rbg_wire.proofs.Common.{AbstractMessage, who_message, game_message, limits_message, move_message, refusal_message, end_message, join_message, spelling, SpellsMessage, HasFewPairs, complete}
 use Rattle.rbg_rules.specs.Meaning.{AbstractGame, start_of, AbstractPlace, IsLegal, list_moves, IsHeavyToTry, IsTooHard}
 use Rattle.rbg_search.specs.declared.over.Over.{Over}
 use Rattle.rbg_search.specs.declared.over.Over.TheVariants.{Deep, Wide, Memory}

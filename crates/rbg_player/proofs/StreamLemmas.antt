@@ -1,10 +1,7 @@
 -- The items that a stream has completed are heard in turn.
-use Rattle.std.proofs.Common.{◌≡◌, ℕ, List, [], ◌∷◌, ◌++◌, drop, refl, sym, ap, ◌∙◌, subst, Some, None, slice_get, append_assoc}
-use Rattle.std.specs.List.{flat_map}
+use Rattle.rbg_base.proofs.Common.{◌≡◌, ℕ, List, [], ◌∷◌, ◌++◌, drop, refl, sym, ap, ◌∙◌, subst, Some, None, slice_get, append_assoc, flat_map, flat_map-append}
 use Rattle.std.proofs.lemmas.List.{append-nil}
-use Rattle.std.proofs.lemmas.Grind.{flat_map-append}
-use Rattle.rbg_wire.specs.Messages.{AbstractMessage, spelling}
-use Rattle.rbg_wire.specs.Streams.{Item, complete, Cut, cut, Stream, with_bytes, without_first}
+use Rattle.rbg_wire.proofs.Common.{AbstractMessage, spelling, Item, complete, Cut, cut, Stream, with_bytes, without_first}
 use Rattle.rbg_wire.proofs.Items.{first_and_others, nothing_first}
 use Rattle.rbg_player.specs.declared.error.PlayerError.{PlayerError}
 use Rattle.rbg_player.specs.Players.{Stage, AbstractPlayer}

@@ -1,6 +1,5 @@
 -- The lines of means, one after the other.
-use Rattle.std.proofs.Common.{◌≡◌, ℕ, suc, ◌+◌, List, [], ◌++◌, slice_get, get_or, Some, append_assoc, sym, ap, ◌∙◌, arith}
-use Rattle.std.proofs.lemmas.Option.{get_or_from_slice_get}
+use Rattle.rbg_base.proofs.Common.{◌≡◌, ℕ, suc, ◌+◌, List, [], ◌++◌, slice_get, get_or, Some, append_assoc, sym, ap, ◌∙◌, arith, get_or_from_slice_get}
 use Rattle.rbg_ask.specs.Chance.{Counted}
 use Rattle.rbg_playouts.specs.Summary.{finished_in, mean_line, mean_lines, total_of}
 

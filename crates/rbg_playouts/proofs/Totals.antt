@@ -1,9 +1,6 @@
 -- Sums over tallies, one after the other.
-use Rattle.std.proofs.Common.{◌≡◌, ℕ, ◌+◌, ◌*◌, ◌<◌, ◌≤◌, ◌^◌, List, [], ◌∷◌, ◌++◌, length, take, map, get_or, Option, Some, None, refl, ap, ◌∙◌, arith}
-use Rattle.std.specs.List.{sum_by}
+use Rattle.rbg_base.proofs.Common.{◌≡◌, ℕ, ◌+◌, ◌*◌, ◌<◌, ◌≤◌, ◌^◌, List, [], ◌∷◌, ◌++◌, length, take, map, get_or, Option, Some, None, refl, ap, ◌∙◌, arith, sum_by, take-map, sum_by-append, sum_by-take-le}
 use Rattle.std.proofs.Math.Nat.{mul-le-mul_right}
-use Rattle.std.proofs.lemmas.List.{take-map}
-use Rattle.std.proofs.lemmas.List.Sums.{sum_by-append, sum_by-take-le}
 use Rattle.rbg_base.proofs.CallerLemmas.{map-take_more}
 use Rattle.rbg_ask.specs.declared.tally.Tally.{Tally}
 use Rattle.rbg_ask.specs.Chance.{Counted, counted_by, scores_of}

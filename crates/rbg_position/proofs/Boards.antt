@@ -1,9 +1,6 @@
 -- The section of a board among the sections of a text.
-use Rattle.std.proofs.Common.{◌≡◌, ℕ, ◌+◌, ◌≤◌, Bool, true, false, cond, List, [], ◌∷◌, length, get_or, drop, slice_get, Some, sym, ap, ◌∙◌, arith}
-use Rattle.std.proofs.lemmas.List.{drop_more, drop_all}
-use Rattle.std.proofs.lemmas.Option.{slice_get_within, get_or_from_slice_get}
-use Rattle.rbg_grammar.specs.Sections.{same_kind, sections_of}
-use Rattle.rbg_grammar.specs.Spells.{HasSection}
+use Rattle.rbg_base.proofs.Common.{◌≡◌, ℕ, ◌+◌, ◌≤◌, Bool, true, false, cond, List, [], ◌∷◌, length, get_or, drop, slice_get, Some, sym, ap, ◌∙◌, arith, drop_more, drop_all, slice_get_within, get_or_from_slice_get}
+use Rattle.rbg_grammar.proofs.Common.{same_kind, sections_of, HasSection}
 use Rattle.rbg_macro.specs.Sections.{SectionTokens}
 use Rattle.rbg_macro.specs.declared.source.SectionKind.TheVariants.{Board}
 use Rattle.rbg_tokens.specs.Token.{Lexeme}

@@ -1,13 +1,8 @@
 -- The names in brackets, from the first token to the last, and those of a board that is spelt.
-use Rattle.std.proofs.Common.{◌≡◌, ℕ, ◌+◌, ◌&&◌, Bool, true, false, cond, List, [], ◌∷◌, ◌++◌, length, map, filter, refl, sym, ap, ◌∙◌, append_assoc}
-use Rattle.std.specs.Prelude.{flat_map}
-use Rattle.std.specs.List.{enumerate_from}
+use Rattle.rbg_base.proofs.Common.{◌≡◌, ℕ, ◌+◌, ◌&&◌, Bool, true, false, cond, List, [], ◌∷◌, ◌++◌, length, map, filter, refl, sym, ap, ◌∙◌, append_assoc, flat_map, enumerate_from}
 use Rattle.std.proofs.lemmas.List.{take_at, map-append, length-append}
-use Rattle.rbg_grammar.specs.Grammar.{IsRow, IsEdge, edge, IsVertex, vertex, IsRectangle, four, IsHexagon, six, IsGraph, vertices, IsGenerated, generated, IsBoard, rectangular, hexagonal, graphic}
-use Rattle.rbg_grammar.specs.Phrase.{Phrase, IsSymbol, symbol, IsName, name, IsWord, word, Repeated, done, again, After, after, separated, Listed, nothing, listed, Within, within, WithComma, with_comma}
-use Rattle.rbg_grammar.specs.Tree.{SpeltName, SpeltEdge, SpeltVertex, SpeltBoard, rectangle, hexagon, graph}
-use Rattle.rbg_tokens.specs.Kinds.{is_name_kind}
-use Rattle.rbg_tokens.specs.Token.{Lexeme}
+use Rattle.rbg_grammar.proofs.Common.{IsRow, IsEdge, edge, IsVertex, vertex, IsRectangle, four, IsHexagon, six, IsGraph, vertices, IsGenerated, generated, IsBoard, rectangular, hexagonal, graphic, Phrase, IsSymbol, symbol, IsName, name, IsWord, word, Repeated, done, again, After, after, separated, Listed, nothing, listed, Within, within, WithComma, with_comma, SpeltName, SpeltEdge, SpeltVertex, SpeltBoard, rectangle, hexagon, graph}
+use Rattle.rbg_tokens.proofs.Common.{is_name_kind, Lexeme}
 use Rattle.rbg_tokens.specs.declared.token.Symbol.{Symbol}
 use Rattle.rbg_tokens.specs.declared.token.Symbol.TheVariants as symbols
 use Rattle.rbg_tokens.specs.declared.token.TokenKind.{TokenKind}

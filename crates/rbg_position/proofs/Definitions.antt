@@ -1,24 +1,13 @@
 -- Where a section of a board is defined, `#board` stands in the text.
-use Rattle.std.proofs.Common.{◌≡◌, ℕ, zero, suc, ◌+◌, ◌||◌, ◌⊎◌, inl, inr, Bool, true, false, cond, List, [], ◌∷◌, ◌++◌, length, take, slice_get, Option, Some, None, Result, Ok, Err, codes, refl, ap, ◌∙◌, arith}
-use Rattle.std.specs.List.{list_any, position_or_len}
-use Rattle.std.specs.Str.{bytes_eq}
-use Rattle.std.proofs.lemmas.Bool.{false≢true}
-use Rattle.std.proofs.lemmas.Option.{none-some, same_Some}
-use Rattle.std.proofs.lemmas.Slice.Eq.{bytes_eq-Decides}
-use Rattle.rbg_grammar.specs.Sections.{same_kind, sections_of}
-use Rattle.rbg_grammar.specs.Spells.{HasSection}
-use Rattle.rbg_macro.specs.Definition.{Definitions, Defined, A_Section, A_Macro, Part, behind_equals, behind_name, defined, defined_as, definitions, definitions_of, expect, is_hash_token, part_of, parts, section_named, with_defined, with_section}
-use Rattle.rbg_macro.specs.Expansion.{ExpandsAll, none, one_more, HasSections}
-use Rattle.rbg_macro.specs.Macro.{Macro, body_of}
-use Rattle.rbg_macro.specs.Sections.{SectionTokens}
-use Rattle.rbg_macro.specs.Steps.{◌>>=◌}
+use Rattle.rbg_base.proofs.Common.{◌≡◌, ℕ, zero, suc, ◌+◌, ◌||◌, ◌⊎◌, inl, inr, Bool, true, false, cond, List, [], ◌∷◌, ◌++◌, length, take, slice_get, Option, Some, None, Result, Ok, Err, codes, refl, ap, ◌∙◌, arith, list_any, position_or_len, bytes_eq, false≢true, none-some, same_Some, bytes_eq-Decides}
+use Rattle.rbg_grammar.proofs.Common.{same_kind, sections_of, HasSection}
+use Rattle.rbg_macro.proofs.Common.{Definitions, Defined, A_Section, A_Macro, Part, behind_equals, behind_name, defined, defined_as, definitions, definitions_of, expect, is_hash_token, part_of, parts, section_named, with_defined, with_section, ExpandsAll, none, one_more, HasSections, Macro, body_of, SectionTokens, ◌>>=◌}
 use Rattle.rbg_macro.specs.declared.error.MacroError.{MacroError}
 use Rattle.rbg_macro.specs.declared.error.MacroError.TheVariants.{BadDefinition, Twice}
 use Rattle.rbg_macro.specs.declared.source.SectionKind.{SectionKind}
 use Rattle.rbg_macro.specs.declared.source.SectionKind.TheVariants.{Players, Pieces, Variables, Board, Rules}
-use Rattle.rbg_tokens.specs.Kinds.{is_name_kind, is_symbol}
+use Rattle.rbg_tokens.proofs.Common.{is_name_kind, is_symbol, Lexeme}
 use Rattle.rbg_tokens.specs.declared.token.Symbol.TheVariants as symbols
-use Rattle.rbg_tokens.specs.Token.{Lexeme}
 use Rattle.rbg_position.specs.Boards.{BeginsBoard}
 
 -- whether a section of a board is among these

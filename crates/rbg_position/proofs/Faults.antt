@@ -1,7 +1,5 @@
 -- What a refusal says.
-use Rattle.std.proofs.Common.{◌≡◌, ◌≢◌, ℕ, List, Bool, true, false, not, sym, subst}
-use Rattle.std.specs.Prelude.{Result, Err, bytes_eq}
-use Rattle.std.proofs.lemmas.Slice.Eq.{bytes_eq-Decides}
+use Rattle.rbg_base.proofs.Common.{◌≡◌, ◌≢◌, ℕ, List, Bool, true, false, not, sym, subst, Result, Err, bytes_eq, bytes_eq-Decides}
 use Rattle.rbg_rules.specs.Meaning.{AbstractGame, AbstractPlace}
 use Rattle.rbg_moves.specs.Settling.{MeetsHeavy, IsEndless}
 use Rattle.rbg_moves.specs.declared.unsettled.Unsettled.{Unsettled}

@@ -3,8 +3,7 @@ use Rattle.std.proofs.Common.{ℕ, List, subst}
 use Rattle.rbg_game.specs.Loading.{Loads}
 use Rattle.rbg_macro.specs.Expansion.{HasSections}
 use Rattle.rbg_rules.specs.Meaning.{AbstractGame}
-use Rattle.rbg_tokens.specs.Text.{HasTokens}
-use Rattle.rbg_tokens.specs.Token.{Lexeme}
+use Rattle.rbg_tokens.proofs.Common.{HasTokens, Lexeme}
 use Rattle.rbg_tokens.proofs.OneReading.{tokens_once}
 use Rattle.rbg_position.specs.Sections.{ExpandsBoard}
 use Rattle.rbg_position.specs.internal.Missing.{HasNoBoard}

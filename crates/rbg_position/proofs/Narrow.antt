@@ -1,12 +1,8 @@
 -- The board of a game has few directions.
-use Rattle.std.proofs.Common.{ℕ, ◌<◌, ◌≤◌, List, [], ◌∷◌, ◌++◌, length, refl, arith}
-use Rattle.std.specs.List.{AllZip}
-use Rattle.std.proofs.lemmas.Option.{slice_get_within}
-use Rattle.rbg_board.specs.Cells.{width_of}
-use Rattle.rbg_board.specs.Written.{Written, directions_in, directions_of}
+use Rattle.rbg_base.proofs.Common.{ℕ, ◌<◌, ◌≤◌, List, [], ◌∷◌, ◌++◌, length, refl, arith, AllZip, slice_get_within}
+use Rattle.rbg_board.proofs.Common.{width_of, Written, directions_in, directions_of}
 use Rattle.rbg_grammar.specs.Tree.{SpeltEdge, SpeltVertex, SpeltBoard, rectangle, hexagon, graph}
-use Rattle.rbg_game.specs.Descriptions.{NamedBoard, BoardIs, EdgeIs, VertexIs, board_in}
-use Rattle.rbg_game.specs.Loading.{Loads}
+use Rattle.rbg_game.proofs.Common.{NamedBoard, BoardIs, EdgeIs, VertexIs, board_in, Loads}
 use Rattle.rbg_rules.specs.Meaning.{AbstractGame}
 use Rattle.rbg_same.specs.Same.{IsNarrow}
 use Rattle.rbg_same.proofs.Boards.{as_wide}

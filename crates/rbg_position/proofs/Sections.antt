@@ -1,14 +1,8 @@
 -- The section of a board, token by token.
-use Rattle.std.proofs.Common.{◌≡◌, ℕ, ◌+◌, ◌≤◌, ◌&&◌, ◌⊎◌, inl, inr, Bool, true, false, cond, List, [], ◌∷◌, ◌++◌, length, map, take, filter, slice_get, Option, Some, None, if◌then◌else◌, refl, sym, ap, ◌∙◌, append_assoc, zero-add, arith}
-use Rattle.std.specs.Prelude.{flat_map, count_by}
-use Rattle.std.specs.List.{enumerate_from, last_or}
+use Rattle.rbg_base.proofs.Common.{◌≡◌, ℕ, ◌+◌, ◌≤◌, ◌&&◌, ◌⊎◌, inl, inr, Bool, true, false, cond, List, [], ◌∷◌, ◌++◌, length, map, take, filter, slice_get, Option, Some, None, if◌then◌else◌, refl, sym, ap, ◌∙◌, append_assoc, zero-add, arith, flat_map, count_by, enumerate_from, last_or, filter-append, sum_by-append, slice_get_within, get_or_from_slice_get}
 use Rattle.std.proofs.lemmas.List.{append-nil, take_more, length-take-le, map-append, flat_map_more}
-use Rattle.std.proofs.lemmas.List.Elements.{filter-append}
-use Rattle.std.proofs.lemmas.List.Sums.{sum_by-append}
-use Rattle.std.proofs.lemmas.Option.{slice_get_within, get_or_from_slice_get}
 use Rattle.rbg_rules.specs.Meaning.{AbstractGame}
-use Rattle.rbg_tokens.specs.Kinds.{is_name_kind}
-use Rattle.rbg_tokens.specs.Token.{Lexeme}
+use Rattle.rbg_tokens.proofs.Common.{is_name_kind, Lexeme}
 use Rattle.rbg_tokens.specs.declared.token.Symbol.TheVariants.{OpenBracket, CloseBracket}
 use Rattle.rbg_tokens.specs.declared.token.TokenKind.{TokenKind}
 use Rattle.rbg_tokens.specs.declared.token.TokenKind.TheVariants.{Symbol}

@@ -1,12 +1,8 @@
 -- Tokens by their indices.
-use Rattle.std.proofs.Common.{◌≡◌, ℕ, ◌+◌, ◌<◌, ◌≤◌, ◌⊎◌, inl, inr, Bool, true, false, List, length, get_or, map, slice_get, Some, IsTrue, codes, sym, ap, subst, ◌∙◌, arith}
-use Rattle.std.proofs.lemmas.Bool.{cases_lt}
-use Rattle.std.proofs.lemmas.List.{length-map}
-use Rattle.std.proofs.lemmas.Option.{slice_get_within, slice_get-get_or}
+use Rattle.rbg_base.proofs.Common.{◌≡◌, ℕ, ◌+◌, ◌<◌, ◌≤◌, ◌⊎◌, inl, inr, Bool, true, false, List, length, get_or, map, slice_get, Some, IsTrue, codes, sym, ap, subst, ◌∙◌, arith, cases_lt, length-map, slice_get_within, slice_get-get_or}
 use Rattle.rbg_base.proofs.CallerLemmas.{slice_get-map_at}
-use Rattle.rbg_tokens.specs.Kinds.{is_symbol}
+use Rattle.rbg_tokens.proofs.Common.{is_symbol, Lexeme, lexeme_of}
 use Rattle.rbg_tokens.specs.declared.token.Symbol.TheVariants as symbols
-use Rattle.rbg_tokens.specs.Token.{Lexeme, lexeme_of}
 use Rattle.rbg_tokens.specs.declared.token.Token.{Token}
 use Rattle.rbg_position.specs.Boards.{BeginsBoard}
 

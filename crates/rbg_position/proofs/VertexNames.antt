@@ -1,16 +1,11 @@
 -- The names in brackets of a game's text.
-use Rattle.std.proofs.Common.{◌≡◌, ℕ, List, [], ◌∷◌, ◌++◌, slice_get, slice_index_or, Some, refl, sym, ap, ◌∙◌, subst}
-use Rattle.std.specs.List.{AllZip, concat}
+use Rattle.rbg_base.proofs.Common.{◌≡◌, ℕ, List, [], ◌∷◌, ◌++◌, slice_get, slice_index_or, Some, refl, sym, ap, ◌∙◌, subst, AllZip, concat, get_or_from_slice_get}
 use Rattle.std.proofs.lemmas.List.{append-nil, map-append}
-use Rattle.std.proofs.lemmas.Option.{get_or_from_slice_get}
 use Rattle.rbg_board.specs.Written.{Written, pieces_of}
 use Rattle.rbg_game.specs.Descriptions.{BoardIs, VertexIs, board_in}
-use Rattle.rbg_grammar.specs.Grammar.{IsBoard}
-use Rattle.rbg_grammar.specs.Spells.{HasSection}
-use Rattle.rbg_grammar.specs.Tree.{SpeltName, SpeltVertex, SpeltBoard, rectangle, hexagon, graph}
+use Rattle.rbg_grammar.proofs.Common.{IsBoard, HasSection, SpeltName, SpeltVertex, SpeltBoard, rectangle, hexagon, graph}
 use Rattle.rbg_macro.specs.declared.source.SectionKind.TheVariants.{Board}
-use Rattle.rbg_macro.specs.Expansion.{HasSections}
-use Rattle.rbg_macro.specs.Sections.{SectionTokens}
+use Rattle.rbg_macro.proofs.Common.{HasSections, SectionTokens}
 use Rattle.rbg_macro.proofs.OneExpansion.{sections_once}
 use Rattle.rbg_rules.specs.Meaning.{AbstractGame}
 use Rattle.rbg_tokens.specs.Token.{Lexeme}

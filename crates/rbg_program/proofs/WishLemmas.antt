@@ -1,6 +1,5 @@
 -- Lemmas on what the words ask for.
-use Rattle.std.proofs.Common.{◌≡◌, ap, unwrap_or}
-use Rattle.std.specs.Prelude.{Some}
+use Rattle.std.proofs.Common.{◌≡◌, ap, unwrap_or, Some}
 use Rattle.rbg_tasks.specs.Words.{Wish}
 
 -- what is found is what is asked for

@@ -5,11 +5,8 @@ use Rattle.rbg_lines.specs.declared.heading.Start.{Start}
 use Rattle.rbg_lines.specs.declared.heading.Version.{Version}
 use Rattle.rbg_lines.specs.declared.heading.Version.TheVariants.{One, Two}
 use Rattle.rbg_lines.specs.Heading.{version_text, SpellsStart}
-use Rattle.rbg_match.specs.Config.{IsWithinLimits}
-use Rattle.rbg_match.specs.History.{start_place}
-use Rattle.rbg_match.specs.Limits.{latest_moment}
-use Rattle.rbg_record.specs.Right.{turn_config}
-use Rattle.rbg_record.specs.Lines.{version_next, players_next, start_next, entry_next, Leads}
+use Rattle.rbg_match.proofs.Common.{IsWithinLimits, start_place, latest_moment}
+use Rattle.rbg_record.proofs.Common.{turn_config, version_next, players_next, start_next, entry_next, Leads}
 use Rattle.rbg_record.specs.Lines as lines
 
 pub begun_one : (game : AbstractGame) (text : List ℕ) (version : Version) (place : AbstractPlace) → text ≡ version_text version → version ≡ One → place ≡ start_place game → Leads game version_next text (entry_next (record { version = One; turn_ms = 1; last = 0; place = place }))

@@ -1,8 +1,6 @@
 -- Of a record only one answer is true.
-use Rattle.std.proofs.Common.{◌≡◌, ℕ, ◌+◌, List, [], ◌∷◌, ◌++◌, length, Result, Ok, Err, refl, sym, ap, ◌∙◌, subst, append_assoc, append-nil}
-use Rattle.std.specs.Prelude.{IfOk, ◌↔◌}
-use Rattle.std.proofs.lemmas.Grind.{flat_map-append}
-use Rattle.rbg_wire.specs.Bytes.{LacksByte}
+use Rattle.rbg_base.proofs.Common.{◌≡◌, ℕ, ◌+◌, List, [], ◌∷◌, ◌++◌, length, Result, Ok, Err, refl, sym, ap, ◌∙◌, subst, append_assoc, append-nil, IfOk, ◌↔◌, flat_map-append}
+use Rattle.rbg_wire.proofs.Common.{LacksByte, line_feed, line_of, lines_of}
 use Rattle.rbg_rules.specs.Meaning.{IsNumbered, AbstractGame, AbstractPlace, Legal}
 use Rattle.rbg_rules.proofs.PlaceLemmas.{one_place_law}
 use Rattle.rbg_lines.specs.declared.entry.Entry.{Entry}
@@ -11,18 +9,10 @@ use Rattle.rbg_lines.specs.declared.entry.Timed.{Timed}
 use Rattle.rbg_lines.specs.declared.heading.Version.{Version}
 use Rattle.rbg_lines.specs.declared.heading.Version.TheVariants.{One, Two}
 use Rattle.rbg_lines.specs.Heading.{version_text}
-use Rattle.rbg_wire.specs.Lines.{line_feed, line_of, lines_of}
 use Rattle.rbg_lines.proofs.Apart.{entries_apart, headings_apart, one_start}
-use Rattle.rbg_record.specs.declared.checked.Checked.{Checked}
-use Rattle.rbg_record.specs.declared.checked.Checked.TheVariants.{Good, Bad}
-use Rattle.rbg_record.specs.declared.error.RecordError.{RecordError}
-use Rattle.rbg_record.specs.declared.error.RecordError.TheVariants.{Form, Over, Memory}
+use Rattle.rbg_record.proofs.Common.{Checked, Good, Bad, RecordError, Form, Over, Memory, IsRightRecord, Standing, Reached, version_next, nothing_next, entry_next, unwritten_moment, HasForm, SpellsIn, EntryLeads, Leads, LeadTo, BeginsWith, IsGoodByLines, IsFormFault, IsBadLine, IsJudged, OneJudgement, GoodByLines}
 use Rattle.rbg_match.specs.History.{start_place}
-use Rattle.rbg_record.specs.Right.{IsRightRecord}
-use Rattle.rbg_record.specs.Lines.{Standing, Reached, version_next, nothing_next, entry_next, unwritten_moment, HasForm, SpellsIn, EntryLeads, Leads, LeadTo}
 use Rattle.rbg_record.specs.Lines as lines
-use Rattle.rbg_record.specs.Judged.{BeginsWith, IsGoodByLines, IsFormFault, IsBadLine, IsJudged}
-use Rattle.rbg_record.specs.Laws.{OneJudgement, GoodByLines}
 use Rattle.rbg_record.proofs.Leading.{all_first, all_last, right_is_good}
 use Rattle.rbg_record.proofs.OneEnd.{End, good, bad, misread, Chain, stay, chain_more, IsReading, Stops, one_end}
 use Rattle.rbg_record.proofs.Telling.{good_is_right}

@@ -1,6 +1,5 @@
 -- Entries that lead on, and why others don't.
-use Rattle.std.proofs.Common.{◌≡◌, ◌≢◌, ℕ, ◌<◌, ◌≤◌, Bool, true, false, List, Option, Some, None, Result, Ok, Err, refl, sym, ◌∙◌, subst, arith}
-use Rattle.std.specs.Prelude.{IfErr, IfOk}
+use Rattle.std.proofs.Common.{◌≡◌, ◌≢◌, ℕ, ◌<◌, ◌≤◌, Bool, true, false, List, Option, Some, None, Result, Ok, Err, refl, sym, ◌∙◌, subst, arith, IfErr, IfOk}
 use Rattle.rbg_wire.specs.declared.outcome.Outcome.{Outcome}
 use Rattle.rbg_wire.specs.declared.outcome.Outcome.TheVariants.{Finished, Time, Refusals, Gone, Heavy}
 use Rattle.rbg_rules.specs.Meaning.{AbstractGame, AbstractPlace, Legal}
@@ -8,16 +7,10 @@ use Rattle.rbg_rules.specs.Moves as moves
 use Rattle.rbg_lines.specs.declared.entry.Entry.{Entry}
 use Rattle.rbg_lines.specs.declared.entry.Entry.TheVariants.{Move, End}
 use Rattle.rbg_lines.specs.declared.entry.Timed.{Timed}
-use Rattle.rbg_match.specs.History.{FitsOutcome, HasTurn}
-use Rattle.rbg_match.specs.Limits.{latest_moment}
-use Rattle.rbg_record.specs.declared.fault.Fault.{Fault}
+use Rattle.rbg_match.proofs.Common.{FitsOutcome, HasTurn, latest_moment}
+use Rattle.rbg_record.proofs.Common.{Fault, turn_config, FitsUnasked, Standing, Reached, nothing_next, entry_next, IsMomentFor, SpellsIn, EntryLeads, Leads, play_at, RefusesEntry, Refuses, reached_of, EndsSo, SomeIsLegal}
 use Rattle.rbg_record.specs.declared.fault.Fault.TheVariants.{Form, Bad, Over, Memory}
-use Rattle.rbg_record.specs.Right.{turn_config}
-use Rattle.rbg_record.specs.Judged.{FitsUnasked}
-use Rattle.rbg_record.specs.Lines.{Standing, Reached, nothing_next, entry_next, IsMomentFor, SpellsIn, EntryLeads, Leads, play_at}
 use Rattle.rbg_record.specs.Lines as lines
-use Rattle.rbg_record.specs.ByLine.{RefusesEntry, Refuses, reached_of}
-use Rattle.rbg_record.specs.internal.Reading.{EndsSo, SomeIsLegal}
 use Rattle.rbg_record.specs.declared.reached.Reached.{Reached as CodeReached}
 use Rattle.rbg_record.proofs.Deciding.{one_told}
 

@@ -1,28 +1,20 @@
 -- The lines of a record that is right are right in turn.
-use Rattle.std.proofs.Common.{◌≡◌, ◌≢◌, ℕ, ◌≤◌, List, [], ◌∷◌, ◌++◌, map, Option, refl, sym, ap, ◌∙◌, subst, arith, append-nil, append_assoc, All, Some, None, inl, inr}
-use Rattle.std.proofs.lemmas.List.{map-append}
-use Rattle.std.proofs.lemmas.List.Elements.{All-nil, All-cons, All-head, All-tail, All-map, All-weaker}
-use Rattle.rbg_wire.specs.Bytes.{LacksByte}
+use Rattle.rbg_base.proofs.Common.{◌≡◌, ◌≢◌, ℕ, ◌≤◌, List, [], ◌∷◌, ◌++◌, map, Option, refl, sym, ap, ◌∙◌, subst, arith, append-nil, append_assoc, All, Some, None, inl, inr, map-append, All-nil, All-cons, All-head, All-tail, All-map, All-weaker}
+use Rattle.rbg_wire.proofs.Common.{LacksByte, line_feed, lines_of}
 use Rattle.rbg_wire.specs.declared.outcome.Outcome.{Outcome}
 use Rattle.rbg_wire.specs.declared.outcome.Outcome.TheVariants.{Finished, Time, Refusals, Gone, Heavy}
 use Rattle.rbg_rules.specs.Meaning.{AbstractGame, AbstractPlace}
 use Rattle.rbg_lines.specs.declared.entry.Entry.TheVariants.{Move, End}
 use Rattle.rbg_lines.specs.declared.entry.Timed.{Timed}
 use Rattle.rbg_lines.specs.declared.heading.Version.TheVariants.{One, Two}
-use Rattle.rbg_lines.specs.Entries.{entry_text, timed_text, EntryHasSpelling, TimedHasSpelling}
-use Rattle.rbg_lines.specs.Heading.{version_text, players_text, start_text, SpellsPlayers}
-use Rattle.rbg_wire.specs.Lines.{line_feed, lines_of}
+use Rattle.rbg_lines.proofs.Common.{entry_text, timed_text, EntryHasSpelling, TimedHasSpelling, version_text, players_text, start_text, SpellsPlayers}
 use Rattle.rbg_lines.proofs.Lacking.{version_feedless, players_feedless, start_feedless, entry_feedless, timed_feedless}
 use Rattle.rbg_match.specs.declared.config.Config.{Config}
 use Rattle.rbg_match.specs.declared.made.Made.{Made}
-use Rattle.rbg_match.specs.History.{LeadsTo, MadeInTurn, IsInTurn, start_place}
+use Rattle.rbg_match.proofs.Common.{LeadsTo, MadeInTurn, IsInTurn, start_place, latest_moment}
 use Rattle.rbg_match.specs.History as history
-use Rattle.rbg_match.specs.Limits.{latest_moment}
-use Rattle.rbg_record.specs.Records.{PlainMove, PlainRecord, TimedRecord, AbstractRecord, plain, timed, plain_entry, made_entry, plain_entries, timed_entries, texts_of, HasSpelling}
-use Rattle.rbg_record.specs.Right.{turn_config, told_play, made_at, IsRight, IsRightPlain, IsRightTimed, IsRightRecord}
-use Rattle.rbg_record.specs.Lines.{entry_next, nothing_next, unwritten_moment, LeadTo}
+use Rattle.rbg_record.proofs.Common.{PlainMove, PlainRecord, TimedRecord, AbstractRecord, plain, timed, plain_entry, made_entry, plain_entries, timed_entries, texts_of, HasSpelling, turn_config, told_play, made_at, IsRight, IsRightPlain, IsRightTimed, IsRightRecord, entry_next, nothing_next, unwritten_moment, LeadTo, IsGoodByLines}
 use Rattle.rbg_record.specs.Lines as lines
-use Rattle.rbg_record.specs.Judged.{IsGoodByLines}
 use Rattle.rbg_record.proofs.Telling.{zero_or_not}
 use Rattle.rbg_record.proofs.Fitting.{fits_unwritten, fits_same, fits_later}
 

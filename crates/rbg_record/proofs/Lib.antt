@@ -1,4 +1,5 @@
 -- Lemmas, by topic.
+pub mod Common
 pub mod Beginning
 pub mod Deciding
 pub mod EntryLemmas

@@ -1,21 +1,13 @@
 -- The record of a match is right.
-use Rattle.std.proofs.Common.{◌≡◌, ℕ, List, [], ◌∷◌, ◌++◌, map, Option, Some, None, Ok, refl, sym, ap, ◌∙◌, subst, arith}
-use Rattle.std.proofs.lemmas.List.{map-append}
-use Rattle.std.specs.declared.alloc.Global.{Global}
-use Rattle.std.specs.declared.vec.Vec.{Vec}
+use Rattle.rbg_base.proofs.Common.{◌≡◌, ℕ, List, [], ◌∷◌, ◌++◌, map, Option, Some, None, Ok, refl, sym, ap, ◌∙◌, subst, arith, map-append, Global, Vec}
 use Rattle.rbg_wire.specs.declared.outcome.Outcome.{Outcome}
 use Rattle.rbg_wire.specs.declared.outcome.Outcome.TheVariants.{Finished, Time, Refusals, Gone, Heavy}
 use Rattle.rbg_rules.specs.Meaning.{AbstractGame, AbstractPlace}
 use Rattle.rbg_match.specs.declared.config.Config.{Config}
 use Rattle.rbg_match.specs.declared.made.Made.{Made}
 use Rattle.rbg_match.specs.History as history
-use Rattle.rbg_match.specs.History.{LeadsTo, MadeInTurn, FitsOutcome}
-use Rattle.rbg_match.specs.Matches.{MatchState, HasHistory}
-use Rattle.rbg_match.specs.Play.{AbstractPlay}
-use Rattle.rbg_record.specs.Laws.{MatchesAreRight}
-use Rattle.rbg_record.specs.OfMatch.{WritesRecord, record_of, plain_record_of, plain_move}
-use Rattle.rbg_record.specs.Records.{AbstractRecord, plain, timed, Spells}
-use Rattle.rbg_record.specs.Right.{turn_config, told_play, made_at, IsRight}
+use Rattle.rbg_match.proofs.Common.{LeadsTo, MadeInTurn, FitsOutcome, MatchState, HasHistory, AbstractPlay}
+use Rattle.rbg_record.proofs.Common.{MatchesAreRight, WritesRecord, record_of, plain_record_of, plain_move, AbstractRecord, plain, timed, Spells, turn_config, told_play, made_at, IsRight}
 use Rattle.rbg_record.proofs.Fitting.{fits_place}
 
 -- What a record leaves out of a config and of the state of play has no part in its history.

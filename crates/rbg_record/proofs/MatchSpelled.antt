@@ -1,8 +1,6 @@
 -- The record of a match has a spelling.
-use Rattle.std.proofs.Common.{◌≡◌, ℕ, ◌<◌, ◌≤◌, ◌^◌, List, [], ◌∷◌, length, take, map, All, Option, Some, None, Ok, sym, ap, subst, arith}
-use Rattle.std.specs.Prelude.{IsTrue}
+use Rattle.rbg_base.proofs.Common.{◌≡◌, ℕ, ◌<◌, ◌≤◌, ◌^◌, List, [], ◌∷◌, length, take, map, All, Option, Some, None, Ok, sym, ap, subst, arith, IsTrue, All-nil, All-cons, All-push, All-append, All-take, All-map, All-head, All-tail, All-get_or, All-weaker, All-from_get_or}
 use Rattle.std.proofs.lemmas.List.{length-take, length-take-le}
-use Rattle.std.proofs.lemmas.List.Elements.{All-nil, All-cons, All-push, All-append, All-take, All-map, All-head, All-tail, All-get_or, All-weaker, All-from_get_or}
 use Rattle.rbg_base.specs.Names.{is_name}
 use Rattle.rbg_wire.specs.declared.outcome.Outcome.{Outcome}
 use Rattle.rbg_wire.specs.declared.outcome.Outcome.TheVariants.{Finished, Time, Refusals, Gone, Heavy}
@@ -13,15 +11,11 @@ use Rattle.rbg_moves.proofs.Steps.{legal_some, switch_modifies, modifier_positio
 use Rattle.rbg_match.specs.declared.config.Config.{Config}
 use Rattle.rbg_match.specs.declared.made.Made.{Made}
 use Rattle.rbg_match.specs.History as history
-use Rattle.rbg_match.specs.History.{LeadsTo, MadeInTurn, FitsOutcome}
-use Rattle.rbg_match.specs.Matches.{MatchState, HasHistory}
-use Rattle.rbg_match.specs.Play.{AbstractPlay}
+use Rattle.rbg_match.proofs.Common.{LeadsTo, MadeInTurn, FitsOutcome, MatchState, HasHistory, AbstractPlay}
 use Rattle.rbg_match.proofs.LegalPairs.{found_are_pairs}
 use Rattle.rbg_lines.specs.declared.entry.Entry.TheVariants.{Move, End}
-use Rattle.rbg_lines.specs.Entries.{EntryHasSpelling, TimedHasSpelling}
-use Rattle.rbg_lines.specs.Heading.{HaveNames}
-use Rattle.rbg_record.specs.Records.{plain, timed, made_entry, plain_entry, HasSpelling}
-use Rattle.rbg_record.specs.OfMatch.{record_of, plain_record_of, plain_move}
+use Rattle.rbg_lines.proofs.Common.{EntryHasSpelling, TimedHasSpelling, HaveNames}
+use Rattle.rbg_record.proofs.Common.{plain, timed, made_entry, plain_entry, HasSpelling, record_of, plain_record_of, plain_move}
 use Rattle.rbg_record.proofs.Fitting.{fits_later}
 
 -- A run leads from a semi-state of the game to one of the game, and so does a legal move.

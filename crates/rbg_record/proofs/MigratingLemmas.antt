@@ -1,10 +1,6 @@
 -- Version 2 of a record of version 1, line by line.
-use Rattle.std.proofs.Common.{◌≡◌, ℕ, ◌+◌, List, [], ◌∷◌, ◌++◌, map, Option, refl, sym, ap, ◌∙◌, subst, arith, append-nil, append_assoc, All, Result, Err}
-use Rattle.std.specs.Prelude.{◌↔◌}
-use Rattle.std.proofs.lemmas.Grind.{flat_map-append}
-use Rattle.std.proofs.lemmas.List.{map-append}
-use Rattle.std.proofs.lemmas.List.Elements.{All-nil, All-cons, All-head, All-tail, All-push}
-use Rattle.rbg_wire.specs.Bytes.{LacksByte}
+use Rattle.rbg_base.proofs.Common.{◌≡◌, ℕ, ◌+◌, List, [], ◌∷◌, ◌++◌, map, Option, refl, sym, ap, ◌∙◌, subst, arith, append-nil, append_assoc, All, Result, Err, ◌↔◌, flat_map-append, map-append, All-nil, All-cons, All-head, All-tail, All-push}
+use Rattle.rbg_wire.proofs.Common.{LacksByte, line_feed, line_of, lines_of}
 use Rattle.rbg_wire.specs.declared.outcome.Outcome.{Outcome}
 use Rattle.rbg_rules.specs.Meaning.{AbstractGame, AbstractPlace}
 use Rattle.rbg_lines.specs.declared.entry.Entry.{Entry}
@@ -12,21 +8,12 @@ use Rattle.rbg_lines.specs.declared.entry.Entry.TheVariants.{Move, End}
 use Rattle.rbg_lines.specs.declared.entry.Timed.{Timed}
 use Rattle.rbg_lines.specs.declared.heading.Version.{Version}
 use Rattle.rbg_lines.specs.declared.heading.Version.TheVariants.{One, Two}
-use Rattle.rbg_lines.specs.Entries.{entry_text, timed_text, EntryHasSpelling, TimedHasSpelling, SpellsEntry}
-use Rattle.rbg_lines.specs.Heading.{version_text, players_text, start_text, HaveNames}
-use Rattle.rbg_lines.specs.Lines.{IsFirstLine}
-use Rattle.rbg_wire.specs.Lines.{line_feed, line_of, lines_of}
+use Rattle.rbg_lines.proofs.Common.{entry_text, timed_text, EntryHasSpelling, TimedHasSpelling, SpellsEntry, version_text, players_text, start_text, HaveNames, IsFirstLine}
 use Rattle.rbg_match.specs.declared.made.Made.{Made}
 use Rattle.rbg_match.specs.History.{LeadsTo, MadeInTurn}
 use Rattle.rbg_match.specs.History as history
-use Rattle.rbg_record.specs.declared.error.RecordError.{RecordError}
-use Rattle.rbg_record.specs.declared.error.RecordError.TheVariants.{Form}
-use Rattle.rbg_record.specs.Records.{PlainMove, PlainRecord, plain, timed, plain_entry, made_entry, texts_of}
-use Rattle.rbg_record.specs.Right.{made_at, turn_config, told_play, IsRight, IsRightPlain, IsRightTimed}
-use Rattle.rbg_record.specs.Lines.{with_moment, unwritten_moment}
-use Rattle.rbg_record.specs.Migration.{PlainPart, before_version, among_moves, behind_end, HasPlainForm, IsPlainSoFar, IsPlainFault, IsMigrated, migrated}
+use Rattle.rbg_record.proofs.Common.{RecordError, Form, PlainMove, PlainRecord, plain, timed, plain_entry, made_entry, texts_of, made_at, turn_config, told_play, IsRight, IsRightPlain, IsRightTimed, with_moment, unwritten_moment, PlainPart, before_version, among_moves, behind_end, HasPlainForm, IsPlainSoFar, IsPlainFault, IsMigrated, migrated, Migrates, IsMigratedSoFar, TellsAll, IsTold, part_behind, head_texts, timed_texts}
 use Rattle.rbg_record.specs.Migration as migration
-use Rattle.rbg_record.specs.internal.Migrating.{Migrates, IsMigratedSoFar, TellsAll, IsTold, part_behind, head_texts, timed_texts}
 use Rattle.rbg_record.specs.internal.Migrating as migrating
 use Rattle.rbg_record.proofs.Fitting.{fits_place, fits_unwritten}
 use Rattle.rbg_record.proofs.Leading.{unwritten_counted, all_first, all_last}

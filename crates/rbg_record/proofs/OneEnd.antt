@@ -1,10 +1,8 @@
 -- Bytes that are read line by line stop at one line, in one way.
-use Rattle.std.proofs.Common.{◌≡◌, ℕ, suc, List, [], ◌∷◌, ◌++◌, length, refl, sym, ap, ◌∙◌, subst, append_assoc, All}
-use Rattle.std.proofs.lemmas.List.Elements.{All-head, All-tail}
-use Rattle.rbg_wire.specs.Bytes.{LacksByte}
+use Rattle.rbg_base.proofs.Common.{◌≡◌, ℕ, suc, List, [], ◌∷◌, ◌++◌, length, refl, sym, ap, ◌∙◌, subst, append_assoc, All, All-head, All-tail}
+use Rattle.rbg_wire.proofs.Common.{LacksByte, line_feed, line_of, lines_of}
 use Rattle.rbg_wire.proofs.ByteLemmas.{no_cut, same_cut}
 use Rattle.rbg_lines.specs.Lines.{IsFirstLine}
-use Rattle.rbg_wire.specs.Lines.{line_feed, line_of, lines_of}
 use Rattle.rbg_record.specs.Judged.{GoesOn}
 use Rattle.rbg_record.specs.Judged as judged
 

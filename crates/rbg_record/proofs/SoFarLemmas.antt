@@ -1,22 +1,13 @@
 -- What was read of a record, line by line.
-use Rattle.std.proofs.Common.{◌≡◌, ℕ, ◌+◌, List, [], ◌∷◌, ◌++◌, length, refl, sym, ap, ◌∙◌, subst, arith, Bool, true, false}
-use Rattle.std.specs.Prelude.{◌==◌}
+use Rattle.rbg_base.proofs.Common.{◌≡◌, ℕ, ◌+◌, List, [], ◌∷◌, ◌++◌, length, refl, sym, ap, ◌∙◌, subst, arith, Bool, true, false, ◌==◌, All-nil, All-push}
 use Rattle.std.proofs.lemmas.Bool.{true≢false}
 use Rattle.std.proofs.lemmas.List.{length-append}
-use Rattle.std.proofs.lemmas.List.Elements.{All-nil, All-push}
-use Rattle.rbg_wire.specs.Bytes.{LacksByte}
+use Rattle.rbg_wire.proofs.Common.{LacksByte, line_feed, lines_of}
 use Rattle.rbg_rules.specs.Meaning.{AbstractPlace, IsPlaceOf, AbstractGame}
 use Rattle.rbg_lines.specs.Lines.{IsFirstLine}
-use Rattle.rbg_wire.specs.Lines.{line_feed, lines_of}
-use Rattle.rbg_record.specs.declared.fault.Fault.{Fault}
+use Rattle.rbg_record.proofs.Common.{Fault, Reached, version_next, players_next, start_next, entry_next, nothing_next, HasForm, Leads, LeadTo, BeginsWith, GoesOn, IsGoodByLines, IsLineOf, HasFormFault, IsFormFault, IsJudged, told_at, IsReachedIn, Refuses, place_in, IsCutSoFar, IsReadSoFar}
 use Rattle.rbg_record.specs.declared.fault.Fault.TheVariants.{Form, Bad, Over, Memory}
-use Rattle.rbg_record.specs.Lines.{Reached, version_next, players_next, start_next, entry_next, nothing_next, HasForm, Leads, LeadTo}
 use Rattle.rbg_record.specs.Lines as lines
-use Rattle.rbg_record.specs.Judged.{BeginsWith, GoesOn, IsGoodByLines, IsLineOf, HasFormFault, IsFormFault, IsJudged}
-use Rattle.rbg_record.specs.internal.Faults.{told_at}
-use Rattle.rbg_record.specs.ByLine.{IsReachedIn, Refuses}
-use Rattle.rbg_record.specs.Reaching.{place_in}
-use Rattle.rbg_record.specs.internal.SoFar.{IsCutSoFar, IsReadSoFar}
 use Rattle.rbg_record.proofs.Deciding.{last_line}
 use Rattle.rbg_record.proofs.OneEnd.{ends_early, not_formed}
 

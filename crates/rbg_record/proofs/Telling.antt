@@ -1,7 +1,5 @@
 -- Lines that are right in turn tell a record that is right.
-use Rattle.std.proofs.Common.{◌≡◌, ◌≢◌, ◌⊎◌, inl, inr, zero, suc, ℕ, ◌≤◌, List, [], ◌∷◌, ◌++◌, map, Option, refl, sym, ap, ◌∙◌, subst, arith, append-nil, All}
-use Rattle.std.proofs.lemmas.List.{map-append}
-use Rattle.std.proofs.lemmas.List.Elements.{All-nil, All-push}
+use Rattle.rbg_base.proofs.Common.{◌≡◌, ◌≢◌, ◌⊎◌, inl, inr, zero, suc, ℕ, ◌≤◌, List, [], ◌∷◌, ◌++◌, map, Option, refl, sym, ap, ◌∙◌, subst, arith, append-nil, All, map-append, All-nil, All-push}
 use Rattle.rbg_wire.specs.declared.outcome.Outcome.{Outcome}
 use Rattle.rbg_rules.specs.Meaning.{AbstractGame, AbstractPlace, Legal}
 use Rattle.rbg_lines.specs.declared.entry.Entry.TheVariants.{Move, End}
@@ -9,19 +7,13 @@ use Rattle.rbg_lines.specs.declared.entry.Timed.{Timed}
 use Rattle.rbg_lines.specs.declared.heading.Start.{Start}
 use Rattle.rbg_lines.specs.declared.heading.Version.{Version}
 use Rattle.rbg_lines.specs.declared.heading.Version.TheVariants.{One, Two}
-use Rattle.rbg_lines.specs.Entries.{entry_text, timed_text, EntryHasSpelling, TimedHasSpelling, SpellsEntry, SpellsTimed}
-use Rattle.rbg_lines.specs.Heading.{version_text, players_text, start_text, HaveNames, StartHasSpelling}
+use Rattle.rbg_lines.proofs.Common.{entry_text, timed_text, EntryHasSpelling, TimedHasSpelling, SpellsEntry, SpellsTimed, version_text, players_text, start_text, HaveNames, StartHasSpelling}
 use Rattle.rbg_wire.specs.Lines.{lines_of}
 use Rattle.rbg_match.specs.declared.made.Made.{Made}
-use Rattle.rbg_match.specs.Config.{IsWithinLimits}
-use Rattle.rbg_match.specs.History.{LeadsTo, MadeInTurn, FitsOutcome}
+use Rattle.rbg_match.proofs.Common.{IsWithinLimits, LeadsTo, MadeInTurn, FitsOutcome, latest_moment}
 use Rattle.rbg_match.specs.History as history
-use Rattle.rbg_match.specs.Limits.{latest_moment}
-use Rattle.rbg_record.specs.Records.{PlainMove, AbstractRecord, plain, timed, plain_entry, made_entry, texts_of, HasSpelling}
-use Rattle.rbg_record.specs.Right.{turn_config, told_play, made_at, FitsPlace, IsRight, IsRightRecord}
-use Rattle.rbg_record.specs.Lines.{Standing, Reached, version_next, players_next, start_next, entry_next, nothing_next, SpellsIn, EntryLeads, Leads, LeadTo, play_at}
+use Rattle.rbg_record.proofs.Common.{PlainMove, AbstractRecord, plain, timed, plain_entry, made_entry, texts_of, HasSpelling, turn_config, told_play, made_at, FitsPlace, IsRight, IsRightRecord, Standing, Reached, version_next, players_next, start_next, entry_next, nothing_next, SpellsIn, EntryLeads, Leads, LeadTo, play_at, IsGoodByLines}
 use Rattle.rbg_record.specs.Lines as lines
-use Rattle.rbg_record.specs.Judged.{IsGoodByLines}
 use Rattle.rbg_record.proofs.Fitting.{fits_place, fits_same}
 
 -- What the lines so far tell of play, in version 1.

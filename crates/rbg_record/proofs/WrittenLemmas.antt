@@ -1,9 +1,6 @@
 -- What is written of a match is its record.
-use Rattle.std.proofs.Common.{◌≡◌, ℕ, ◌+◌, ◌-◌, List, [], ◌∷◌, ◌++◌, map, take, slice_get, codes, Option, Some, arith, sym, ap, ◌∙◌, append_assoc, append-nil}
-use Rattle.std.proofs.lemmas.List.{take_more}
+use Rattle.rbg_base.proofs.Common.{◌≡◌, ℕ, ◌+◌, ◌-◌, List, [], ◌∷◌, ◌++◌, map, take, slice_get, codes, Option, Some, arith, sym, ap, ◌∙◌, append_assoc, append-nil, take_more, slice_get_within, get_or_from_slice_get, flat_map}
 use Rattle.std.proofs.lemmas.List.Concat.{flat_map-append}
-use Rattle.std.proofs.lemmas.Option.{slice_get_within, get_or_from_slice_get}
-use Rattle.std.specs.List.{flat_map}
 use Rattle.rbg_wire.specs.declared.outcome.Outcome.{Outcome}
 use Rattle.rbg_rules.specs.Meaning.{IsGame}
 use Rattle.rbg_match.specs.declared.config.Config.{Config}
@@ -11,12 +8,9 @@ use Rattle.rbg_match.specs.declared.made.Made.{Made}
 use Rattle.rbg_match.specs.Matches.{MatchState, HasHistory}
 use Rattle.rbg_lines.specs.declared.entry.Entry.TheVariants.{End}
 use Rattle.rbg_lines.specs.declared.heading.Version.TheVariants.{One, Two}
-use Rattle.rbg_lines.specs.Entries.{entry_text, timed_text}
-use Rattle.rbg_lines.specs.Heading.{version_text, players_text, start_text}
+use Rattle.rbg_lines.proofs.Common.{entry_text, timed_text, version_text, players_text, start_text}
 use Rattle.rbg_wire.specs.Lines.{line_of, lines_of}
-use Rattle.rbg_record.specs.internal.Written.{made_text, told_text, entries_bytes}
-use Rattle.rbg_record.specs.OfMatch.{record_of, plain_record_of, plain_move}
-use Rattle.rbg_record.specs.Records.{plain, timed, plain_entry, made_entry, Spells}
+use Rattle.rbg_record.proofs.Common.{made_text, told_text, entries_bytes, record_of, plain_record_of, plain_move, plain, timed, plain_entry, made_entry, Spells}
 use Rattle.rbg_record.proofs.MatchSpelled.{two_spelled, one_spelled}
 
 entries_two : (moves : List Made) (moment : ℕ) (outcome : Option Outcome) →

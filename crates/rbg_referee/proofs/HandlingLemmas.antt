@@ -1,13 +1,9 @@
 -- Events are handled in turn, until one of them is refused.
-use Rattle.std.proofs.Common.{◌≡◌, ℕ, ◌+◌, ◌<◌, true, false, List, length, map, take, get_or, Option, Some, None, Result, Ok, Err, Bool, refl, sym, ap, ◌∙◌}
-use Rattle.std.specs.Result.{is_err, IsOk, OnOk, OnErr}
+use Rattle.rbg_base.proofs.Common.{◌≡◌, ℕ, ◌+◌, ◌<◌, true, false, List, length, map, take, get_or, Option, Some, None, Result, Ok, Err, Bool, refl, sym, ap, ◌∙◌, is_err, IsOk, OnOk, OnErr, map_more, take-map}
 use Rattle.std.proofs.lemmas.Bool.{true≢false, false≢true}
-use Rattle.std.proofs.lemmas.List.{map_more, take-map}
 use Rattle.rbg_wire.specs.declared.outcome.Outcome.{Outcome}
 use Rattle.rbg_match.specs.declared.event.Event.{Event}
-use Rattle.rbg_match.specs.PlayingOn.{seats_of}
-use Rattle.rbg_match.specs.Inputs.{AbstractEvent, event_of}
-use Rattle.rbg_match.specs.Matches.{MatchState, Steps, StepsAll, more}
+use Rattle.rbg_match.proofs.Common.{seats_of, AbstractEvent, event_of, MatchState, Steps, StepsAll, more}
 use Rattle.rbg_match.proofs.Delivering.{length-delivered}
 
 -- what a call that handles whether it was refused leaves

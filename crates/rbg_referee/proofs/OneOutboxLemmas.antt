@@ -2,9 +2,7 @@
 use Rattle.std.proofs.Common.{List, sym, ap, ◌∙◌, subst}
 use Rattle.rbg_game.proofs.OneGame.{one_game_law}
 use Rattle.rbg_rules.specs.Meaning.{AbstractGame}
-use Rattle.rbg_match.specs.Deliveries.{Delivery, queued}
-use Rattle.rbg_match.specs.PlayingOn.{seats_of}
-use Rattle.rbg_match.specs.Transcript.{Transcript}
+use Rattle.rbg_match.proofs.Common.{Delivery, queued, seats_of, Transcript}
 use Rattle.rbg_match.proofs.OneTranscriptLemmas.{one_transcript}
 use Rattle.rbg_referee.specs.Laws.{OneOutbox}
 

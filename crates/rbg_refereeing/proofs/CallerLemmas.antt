@@ -1,7 +1,6 @@
 -- What callers need: facts of what is returned, and what the runs of commands are that write their answers by
 -- `write_answer`.
-use Rattle.std.proofs.Common.{◌<◌, ◌≤◌, ℕ, List, Option, Result, Ok, Err, length, arith}
-use Rattle.std.specs.Prelude.{IfOk}
+use Rattle.std.proofs.Common.{◌<◌, ◌≤◌, ℕ, List, Option, Result, Ok, Err, length, arith, IfOk}
 use Rattle.rbg_console.specs.declared.status.Status.{Status}
 use Rattle.rbg_game.specs.Loading.{IsRefused}
 use Rattle.rbg_game.specs.declared.error.LoadError.TheVariants.{Text}

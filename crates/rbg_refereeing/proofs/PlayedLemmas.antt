@@ -1,8 +1,6 @@
 -- Lemmas on the match of a script.
-use Rattle.std.proofs.Common.{◌≡◌, ◌∙◌, ℕ, List, [], length, replicate, ap, sym}
-use Rattle.std.proofs.lemmas.List.{length-replicate}
-use Rattle.rbg_match.specs.Matches.{MatchState}
-use Rattle.rbg_match.specs.PlayingOn.{seats_of}
+use Rattle.rbg_base.proofs.Common.{◌≡◌, ◌∙◌, ℕ, List, [], length, replicate, ap, sym, length-replicate}
+use Rattle.rbg_match.proofs.Common.{MatchState, seats_of}
 use Rattle.rbg_match.proofs.Delivering.{delivered-queued, length-delivered}
 use Rattle.rbg_script.specs.Scripts.{AbstractScript}
 use Rattle.rbg_refereeing.specs.Matches.{IsScriptPlayed}

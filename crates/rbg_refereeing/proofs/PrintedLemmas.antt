@@ -1,11 +1,7 @@
 -- Lemmas on the printed lines of a match.
-use Rattle.std.proofs.Common.{false, ◌≡◌, ℕ, ◌+◌, ◌<◌, ◌==◌, List, [], ◌∷◌, ◌++◌, All, length, take, get_or, if◌then◌else◌, ap, sym, ◌∙◌, refl, subst, arith, codes, decimal, append_assoc}
-use Rattle.std.specs.List.{flat_map}
-use Rattle.std.proofs.lemmas.Bool.Decides.{nat_tests}
+use Rattle.rbg_base.proofs.Common.{false, ◌≡◌, ℕ, ◌+◌, ◌<◌, ◌==◌, List, [], ◌∷◌, ◌++◌, All, length, take, get_or, if◌then◌else◌, ap, sym, ◌∙◌, refl, subst, arith, codes, decimal, append_assoc, flat_map, nat_tests, All-push}
 use Rattle.std.proofs.lemmas.List.{take_more, length-take-le, flat_map_more}
-use Rattle.std.proofs.lemmas.List.Elements.{All-push}
-use Rattle.rbg_wire.specs.Bytes.{LacksByte}
-use Rattle.rbg_wire.specs.Messages.{game_letter}
+use Rattle.rbg_wire.proofs.Common.{LacksByte, game_letter}
 use Rattle.rbg_refereeing.specs.Printed.{with_zero, AreMessages, printed_message, message_line, seat_lines, IsPrinted}
 use Rattle.rbg_refereeing.specs.Printed.IsPrinted.{one_more}
 

@@ -1,13 +1,9 @@
 -- No message of a match has a zero byte.
-use Rattle.std.proofs.Common.{◌≢◌, ℕ, zero, suc, ◌+◌, ◌/◌, ◌%◌, ◌==◌, Bool, true, false, if◌then◌else◌, List, [], ◌∷◌, ◌++◌, length, drop_at, refl, subst, arith, codes, decimal}
+use Rattle.rbg_base.proofs.Common.{◌≢◌, ℕ, zero, suc, ◌+◌, ◌/◌, ◌%◌, ◌==◌, Bool, true, false, if◌then◌else◌, List, [], ◌∷◌, ◌++◌, length, drop_at, refl, subst, arith, codes, decimal, flat_map, IsTrue, nat_lt, All-nil, All-cons, All-append, All-drop}
 use Rattle.std.specs.Fmt.{digits, digits_onto, digit_glyph}
-use Rattle.std.specs.List.{flat_map}
-use Rattle.std.specs.Prelude.{IsTrue, nat_lt}
-use Rattle.std.proofs.lemmas.List.Elements.{All-nil, All-cons, All-append, All-drop}
 use Rattle.rbg_base.specs.Names.{is_name}
 use Rattle.rbg_wire.proofs.LawLemmas.{message_some}
-use Rattle.rbg_wire.specs.Bytes.{LacksByte}
-use Rattle.rbg_wire.specs.Messages.{AbstractMessage, who_message, game_message, limits_message, move_message, refusal_message, end_message, message_text, outcome_text, pair_text, pairs_text, reason_number}
+use Rattle.rbg_wire.proofs.Common.{LacksByte, AbstractMessage, who_message, game_message, limits_message, move_message, refusal_message, end_message, message_text, outcome_text, pair_text, pairs_text, reason_number}
 use Rattle.rbg_wire.specs.declared.message.Reason.{Reason}
 use Rattle.rbg_wire.specs.declared.outcome.Outcome.{Outcome}
 use Rattle.rbg_wire.specs.declared.outcome.Outcome.TheVariants.{Finished, Time, Refusals, Gone, Heavy}

@@ -1,28 +1,19 @@
 -- The bytes that a match leaves for a seat are whole messages.
-use Rattle.std.proofs.Common.{◌≡◌, ℕ, zero, suc, ◌+◌, ◌==◌, ◌∙◌, Bool, true, false, if◌then◌else◌, List, [], ◌∷◌, ◌++◌, get_or, ap, refl, sym, subst, append_assoc}
-use Rattle.std.specs.List.{flat_map, enumerate_from, range_with_len}
-use Rattle.std.specs.Prelude.{All, IsTrue}
-use Rattle.std.proofs.lemmas.List.Elements.{All-nil, All-cons, All-append, All-head, All-tail, All-map}
+use Rattle.rbg_base.proofs.Common.{◌≡◌, ℕ, zero, suc, ◌+◌, ◌==◌, ◌∙◌, Bool, true, false, if◌then◌else◌, List, [], ◌∷◌, ◌++◌, get_or, ap, refl, sym, subst, append_assoc, flat_map, enumerate_from, range_with_len, All, IsTrue, All-nil, All-cons, All-append, All-head, All-tail, All-map}
 use Rattle.rbg_base.specs.Names.{is_name}
 use Rattle.rbg_referee.proofs.CallerLemmas.{names_in, no_zero_in}
 use Rattle.rbg_match.specs.declared.config.Config.{Config}
-use Rattle.rbg_match.specs.Deliveries.{Delivery, to_seat, to_each, to_others, bytes_for}
-use Rattle.rbg_match.specs.Handling.{AbstractInput, Refuses, Judges, HandlesInTime, Handles}
+use Rattle.rbg_match.proofs.Common.{Delivery, to_seat, to_each, to_others, bytes_for, AbstractInput, Refuses, Judges, HandlesInTime, Handles, AbstractEvent, TimedInput, AbstractPlay, PlaysOn, seats_of, HandlesAll, greeting, greetings}
 use Rattle.rbg_match.specs.Handling.Refuses.{counted, spent}
 use Rattle.rbg_match.specs.Handling.Judges.{heavy as hard, illegal, legal}
 use Rattle.rbg_match.specs.Handling.HandlesInTime.{nothing, leaving, out_of_turn, unreadable, too_many, judged}
 use Rattle.rbg_match.specs.Handling.Handles.{after_end, overdue, in_time}
-use Rattle.rbg_match.specs.Inputs.{AbstractEvent, TimedInput}
-use Rattle.rbg_match.specs.Play.{AbstractPlay}
-use Rattle.rbg_match.specs.PlayingOn.{PlaysOn, seats_of}
 use Rattle.rbg_match.specs.PlayingOn.PlaysOn.{endless, heavy, finished, keeper, turn}
 use Rattle.rbg_referee.specs.Refereed.{IsRefereed}
-use Rattle.rbg_match.specs.Transcript.{HandlesAll, greeting, greetings}
 use Rattle.rbg_match.specs.Transcript.HandlesAll.{none, more}
 use Rattle.rbg_rules.specs.Meaning.{AbstractGame}
 use Rattle.rbg_wire.proofs.ByteLemmas.{no_cut, same_cut}
-use Rattle.rbg_wire.specs.Bytes.{LacksByte}
-use Rattle.rbg_wire.specs.Messages.{AbstractMessage, who_message, game_message, limits_message, move_message, refusal_message, end_message, message_text, spelling}
+use Rattle.rbg_wire.proofs.Common.{LacksByte, AbstractMessage, who_message, game_message, limits_message, move_message, refusal_message, end_message, message_text, spelling}
 use Rattle.rbg_wire.specs.declared.message.Reason.{Reason}
 use Rattle.rbg_wire.specs.declared.outcome.Outcome.TheVariants.{Refusals}
 use Rattle.rbg_refereeing.specs.Laws.{AreWhole, OutboxesAreWhole}

@@ -1,6 +1,5 @@
 -- A pattern's answer is whether some word of its inside runs.
-use Rattle.std.proofs.Common.{◌≡◌, ℕ, List, subst, inl, inr}
-use Rattle.std.specs.Prelude.{◌↔◌}
+use Rattle.std.proofs.Common.{◌≡◌, ℕ, List, subst, inl, inr, ◌↔◌}
 use Rattle.rbg_rules.specs.Expression.{positive, negative, Expression}
 use Rattle.rbg_rules.specs.Positions.{HasAction, IsNumbered, IsLevel, inside}
 use Rattle.rbg_rules.specs.Words.{Word, WordOf, beginning}

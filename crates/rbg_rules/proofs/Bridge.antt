@@ -1,19 +1,6 @@
 -- The equations of the translation, for each kind of node. Nothing else looks into how the program's trees are built.
-use Rattle.std.proofs.Common.{◌≡◌, ℕ, List, map, ap, ◌∙◌}
-use Rattle.std.specs.Prelude.{Vec, Box}
-use Rattle.std.specs.Global.{Global}
-use Rattle.rbg_rules.specs.declared.arithmetic.Arithmetic.{Arithmetic}
-use Rattle.rbg_rules.specs.declared.arithmetic.Arithmetic.TheVariants.{Number, outs-Number, Variable, outs-Variable, PieceCount, outs-PieceCount, Negated, outs-Negated, Chain, outs-Chain}
-use Rattle.rbg_rules.specs.declared.arithmetic.Arithmetic.TheOpen.{Arithmetic-F, Operation-F}
-use Rattle.rbg_rules.specs.declared.arithmetic.Arithmetic.TheViews.{out-Arithmetic, out-Operation, roll-Operation, out-roll-Operation}
-use Rattle.rbg_rules.specs.declared.arithmetic.Arithmetic.TheFolds.{fold_out-Arithmetic, fold_out-Operation, map-Arithmetic, map-Operation}
-use Rattle.rbg_rules.specs.declared.arithmetic.Operation.{Operation}
-use Rattle.rbg_rules.specs.declared.rule.Action.{Action}
-use Rattle.rbg_rules.specs.declared.rule.Rule.{Rule}
-use Rattle.rbg_rules.specs.declared.rule.Rule.TheOpen.{Rule-F}
-use Rattle.rbg_rules.specs.declared.rule.Rule.TheViews.{out-Rule}
-use Rattle.rbg_rules.specs.declared.rule.Rule.TheVariants.{Act, outs-Act, Pattern, outs-Pattern, Then, outs-Then, Or, outs-Or, Star, outs-Star}
-use Rattle.rbg_rules.specs.declared.rule.Rule.TheFolds.{fold_out-Rule, map-Rule}
+use Rattle.std.proofs.Common.{◌≡◌, ℕ, List, map, ap, ◌∙◌, Vec, Box, Global}
+use Rattle.rbg_rules.proofs.Common.{Arithmetic, Number, outs-Number, Variable, outs-Variable, PieceCount, outs-PieceCount, Negated, outs-Negated, Chain, outs-Chain, Arithmetic-F, Operation-F, out-Arithmetic, out-Operation, roll-Operation, out-roll-Operation, fold_out-Arithmetic, fold_out-Operation, map-Arithmetic, map-Operation, Operation, Action, Rule, Rule-F, out-Rule, Act, outs-Act, Pattern, outs-Pattern, Then, outs-Then, Or, outs-Or, Star, outs-Star, fold_out-Rule, map-Rule}
 use Rattle.rbg_rules.specs.Expression.{AbstractArithmetic, number, variable, piece_count, negated, Expression, sequence_of, choice_of, star}
 use Rattle.rbg_rules.specs.Translation.{Change, changed, operated, arithmetic_step, operation_step, arithmetic_of, operation_of, rule_step, action_at, act_of, pattern_of, expression_of}
 

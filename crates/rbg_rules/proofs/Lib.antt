@@ -1,4 +1,5 @@
 -- Lemmas on the definitions of specs/, by topic.
+pub mod Common
 pub mod ListLemmas
 pub mod RunLemmas
 pub mod PositionLemmas

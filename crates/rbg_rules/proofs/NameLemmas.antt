@@ -1,7 +1,5 @@
 -- Lists of names: the empty list, and a list with one more name at its front.
-use Rattle.std.proofs.Common.{◌≡◌, ℕ, zero, suc, List, [], ◌∷◌, sym, ap, ◌∙◌}
-use Rattle.std.specs.Prelude.{Some, slice_get, IsTrue}
-use Rattle.std.proofs.lemmas.List.Elements.{All-cons, All-nil}
+use Rattle.rbg_base.proofs.Common.{◌≡◌, ℕ, zero, suc, List, [], ◌∷◌, sym, ap, ◌∙◌, Some, slice_get, IsTrue, All-cons, All-nil}
 use Rattle.rbg_base.specs.Names.{is_name}
 use Rattle.rbg_rules.specs.LawfulNames.{AreDifferentNames, AreLawfulNames}
 

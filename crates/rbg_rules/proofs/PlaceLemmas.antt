@@ -1,7 +1,6 @@
 -- A place and a list of pairs reach at most one place: between two modifiers a run moves the current vertex alone, and each pair
 -- tells the vertex of its modifier.
-use Rattle.std.proofs.Common.{◌≡◌, ℕ, List, [], ◌∷◌, ◌++◌, Bool, true, false, refl, sym, ap, ◌∙◌, subst}
-use Rattle.std.specs.Prelude.{Some}
+use Rattle.std.proofs.Common.{◌≡◌, ℕ, List, [], ◌∷◌, ◌++◌, Bool, true, false, refl, sym, ap, ◌∙◌, subst, Some}
 use Rattle.rbg_rules.specs.Expression.{AbstractAction, shift, on, off, assignment, comparison, switch, positive, negative}
 use Rattle.rbg_rules.specs.Positions.{IsNumbered, is_modifier, IsSwitchAt}
 use Rattle.rbg_rules.specs.State.{AbstractGame, AbstractState}

@@ -1,8 +1,6 @@
 -- The actions of an accepted game keep its semi-states.
-use Rattle.std.proofs.Common.{ℕ, ◌<◌, ◌≤◌, List, length, get_or, refl, sym, ◌∙◌, subst, inr, slice_set, arith}
-use Rattle.std.specs.Prelude.{slice_index}
+use Rattle.rbg_base.proofs.Common.{ℕ, ◌<◌, ◌≤◌, List, length, get_or, refl, sym, ◌∙◌, subst, inr, slice_set, arith, slice_index, ℕ_discrete}
 use Rattle.std.proofs.lemmas.List.{length-set, get_or-replicate, length-replicate, get_or-set_same, get_or-set_other}
-use native.Mathlib.Decide.{ℕ_discrete}
 use Rattle.rbg_rules.specs.Expression.{AbstractAction, shift, on, off, assignment, comparison, switch, positive, negative, act, skip, sequence, fail, choice, star}
 use Rattle.rbg_rules.specs.State.{AbstractGame, AbstractState, start_of, IsStateOf}
 use Rattle.rbg_rules.specs.Words.{done}

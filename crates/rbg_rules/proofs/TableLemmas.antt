@@ -1,13 +1,6 @@
 -- The table has the action that stands at each position of the rules.
-use Rattle.std.proofs.Common.{◌≡◌, ℕ, zero, suc, ◌+◌, ◌-◌, ◌<◌, ◌≤◌, List, [], ◌∷◌, length, map, fold, get_or, refl, sym, ap, ◌∙◌, subst, inl, inr, Bool, true, false, Option, Some, None, arith}
-use Rattle.std.specs.Prelude.{IsTrue, ◌↔◌, if◌then◌else◌}
-use Rattle.std.proofs.lemmas.Bool.Decides.{leb_tells}
-use Rattle.rbg_rules.specs.declared.rule.Action.{Action}
-use Rattle.rbg_rules.specs.declared.rule.Action.TheVariants.{Shift, On, Off, Assign, Compare, Switch, Positive, Negative}
-use Rattle.rbg_rules.specs.declared.rule.Rule.{Rule}
-use Rattle.rbg_rules.specs.declared.rule.Rule.TheOpen.{Rule-F}
-use Rattle.rbg_rules.specs.declared.rule.Rule.TheFolds.{ind-Rule, map-Rule}
-use Rattle.std.specs.List.{range_with_len}
+use Rattle.rbg_base.proofs.Common.{◌≡◌, ℕ, zero, suc, ◌+◌, ◌-◌, ◌<◌, ◌≤◌, List, [], ◌∷◌, length, map, fold, get_or, refl, sym, ap, ◌∙◌, subst, inl, inr, Bool, true, false, Option, Some, None, arith, IsTrue, ◌↔◌, if◌then◌else◌, leb_tells, range_with_len}
+use Rattle.rbg_rules.proofs.Common.{Action, Shift, On, Off, Assign, Compare, Switch, Positive, Negative, Rule, Rule-F, ind-Rule, map-Rule}
 use Rattle.rbg_rules.specs.Expression.{AbstractAction, shift, on, off, assignment, comparison, switch, positive, negative, Expression, act, skip, sequence, fail, choice, star}
 use Rattle.rbg_rules.specs.Positions.{HasAction, HasInside, positions_of, positions_inside, IsNumbered, is_pattern, IsPatternAt}
 use Rattle.rbg_rules.specs.Translation.{arithmetic_of, action_of, shows_pattern, action_at, act_of, pattern_of, expression_of}

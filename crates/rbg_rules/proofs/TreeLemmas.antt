@@ -1,17 +1,6 @@
 -- Trees of rules with a table of actions: what a position stands for, and that more actions change nothing.
-use Rattle.std.proofs.Common.{◌≡◌, ℕ, zero, suc, ◌-◌, ◌<◌, ◌≤◌, List, [], ◌∷◌, ◌++◌, length, map, fold, get_or, refl, sym, ap, ◌∙◌, subst, ◌⊎◌, inl, inr, Bool, true, false, Option, Some, None, arith}
-use Rattle.std.specs.Prelude.{Box, Vec, slice_get, if◌then◌else◌, All}
-use Rattle.std.specs.Global.{Global}
-use Rattle.std.proofs.lemmas.Option.{slice_get-get_or, slice_get_within}
-use Rattle.std.proofs.lemmas.List.Elements.{All-cons}
-use Rattle.std.proofs.Math.Nat.{le-max_left, le-max_right, max-le}
-use Rattle.rbg_rules.specs.declared.rule.Action.{Action}
-use Rattle.rbg_rules.specs.declared.rule.Action.TheVariants.{Positive, Negative}
-use Rattle.rbg_rules.specs.declared.rule.Rule.{Rule}
-use Rattle.rbg_rules.specs.declared.rule.Rule.TheOpen.{Rule-F}
-use Rattle.rbg_rules.specs.declared.rule.Rule.TheViews.{roll-Rule, out-Rule}
-use Rattle.rbg_rules.specs.declared.rule.Rule.TheVariants.{Act, outs-Act, Pattern, outs-Pattern, Then, outs-Then, Or, outs-Or, Star, outs-Star}
-use Rattle.rbg_rules.specs.declared.rule.Rule.TheFolds.{fold_out-Rule, fold-roll-Rule, ind-Rule, map-Rule}
+use Rattle.rbg_base.proofs.Common.{◌≡◌, ℕ, zero, suc, ◌-◌, ◌<◌, ◌≤◌, List, [], ◌∷◌, ◌++◌, length, map, fold, get_or, refl, sym, ap, ◌∙◌, subst, ◌⊎◌, inl, inr, Bool, true, false, Option, Some, None, arith, Box, Vec, slice_get, if◌then◌else◌, All, Global, slice_get-get_or, slice_get_within, All-cons, le-max_left, le-max_right, max-le}
+use Rattle.rbg_rules.proofs.Common.{Action, Positive, Negative, Rule, Rule-F, roll-Rule, out-Rule, Act, outs-Act, Pattern, outs-Pattern, Then, outs-Then, Or, outs-Or, Star, outs-Star, fold_out-Rule, fold-roll-Rule, ind-Rule, map-Rule}
 use Rattle.rbg_rules.specs.Expression.{Expression, act, skip, sequence, fail, choice, star, sequence_of, choice_of}
 use Rattle.rbg_rules.specs.Translation.{action_of, shows_pattern, action_at, act_of, pattern_of, rule_step, expression_of}
 use Rattle.rbg_rules.specs.Games.{HasNoEmptySum, HasNoEmptySumInside}

@@ -1,7 +1,6 @@
 -- Where no sum is empty, each own action of an expression stands in some word of it.
-use Rattle.std.proofs.Common.{◌≡◌, ◌≢◌, ℕ, List, [], ◌∷◌, ◌++◌, refl, sym, ap, subst, inl, inr, append_assoc}
+use Rattle.rbg_base.proofs.Common.{◌≡◌, ◌≢◌, ℕ, List, [], ◌∷◌, ◌++◌, refl, sym, ap, subst, inl, inr, append_assoc, All-nil}
 use Rattle.std.proofs.lemmas.List.{append-nil}
-use Rattle.std.proofs.lemmas.List.Elements.{All-nil}
 use Rattle.rbg_rules.specs.Expression.{AbstractAction, positive, negative, Expression, act, skip, sequence, fail, choice, star}
 use Rattle.rbg_rules.specs.Positions.{IsSwitchAt, HasAction, HasInside, HasOwnAction, Level, outermost, inside, IsLevel}
 use Rattle.rbg_rules.specs.Words.{Word, Repeats, done, again, Start, beginning, after}

@@ -1,8 +1,6 @@
 -- The words of sequences, sums and stars, by their parts.
-use Rattle.std.proofs.Common.{◌≡◌, ℕ, zero, suc, List, [], ◌∷◌, ◌++◌, refl, sym, ap, ◌∙◌, subst, ◌⊎◌, inl, inr, append_assoc, arith}
+use Rattle.rbg_base.proofs.Common.{◌≡◌, ℕ, zero, suc, List, [], ◌∷◌, ◌++◌, refl, sym, ap, ◌∙◌, subst, ◌⊎◌, inl, inr, append_assoc, arith, Some, slice_get, All, fold, concat}
 use Rattle.std.proofs.lemmas.List.{append-nil}
-use Rattle.std.specs.Prelude.{Some, slice_get, All, fold}
-use Rattle.std.specs.List.{concat}
 use Rattle.rbg_rules.specs.Expression.{Expression, skip, sequence, fail, choice, sequence_of, choice_of}
 use Rattle.rbg_rules.specs.Words.{Word, Repeats, done, again}
 use Rattle.rbg_rules.specs.Laws.{IsJoinOfWords, SequenceLaw, SumLaw, StarLaw}

@@ -1,7 +1,5 @@
 -- Boards whose directions lead to the same vertices.
-use Rattle.std.proofs.Common.{◌≡◌, ℕ, ◌<◌, ◌≤◌, ◌⊎◌, inl, inr, List, [], None, length, get_or, refl, sym, ap, ◌∙◌, arith}
-use Rattle.std.proofs.lemmas.Bool.{cases_lt}
-use Rattle.std.proofs.lemmas.List.{get_or_past}
+use Rattle.rbg_base.proofs.Common.{◌≡◌, ℕ, ◌<◌, ◌≤◌, ◌⊎◌, inl, inr, List, [], None, length, get_or, refl, sym, ap, ◌∙◌, arith, cases_lt, get_or_past}
 use Rattle.rbg_board.specs.Graph.{Graph, next, HasWidth}
 use Rattle.rbg_board.proofs.CallerLemmas.{same_graph}
 

@@ -1,7 +1,5 @@
 -- Texts and keys that are compared.
-use Rattle.std.proofs.Common.{◌≡◌, ℕ, Bool, true, false, not, List, IsTrue, Decides, refl, sym, ap, ◌∙◌}
-use Rattle.std.specs.Prelude.{bytes_eq}
-use Rattle.std.proofs.lemmas.Slice.Eq.{bytes_eq-Decides}
+use Rattle.rbg_base.proofs.Common.{◌≡◌, ℕ, Bool, true, false, not, List, IsTrue, Decides, refl, sym, ap, ◌∙◌, bytes_eq, bytes_eq-Decides}
 use Rattle.rbg_rules.specs.Meaning.{Expression}
 use Rattle.rbg_same.specs.declared.mark.Mark.{Mark}
 use Rattle.rbg_same.specs.internal.Marks.{rules_key}

@@ -1,7 +1,5 @@
 -- Each text spells one thing at most.
-use Rattle.std.proofs.Common.{◌≡◌, ◌≢◌, ℕ, ◌<◌, ◌^◌, Option, Some, None, IfSome, IfNone, Result, Ok, Err, IfOk, List, [], ◌∷◌, ◌++◌, decimal, codes, ap, sym, ◌∙◌, refl, subst, arith}
-use Rattle.std.specs.Option.{IsSomeAnd}
-use Rattle.std.proofs.lemmas.Fmt.{decimal_injective}
+use Rattle.rbg_base.proofs.Common.{◌≡◌, ◌≢◌, ℕ, ◌<◌, ◌^◌, Option, Some, None, IfSome, IfNone, Result, Ok, Err, IfOk, List, [], ◌∷◌, ◌++◌, decimal, codes, ap, sym, ◌∙◌, refl, subst, arith, IsSomeAnd, decimal_injective}
 use Rattle.rbg_wire.proofs.ByteLemmas.{same_end}
 use Rattle.rbg_wire.proofs.FieldLemmas.{same_fields}
 use Rattle.rbg_script.specs.declared.config.ScriptConfig.{ScriptConfig}

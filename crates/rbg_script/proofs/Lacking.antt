@@ -1,9 +1,5 @@
 -- What is written has no line feed, and is read back.
-use Rattle.std.proofs.Common.{◌≡◌, ◌≢◌, ℕ, ◌+◌, length, take, get_or, ◌/◌, ◌%◌, ◌<◌, ◌^◌, true, false, List, [], ◌∷◌, ◌++◌, decimal, codes, map, slice_index, All, refl, subst, arith}
-use Rattle.std.specs.Prelude.{not, ◌==◌}
-use Rattle.std.specs.List.{flat_map, list_all, AllZip}
-use Rattle.std.proofs.lemmas.Bool.{and_parts}
-use Rattle.std.proofs.lemmas.List.Elements.{All-nil, All-cons, All-append, All-head, All-tail, All-get_or, All-more}
+use Rattle.rbg_base.proofs.Common.{◌≡◌, ◌≢◌, ℕ, ◌+◌, length, take, get_or, ◌/◌, ◌%◌, ◌<◌, ◌^◌, true, false, List, [], ◌∷◌, ◌++◌, decimal, codes, map, slice_index, All, refl, subst, arith, not, ◌==◌, flat_map, list_all, AllZip, and_parts, All-nil, All-cons, All-append, All-head, All-tail, All-get_or, All-more}
 use Rattle.hex.specs.Hex.{lower_digits}
 use Rattle.rbg_wire.specs.Bytes.{LacksByte}
 use Rattle.rbg_wire.proofs.NumberLemmas.{lacks_byte-decimal}

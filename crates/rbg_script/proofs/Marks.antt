@@ -1,9 +1,6 @@
 -- Inputs that are cut at the line `%%`.
-use Rattle.std.proofs.Common.{◌≡◌, ◌≢◌, ℕ, ◌-◌, inl, inr, List, [], ◌∷◌, ◌++◌, length, take, ap, sym, ◌∙◌, refl, subst, append_assoc, arith}
-use Rattle.std.specs.Prelude.{◌⊎◌, All}
-use Rattle.std.proofs.lemmas.List.Elements.{All-nil, All-cons, All-append, All-head, All-tail}
-use Rattle.rbg_wire.specs.Bytes.{LacksByte}
-use Rattle.rbg_wire.specs.Lines.{line_of, lines_of}
+use Rattle.rbg_base.proofs.Common.{◌≡◌, ◌≢◌, ℕ, ◌-◌, inl, inr, List, [], ◌∷◌, ◌++◌, length, take, ap, sym, ◌∙◌, refl, subst, append_assoc, arith, ◌⊎◌, All, All-nil, All-cons, All-append, All-head, All-tail}
+use Rattle.rbg_wire.proofs.Common.{LacksByte, line_of, lines_of}
 use Rattle.rbg_wire.proofs.ByteLemmas.{no_cut, same_cut}
 use Rattle.rbg_script.specs.Inputs.{IsInput, mark}
 use Rattle.rbg_script.specs.Laws.{InputsAreApart}

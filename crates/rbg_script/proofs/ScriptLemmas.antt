@@ -1,7 +1,5 @@
 -- Scripts as lists of lines, and the lines that are not of their form.
-use Rattle.std.proofs.Common.{◌≡◌, ℕ, ◌+◌, ◌⊎◌, inl, inr, Bool, true, false, Result, Ok, Err, IfOk, List, [], ◌∷◌, ◌++◌, length, ap, sym, ◌∙◌, refl, subst, append_assoc, append-nil, arith}
-use Rattle.std.specs.Prelude.{IfErr, MatchResult, ◌==◌}
-use Rattle.std.specs.List.{AllZip}
+use Rattle.rbg_base.proofs.Common.{◌≡◌, ℕ, ◌+◌, ◌⊎◌, inl, inr, Bool, true, false, Result, Ok, Err, IfOk, List, [], ◌∷◌, ◌++◌, length, ap, sym, ◌∙◌, refl, subst, append_assoc, append-nil, arith, IfErr, MatchResult, ◌==◌, AllZip}
 use Rattle.rbg_base.proofs.CallerLemmas.{AllZip-push_one}
 use Rattle.rbg_script.specs.declared.config.ScriptConfig.{ScriptConfig}
 use Rattle.rbg_script.specs.declared.error.ScriptError.{ScriptError}

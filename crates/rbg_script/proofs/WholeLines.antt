@@ -1,10 +1,7 @@
 -- Texts that are read line by line.
-use Rattle.std.proofs.Common.{◌≡◌, ℕ, ◌+◌, ◌-◌, ◌≤◌, List, [], ◌∷◌, ◌++◌, length, take, refl, sym, ap, ◌∙◌, arith}
+use Rattle.rbg_base.proofs.Common.{◌≡◌, ℕ, ◌+◌, ◌-◌, ◌≤◌, List, [], ◌∷◌, ◌++◌, length, take, refl, sym, ap, ◌∙◌, arith, All-nil, All-cons, All-append, take-append_seam}
 use Rattle.std.proofs.lemmas.List.{length-append}
-use Rattle.std.proofs.lemmas.List.Elements.{All-nil, All-cons, All-append}
-use Rattle.std.proofs.Math.Seq.{take-append_seam}
-use Rattle.rbg_wire.specs.Bytes.{LacksByte}
-use Rattle.rbg_wire.specs.Lines.{lines_of}
+use Rattle.rbg_wire.proofs.Common.{LacksByte, lines_of}
 use Rattle.rbg_script.specs.internal.Whole.{WholeSoFar}
 use Rattle.rbg_script.proofs.LineLemmas.{more_lines}
 

@@ -1,13 +1,7 @@
 -- The lines of the events of an entry.
-use Rattle.std.proofs.Common.{◌≡◌, ◌≢◌, ℕ, zero, suc, List, [], ◌∷◌, ◌++◌, codes, refl, sym, ap, ◌∙◌, subst, arith, append-nil, append_assoc, Result, Ok, Err}
-use Rattle.std.specs.Prelude.{OnOk}
-use Rattle.std.proofs.lemmas.Grind.{flat_map-append}
-use Rattle.std.proofs.lemmas.List.Elements.{All-nil, All-cons, All-append}
+use Rattle.rbg_base.proofs.Common.{◌≡◌, ◌≢◌, ℕ, zero, suc, List, [], ◌∷◌, ◌++◌, codes, refl, sym, ap, ◌∙◌, subst, arith, append-nil, append_assoc, Result, Ok, Err, OnOk, flat_map-append, All-nil, All-cons, All-append}
 use Rattle.rbg_base.proofs.CallerLemmas.{AllZip-append}
-use Rattle.rbg_wire.specs.Bytes.{LacksByte}
-use Rattle.rbg_wire.specs.Lines.{line_feed, line_of, lines_of}
-use Rattle.rbg_wire.specs.Messages.{ArePairs, message_text, pairs_text, spelling}
-use Rattle.rbg_wire.specs.Writing.{AppendsAll}
+use Rattle.rbg_wire.proofs.Common.{LacksByte, line_feed, line_of, lines_of, ArePairs, message_text, pairs_text, spelling, AppendsAll}
 use Rattle.rbg_lines.proofs.Lacking.{pairs_feedless}
 use Rattle.rbg_script.specs.Events.{AbstractEvent, piece_event, EventHasSpelling, HasFields, SpellsEvent, by_message, event_text, fields_text}
 use Rattle.rbg_script.proofs.Lacking.{written_read, message_lacks}

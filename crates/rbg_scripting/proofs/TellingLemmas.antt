@@ -1,20 +1,14 @@
 -- A record is told line by line.
-use Rattle.std.proofs.Common.{◌≡◌, ℕ, ◌+◌, List, [], ◌∷◌, ◌++◌, Option, Some, None, Result, Err, refl, sym, ap, ◌∙◌, subst, arith, append-nil, append_assoc}
-use Rattle.std.specs.Prelude.{IfSome}
-use Rattle.std.specs.List.{flat_map}
-use Rattle.std.proofs.lemmas.Grind.{flat_map-append}
-use Rattle.std.proofs.lemmas.List.Elements.{All-nil, All-cons, All-push}
+use Rattle.rbg_base.proofs.Common.{◌≡◌, ℕ, ◌+◌, List, [], ◌∷◌, ◌++◌, Option, Some, None, Result, Err, refl, sym, ap, ◌∙◌, subst, arith, append-nil, append_assoc, IfSome, flat_map, flat_map-append, All-nil, All-cons, All-push}
 use Rattle.rbg_base.proofs.CallerLemmas.{AllZip-push_one}
-use Rattle.rbg_wire.specs.Bytes.{LacksByte}
-use Rattle.rbg_wire.specs.Lines.{line_feed, line_of, lines_of}
+use Rattle.rbg_wire.proofs.Common.{LacksByte, line_feed, line_of, lines_of}
 use Rattle.rbg_lines.specs.declared.entry.Entry.{Entry}
 use Rattle.rbg_lines.specs.declared.entry.Entry.TheVariants.{Move, End}
 use Rattle.rbg_lines.specs.declared.entry.Timed.{Timed}
 use Rattle.rbg_lines.specs.declared.heading.Start.{Start}
 use Rattle.rbg_lines.specs.declared.heading.Version.{Version}
 use Rattle.rbg_lines.specs.declared.heading.Version.TheVariants.{One, Two}
-use Rattle.rbg_lines.specs.Heading.{version_text, SpellsPlayers, SpellsStart}
-use Rattle.rbg_lines.specs.Lines.{IsFirstLine}
+use Rattle.rbg_lines.proofs.Common.{version_text, SpellsPlayers, SpellsStart, IsFirstLine}
 use Rattle.rbg_match.specs.Config.{IsWithinLimits}
 use Rattle.rbg_record.specs.Lines.{SpellsIn}
 use Rattle.rbg_record.proofs.SoFarLemmas.{cut_none, cut_more, line_fault, end_fault}

@@ -1,16 +1,10 @@
 -- A flat part that is one modifier alone.
-use Rattle.std.proofs.Common.{ℕ, zero, suc, ◌*◌, ◌<◌, ◌≤◌, List, [], ◌∷◌, Bool, refl, sym, subst, inl, inr, arith}
+use Rattle.rbg_base.proofs.Common.{ℕ, zero, suc, ◌*◌, ◌<◌, ◌≤◌, List, [], ◌∷◌, Bool, refl, sym, subst, inl, inr, arith, Contains, Decides, Contains-push, Contains-push_cases}
 use Rattle.std.proofs.lemmas.Nat.{rows as products}
-use Rattle.std.specs.Prelude.{Contains, Decides}
-use Rattle.std.proofs.lemmas.List.Elements.{Contains-push, Contains-push_cases}
 use Rattle.rbg_rules.specs.Meaning.{Expression, IsNumbered, IsPatternAt, Start, Ends, AbstractGame, AbstractState}
 use Rattle.rbg_leaps.specs.Leaps.{IsShiftAt}
 use Rattle.rbg_auto.specs.Steps.{AreAllThatFollow}
-use Rattle.rbg_pairs.specs.Flat.{IsFlatPart}
-use Rattle.rbg_pairs.specs.Start.{IsPositionOf}
-use Rattle.rbg_pairs.specs.Closure.{IsReached}
-use Rattle.rbg_pairs.specs.Meeting.{MeetsAll}
-use Rattle.rbg_pairs.specs.Part.{IsTrialAt, IsPart}
+use Rattle.rbg_pairs.proofs.Common.{IsFlatPart, IsPositionOf, IsReached, MeetsAll, IsTrialAt, IsPart}
 use Rattle.rbg_state.specs.declared.state.trials.Trial.TheVariants.{Modifies}
 use Rattle.rbg_flat.specs.Found.{HasCandidates}
 use Rattle.rbg_pairs.proofs.Plains.{plain_none, plain_more}

@@ -1,6 +1,5 @@
 -- What a pattern's answer is by the words of its inside.
-use Rattle.std.proofs.Common.{◌≡◌, ℕ, Bool, true, false, not, refl, sym}
-use Rattle.std.specs.Prelude.{IsTrue, ◌↔◌}
+use Rattle.std.proofs.Common.{◌≡◌, ℕ, Bool, true, false, not, refl, sym, IsTrue, ◌↔◌}
 use Rattle.rbg_rules.specs.Meaning.{AbstractAction, shift, off, switch, HasAction, IsNumbered, IsPatternAt, inside, is_pattern, beginning, AbstractGame, AbstractState, Applies, SomeWordRuns, Stands}
 use Rattle.rbg_rules.specs.declared.rule.Action.{Action}
 use Rattle.rbg_rules.specs.declared.rule.Action.TheVariants.{Shift, On, Off, Assign, Compare, Switch, Positive, Negative}

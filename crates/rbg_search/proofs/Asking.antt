@@ -1,17 +1,12 @@
 -- What is asked of a pattern that was taken, and of a modifier that is applied.
-use Rattle.std.proofs.Common.{◌≡◌, ℕ, suc, ◌+◌, ◌<◌, ◌≤◌, List, take, length, Bool, true, false, refl, sym, ap, ◌∙◌, subst, inl, inr, arith}
-use Rattle.std.specs.Prelude.{IsTrue, ◌↔◌}
+use Rattle.std.proofs.Common.{◌≡◌, ℕ, suc, ◌+◌, ◌<◌, ◌≤◌, List, take, length, Bool, true, false, refl, sym, ap, ◌∙◌, subst, inl, inr, arith, IsTrue, ◌↔◌}
 use Rattle.rbg_rules.specs.Meaning.{positive, negative, Expression, IsNumbered, IsModifierAt, IsPatternAt, is_modifier, inside, IsLevel, Start, beginning, after, SomeWordRuns, AbstractGame, AbstractState, Applies}
 use Rattle.rbg_rules.proofs.PositionLemmas.{one_stands}
 use Rattle.rbg_rules.proofs.MoveLemmas.{pattern_law}
 use Rattle.rbg_state.specs.History.{History, states_of, capacity_of, IsAfter}
 use Rattle.rbg_state.proofs.Histories.{no_shorter}
-use Rattle.rbg_pairs.specs.Flat.{IsFlatPart}
-use Rattle.rbg_pairs.specs.Closure.{at_vertex, IsReached}
+use Rattle.rbg_pairs.proofs.Common.{IsFlatPart, at_vertex, IsReached, IsPositionOf, IsTrialAt, NestsFrom}
 use Rattle.rbg_search.specs.internal.Behind.{IsReady, RunsBehindPair, SomeRunsBehind}
-use Rattle.rbg_pairs.specs.Start.{IsPositionOf}
-use Rattle.rbg_pairs.specs.Part.{IsTrialAt}
-use Rattle.rbg_pairs.specs.Nesting.{NestsFrom}
 use Rattle.rbg_state.specs.declared.state.trials.Trial.TheVariants.{Invalid, LeadsTo}
 use Rattle.rbg_pairs.proofs.Closures.{by_words}
 use Rattle.rbg_pairs.proofs.Starts.{action_position}

@@ -1,17 +1,8 @@
 -- What is said of a question that was asked, and handed on to who asked.
-use Rattle.std.proofs.Common.{◌≡◌, ℕ, ◌<◌, ◌≤◌, List, Bool, false, refl, sym, subst, arith}
-use Rattle.std.specs.Prelude.{Result, Ok, Err, IsOk, IsErrAnd}
+use Rattle.std.proofs.Common.{◌≡◌, ℕ, ◌<◌, ◌≤◌, List, Bool, false, refl, sym, subst, arith, Result, Ok, Err, IsOk, IsErrAnd}
 use Rattle.rbg_rules.specs.Meaning.{AbstractState, Start, Question, reach, pattern}
 use Rattle.rbg_state.specs.History.{History}
-use Rattle.rbg_search.specs.Answered.{IsAnswered}
-use Rattle.rbg_search.specs.Forced.{CountsForced}
-use Rattle.rbg_search.specs.Searching.{Searching}
-use Rattle.rbg_search.specs.Taken.{CountsPairs}
-use Rattle.rbg_search.specs.internal.Asked.{StandsInPattern, IsCounted, IsAsked}
-use Rattle.rbg_search.specs.internal.Finding.{HasFound}
-use Rattle.rbg_search.specs.internal.Trying.{IsAskedBehind}
-use Rattle.rbg_search.specs.declared.over.Over.{Over}
-use Rattle.rbg_search.specs.declared.over.Over.TheVariants.{Deep, Wide, Memory}
+use Rattle.rbg_search.proofs.Common.{IsAnswered, CountsForced, Searching, CountsPairs, StandsInPattern, IsCounted, IsAsked, HasFound, IsAskedBehind, Over, Deep, Wide, Memory}
 use Rattle.rbg_search.proofs.Counted.{memory_not_deep, memory_not_wide, counted_as, ok_not_err}
 use Rattle.rbg_search.proofs.Asking.{room_twice}
 use Rattle.rbg_search.proofs.CountedSteps.{given_up, not_memory, deep_is, asks_reached, behind_step, counted_there}

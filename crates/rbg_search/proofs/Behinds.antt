@@ -1,12 +1,8 @@
 -- What a flat part says of words, with what runs behind its modifiers.
-use Rattle.std.proofs.Common.{◌≡◌, ℕ, ◌<◌, ◌⊎◌, List, length, Bool, true, false, sym, ◌∙◌, subst, inl, inr}
-use Rattle.std.specs.Prelude.{All, Contains}
-use Rattle.std.proofs.lemmas.List.Elements.{All-weaker, All-contains_itself}
+use Rattle.rbg_base.proofs.Common.{◌≡◌, ℕ, ◌<◌, ◌⊎◌, List, length, Bool, true, false, sym, ◌∙◌, subst, inl, inr, All, Contains, All-weaker, All-contains_itself}
 use Rattle.rbg_rules.specs.Meaning.{IsNumbered, Start, AbstractGame, AbstractState, IsStateOf, rest, step, Run, SomeWordRuns, IsGame}
 use Rattle.rbg_rules.proofs.StateLemmas.{state_law}
-use Rattle.rbg_pairs.specs.Flat.{IsNext, IsFlatPart}
-use Rattle.rbg_pairs.specs.Closure.{at_vertex, EndsFlat, RunsBehind}
-use Rattle.rbg_pairs.specs.Nesting.{NestsFrom}
+use Rattle.rbg_pairs.proofs.Common.{IsNext, IsFlatPart, at_vertex, EndsFlat, RunsBehind, NestsFrom}
 use Rattle.rbg_search.specs.internal.Behind.{IsReady, SomeRunsBehind}
 use Rattle.rbg_pairs.proofs.Closures.{next_found, found_next, some_word_runs, end_runs, behind_runs, may_end_flat, flat_may_end}
 use Rattle.rbg_pairs.proofs.Starts.{action_position}

@@ -1,18 +1,13 @@
 -- A flat part by sets, in words of a search.
-use Rattle.std.proofs.Common.{◌≡◌, ℕ, ◌⊎◌, inl, inr, List, [], ◌∷◌, ◌++◌, Bool, sym, subst, arith}
-use Rattle.std.specs.Prelude.{Contains, IsTrue, ◌↔◌}
-use Rattle.std.proofs.lemmas.List.Elements.{Contains-append_left, Contains-push, Contains-push_cases}
+use Rattle.rbg_base.proofs.Common.{◌≡◌, ℕ, ◌⊎◌, inl, inr, List, [], ◌∷◌, ◌++◌, Bool, sym, subst, arith, Contains, IsTrue, ◌↔◌, Contains-append_left, Contains-push, Contains-push_cases}
 use Rattle.rbg_rules.specs.Meaning.{IsNumbered, IsPatternAt, Start, AbstractGame, AbstractState, Applies}
 use Rattle.rbg_flat.specs.declared.flat.Flat.{Flat}
-use Rattle.rbg_flat.specs.Candidates.{IsCandidate, MayEnd}
-use Rattle.rbg_flat.specs.Chains.{Holds}
+use Rattle.rbg_flat.proofs.Common.{IsCandidate, MayEnd, Holds, IsMarked, IsOpen, IsDone, KeepsDone}
 use Rattle.rbg_flat.specs.Found.{IsFound as IsFoundBySets, AreFound}
-use Rattle.rbg_flat.specs.internal.Sets.{IsMarked, IsOpen, IsDone, KeepsDone}
 use Rattle.rbg_flat.proofs.ChainLemmas.{candidate_of, met_of}
 use Rattle.rbg_flat.proofs.Steps.{all_marked}
-use Rattle.rbg_pairs.specs.Flat.{IsNext, IsFlatPart}
+use Rattle.rbg_pairs.proofs.Common.{IsNext, IsFlatPart, at_vertex, IsReached}
 use Rattle.rbg_search.specs.internal.BySets.{IsBegunBySets, IsWhole, AreAsked, IsToBeAsked}
-use Rattle.rbg_pairs.specs.Closure.{at_vertex, IsReached}
 use Rattle.rbg_search.proofs.Asking.{no_modifier}
 use Rattle.rbg_pairs.proofs.Closures.{found_next, next_found}
 use Rattle.rbg_search.proofs.Takings.{is_candidate, is_reached, no_shift, no_modifier_shift}

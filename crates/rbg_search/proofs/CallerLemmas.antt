@@ -1,16 +1,13 @@
 -- For a search that goes on by `reach` from modifier to modifier: what its question counts, and when it goes too far.
-use Rattle.std.proofs.Common.{◌≡◌, ◌≢◌, ℕ, suc, ◌+◌, ◌<◌, List, [], ◌∷◌, ◌++◌, length, get_or, take, Option, Some, None, refl, sym, ap, ◌∙◌, subst, arith}
-use Rattle.std.specs.Prelude.{All, AllPairs, Contains}
+use Rattle.rbg_base.proofs.Common.{◌≡◌, ◌≢◌, ℕ, suc, ◌+◌, ◌<◌, List, [], ◌∷◌, ◌++◌, length, get_or, take, Option, Some, None, refl, sym, ap, ◌∙◌, subst, arith, All, AllPairs, Contains, All-contains, All-take}
 use Rattle.std.proofs.lemmas.List.{length-take-le, get_or-take, take_more}
-use Rattle.std.proofs.lemmas.List.Elements.{All-contains, All-take}
 use Rattle.rbg_rules.specs.Meaning.{Expression, switch, IsNumbered, IsModifierAt, IsSwitchAt, Start, after, AbstractGame, AbstractState, stand_of, IsLastOf, HasNoEmptySum, Question, try_move, find_move, list_moves, reach, pattern, Item, modifier_at, items_of, GoesTo, AnswersBehind, Opening, IsDeep, IsWide, IsStart}
 use Rattle.rbg_rules.proofs.PlaceLemmas.{RunPairs-Runs}
 use Rattle.rbg_rules.proofs.TableLemmas.{numbered_action}
 use Rattle.rbg_rules.proofs.TrimLemmas.{empty_opening_law}
 use Rattle.rbg_flat.specs.Candidates.{MayEnd}
 use Rattle.rbg_pairs.specs.Flat.{IsNext, IsFlatPart}
-use Rattle.rbg_search.specs.Counting.{CountsOpenings, IsOverBudget}
-use Rattle.rbg_search.specs.Passing.{GoesOn, CountsUpTo, HasRow, IsTooDeep, from_here, somewhere}
+use Rattle.rbg_search.proofs.Common.{CountsOpenings, IsOverBudget, GoesOn, CountsUpTo, HasRow, IsTooDeep, from_here, somewhere}
 use Rattle.rbg_search.proofs.Openings.{switch_modifies, none_left, lifted, reach_opens}
 use Rattle.rbg_search.proofs.Counts.{begin_joined, more_joined, counts_such, over_such, weaker, begins_more, all_pairs_take}
 

@@ -1,17 +1,9 @@
 -- What each step of a search has counted, and why it gave up.
-use Rattle.std.proofs.Common.{◌≡◌, ◌≢◌, ℕ, suc, ◌+◌, ◌<◌, ◌≤◌, List, [], ◌∷◌, ◌++◌, length, get_or, take, Bool, false, true, refl, sym, ◌∙◌, subst, arith}
-use Rattle.std.specs.Prelude.{All, Contains, Result, Ok, Err}
-use Rattle.std.proofs.lemmas.List.Elements.{All-weaker, All-contains_itself}
+use Rattle.rbg_base.proofs.Common.{◌≡◌, ◌≢◌, ℕ, suc, ◌+◌, ◌<◌, ◌≤◌, List, [], ◌∷◌, ◌++◌, length, get_or, take, Bool, false, true, refl, sym, ◌∙◌, subst, arith, All, Contains, Result, Ok, Err, All-weaker, All-contains_itself}
 use Rattle.rbg_rules.specs.Meaning.{IsNumbered, IsPatternAt, inside, Start, beginning, after, AbstractGame, AbstractState, Applies, IsGame, Question, try_move, reach, pattern, Item, Opening, IsStart}
 use Rattle.rbg_state.specs.History.{History}
-use Rattle.rbg_search.specs.Searching.{Searching}
-use Rattle.rbg_pairs.specs.Flat.{IsNext, IsFlatPart}
-use Rattle.rbg_search.specs.Counting.{CountsOpenings, IsOverBudget}
-use Rattle.rbg_search.specs.Passing.{GoesOn, CountsUpTo, somewhere}
-use Rattle.rbg_pairs.specs.Closure.{at_vertex, IsReached}
-use Rattle.rbg_search.specs.internal.Asked.{StandsInPattern, CountsAsked, GoesBehind, IsCounted}
-use Rattle.rbg_search.specs.declared.over.Over.{Over}
-use Rattle.rbg_search.specs.declared.over.Over.TheVariants.{Deep, Wide, Memory}
+use Rattle.rbg_search.proofs.Common.{Searching, CountsOpenings, IsOverBudget, GoesOn, CountsUpTo, somewhere, StandsInPattern, CountsAsked, GoesBehind, IsCounted, Over, Deep, Wide, Memory}
+use Rattle.rbg_pairs.proofs.Common.{IsNext, IsFlatPart, at_vertex, IsReached}
 use Rattle.rbg_search.proofs.Patterns.{inside_onward, inside_start}
 use Rattle.rbg_search.proofs.CallerLemmas.{pattern_begins, counts_begin, counts_taken, counts_end, over_taken, deep_more, too_deep}
 use Rattle.rbg_search.proofs.Countings.{empty_opens, asked_more, asked_end, over_asked, deep_asked, goes_behind, one_too_deep}

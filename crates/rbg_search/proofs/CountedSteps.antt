@@ -1,21 +1,10 @@
 -- Each step of a search that asks, by what it began with.
-use Rattle.std.proofs.Common.{◌≡◌, ◌≢◌, ℕ, suc, ◌+◌, ◌-◌, ◌<◌, ◌≤◌, List, [], ◌∷◌, ◌++◌, length, get_or, take, Bool, false, sym, ap, ◌∙◌, subst, arith}
-use Rattle.std.specs.Prelude.{All, Contains, Some, slice_get, Result, Ok, Err, IsErrAnd}
-use Rattle.std.proofs.lemmas.List.{get_or_default}
-use Rattle.std.proofs.lemmas.List.Elements.{All-contains}
-use Rattle.std.proofs.lemmas.Option.{slice_get_within, get_or_from_slice_get}
+use Rattle.rbg_base.proofs.Common.{◌≡◌, ◌≢◌, ℕ, suc, ◌+◌, ◌-◌, ◌<◌, ◌≤◌, List, [], ◌∷◌, ◌++◌, length, get_or, take, Bool, false, sym, ap, ◌∙◌, subst, arith, All, Contains, Some, slice_get, Result, Ok, Err, IsErrAnd, get_or_default, All-contains, slice_get_within, get_or_from_slice_get}
 use Rattle.rbg_rules.specs.Meaning.{IsPatternAt, inside, Start, beginning, after, AbstractGame, AbstractState, Applies, IsGame, Question, reach, pattern, IsDeep}
 use Rattle.rbg_state.specs.History.{History}
-use Rattle.rbg_pairs.specs.Flat.{IsFlatPart}
-use Rattle.rbg_search.specs.Searching.{Searching}
-use Rattle.rbg_search.specs.Counting.{CountsOpenings, IsOverBudget}
-use Rattle.rbg_search.specs.Passing.{CountsUpTo, IsTooDeep, from_here, somewhere}
-use Rattle.rbg_search.specs.internal.Begun.{IsBegun}
-use Rattle.rbg_pairs.specs.Closure.{at_vertex, IsReached}
-use Rattle.rbg_search.specs.internal.Asked.{StandsInPattern, CountsAsked, GoesBehind, IsCounted}
+use Rattle.rbg_pairs.proofs.Common.{IsFlatPart, at_vertex, IsReached}
+use Rattle.rbg_search.proofs.Common.{Searching, CountsOpenings, IsOverBudget, CountsUpTo, IsTooDeep, from_here, somewhere, IsBegun, StandsInPattern, CountsAsked, GoesBehind, IsCounted, Over, Memory}
 use Rattle.rbg_pairs.specs.declared.flat.Flat.{Flat}
-use Rattle.rbg_search.specs.declared.over.Over.{Over}
-use Rattle.rbg_search.specs.declared.over.Over.TheVariants.{Memory}
 use Rattle.rbg_search.proofs.CallerLemmas.{pattern_begins}
 use Rattle.rbg_search.proofs.Openings.{reach_opens}
 use Rattle.rbg_search.proofs.Counts.{begin_joined, counts_such, over_such}

@@ -1,15 +1,10 @@
 -- What a flat part counts: its own opening, and those of its patterns' questions.
-use Rattle.std.proofs.Common.{◌≡◌, ◌≢◌, ℕ, zero, suc, ◌+◌, ◌≤◌, List, [], ◌∷◌, ◌++◌, refl, sym, subst, arith}
-use Rattle.std.specs.Prelude.{Contains}
-use Rattle.std.proofs.lemmas.List.Elements.{All-nil, All-cons, All-contains, Contains-append_left, Contains-push}
+use Rattle.rbg_base.proofs.Common.{◌≡◌, ◌≢◌, ℕ, zero, suc, ◌+◌, ◌≤◌, List, [], ◌∷◌, ◌++◌, refl, sym, subst, arith, Contains, All-nil, All-cons, All-contains, Contains-append_left, Contains-push}
 use Rattle.std.proofs.lemmas.List.Kept.{AllPairs-cons}
 use Rattle.rbg_rules.specs.Meaning.{IsNumbered, IsPatternAt, inside, Start, beginning, after, AbstractGame, AbstractState, Applies, IsGame, Question, try_move, reach, pattern, Item, modifier_at, pattern_at, items_of, Opening, HasOpenings, IsDeep, IsStart}
 use Rattle.rbg_rules.proofs.TrimLemmas.{empty_opening_law}
-use Rattle.rbg_pairs.specs.Flat.{IsNext}
-use Rattle.rbg_search.specs.Counting.{CountsOpenings, IsOverBudget}
-use Rattle.rbg_search.specs.Passing.{asking, GoesOn, IsTooDeep, from_here}
-use Rattle.rbg_pairs.specs.Closure.{at_vertex, IsReached}
-use Rattle.rbg_search.specs.internal.Asked.{StandsInPattern, BeginsAsked, CountsAsked, GoesBehind}
+use Rattle.rbg_pairs.proofs.Common.{IsNext, at_vertex, IsReached}
+use Rattle.rbg_search.proofs.Common.{CountsOpenings, IsOverBudget, asking, GoesOn, IsTooDeep, from_here, StandsInPattern, BeginsAsked, CountsAsked, GoesBehind}
 use Rattle.rbg_search.proofs.Openings.{in_pattern}
 use Rattle.rbg_search.proofs.Counts.{counts_such, joined, over_such, weaker}
 use Rattle.rbg_search.proofs.CallerLemmas.{no_end_found, row_none, row_one}

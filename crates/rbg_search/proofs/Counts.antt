@@ -1,14 +1,10 @@
 -- Openings behind one modifier after another, counted together.
-use Rattle.std.proofs.Common.{◌≡◌, ◌≢◌, ℕ, suc, ◌+◌, ◌<◌, List, [], ◌∷◌, ◌++◌, length, get_or, map, take, refl, sym, ap, subst, arith}
-use Rattle.std.specs.Prelude.{All, AllPairs, Contains}
+use Rattle.rbg_base.proofs.Common.{◌≡◌, ◌≢◌, ℕ, suc, ◌+◌, ◌<◌, List, [], ◌∷◌, ◌++◌, length, get_or, map, take, refl, sym, ap, subst, arith, All, AllPairs, Contains, All-append, All-weaker, All-map, All-tail, Contains-append_left, Contains-push}
 use Rattle.std.proofs.lemmas.List.{length-append, length-map, length-take, get_or-take}
-use Rattle.std.proofs.lemmas.List.Elements.{All-append, All-weaker, All-map, All-tail, Contains-append_left, Contains-push}
 use Rattle.std.proofs.lemmas.List.Kept.{AllPairs-cons}
 use Rattle.rbg_rules.specs.Meaning.{IsNumbered, IsSwitchAt, Start, after, AbstractGame, AbstractState, Applies, Question, reach, Item, modifier_at, pattern_at, items_of, GoesTo, Opening, at, behind, HasOpenings}
-use Rattle.rbg_pairs.specs.Flat.{IsNext}
-use Rattle.rbg_search.specs.Counting.{CountsOpenings, IsOverBudget}
-use Rattle.rbg_search.specs.Passing.{Passes, BeginsAmong, CountsBeginning, CountsUpTo}
-use Rattle.rbg_pairs.specs.Closure.{at_vertex}
+use Rattle.rbg_pairs.proofs.Common.{IsNext, at_vertex}
+use Rattle.rbg_search.proofs.Common.{CountsOpenings, IsOverBudget, Passes, BeginsAmong, CountsBeginning, CountsUpTo}
 use Rattle.rbg_search.proofs.Openings.{lifted, reach_opens}
 
 module _ {X : Type 0} (R : X → X → Type 0) where

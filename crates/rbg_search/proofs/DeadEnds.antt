@@ -1,8 +1,7 @@
 -- A pattern in which nothing goes on from its beginning.
 use Rattle.std.proofs.Common.{ℕ, [], Bool, arith}
 use Rattle.rbg_rules.specs.Meaning.{IsNumbered, Start, AbstractGame, AbstractState}
-use Rattle.rbg_flat.specs.Ending.{IsDeadEnd}
-use Rattle.rbg_flat.specs.Found.{AreFound}
+use Rattle.rbg_flat.proofs.Common.{IsDeadEnd, AreFound}
 use Rattle.rbg_search.specs.internal.Straight.{IsScanned, IsTold}
 use Rattle.rbg_search.proofs.BySets.{found_part, nothing_in}
 use Rattle.rbg_search.proofs.Takings.{is_candidate, no_shift}

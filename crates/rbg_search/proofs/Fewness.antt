@@ -1,10 +1,7 @@
 -- The pairs that a search took are no more than its openings have.
-use Rattle.std.proofs.Common.{◌≡◌, ℕ, ◌+◌, ◌*◌, ◌^◌, ◌<◌, ◌≤◌, length, ap, arith}
-use Rattle.std.proofs.lemmas.Nat.{mul-le}
+use Rattle.rbg_base.proofs.Common.{◌≡◌, ℕ, ◌+◌, ◌*◌, ◌^◌, ◌<◌, ◌≤◌, length, ap, arith, mul-le}
 use Rattle.rbg_rules.specs.Meaning.{AbstractGame, positions_of, IsWithinLimits}
-use Rattle.rbg_search.specs.Searching.{Searching}
-use Rattle.rbg_search.specs.Taken.{most_pairs_of}
-use Rattle.rbg_search.specs.internal.Spent.{IsSpent, IsSpentButOne}
+use Rattle.rbg_search.proofs.Common.{Searching, most_pairs_of, IsSpent, IsSpentButOne}
 use Rattle.rbg_search.proofs.Kept.{onward_rules}
 
 -- The sum of all pairs is a number of 64 bits.

@@ -1,21 +1,10 @@
 -- A search that finds a flat part, step by step.
-use Rattle.std.proofs.Common.{◌≡◌, ℕ, suc, ◌+◌, ◌<◌, ◌≤◌, length, List, [], ◌∷◌, ◌++◌, Bool, take, sym, ap, ◌∙◌, subst, arith}
-use Rattle.std.specs.Prelude.{Contains, Result, Ok, Err, IsOk, IsErrAnd, Some, slice_get, IsTrue, ◌↔◌}
+use Rattle.std.proofs.Common.{◌≡◌, ℕ, suc, ◌+◌, ◌<◌, ◌≤◌, length, List, [], ◌∷◌, ◌++◌, Bool, take, sym, ap, ◌∙◌, subst, arith, Contains, Result, Ok, Err, IsOk, IsErrAnd, Some, slice_get, IsTrue, ◌↔◌}
 use Rattle.rbg_rules.specs.Meaning.{IsGame, IsStart, IsPatternAt, inside, IsStateOf, Start, beginning, Applies, reach, pattern}
 use Rattle.rbg_state.specs.History.{History}
-use Rattle.rbg_pairs.specs.Closure.{at_vertex, IsReached}
-use Rattle.rbg_pairs.specs.Nesting.{NestsFrom}
-use Rattle.rbg_pairs.specs.Plain.{HasPlain}
+use Rattle.rbg_pairs.proofs.Common.{at_vertex, IsReached, NestsFrom, HasPlain}
 use Rattle.rbg_pairs.specs.declared.flat.Flat.{Flat}
-use Rattle.rbg_search.specs.Forced.{CountsForced}
-use Rattle.rbg_search.specs.Searching.{Searching}
-use Rattle.rbg_search.specs.Taken.{HasPart, CountsPairs}
-use Rattle.rbg_search.specs.internal.Asked.{IsCounted, IsAsked}
-use Rattle.rbg_search.specs.internal.Begun.{IsBegun}
-use Rattle.rbg_search.specs.internal.Finding.{Finds, FindsByPairs}
-use Rattle.rbg_search.specs.internal.Spent.{IsSpent, IsSpentButOne, CountsPart}
-use Rattle.rbg_search.specs.declared.over.Over.{Over}
-use Rattle.rbg_search.specs.declared.over.Over.TheVariants.{Deep, Wide, Memory}
+use Rattle.rbg_search.proofs.Common.{CountsForced, Searching, HasPart, CountsPairs, IsCounted, IsAsked, IsBegun, Finds, FindsByPairs, IsSpent, IsSpentButOne, CountsPart, Over, Deep, Wide, Memory}
 use Rattle.rbg_search.proofs.Asking.{room_twice, reached_nests, some_nested}
 use Rattle.rbg_search.proofs.Counted.{memory_not_deep, memory_not_wide, counted_as, asked_only, onward_search, search_before}
 use Rattle.rbg_search.proofs.CountedSteps.{AskStep, ask_step_at, given_up, not_memory, taken_reached}

@@ -1,20 +1,11 @@
 -- A search that finds a flat part by sets, step by step.
-use Rattle.std.proofs.Common.{◌≡◌, ℕ, List, [], ◌∷◌, ◌++◌, Bool}
-use Rattle.std.specs.Prelude.{Contains, IsTrue, ◌↔◌, ◌≤◌, Result, Ok, Err, IsErrAnd}
+use Rattle.std.proofs.Common.{◌≡◌, ℕ, List, [], ◌∷◌, ◌++◌, Bool, Contains, IsTrue, ◌↔◌, ◌≤◌, Result, Ok, Err, IsErrAnd}
 use Rattle.rbg_rules.specs.Meaning.{inside, Start, beginning, Applies, reach, pattern}
 use Rattle.rbg_state.specs.History.{History}
 use Rattle.rbg_flat.specs.declared.flat.Flat.{Flat}
 use Rattle.rbg_flat.specs.Found.{HasCandidates}
-use Rattle.rbg_pairs.specs.Flat.{IsFlatPart}
-use Rattle.rbg_pairs.specs.Closure.{at_vertex, IsReached}
-use Rattle.rbg_search.specs.Forced.{CountsForced}
-use Rattle.rbg_search.specs.Searching.{Searching}
-use Rattle.rbg_search.specs.Taken.{CountsPairs, most_pairs_of}
-use Rattle.rbg_search.specs.internal.Asked.{IsAsked}
-use Rattle.rbg_search.specs.internal.BySets.{IsBegunBySets, HasSetsFor, IsWhole, BeginsBySets, AdvancesBySets, IsToBeAsked, TakesBySets, FindsBySets}
-use Rattle.rbg_search.specs.internal.Finding.{Finds}
-use Rattle.rbg_search.specs.internal.Spent.{CountsPart}
-use Rattle.rbg_search.specs.declared.over.Over.{Over}
+use Rattle.rbg_pairs.proofs.Common.{IsFlatPart, at_vertex, IsReached}
+use Rattle.rbg_search.proofs.Common.{CountsForced, Searching, CountsPairs, most_pairs_of, IsAsked, IsBegunBySets, HasSetsFor, IsWhole, BeginsBySets, AdvancesBySets, IsToBeAsked, TakesBySets, FindsBySets, Finds, CountsPart, Over}
 use Rattle.rbg_search.proofs.BySets.{asked_reached, all_asked, not_asked}
 use Rattle.rbg_search.proofs.Counted.{onward_search, search_before}
 use Rattle.rbg_search.proofs.Finding.{finds_more, finds_failed, finds_forced, finds_own}

@@ -1,16 +1,12 @@
 -- Which openings are forced, and how those of a question are put together from the parts that a search takes up.
-use Rattle.std.proofs.Common.{◌≡◌, ◌≢◌, ℕ, ◌+◌, ◌-◌, ◌<◌, ◌≤◌, List, [], ◌∷◌, ◌++◌, length, get_or, map, take, Bool, refl, sym, subst, inl, inr, arith}
-use Rattle.std.specs.Prelude.{Contains}
+use Rattle.rbg_base.proofs.Common.{◌≡◌, ◌≢◌, ℕ, ◌+◌, ◌-◌, ◌<◌, ◌≤◌, List, [], ◌∷◌, ◌++◌, length, get_or, map, take, Bool, refl, sym, subst, inl, inr, arith, Contains, All-weaker, Contains-append_left, Contains-append_right, Contains-push_cases}
 use Rattle.std.proofs.lemmas.List.{length-append, length-map, take_more}
-use Rattle.std.proofs.lemmas.List.Elements.{All-weaker, Contains-append_left, Contains-append_right, Contains-push_cases}
 use Rattle.rbg_base.proofs.CallerLemmas.{Contains-map}
 use Rattle.rbg_rules.specs.Meaning.{IsNumbered, IsSwitchAt, IsPatternAt, inside, Start, beginning, after, AbstractGame, AbstractState, Applies, Question, reach, pattern, Item, modifier_at, pattern_at, items_of, SomeWordRuns, GoesTo, IsForcedTo, Forced, at, behind, HasForced, IsForcedDeep}
 use Rattle.rbg_rules.proofs.PlaceLemmas.{RunPairs-Runs}
 use Rattle.rbg_rules.proofs.MoveLemmas.{Applies_one}
-use Rattle.rbg_pairs.specs.Flat.{IsNext, IsFlatPart}
-use Rattle.rbg_search.specs.Forced.{HasFewInRow, CountsForced, TakesBehind}
-use Rattle.rbg_pairs.specs.Closure.{at_vertex, IsReached}
-use Rattle.rbg_search.specs.internal.Taking.{AsksForced}
+use Rattle.rbg_pairs.proofs.Common.{IsNext, IsFlatPart, at_vertex, IsReached}
+use Rattle.rbg_search.proofs.Common.{HasFewInRow, CountsForced, TakesBehind, AsksForced}
 use Rattle.rbg_flat.proofs.Lists.{no_longer}
 use Rattle.rbg_pairs.proofs.Closures.{reached, ends_at, next_found, behind_runs}
 use Rattle.rbg_search.proofs.Openings.{cut_follows, goes_through, none_left}

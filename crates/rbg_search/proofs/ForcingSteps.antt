@@ -1,13 +1,9 @@
 -- Each step of a search that takes forced openings up, by what it began with.
-use Rattle.std.proofs.Common.{◌≡◌, ℕ, ◌+◌, ◌-◌, ◌<◌, ◌≤◌, List, ◌∷◌, [], ◌++◌, length, get_or, take, Bool, true, false, refl, arith}
-use Rattle.std.specs.Prelude.{Contains, IsTrue, ◌↔◌}
+use Rattle.std.proofs.Common.{◌≡◌, ℕ, ◌+◌, ◌-◌, ◌<◌, ◌≤◌, List, ◌∷◌, [], ◌++◌, length, get_or, take, Bool, true, false, refl, arith, Contains, IsTrue, ◌↔◌}
 use Rattle.rbg_rules.specs.Meaning.{IsNumbered, IsPatternAt, inside, Start, beginning, after, AbstractGame, AbstractState, Applies, SomeWordRuns, reach, pattern}
 use Rattle.rbg_state.specs.History.{History}
-use Rattle.rbg_pairs.specs.Flat.{IsFlatPart}
-use Rattle.rbg_search.specs.Forced.{CountsForced, TakesBehind}
-use Rattle.rbg_search.specs.Searching.{Searching}
-use Rattle.rbg_pairs.specs.Closure.{at_vertex}
-use Rattle.rbg_search.specs.internal.Taking.{AsksForced, RanBehind}
+use Rattle.rbg_pairs.proofs.Common.{IsFlatPart, at_vertex}
+use Rattle.rbg_search.proofs.Common.{CountsForced, TakesBehind, Searching, AsksForced, RanBehind}
 use Rattle.rbg_search.proofs.Counted.{onward_search, search_before}
 use Rattle.rbg_search.proofs.Forcing.{asks_more, takes_on, word_forced, no_word_forced}
 

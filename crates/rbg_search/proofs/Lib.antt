@@ -1,4 +1,5 @@
 -- Lemmas, by topic.
+pub mod Common
 pub mod Behinds
 pub mod Asking
 pub mod Alone

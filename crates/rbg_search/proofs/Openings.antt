@@ -1,15 +1,12 @@
 -- Openings behind a modifier, or in a pattern, as openings of the question in which those stand.
-use Rattle.std.proofs.Common.{◌≡◌, ℕ, List, [], ◌∷◌, ◌++◌, Bool, true, false, refl, sym, ap, ◌∙◌, subst, append_assoc}
-use Rattle.std.specs.Prelude.{All}
-use Rattle.std.proofs.lemmas.List.Elements.{All-nil, All-cons, All-head, All-tail, All-append, All-weaker}
+use Rattle.rbg_base.proofs.Common.{◌≡◌, ℕ, List, [], ◌∷◌, ◌++◌, Bool, true, false, refl, sym, ap, ◌∙◌, subst, append_assoc, All, All-nil, All-cons, All-head, All-tail, All-append, All-weaker}
 use Rattle.rbg_rules.specs.Meaning.{switch, Expression, IsNumbered, IsModifierAt, IsSwitchAt, IsPatternAt, HasNoModifier, HasNoSwitch, is_modifier, inside, WordOf, Start, beginning, after, Follows, Ends, AbstractGame, AbstractState, rest, step, Applies, Run, RunPairs, stay, modify, pass, Question, find_move, reach, pattern, Item, modifier_at, pattern_at, RunsOn, GoesTo, AnswersBehind, IsProperPrefix, Opening, at, behind}
 use Rattle.rbg_rules.proofs.PlaceLemmas.{RunPairs_join}
 use Rattle.rbg_rules.proofs.PositionLemmas.{one_stands}
 use Rattle.rbg_rules.proofs.MoveLemmas.{Applies_one}
 use Rattle.rbg_rules.proofs.LocalityLemmas.{locality_law}
-use Rattle.rbg_pairs.specs.Flat.{IsNext}
+use Rattle.rbg_pairs.proofs.Common.{IsNext, at_vertex, IsReached}
 use Rattle.rbg_search.specs.Passing.{Passes, trying, finding, listing, asking}
-use Rattle.rbg_pairs.specs.Closure.{at_vertex, IsReached}
 use Rattle.rbg_pairs.proofs.Closures.{by_words, ends_at, next_found, quiet_place}
 
 -- A switch is a modifier.

@@ -1,19 +1,12 @@
 -- Pairs that differ stand, once they are sorted, each before the next.
-use Rattle.std.proofs.Common.{Ordering, ◌≡◌, ◌≢◌, ℕ, ◌<◌, ◌⊎◌, List, length, get_or, Bool, true, false, refl, sym, ap, ◌∙◌, inl, inr, arith}
-use Rattle.std.specs.Prelude.{All, AllPairs, Contains}
-use Rattle.std.specs.List.{swap}
-use Rattle.std.specs.List.Sorted.{IsPermutation, IsSorted}
+use Rattle.rbg_base.proofs.Common.{Ordering, ◌≡◌, ◌≢◌, ℕ, ◌<◌, ◌⊎◌, List, length, get_or, Bool, true, false, refl, sym, ap, ◌∙◌, inl, inr, arith, All, AllPairs, Contains, swap, IsPermutation, IsSorted, cases_order, cases_eq, All-weaker, All-contains, All-contains_itself, nat_tests}
 use Rattle.std.specs.Ordering.{nat_cmp, ordering_then, is_lt}
 use Rattle.std.specs.Cmp.{IsTotalOrder}
-use Rattle.std.proofs.lemmas.Bool.{cases_order, cases_eq}
-use Rattle.std.proofs.lemmas.List.Elements.{All-weaker, All-contains, All-contains_itself}
 use Rattle.std.proofs.lemmas.Cmp.{nat_cmp_total, on_total, then_total}
-use Rattle.std.proofs.lemmas.Bool.Decides.{nat_tests}
 use Rattle.std.proofs.lemmas.List.Edits.{Swapped, swapped_from_swap, length-swap}
 use Rattle.std.proofs.lemmas.List.Sorted.{IsPermutation-keeps, IsPermutation-sym, Contains-permutation, sorted_far, ranks_by}
 use Rattle.rbg_rules.specs.Meaning.{Start, AbstractGame, AbstractState, IsStateOf}
-use Rattle.rbg_pairs.specs.Flat.{IsBefore, IsFlatPart}
-use Rattle.rbg_pairs.specs.Start.{IsPositionOf}
+use Rattle.rbg_pairs.proofs.Common.{IsBefore, IsFlatPart, IsPositionOf}
 use Rattle.rbg_search.specs.internal.Behind.{IsReady}
 
 abbrev pub pair_cmp : ℕ × ℕ → ℕ × ℕ → Ordering

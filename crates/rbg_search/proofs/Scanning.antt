@@ -1,10 +1,7 @@
 -- What a scan tells of a pattern's question: its answer, and what it had to take up.
-use Rattle.std.proofs.Common.{◌≡◌, ◌≢◌, ℕ, ◌+◌, List, [], ◌∷◌, Bool, true, false, refl, arith}
-use Rattle.std.specs.Prelude.{Contains, IsTrue, ◌↔◌}
+use Rattle.std.proofs.Common.{◌≡◌, ◌≢◌, ℕ, ◌+◌, List, [], ◌∷◌, Bool, true, false, refl, arith, Contains, IsTrue, ◌↔◌}
 use Rattle.rbg_rules.specs.Meaning.{IsNumbered, Start, AbstractGame, AbstractState, try_move, reach, pattern, SomeWordRuns, Item}
-use Rattle.rbg_search.specs.Forced.{HasFewInRow, CountsForced}
-use Rattle.rbg_search.specs.internal.Behind.{SomeRunsBehind}
-use Rattle.rbg_search.specs.internal.Straight.{IsScanned}
+use Rattle.rbg_search.proofs.Common.{HasFewInRow, CountsForced, SomeRunsBehind, IsScanned}
 use Rattle.rbg_search.proofs.Behinds.{runs_at_end, only_behind}
 use Rattle.rbg_search.proofs.Forcing.{IsForcedHere, nothing, asked, forced_here, takes_none}
 use Rattle.rbg_search.proofs.ForcingSteps.{asked_forced}

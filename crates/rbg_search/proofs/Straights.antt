@@ -1,19 +1,12 @@
 -- A scan along a straight line, step by step.
-use Rattle.std.proofs.Common.{◌≡◌, ◌≢◌, ℕ, suc, ◌<◌, ◌≤◌, List, [], ◌∷◌, ◌++◌, length, ◌==◌, Bool, true, ◌||◌, refl, sym, subst, append-nil, arith}
-use Rattle.std.specs.Prelude.{All, AllPairs, Contains, Decides}
-use Rattle.std.proofs.lemmas.List.Elements.{All-nil, All-cons, All-head, All-push, All-weaker, All-contains, Contains-push}
+use Rattle.rbg_base.proofs.Common.{◌≡◌, ◌≢◌, ℕ, suc, ◌<◌, ◌≤◌, List, [], ◌∷◌, ◌++◌, length, ◌==◌, Bool, true, ◌||◌, refl, sym, subst, append-nil, arith, All, AllPairs, Contains, Decides, All-nil, All-cons, All-head, All-push, All-weaker, All-contains, Contains-push, nat_tests}
 use Rattle.std.proofs.lemmas.List.Quantifiers.{all_pairs_push}
-use Rattle.std.proofs.lemmas.Bool.Decides.{nat_tests}
 use Rattle.rbg_rules.specs.Meaning.{IsNumbered, IsPatternAt, Start, after, Ends, AbstractGame, AbstractState}
 use Rattle.rbg_auto.specs.Steps.{AreAllThatFollow}
-use Rattle.rbg_pairs.specs.Meeting.{MeetsAll}
-use Rattle.rbg_pairs.specs.Part.{IsTrialAt, IsPart}
-use Rattle.rbg_pairs.specs.Plain.{HasPlain}
-use Rattle.rbg_search.specs.Taken.{most_pairs_of}
-use Rattle.rbg_search.specs.internal.Straight.{IsScanned, IsScanning, IsTold}
+use Rattle.rbg_pairs.proofs.Common.{MeetsAll, IsTrialAt, IsPart, HasPlain, at_vertex}
+use Rattle.rbg_search.proofs.Common.{most_pairs_of, IsScanned, IsScanning, IsTold}
 use Rattle.rbg_state.specs.declared.state.trials.Trial.{Trial}
 use Rattle.rbg_state.specs.declared.state.trials.Trial.TheVariants.{Invalid, Modifies, LeadsTo}
-use Rattle.rbg_pairs.specs.Closure.{at_vertex}
 use Rattle.rbg_pairs.proofs.Plains.{plain_none}
 use Rattle.rbg_search.proofs.Takings.{part_pairs}
 use Rattle.rbg_pairs.proofs.Parts.{begin_part, invalid_part, leads_part, all_met, whole_part}

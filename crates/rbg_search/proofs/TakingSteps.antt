@@ -1,18 +1,9 @@
 -- Each step of a search that counts pairs, by what it began with.
-use Rattle.std.proofs.Common.{◌≡◌, ℕ, ◌+◌, ◌<◌, ◌≤◌, List, length, get_or, take, Bool, false, sym, subst}
-use Rattle.std.specs.Prelude.{Contains}
-use Rattle.std.proofs.lemmas.List.{get_or_default}
-use Rattle.std.proofs.lemmas.List.Elements.{All-contains, All-contains_itself, All-take}
+use Rattle.rbg_base.proofs.Common.{◌≡◌, ℕ, ◌+◌, ◌<◌, ◌≤◌, List, length, get_or, take, Bool, false, sym, subst, Contains, get_or_default, All-contains, All-contains_itself, All-take}
 use Rattle.rbg_rules.specs.Meaning.{IsPatternAt, inside, Start, beginning, after, AbstractState, Applies, IsGame, reach, pattern}
 use Rattle.rbg_state.specs.History.{History}
-use Rattle.rbg_pairs.specs.Flat.{IsFlatPart}
-use Rattle.rbg_search.specs.Passing.{GoesOn}
-use Rattle.rbg_search.specs.Searching.{Searching}
-use Rattle.rbg_search.specs.Taken.{HasPart, CountsPairs, most_pairs_of}
-use Rattle.rbg_search.specs.internal.Asked.{StandsInPattern, GoesBehind}
-use Rattle.rbg_search.specs.internal.Begun.{IsBegun}
-use Rattle.rbg_pairs.specs.Plain.{HasPlain}
-use Rattle.rbg_pairs.specs.Closure.{at_vertex, IsReached}
+use Rattle.rbg_pairs.proofs.Common.{IsFlatPart, HasPlain, at_vertex, IsReached}
+use Rattle.rbg_search.proofs.Common.{GoesOn, Searching, HasPart, CountsPairs, most_pairs_of, StandsInPattern, GoesBehind, IsBegun}
 use Rattle.rbg_pairs.specs.declared.flat.Flat.{Flat}
 use Rattle.rbg_search.proofs.Counted.{found_behind, search_before, onward_search}
 use Rattle.rbg_search.proofs.Countings.{goes_behind}

@@ -1,22 +1,12 @@
 -- What a search counts of pairs: those of a flat part, and those of parts that are joined.
-use Rattle.std.proofs.Common.{◌≡◌, ℕ, ◌+◌, ◌*◌, ◌≤◌, List, [], ◌∷◌, ◌++◌, length, Bool, true, false, refl, ap, ◌∙◌, subst, arith}
-use Rattle.std.specs.Prelude.{Result, Ok, Err, IsOk, IsErrAnd, All, Contains, sum}
-use Rattle.std.proofs.lemmas.Nat.{mul-le}
+use Rattle.rbg_base.proofs.Common.{◌≡◌, ℕ, ◌+◌, ◌*◌, ◌≤◌, List, [], ◌∷◌, ◌++◌, length, Bool, true, false, refl, ap, ◌∙◌, subst, arith, Result, Ok, Err, IsOk, IsErrAnd, All, Contains, sum, mul-le, sum_by-append, sum_by-le, All-nil, All-push, All-append, All-weaker, All-contains}
 use Rattle.std.proofs.lemmas.List.{length-append}
-use Rattle.std.proofs.lemmas.List.Sums.{sum_by-append, sum_by-le}
-use Rattle.std.proofs.lemmas.List.Elements.{All-nil, All-push, All-append, All-weaker, All-contains}
 use Rattle.rbg_rules.specs.Meaning.{shift, Expression, IsNumbered, IsModifierAt, IsPatternAt, is_modifier, inside, Start, beginning, after, AbstractGame, AbstractState, Question, reach, pattern}
 use Rattle.rbg_rules.proofs.PositionLemmas.{one_stands}
 use Rattle.rbg_leaps.specs.Leaps.{IsShiftAt}
-use Rattle.rbg_flat.specs.Candidates.{IsCandidate}
-use Rattle.rbg_flat.specs.Found.{HasCandidates}
-use Rattle.rbg_search.specs.Passing.{Passes, trying, finding, listing, asking, GoesOn}
-use Rattle.rbg_search.specs.Taken.{ComesTo, begins, by_pattern, by_modifier, HasPart, CountsPairs, most_pairs_of}
-use Rattle.rbg_search.specs.declared.over.Over.{Over}
-use Rattle.rbg_pairs.specs.Closure.{at_vertex, IsReached}
-use Rattle.rbg_pairs.specs.Part.{IsPart}
-use Rattle.rbg_pairs.specs.Plain.{HasPlain}
-use Rattle.rbg_search.specs.internal.Spent.{IsSpent, IsSpentButOne}
+use Rattle.rbg_flat.proofs.Common.{IsCandidate, HasCandidates}
+use Rattle.rbg_search.proofs.Common.{Passes, trying, finding, listing, asking, GoesOn, ComesTo, begins, by_pattern, by_modifier, HasPart, CountsPairs, most_pairs_of, Over, IsSpent, IsSpentButOne}
+use Rattle.rbg_pairs.proofs.Common.{at_vertex, IsReached, IsPart, HasPlain}
 use Rattle.rbg_pairs.proofs.Closures.{reached, by_words}
 use Rattle.rbg_pairs.proofs.Glances.{no_pattern}
 use Rattle.rbg_pairs.proofs.Parts.{all_met}

@@ -1,20 +1,9 @@
 -- A search that tries modifiers in turn, step by step.
-use Rattle.std.proofs.Common.{◌≡◌, ℕ, suc, ◌-◌, ◌<◌, ◌≤◌, List, [], ◌∷◌, ◌++◌, Bool, false, refl, subst, arith}
-use Rattle.std.specs.Prelude.{All, Result, Ok, Err, IsOk, IsErrAnd, IsTrue, ◌↔◌}
-use Rattle.std.specs.List.Sorted.{IsPermutation}
-use Rattle.std.proofs.lemmas.List.Elements.{All-contains}
+use Rattle.rbg_base.proofs.Common.{◌≡◌, ℕ, suc, ◌-◌, ◌<◌, ◌≤◌, List, [], ◌∷◌, ◌++◌, Bool, false, refl, subst, arith, All, Result, Ok, Err, IsOk, IsErrAnd, IsTrue, ◌↔◌, IsPermutation, All-contains}
 use Rattle.rbg_rules.specs.Meaning.{AbstractState, Start, after, Applies, reach, pattern}
 use Rattle.rbg_state.specs.History.{History}
 use Rattle.rbg_pairs.specs.Closure.{at_vertex}
-use Rattle.rbg_search.specs.Counting.{CountsOpenings}
-use Rattle.rbg_search.specs.Forced.{CountsForced}
-use Rattle.rbg_search.specs.Searching.{Searching}
-use Rattle.rbg_search.specs.Taken.{CountsPairs}
-use Rattle.rbg_search.specs.internal.Asked.{GoesBehind, IsCounted, IsAsked}
-use Rattle.rbg_search.specs.internal.Behind.{IsReady, RunsBehindPair}
-use Rattle.rbg_search.specs.internal.Trying.{IsAskedBehind, Stays, TriesBehind}
-use Rattle.rbg_search.specs.declared.over.Over.{Over}
-use Rattle.rbg_search.specs.declared.over.Over.TheVariants.{Deep, Wide}
+use Rattle.rbg_search.proofs.Common.{CountsOpenings, CountsForced, Searching, CountsPairs, GoesBehind, IsCounted, IsAsked, IsReady, RunsBehindPair, IsAskedBehind, Stays, TriesBehind, Over, Deep, Wide}
 use Rattle.rbg_search.proofs.Asking.{room_twice}
 use Rattle.rbg_search.proofs.Counted.{ok_not_err, same_error, deep_not_wide, counted_as, behind_begin, behind_only, onward_search, search_before}
 use Rattle.rbg_search.proofs.CountedSteps.{BehindStep, given_up}

@@ -1,21 +1,11 @@
 -- Pairs that are taken one after another, in an order that isn't that of their list.
-use Rattle.std.proofs.Common.{◌≡◌, ℕ, suc, ◌+◌, ◌-◌, ◌<◌, ◌≤◌, List, [], ◌∷◌, ◌++◌, length, get_or, take, Bool, true, false, sym, ap, ◌∙◌, subst, append_assoc, append-nil, arith}
-use Rattle.std.specs.Prelude.{IsTrue, ◌↔◌, All, Contains}
-use Rattle.std.specs.List.Sorted.{IsPermutation}
-use Rattle.std.proofs.Math.Seq.{get_or-append_seam, take-append_seam}
+use Rattle.rbg_base.proofs.Common.{◌≡◌, ℕ, suc, ◌+◌, ◌-◌, ◌<◌, ◌≤◌, List, [], ◌∷◌, ◌++◌, length, get_or, take, Bool, true, false, sym, ap, ◌∙◌, subst, append_assoc, append-nil, arith, IsTrue, ◌↔◌, All, Contains, IsPermutation, get_or-append_seam, take-append_seam, All-push, All-contains, Contains-get_or}
 use Rattle.std.proofs.lemmas.List.{length-append, take_more}
-use Rattle.std.proofs.lemmas.List.Elements.{All-push, All-contains, Contains-get_or}
 use Rattle.std.proofs.lemmas.List.Sorted.{IsPermutation-sym, IsPermutation-trans, IsPermutation-append_right, Contains-permutation, All-permutation, length_permutation}
 use Rattle.rbg_rules.specs.Meaning.{IsNumbered, Start, after, AbstractGame, AbstractState, Applies, pattern}
 use Rattle.rbg_state.specs.History.{History}
-use Rattle.rbg_pairs.specs.Flat.{IsNext}
-use Rattle.rbg_search.specs.Searching.{Searching}
-use Rattle.rbg_search.specs.Forced.{CountsForced, TakesBehind}
-use Rattle.rbg_search.specs.Passing.{CountsUpTo}
-use Rattle.rbg_search.specs.Taken.{CountsPairs}
-use Rattle.rbg_search.specs.internal.Asked.{GoesBehind, IsCounted}
-use Rattle.rbg_search.specs.internal.Behind.{RunsBehindPair, SomeRunsBehind}
-use Rattle.rbg_pairs.specs.Closure.{at_vertex}
+use Rattle.rbg_pairs.proofs.Common.{IsNext, at_vertex}
+use Rattle.rbg_search.proofs.Common.{Searching, CountsForced, TakesBehind, CountsUpTo, CountsPairs, GoesBehind, IsCounted, RunsBehindPair, SomeRunsBehind}
 use Rattle.rbg_search.proofs.CountedSteps.{BehindStep, one_behind, one_too_many}
 use Rattle.rbg_search.proofs.ForcingSteps.{one_forced}
 use Rattle.rbg_search.proofs.Orders.{still_differ}

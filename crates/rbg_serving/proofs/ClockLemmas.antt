@@ -1,6 +1,5 @@
 -- Lemmas on clocks over a list.
-use Rattle.std.proofs.Common.{◌≡◌, ◌<◌, ℕ, ◌+◌, List, [], ◌∷◌, ◌++◌, length, take, replicate, get_or, ap, sym, ◌∙◌, arith, append_assoc, append-nil, refl, zero, suc}
-use Rattle.std.proofs.lemmas.List.{take_more, replicate-append-replicate}
+use Rattle.rbg_base.proofs.Common.{◌≡◌, ◌<◌, ℕ, ◌+◌, List, [], ◌∷◌, ◌++◌, length, take, replicate, get_or, ap, sym, ◌∙◌, arith, append_assoc, append-nil, refl, zero, suc, take_more, replicate-append-replicate}
 use Rattle.rbg_serving.specs.ListClocks.{HasTold, last_moment}
 
 -- the clock told the next moment

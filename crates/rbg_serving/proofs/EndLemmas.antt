@@ -1,24 +1,11 @@
 -- Lemmas on the end of a call.
-use Rattle.std.proofs.Common.{◌≡◌, ℕ, ◌+◌, ◌<◌, ◌≤◌, List, [], ◌++◌, length, map, take, drop, get_or, ap, sym, ◌∙◌, refl, subst, arith, length-append, append-nil, replicate, zero, suc, Bool, true, false, IsTrue, ◌↔◌, Result, Ok, Err, IsErrAnd, inl, inr}
-use Rattle.std.specs.List.{range_with_len}
+use Rattle.rbg_base.proofs.Common.{◌≡◌, ℕ, ◌+◌, ◌<◌, ◌≤◌, List, [], ◌++◌, length, map, take, drop, get_or, ap, sym, ◌∙◌, refl, subst, arith, length-append, append-nil, replicate, zero, suc, Bool, true, false, IsTrue, ◌↔◌, Result, Ok, Err, IsErrAnd, inl, inr, range_with_len, slice_get_within, get_or_from_slice_get, slice_get-get_or, take-length, err_from_is_err_and}
 use Rattle.std.proofs.lemmas.List.{length-replicate, take-append-drop, length-take-le, length-map}
 use Rattle.std.proofs.lemmas.List.FromFn.{get_or-map-range_with_len, length-range_with_len}
-use Rattle.std.proofs.lemmas.Option.{slice_get_within, get_or_from_slice_get, slice_get-get_or}
-use Rattle.std.proofs.Math.Seq.{take-length}
-use Rattle.std.proofs.lemmas.Result.{err_from_is_err_and}
 use Rattle.rbg_serving.specs.Heard as heard
-use Rattle.rbg_serving.specs.declared.line_state.LineState.{LineState}
-use Rattle.rbg_serving.specs.declared.served.Served.{Served}
-use Rattle.rbg_serving.specs.declared.served.ServeError.{ServeError}
-use Rattle.rbg_serving.specs.declared.served.ServeError.TheVariants.{Rounds, Memory}
-use Rattle.rbg_serving.specs.internal.InCall.{Start, InCall, Passed, LacksMemoryInCall, WithMoments}
-use Rattle.rbg_serving.specs.Heard.{Heard, IsTimed, IsOfLiveLines}
-use Rattle.rbg_serving.specs.Passing.{Behaviour, Intake, no_intake, intake_at, queued_at, AllHandled}
+use Rattle.rbg_serving.proofs.Common.{LineState, Served, ServeError, Rounds, Memory, Start, InCall, Passed, LacksMemoryInCall, WithMoments, Heard, IsTimed, IsOfLiveLines, Behaviour, Intake, no_intake, intake_at, queued_at, AllHandled, IsServed, TookAll, IsWhole, IsOver, EndsServing, ServesOver, Told, nothing_told, told_at, Tells, TellEach, has_taken, has_said, IsLineServed, AreServed, absent, at_first, HasAll, LiveHaveAll}
 use Rattle.rbg_serving.specs.Passing as passing
-use Rattle.rbg_serving.specs.Serving.{IsServed, TookAll, IsWhole, IsOver, EndsServing, ServesOver}
-use Rattle.rbg_serving.specs.Told.{Told, nothing_told, told_at, Tells, TellEach}
 use Rattle.rbg_serving.proofs.LinesLemmas.{item_at}
-use Rattle.rbg_serving.specs.internal.Lines.{has_taken, has_said, IsLineServed, AreServed, absent, at_first, HasAll, LiveHaveAll}
 
 -- what a line tells that has come so far
 abbrev pub tells_now : (before : List Told) → List Heard → (queued : List (List ℕ)) → List LineState → List Intake → (index : ℕ) → Told

@@ -1,12 +1,6 @@
 -- Lemmas on what is heard of a seat's line.
-use Rattle.std.proofs.Common.{◌≡◌, ◌≢◌, ℕ, ◌+◌, List, [], ◌∷◌, ◌++◌, Bool, true, false, ◌==◌, if◌then◌else◌, ap, ◌∙◌, refl, arith, Decides, append-nil}
-use Rattle.std.proofs.lemmas.Bool.Decides.{Decides-eqb}
-use Rattle.std.proofs.lemmas.Grind.{flat_map-append}
-use Rattle.std.proofs.lemmas.List.Sums.{sum_by-append}
-use Rattle.std.specs.List.{count_by}
-use Rattle.rbg_serving.specs.Heard.{Heard, gave, ended, failed_to_give, failed_to_take, round_over, seat_of, bytes_of, is_end_of, is_failure_of, given_by, ends_of, failures_of}
-use Rattle.rbg_serving.specs.Told.{Told}
-use Rattle.rbg_serving.specs.internal.Lines.{has_said}
+use Rattle.rbg_base.proofs.Common.{◌≡◌, ◌≢◌, ℕ, ◌+◌, List, [], ◌∷◌, ◌++◌, Bool, true, false, ◌==◌, if◌then◌else◌, ap, ◌∙◌, refl, arith, Decides, append-nil, Decides-eqb, flat_map-append, sum_by-append, count_by}
+use Rattle.rbg_serving.proofs.Common.{Heard, gave, ended, failed_to_give, failed_to_take, round_over, seat_of, bytes_of, is_end_of, is_failure_of, given_by, ends_of, failures_of, Told, has_said}
 
 -- the test of two numbers that differ
 pub different : (a b : ℕ) → a ≢ b → (a == b) ≡ false

@@ -1,3 +1,4 @@
+pub mod Common
 pub mod ClockLemmas
 pub mod EndLemmas
 pub mod HeardLemmas

@@ -1,16 +1,8 @@
 -- Lemmas on lines in the middle of a call.
-use Rattle.std.proofs.Common.{◌≡◌, ◌≢◌, ℕ, ◌+◌, ◌<◌, ◌≤◌, List, [], ◌∷◌, ◌++◌, length, take, set, get_or, ap, sym, ◌∙◌, refl, subst, arith, ◌⊎◌, inl, inr, length-append, append-nil, zero, suc}
-use Rattle.std.proofs.lemmas.Bool.{cases_eq}
-use Rattle.std.proofs.lemmas.Grind.{get_or-set_at}
+use Rattle.rbg_base.proofs.Common.{◌≡◌, ◌≢◌, ℕ, ◌+◌, ◌<◌, ◌≤◌, List, [], ◌∷◌, ◌++◌, length, take, set, get_or, ap, sym, ◌∙◌, refl, subst, arith, ◌⊎◌, inl, inr, length-append, append-nil, zero, suc, cases_eq, get_or-set_at}
 use Rattle.std.proofs.lemmas.List.{get_or-set_other, length-set, take-append-le}
-use Rattle.rbg_match.specs.Deliveries.{Delivery, bytes_for, delivered_from}
-use Rattle.rbg_match.specs.Inputs.{AbstractEvent}
-use Rattle.rbg_match.specs.Matches.{MatchState, Steps}
-use Rattle.rbg_serving.specs.declared.line_state.LineState.{LineState}
-use Rattle.rbg_serving.specs.Heard.{Heard}
-use Rattle.rbg_serving.specs.Passing.{Intake, no_intake, queued_at, intake_at, Extends, ExtendAll}
-use Rattle.rbg_serving.specs.Told.{Told, Tells, told_at}
-use Rattle.rbg_serving.specs.internal.Lines.{has_taken, has_said, IsLineServed, AreServed, absent}
+use Rattle.rbg_match.proofs.Common.{Delivery, bytes_for, delivered_from, AbstractEvent, MatchState, Steps}
+use Rattle.rbg_serving.proofs.Common.{LineState, Heard, Intake, no_intake, queued_at, intake_at, Extends, ExtendAll, Told, Tells, told_at, has_taken, has_said, IsLineServed, AreServed, absent}
 use Rattle.rbg_serving.proofs.HeardLemmas.{SameOf, said_the_same}
 
 -- what each seat has after messages to the seats

@@ -1,19 +1,8 @@
 -- Lemmas on lines over memory.
-use Rattle.std.proofs.Common.{◌≡◌, ◌<◌, ◌≤◌, ℕ, ◌+◌, ◌-◌, List, [], ◌∷◌, ◌++◌, length, take, drop, get_or, ap, sym, ◌∙◌, arith, append_assoc, append-nil, refl, zero, suc, true, false, min}
-use Rattle.std.specs.List.{flat_map, count_by}
+use Rattle.rbg_base.proofs.Common.{◌≡◌, ◌<◌, ◌≤◌, ℕ, ◌+◌, ◌-◌, List, [], ◌∷◌, ◌++◌, length, take, drop, get_or, ap, sym, ◌∙◌, arith, append_assoc, append-nil, refl, zero, suc, true, false, min, flat_map, count_by, flat_map-append, sum_by-append}
 use Rattle.std.proofs.Math.Seq.{take-add}
-use Rattle.std.proofs.lemmas.Grind.{flat_map-append}
 use Rattle.std.proofs.lemmas.List.{take_all, take_more, take-append-drop}
-use Rattle.std.proofs.lemmas.List.Sums.{sum_by-append}
-use Rattle.rbg_serving.specs.declared.give.Give.{Give}
-use Rattle.rbg_serving.specs.declared.give.Give.TheVariants.{Nothing, Ended, Failed}
-use Rattle.rbg_serving.specs.Answers.{with_failure}
-use Rattle.rbg_serving.specs.declared.answer.Polled.{Polled}
-use Rattle.rbg_serving.specs.declared.answer.Polled.TheVariants.{Got}
-use Rattle.rbg_serving.specs.declared.answer.Put.{Put}
-use Rattle.rbg_serving.specs.declared.memory_line.MemoryLine.{MemoryLine}
-use Rattle.rbg_serving.specs.MemoryLines.{bytes_in, is_bytes, is_end, memory_told, GivesNext, gives_part, gives_rest, IsPolled, TakesNext, IsPut}
-use Rattle.rbg_serving.specs.Told.{Told}
+use Rattle.rbg_serving.proofs.Common.{Give, Nothing, Ended, Failed, with_failure, Polled, Got, Put, MemoryLine, bytes_in, is_bytes, is_end, memory_told, GivesNext, gives_part, gives_rest, IsPolled, TakesNext, IsPut, Told}
 use Rattle.rbg_serving.proofs.HeardLemmas.{one_if}
 
 -- a poll after which only what was given is another

@@ -1,17 +1,8 @@
 -- Lemmas on bytes that are passed on.
-use Rattle.std.proofs.Common.{◌≡◌, ◌≢◌, ◌⊎◌, inl, inr, ◌<◌, ◌≤◌, ◌==◌, zero, suc, length, ℕ, List, [], ◌∷◌, ◌+◌, ◌-◌, ◌++◌, take, drop, set, get_or, Bool, true, false, if◌then◌else◌, ap, sym, ◌∙◌, refl, subst, arith, length-drop, append_assoc, append-nil}
-use Rattle.std.proofs.lemmas.Bool.{cases_eq}
-use Rattle.std.proofs.lemmas.Grind.{get_or-set_at}
+use Rattle.rbg_base.proofs.Common.{◌≡◌, ◌≢◌, ◌⊎◌, inl, inr, ◌<◌, ◌≤◌, ◌==◌, zero, suc, length, ℕ, List, [], ◌∷◌, ◌+◌, ◌-◌, ◌++◌, take, drop, set, get_or, Bool, true, false, if◌then◌else◌, ap, sym, ◌∙◌, refl, subst, arith, length-drop, append_assoc, append-nil, cases_eq, get_or-set_at, sum_by-set}
 use Rattle.std.proofs.Math.Seq.{take-add}
 use Rattle.std.proofs.lemmas.List.{take_all, get_or-set_same, get_or-set_other}
-use Rattle.std.proofs.lemmas.List.Sums.{sum_by-set}
-use Rattle.rbg_serving.specs.declared.answer.Put.TheVariants.{Took}
-use Rattle.rbg_serving.specs.declared.line_state.LineState.{LineState}
-use Rattle.rbg_serving.specs.Answers.{after_put, stalls_of, with_failure}
-use Rattle.rbg_serving.specs.Heard.{Heard, failed_to_take, is_failure_of, IsLive}
-use Rattle.rbg_serving.specs.Passing.{Intake, no_intake, intake_at, queued_at, ComeBefore}
-use Rattle.rbg_serving.specs.Told.{Told, Tells, told_at}
-use Rattle.rbg_serving.specs.internal.Lines.{has_taken, has_said, stall_of, passed_on, absent, IsLineServed, AreServed, AreServedFrom, ArePassed, live_lines}
+use Rattle.rbg_serving.proofs.Common.{Took, LineState, after_put, stalls_of, with_failure, Heard, failed_to_take, is_failure_of, IsLive, Intake, no_intake, intake_at, queued_at, ComeBefore, Told, Tells, told_at, has_taken, has_said, stall_of, passed_on, absent, IsLineServed, AreServed, AreServedFrom, ArePassed, live_lines}
 use Rattle.rbg_serving.proofs.HeardLemmas.{of_another, count_more, different, itself, one_if}
 use Rattle.rbg_serving.proofs.LinesLemmas.{item_at, one_used, same_of, other_seat}
 use Rattle.rbg_serving.proofs.SaidLemmas.{said_one, says_failed_to_take}

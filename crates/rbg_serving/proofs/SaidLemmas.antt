@@ -1,9 +1,6 @@
 -- Lemmas on what a line has told of which one more thing was heard.
 use Rattle.std.proofs.Common.{◌≡◌, ℕ, ◌+◌, List, [], ◌∷◌, ◌++◌, take, if◌then◌else◌, ap, sym, ◌∙◌, arith, append_assoc, append-nil}
-use Rattle.rbg_serving.specs.Answers.{with_failure}
-use Rattle.rbg_serving.specs.Heard.{Heard, gave, ended, failed_to_give, failed_to_take, bytes_of, is_end_of, is_failure_of, given_by, ends_of, failures_of}
-use Rattle.rbg_serving.specs.Told.{Told}
-use Rattle.rbg_serving.specs.internal.Lines.{has_taken, has_said}
+use Rattle.rbg_serving.proofs.Common.{with_failure, Heard, gave, ended, failed_to_give, failed_to_take, bytes_of, is_end_of, is_failure_of, given_by, ends_of, failures_of, Told, has_taken, has_said}
 use Rattle.rbg_serving.proofs.HeardLemmas.{given_more, count_more, itself, one_if}
 
 -- what one thing that is heard adds to what the line has told

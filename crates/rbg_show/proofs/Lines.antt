@@ -1,16 +1,14 @@
 -- What lines are, from what the readers of lines find.
-use Rattle.std.proofs.Common.{◌≡◌, ◌↔◌, ◌==◌, ℕ, List, [], ◌++◌, codes, length, Bool, true, false, IsTrue, Option, Some, None, IfSome, IfNone, ap, subst, ◌∙◌, refl}
+use Rattle.std.proofs.Common.{◌≡◌, ◌↔◌, ◌==◌, ℕ, List, [], ◌++◌, codes, length, Bool, true, false, IsTrue, Option, Some, None, IfSome, IfNone, ap, subst, ◌∙◌, refl, IsSomeAnd}
 use Rattle.std.proofs.lemmas.Bool.{eq-eqb}
 use Rattle.rbg_script.specs.declared.config.ScriptConfig.{ScriptConfig}
 use Rattle.rbg_script.specs.Config.{SpellsConfig}
-use Rattle.std.specs.Option.{IsSomeAnd}
 use Rattle.rbg_script.specs.declared.event.ScriptEvent.{ScriptEvent}
 use Rattle.rbg_script.specs.Events.{AbstractEvent, SpellsEvent, event_of}
 use Rattle.rbg_lines.specs.declared.entry.Entry.TheVariants.{End as EndEntry}
 use Rattle.rbg_lines.specs.declared.entry.Timed.{Timed}
 use Rattle.rbg_lines.specs.declared.heading.Start.{Start}
-use Rattle.rbg_lines.specs.Entries.{SpellsTimed}
-use Rattle.rbg_lines.specs.Heading.{SpellsPlayers, SpellsStart}
+use Rattle.rbg_lines.proofs.Common.{SpellsTimed, SpellsPlayers, SpellsStart}
 use Rattle.rbg_show.specs.declared.line.RecordEnd.{RecordEnd}
 use Rattle.rbg_show.specs.declared.line.ListLine.{ListLine}
 use Rattle.rbg_show.specs.declared.line.ListLine.TheVariants.{Silent, Head, End, Said, Sent, Other}

@@ -1,10 +1,8 @@
 -- Lists of lines that are followed so far, or whole, or up to a line that stops.
-use Rattle.std.proofs.Common.{◌≡◌, ◌<◌, ◌≤◌, ◌+◌, ℕ, List, [], ◌∷◌, ◌++◌, length, Bool, true, false, Option, inl, inr, subst, sym, refl, ap, ◌∙◌, arith}
+use Rattle.rbg_base.proofs.Common.{◌≡◌, ◌<◌, ◌≤◌, ◌+◌, ℕ, List, [], ◌∷◌, ◌++◌, length, Bool, true, false, Option, inl, inr, subst, sym, refl, ap, ◌∙◌, arith, All-push}
 use Rattle.std.proofs.lemmas.List.{append_assoc, flat_map_more, length-append, length_push, append-nil}
-use Rattle.std.proofs.lemmas.List.Elements.{All-push}
 use Rattle.rbg_rules.specs.Meaning.{AbstractGame}
-use Rattle.rbg_wire.specs.Bytes.{LacksByte}
-use Rattle.rbg_wire.specs.Lines.{line_feed, line_of, lines_of}
+use Rattle.rbg_wire.proofs.Common.{LacksByte, line_feed, line_of, lines_of}
 use Rattle.rbg_wire.specs.declared.outcome.Outcome.{Outcome}
 use Rattle.rbg_show.specs.declared.scene.Scene.{Scene}
 use Rattle.rbg_show.specs.declared.showing.Showing.{Showing}

@@ -1,6 +1,5 @@
 -- Texts that end with what was written last.
-use Rattle.std.proofs.Common.{List, ℕ, Result, OnOk}
-use Rattle.std.proofs.lemmas.Result.{on_ok_weaker}
+use Rattle.rbg_base.proofs.Common.{List, ℕ, Result, OnOk, on_ok_weaker}
 use Rattle.rbg_wire.specs.Writing.{Appends}
 use Rattle.rbg_show.specs.Endings.{EndsWith}
 

@@ -1,10 +1,6 @@
 -- What comes of moves that are tried.
-use Rattle.std.proofs.Common.{◌≡◌, ◌≢◌, ◌<◌, ◌≤◌, ◌+◌, ◌⊎◌, ℕ, List, [], ◌∷◌, ◌++◌, length, take, drop, get_or, Bool, true, false, IfSome, Contains, Option, Some, None, Result, Ok, Err, inl, inr, subst, sym, ap, ◌∙◌, arith}
+use Rattle.rbg_base.proofs.Common.{◌≡◌, ◌≢◌, ◌<◌, ◌≤◌, ◌+◌, ◌⊎◌, ℕ, List, [], ◌∷◌, ◌++◌, length, take, drop, get_or, Bool, true, false, IfSome, Contains, Option, Some, None, Result, Ok, Err, inl, inr, subst, sym, ap, ◌∙◌, arith, All-more, All-same, Contains-get_or, IfNone, is_some, IsErrAnd, false≢true}
 use Rattle.std.proofs.lemmas.List.{take-append-drop, drop_more, length-append, take_all}
-use Rattle.std.proofs.lemmas.List.Elements.{All-more, All-same, Contains-get_or}
-use Rattle.std.specs.Prelude.{IfNone, is_some}
-use Rattle.std.specs.Result.{IsErrAnd}
-use Rattle.std.proofs.lemmas.Bool.{false≢true}
 use Rattle.rbg_rules.specs.Meaning.{Finished, IsLegal, IsHeavyToFind}
 use Rattle.rbg_moves.specs.declared.unsettled.Unsettled.{Unsettled}
 use Rattle.rbg_moves.specs.Limits.{most_keeper_moves}

@@ -1,8 +1,5 @@
 -- The pairs of a legal move have a spelling.
-use Rattle.std.proofs.Common.{ℕ, zero, suc, ◌+◌, ◌<◌, ◌≤◌, List, length, subst, inl, inr, arith}
-use Rattle.std.specs.Prelude.{All}
-use Rattle.std.specs.List.{range_with_len}
-use Rattle.std.proofs.lemmas.List.Elements.{All-nil, All-cons}
+use Rattle.rbg_base.proofs.Common.{ℕ, zero, suc, ◌+◌, ◌<◌, ◌≤◌, List, length, subst, inl, inr, arith, All, range_with_len, All-nil, All-cons}
 use Rattle.rbg_rules.specs.Meaning.{AbstractAction, Expression, HasAction, positions_of, IsNumbered, AbstractGame, AbstractState, IsStateOf, IsGame, RunPairs, stay, modify, pass}
 use Rattle.rbg_rules.proofs.PositionLemmas.{Among, has_position}
 use Rattle.rbg_rules.proofs.StateLemmas.{state_law}

@@ -1,8 +1,5 @@
 -- Chains of operations: a loop that takes one operation after another, and stops where there is no value.
-use Rattle.std.proofs.Common.{◌≡◌, ℕ, zero, suc, ◌+◌, ◌<◌, List, [], ◌∷◌, length, get_or, take, map, fold, Option, None, refl, sym, ap, ◌∙◌, ℤ, arith}
-use Rattle.std.proofs.lemmas.List.Sums.{fold_more}
-use Rattle.std.specs.Prelude.{Vec, Box, IfSome, Some}
-use Rattle.std.specs.Global.{Global}
+use Rattle.rbg_base.proofs.Common.{◌≡◌, ℕ, zero, suc, ◌+◌, ◌<◌, List, [], ◌∷◌, length, get_or, take, map, fold, Option, None, refl, sym, ap, ◌∙◌, ℤ, arith, fold_more, Vec, Box, IfSome, Some, Global}
 use Rattle.rbg_rules.specs.Meaning.{AbstractArithmetic, on_values, value_of, AbstractState, arithmetic_of, operation_of, operated, changed}
 use Rattle.rbg_rules.specs.declared.arithmetic.Arithmetic.{Arithmetic}
 use Rattle.rbg_rules.specs.declared.arithmetic.Arithmetic.TheVariants.{Chain}

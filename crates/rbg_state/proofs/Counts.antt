@@ -1,16 +1,9 @@
 -- A piece stands on as many vertices as its row has bits.
-use Rattle.std.proofs.Common.{◌≡◌, ℕ, zero, suc, ◌+◌, ◌*◌, ◌/◌, ◌%◌, ◌^◌, ◌<◌, ◌≤◌, ◌==◌, inl, inr, List, length, get_or, take, Some, sym, ap, subst, ◌∙◌, arith}
-use Rattle.std.specs.Prelude.{◌↔◌, count_by, count_ones, slice_get}
-use Rattle.std.specs.Int.{bit_at}
+use Rattle.rbg_base.proofs.Common.{◌≡◌, ℕ, zero, suc, ◌+◌, ◌*◌, ◌/◌, ◌%◌, ◌^◌, ◌<◌, ◌≤◌, ◌==◌, inl, inr, List, length, get_or, take, Some, sym, ap, subst, ◌∙◌, arith, ◌↔◌, count_by, count_ones, slice_get, bit_at, count_by_more_yes, count_by_more_no, ones_le_self, bit_at_lowest, bit_at-suc, slice_get-get_or, get_or_from_slice_get, slice_get_within, ℕ_discrete}
 use Rattle.std.specs.Int.Count.{ones_step}
 use Rattle.std.proofs.lemmas.Bool.{cases_lt, eq-eqb, eqb-true, false_from_ne_true}
 use Rattle.std.proofs.lemmas.List.{take_all}
-use Rattle.std.proofs.lemmas.List.Sums.{count_by_more_yes, count_by_more_no}
-use Rattle.std.proofs.lemmas.Nat.{ones_le_self}
-use Rattle.std.proofs.lemmas.Nat.Bits.{bit_at_lowest, bit_at-suc}
-use Rattle.std.proofs.lemmas.Option.{slice_get-get_or, get_or_from_slice_get, slice_get_within}
 use Rattle.std.proofs.Math.Nat.{pow-suc}
-use native.Mathlib.Decide.{ℕ_discrete}
 use Rattle.rbg_state.specs.Rows.{IsWordOf}
 
 -- how many of the first vertices hold a piece

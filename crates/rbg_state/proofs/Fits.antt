@@ -1,11 +1,6 @@
 -- What fits 64 bits with a sign.
-use Rattle.std.proofs.Common.{◌≡◌, ℕ, zero, suc, ◌<◌, ◌^◌, ◌-◌, ℤ, pos, negsuc, Option, Some, None, refl, ap, ◌∙◌, arith, true, false, nat_le}
-use Rattle.std.specs.Option.{SomeIff}
-use Rattle.std.specs.Prelude.{Result, Ok, Err}
+use Rattle.rbg_base.proofs.Common.{◌≡◌, ℕ, zero, suc, ◌<◌, ◌^◌, ◌-◌, ℤ, pos, negsuc, Option, Some, None, refl, ap, ◌∙◌, arith, true, false, nat_le, SomeIff, Result, Ok, Err, CanDivide, w64, FitsSigned, int_div, nat_tests}
 use Rattle.std.specs.Result.{OkIff, result_ok}
-use Rattle.std.specs.Int.{CanDivide, w64}
-use Rattle.std.specs.Prelude.{FitsSigned, int_div}
-use Rattle.std.proofs.lemmas.Bool.Decides.{nat_tests}
 use Rattle.rbg_rules.specs.Meaning.{if_fits, divided}
 
 within : (n : ℕ) → n < 2 ^ 63 → nat_le n (2 ^ 63 - 1) ≡ true

@@ -1,7 +1,6 @@
 -- What follows from one history coming after another.
-use Rattle.std.proofs.Common.{◌≡◌, ℕ, ◌+◌, ◌<◌, ◌≤◌, List, [], ◌∷◌, Some, length, take, get_or, refl, sym, ap, ◌∙◌, slice_get, arith}
+use Rattle.rbg_base.proofs.Common.{◌≡◌, ℕ, ◌+◌, ◌<◌, ◌≤◌, List, [], ◌∷◌, Some, length, take, get_or, refl, sym, ap, ◌∙◌, slice_get, arith, slice_get-get_or, get_or_from_slice_get}
 use Rattle.std.proofs.lemmas.List.{take_all, take-take, take_at, take-append-le, length-take, length_push, get_or-take, get_or_push}
-use Rattle.std.proofs.lemmas.Option.{slice_get-get_or, get_or_from_slice_get}
 use Rattle.rbg_rules.specs.Meaning.{AbstractState}
 use Rattle.rbg_state.specs.History.{History, states_of, capacity_of, changed_to, IsAfter}
 

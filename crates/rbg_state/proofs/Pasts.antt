@@ -1,8 +1,6 @@
 -- The states that a list of changes leads back to, where one more change is written.
-use Rattle.std.proofs.Common.{◌≡◌, ℕ, suc, ◌-◌, List, [], ◌∷◌, ◌++◌, length, get_or, refl, sym, ap, subst, ◌∙◌, arith}
+use Rattle.std.proofs.Common.{◌≡◌, ℕ, suc, ◌-◌, List, [], ◌∷◌, ◌++◌, length, get_or, refl, sym, ap, subst, ◌∙◌, arith, Vec, vec_len, vec_capacity, All, Global}
 use Rattle.std.proofs.lemmas.List.{length-set, length_push, get_or_append_left}
-use Rattle.std.specs.Prelude.{Vec, vec_len, vec_capacity, All}
-use Rattle.std.specs.Global.{Global}
 use Rattle.rbg_rules.specs.Meaning.{AbstractState}
 use Rattle.rbg_state.specs.declared.change.Change.{Change}
 use Rattle.rbg_state.specs.declared.change.Change.TheVariants.{Player, Vertex, Piece, Value}

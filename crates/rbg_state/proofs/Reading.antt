@@ -1,9 +1,5 @@
 -- What the parts of arithmetic read.
-use Rattle.std.proofs.Common.{◌≡◌, ℕ, ◌<◌, List, [], ◌∷◌, length, get_or, map, sym, subst, ap, ◌∙◌, arith}
-use Rattle.std.proofs.lemmas.List.Elements.{All-cons}
-use Rattle.std.specs.List.{All}
-use Rattle.std.specs.Prelude.{Vec, Box}
-use Rattle.std.specs.Global.{Global}
+use Rattle.rbg_base.proofs.Common.{◌≡◌, ℕ, ◌<◌, List, [], ◌∷◌, length, get_or, map, sym, subst, ap, ◌∙◌, arith, All-cons, All, Vec, Box, Global}
 use Rattle.rbg_base.specs.declared.relation.Relation.{Relation}
 use Rattle.rbg_rules.specs.Meaning.{AbstractAction, AbstractArithmetic, assignment, comparison, number, variable, piece_count, negated, sum, difference, product, quotient, AbstractGame, AbstractState, IsStateOf, HasNamesOf, IsActionOf, IsGame, arithmetic_of, operation_of, operated, changed, Shows}
 use Rattle.rbg_rules.specs.declared.rule.Action.{Action}

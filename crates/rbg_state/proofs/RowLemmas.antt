@@ -1,12 +1,6 @@
 -- Rows of bits stay right where a piece is put on a vertex.
-use Rattle.std.proofs.Common.{◌≡◌, ◌≢◌, ℕ, ◌+◌, ◌*◌, ◌/◌, ◌%◌, ◌<◌, ◌^◌, ◌⊎◌, inl, inr, List, [], length, get_or, Some, sym, ap, subst, ◌∙◌, slice_set, replicate, arith}
-use Rattle.std.specs.Prelude.{◌↔◌, bit_or, bit_and}
-use Rattle.std.specs.Int.{bit_at, bit_not, w64}
-use Rattle.std.proofs.lemmas.Nat.{div-mul-add}
-use Rattle.std.proofs.lemmas.Nat.Bits.{bit_at-zero, bit_at_set_same, bit_at_set_other, bit_at_clear_same, bit_at_clear_other}
+use Rattle.rbg_base.proofs.Common.{◌≡◌, ◌≢◌, ℕ, ◌+◌, ◌*◌, ◌/◌, ◌%◌, ◌<◌, ◌^◌, ◌⊎◌, inl, inr, List, [], length, get_or, Some, sym, ap, subst, ◌∙◌, slice_set, replicate, arith, ◌↔◌, bit_or, bit_and, bit_at, bit_not, w64, div-mul-add, bit_at-zero, bit_at_set_same, bit_at_set_other, bit_at_clear_same, bit_at_clear_other, slice_get-get_or, get_or_from_slice_get, slice_get_within, ℕ_discrete}
 use Rattle.std.proofs.lemmas.List.{length-set, get_or-set_same, get_or-set_other, get_or-replicate, length-replicate}
-use Rattle.std.proofs.lemmas.Option.{slice_get-get_or, get_or_from_slice_get, slice_get_within}
-use native.Mathlib.Decide.{ℕ_discrete}
 use Rattle.rbg_state.specs.Rows.{IsWordOf, word_of, HasBit, bit_in, AreRows, ChangesBit, ChangesWord}
 
 -- a word that differs from the old one in one bit

@@ -1,6 +1,5 @@
 -- What is told of an action that is tried, and of the position where it stands.
-use Rattle.std.proofs.Common.{◌≡◌, ℕ, ◌<◌, true, false, sym, refl, ap, subst, ◌∙◌, length}
-use Rattle.std.specs.Prelude.{Option, Some, None, IfSome, IfNone}
+use Rattle.std.proofs.Common.{◌≡◌, ℕ, ◌<◌, true, false, sym, refl, ap, subst, ◌∙◌, length, Option, Some, None, IfSome, IfNone}
 use Rattle.rbg_base.specs.declared.relation.Relation.{Relation}
 use Rattle.rbg_rules.specs.Meaning.{AbstractArithmetic, number, variable, piece_count, negated, sum, difference, product, quotient, AbstractAction, comparison, HasAction, IsPatternAt, is_modifier, AbstractGame, AbstractState, IsStateOf, Acts, value_of, IsGame, IsActionOf, shows_pattern, Shows, Stands}
 use Rattle.rbg_rules.specs.declared.rule.Action.{Action}

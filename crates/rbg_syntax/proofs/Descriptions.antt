@@ -1,23 +1,16 @@
 -- What is answered for the whole description, from the answers for its sections.
-use Rattle.std.proofs.Common.{◌≡◌, ◌≤◌, List, [], ◌∷◌, length, ℕ, Option, Some, None, Result, Ok, Err, refl, sym, ap, ◌∙◌, subst, arith, inl, inr}
-use Rattle.std.specs.Prelude.{slice_get}
-use Rattle.rbg_tokens.specs.Token.{Lexeme}
+use Rattle.std.proofs.Common.{◌≡◌, ◌≤◌, List, [], ◌∷◌, length, ℕ, Option, Some, None, Result, Ok, Err, refl, sym, ap, ◌∙◌, subst, arith, inl, inr, slice_get}
+use Rattle.rbg_tokens.proofs.Common.{Lexeme, is_name_kind, is_symbol}
 use Rattle.rbg_macro.specs.Sections.{SectionTokens}
 use Rattle.rbg_macro.specs.declared.source.SectionKind.{SectionKind}
 use Rattle.rbg_macro.specs.declared.source.SectionKind.TheVariants.{Players, Pieces, Variables, Board, Rules}
 use Rattle.rbg_tokens.specs.declared.token.Symbol.TheVariants.{Comma}
-use Rattle.rbg_tokens.specs.Kinds.{is_name_kind, is_symbol}
 use Rattle.rbg_syntax.specs.declared.error.ReadError.{ReadError}
 use Rattle.rbg_syntax.specs.declared.error.ReadError.TheVariants as faults
 use Rattle.rbg_syntax.specs.declared.error.SyntaxError.{SyntaxError}
 use Rattle.rbg_syntax.specs.declared.error.SyntaxError.TheVariants as errors
-use Rattle.rbg_grammar.specs.Tree.{SpeltBounded, SpeltName, SpeltBoard, SpeltRule}
-use Rattle.rbg_grammar.specs.Grammar.{ArePlayers, AreVariables, ArePieces, IsBoard, AreRules}
-use Rattle.rbg_grammar.specs.Reading.{Fault, misfit, Reading, bounded_at, name_at, separated_at, listed_at, board_at, whole_at, variables_at}
+use Rattle.rbg_grammar.proofs.Common.{SpeltBounded, SpeltName, SpeltBoard, SpeltRule, ArePlayers, AreVariables, ArePieces, IsBoard, AreRules, Fault, misfit, Reading, bounded_at, name_at, separated_at, listed_at, board_at, whole_at, variables_at, rules_at, sections_of, AreDifferent, HasSection, IsSection, MayHaveVariables, IsSpelt}
 use Rattle.rbg_syntax.specs.internal.Giving.{Gives, GivesWithin, GivesAt, Fails, FailsWithin, error_in, placed, start_of}
-use Rattle.rbg_grammar.specs.RuleReading.{rules_at}
-use Rattle.rbg_grammar.specs.Sections.{sections_of, AreDifferent}
-use Rattle.rbg_grammar.specs.Spells.{HasSection, IsSection, MayHaveVariables, IsSpelt}
 use Rattle.rbg_syntax.specs.Faults.{HasFault}
 use Rattle.rbg_grammar.proofs.Readers.{IsReadBy, Always}
 use Rattle.rbg_grammar.proofs.Combinators.{EndsList, Stops}

@@ -1,6 +1,5 @@
 -- What the exits of a reader return, from what a part of it returned.
-use Rattle.std.proofs.Common.{◌≡◌, ℕ, Option, Result, Ok, Err}
-use Rattle.std.specs.Prelude.{IsErrAnd}
+use Rattle.std.proofs.Common.{◌≡◌, ℕ, Option, Result, Ok, Err, IsErrAnd}
 use Rattle.rbg_grammar.specs.Reading.{Fault, misfit, too_deep}
 use Rattle.rbg_syntax.specs.declared.error.Expectation.{Expectation}
 use Rattle.rbg_syntax.specs.declared.error.ReadError.{ReadError}

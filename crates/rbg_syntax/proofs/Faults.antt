@@ -1,6 +1,5 @@
 -- Where a fault stands, the sections spell no description.
-use Rattle.std.proofs.Common.{◌≡◌, ◌≤◌, List, [], ◌∷◌, length, Result, Ok, Err, refl, sym, ap, ◌∙◌, arith, inl, inr}
-use Rattle.std.specs.Prelude.{IsErrAnd, IfErr}
+use Rattle.std.proofs.Common.{◌≡◌, ◌≤◌, List, [], ◌∷◌, length, Result, Ok, Err, refl, sym, ap, ◌∙◌, arith, inl, inr, IsErrAnd, IfErr}
 use Rattle.rbg_tokens.specs.Token.{Lexeme}
 use Rattle.rbg_macro.specs.Sections.{SectionTokens}
 use Rattle.rbg_macro.specs.declared.source.SectionKind.{SectionKind}
@@ -8,11 +7,8 @@ use Rattle.rbg_macro.specs.declared.source.SectionKind.TheVariants.{Players, Pie
 use Rattle.rbg_grammar.specs.declared.description.Description.{Description}
 use Rattle.rbg_syntax.specs.declared.error.SyntaxError.{SyntaxError}
 use Rattle.rbg_syntax.specs.declared.error.SyntaxError.TheVariants as errors
-use Rattle.rbg_grammar.specs.Grammar.{AreVariables}
-use Rattle.rbg_grammar.specs.Sections.{sections_of, count_of}
-use Rattle.rbg_grammar.specs.Spells.{HasSection, IsSection, MayHaveVariables, Spells, IsSpelt}
+use Rattle.rbg_grammar.proofs.Common.{AreVariables, sections_of, count_of, HasSection, IsSection, MayHaveVariables, Spells, IsSpelt, SpeltBounded, SpeltDescription}
 use Rattle.rbg_syntax.specs.Faults.{HasFault, IsAnswer}
-use Rattle.rbg_grammar.specs.Tree.{SpeltBounded, SpeltDescription}
 use Rattle.rbg_grammar.proofs.OneDescription.{spelt_here}
 use Rattle.rbg_syntax.proofs.SectionLists.{twice_counted}
 use Rattle.rbg_grammar.proofs.Depths.{too_deep_spells_nothing}

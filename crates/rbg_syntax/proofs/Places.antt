@@ -7,10 +7,8 @@ use Rattle.rbg_syntax.specs.declared.error.Expectation.{Expectation}
 use Rattle.rbg_syntax.specs.declared.error.ReadError.{ReadError}
 use Rattle.rbg_syntax.specs.declared.error.ReadError.TheVariants as faults
 use Rattle.rbg_syntax.specs.declared.error.SyntaxError.{SyntaxError}
-use Rattle.rbg_grammar.specs.Reading.{Fault, misfit, too_deep, Reading, ◌>>=◌, ended_at, whole_at}
+use Rattle.rbg_grammar.proofs.Common.{Fault, misfit, too_deep, Reading, ◌>>=◌, ended_at, whole_at, sections_of, IsSpelt, TokenAt}
 use Rattle.rbg_syntax.specs.internal.Giving.{Gives, GivesWithin, error_in, placed}
-use Rattle.rbg_grammar.specs.Sections.{sections_of}
-use Rattle.rbg_grammar.specs.Spells.{IsSpelt, TokenAt}
 use Rattle.rbg_syntax.specs.Faults.{HasFault}
 use Rattle.rbg_grammar.proofs.Misfits.{Taken, Stuck, Judged, Judges}
 

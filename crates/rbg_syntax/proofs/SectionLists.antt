@@ -1,7 +1,5 @@
 -- The sections of one kind, as the list of sections is looked through.
-use Rattle.std.proofs.Common.{◌≡◌, ◌≤◌, ◌+◌, ℕ, zero, suc, List, [], ◌∷◌, ◌++◌, length, take, drop, Bool, true, false, cond, Option, Some, None, refl, sym, ap, ◌∙◌, arith, add-one}
-use Rattle.std.specs.Prelude.{slice_get, IfErr}
-use Rattle.std.specs.Option.{ok_or}
+use Rattle.std.proofs.Common.{◌≡◌, ◌≤◌, ◌+◌, ℕ, zero, suc, List, [], ◌∷◌, ◌++◌, length, take, drop, Bool, true, false, cond, Option, Some, None, refl, sym, ap, ◌∙◌, arith, add-one, slice_get, IfErr, ok_or}
 use Rattle.rbg_syntax.specs.declared.error.SyntaxError.{SyntaxError}
 use denote.Enum.Bare.{same_true, true_same}
 use Rattle.rbg_macro.specs.Sections.{SectionTokens}

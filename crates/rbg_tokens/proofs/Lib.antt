@@ -1,4 +1,5 @@
 -- Lemmas.
+pub mod Common
 pub mod OneReading
 mod Parts
 mod Scan

@@ -1,19 +1,10 @@
 -- A text has one list of tokens at most, and one first fault, and not both.
-use Rattle.std.proofs.Common.{ℕ, ◌≡◌, ◌≢◌, ◌+◌, ◌==◌, Bool, true, false, ◌&&◌, List, [], ◌∷◌, ◌++◌, length, get_or, drop, Some, Result, Ok, Err, cond, refl, sym, ap, ◌∙◌, arith, subst}
+use Rattle.rbg_base.proofs.Common.{ℕ, ◌≡◌, ◌≢◌, ◌+◌, ◌==◌, Bool, true, false, ◌&&◌, List, [], ◌∷◌, ◌++◌, length, get_or, drop, Some, Result, Ok, Err, cond, refl, sym, ap, ◌∙◌, arith, subst, find, list_all, bytes_eq}
 use Rattle.std.proofs.lemmas.Bool.{and_parts, ne_eqb}
 use Rattle.std.specs.Char.{is_ascii_digit}
-use Rattle.std.specs.List.{find, list_all}
-use Rattle.std.specs.Str.{bytes_eq}
-use Rattle.rbg_tokens.specs.declared.error.TextError.{TextError}
-use Rattle.rbg_tokens.specs.declared.error.TextError.TheVariants.{TooLong, ZeroByte, BadByte, Memory}
-use Rattle.rbg_tokens.specs.declared.token.Symbol.{Symbol}
-use Rattle.rbg_tokens.specs.declared.token.Symbol.TheVariants.{DoubleArrow, Arrow, DoubleEquals, NotEquals, LessOrEqual, GreaterOrEqual, Equals, LessThan, GreaterThan, Plus, Minus, Star, Slash, OpenParenthesis, CloseParenthesis, OpenBracket, CloseBracket, OpenBrace, CloseBrace, Comma, Semicolon, Colon, Tilde, Hash, Dollar, Question, Exclamation}
-use Rattle.rbg_tokens.specs.declared.token.TokenKind.{TokenKind}
+use Rattle.rbg_tokens.proofs.Common.{TextError, TooLong, ZeroByte, BadByte, Memory, Symbol, DoubleArrow, Arrow, DoubleEquals, NotEquals, LessOrEqual, GreaterOrEqual, Equals, LessThan, GreaterThan, Plus, Minus, Star, Slash, OpenParenthesis, CloseParenthesis, OpenBracket, CloseBracket, OpenBrace, CloseBrace, Comma, Semicolon, Colon, Tilde, Hash, Dollar, Question, Exclamation, TokenKind, Lexes, end, blank, comment, token, zero_byte, zero_in_comment, bad_byte, behind_token, is_blank, is_comment_byte, IsComment, IsLineEnd, IsToken, BeginsNoToken, HasTokens, HasFirstFault, HasTextFault, spelling, Spells, Lexeme}
 use Rattle.rbg_tokens.specs.declared.token.TokenKind.TheVariants.{Name, Number, Symbol as A_Symbol}
-use Rattle.rbg_tokens.specs.Text.{Lexes, end, blank, comment, token, zero_byte, zero_in_comment, bad_byte, behind_token, is_blank, is_comment_byte, IsComment, IsLineEnd, IsToken, BeginsNoToken, HasTokens, HasFirstFault, HasTextFault}
-use Rattle.rbg_tokens.specs.Spelling.{spelling, Spells}
 use Rattle.rbg_base.specs.Names.{is_name_start, is_name_part}
-use Rattle.rbg_tokens.specs.Token.{Lexeme}
 use Rattle.rbg_tokens.proofs.Words.{digit_starts_no_name, symbol_starts_no_name, symbol_starts_no_number}
 
 -- how bytes begin: with nothing, a blank, a zero byte, a comment, or with a token or a bad byte

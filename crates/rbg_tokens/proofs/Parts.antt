@@ -1,17 +1,9 @@
 -- A part at the front of some bytes, and what the bytes give.
-use Rattle.std.proofs.Common.{ℕ, ◌≡◌, ◌≢◌, ◌+◌, ◌<◌, ◌≤◌, Bool, true, false, List, [], ◌∷◌, ◌++◌, length, get_or, take, drop, refl, sym, ap, ◌∙◌, arith, add-one, add-zero, suc, length-append, length-drop, drop-cons, Err}
-use Rattle.std.proofs.lemmas.Bool.Decides.{nat_tests}
+use Rattle.rbg_base.proofs.Common.{ℕ, ◌≡◌, ◌≢◌, ◌+◌, ◌<◌, ◌≤◌, Bool, true, false, List, [], ◌∷◌, ◌++◌, length, get_or, take, drop, refl, sym, ap, ◌∙◌, arith, add-one, add-zero, suc, length-append, length-drop, drop-cons, Err, nat_tests, prefix_len-le-length, prefix_len_stops, prefix_len}
 use Rattle.std.proofs.lemmas.List.{length-take-le, take-append-drop, get_or-drop}
-use Rattle.std.proofs.lemmas.List.Sums.{prefix_len-le-length, prefix_len_stops}
 use Rattle.std.specs.Char.{is_ascii_digit}
-use Rattle.std.specs.List.{prefix_len}
-use Rattle.rbg_tokens.specs.declared.error.TextError.TheVariants.{ZeroByte, BadByte}
-use Rattle.rbg_tokens.specs.declared.token.Symbol.{Symbol}
-use Rattle.rbg_tokens.specs.declared.token.TokenKind.{TokenKind}
+use Rattle.rbg_tokens.proofs.Common.{ZeroByte, BadByte, Symbol, TokenKind, Skips, Takes, BeginsComment, IsLongestSymbol, Lexes, blank, comment, token, zero_byte, zero_in_comment, bad_byte, is_blank, is_comment_byte, IsComment, IsLineEnd, IsToken, BeginsNoToken, spelling}
 use Rattle.rbg_tokens.specs.declared.token.TokenKind.TheVariants.{Name, Number, Symbol as A_Symbol}
-use Rattle.rbg_tokens.specs.internal.Part.{Skips, Takes, BeginsComment, IsLongestSymbol}
-use Rattle.rbg_tokens.specs.Text.{Lexes, blank, comment, token, zero_byte, zero_in_comment, bad_byte, is_blank, is_comment_byte, IsComment, IsLineEnd, IsToken, BeginsNoToken}
-use Rattle.rbg_tokens.specs.Spelling.{spelling}
 use Rattle.rbg_base.specs.Names.{is_name_start, is_name_part}
 use Rattle.rbg_tokens.proofs.Words.{list_all-prefix_len, start_is_part, name_is_token, number_is_token, symbol_is_token, 0<length-spelling}
 

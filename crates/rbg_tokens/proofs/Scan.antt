@@ -2,13 +2,7 @@
 use Rattle.std.proofs.Common.{ℕ, ◌≡◌, ◌+◌, ◌≤◌, List, [], ◌∷◌, ◌++◌, length, take, drop, map, Result, Ok, Err, refl, sym, ap, ◌∙◌, arith, append_assoc, length-drop, subst}
 use Rattle.std.proofs.Math.ListN.{drop_of_length-le}
 use Rattle.std.proofs.lemmas.List.{drop-drop, map-append, append-nil}
-use Rattle.rbg_tokens.specs.declared.error.TextError.{TextError}
-use Rattle.rbg_tokens.specs.declared.limits.TheConstants.{MAX_TEXT}
-use Rattle.rbg_tokens.specs.declared.token.Token.{Token}
-use Rattle.rbg_tokens.specs.declared.token.TokenKind.{TokenKind}
-use Rattle.rbg_tokens.specs.internal.Part.{Takes}
-use Rattle.rbg_tokens.specs.Text.{Lexes, end, behind_token, HasTokens, HasFirstFault}
-use Rattle.rbg_tokens.specs.Token.{Lexeme, lexeme_of}
+use Rattle.rbg_tokens.proofs.Common.{TextError, MAX_TEXT, Token, TokenKind, Takes, Lexes, end, behind_token, HasTokens, HasFirstFault, Lexeme, lexeme_of}
 
 -- the tokens with several more before them
 abbrev pub behind_tokens : List Lexeme → Result (List Lexeme) TextError → Result (List Lexeme) TextError

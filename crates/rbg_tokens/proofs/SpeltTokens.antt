@@ -1,14 +1,8 @@
 -- Texts that spell a token of their kind.
-use Rattle.std.proofs.Common.{ℕ, ◌≡◌, ◌+◌, true, List, [], ◌∷◌, length, Some, Result, Ok, refl, sym, ◌∙◌, ap, subst, arith, zero, suc, slice_get}
-use Rattle.std.proofs.lemmas.List.Elements.{All-nil, All-cons}
-use Rattle.std.specs.List.{All, AllByRecursion}
+use Rattle.rbg_base.proofs.Common.{ℕ, ◌≡◌, ◌+◌, true, List, [], ◌∷◌, length, Some, Result, Ok, refl, sym, ◌∙◌, ap, subst, arith, zero, suc, slice_get, All-nil, All-cons, All, AllByRecursion}
 use Rattle.rbg_base.specs.Names.{is_name}
-use Rattle.rbg_tokens.specs.declared.error.TextError.{TextError}
-use Rattle.rbg_tokens.specs.declared.token.TokenKind.{TokenKind}
+use Rattle.rbg_tokens.proofs.Common.{TextError, TokenKind, is_number, Spells, IsLexeme, Lexes, end, blank, comment, token, zero_byte, zero_in_comment, bad_byte, behind_token, HasTokens, Lexeme}
 use Rattle.rbg_tokens.specs.declared.token.TokenKind.TheVariants.{Name, Number, Symbol as A_Symbol}
-use Rattle.rbg_tokens.specs.Spelling.{is_number, Spells, IsLexeme}
-use Rattle.rbg_tokens.specs.Text.{Lexes, end, blank, comment, token, zero_byte, zero_in_comment, bad_byte, behind_token, HasTokens}
-use Rattle.rbg_tokens.specs.Token.{Lexeme}
 use Rattle.rbg_tokens.proofs.ZeroBytes.{tokens_behind}
 
 -- each token's text spells a token of its kind

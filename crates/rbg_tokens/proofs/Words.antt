@@ -1,19 +1,10 @@
 -- The longest token at the front of some bytes.
-use Rattle.std.proofs.Common.{ℕ, ◌≡◌, ◌+◌, ◌<◌, ◌≤◌, Bool, true, false, List, [], ◌∷◌, ◌++◌, length, get_or, take, drop, refl, sym, ap, ◌∙◌, arith, cond, add_comm, add-one}
-use Rattle.std.proofs.Math.Seq.{take-append_seam}
+use Rattle.rbg_base.proofs.Common.{ℕ, ◌≡◌, ◌+◌, ◌<◌, ◌≤◌, Bool, true, false, List, [], ◌∷◌, ◌++◌, length, get_or, take, drop, refl, sym, ap, ◌∙◌, arith, cond, add_comm, add-one, take-append_seam, and_parts, nat_tests, list_all, prefix_len}
 use Rattle.std.proofs.lemmas.List.{take-append-drop}
-use Rattle.std.proofs.lemmas.Bool.{and_parts}
-use Rattle.std.proofs.lemmas.Bool.Decides.{nat_tests}
 use Rattle.std.proofs.lemmas.List.Folds.{length-prefix_len}
 use Rattle.std.specs.Char.{is_ascii_digit}
-use Rattle.std.specs.List.{list_all, prefix_len}
-use Rattle.rbg_tokens.specs.declared.token.Symbol.{Symbol}
-use Rattle.rbg_tokens.specs.declared.token.Symbol.TheVariants.{DoubleArrow}
-use Rattle.rbg_tokens.specs.declared.token.TokenKind.{TokenKind}
+use Rattle.rbg_tokens.proofs.Common.{Symbol, DoubleArrow, TokenKind, IsLongestSymbol, BeginsNoSymbol, IsToken, BeginsNoToken, is_number, spelling, Spells}
 use Rattle.rbg_tokens.specs.declared.token.TokenKind.TheVariants.{Name, Number, Symbol as A_Symbol}
-use Rattle.rbg_tokens.specs.internal.Part.{IsLongestSymbol, BeginsNoSymbol}
-use Rattle.rbg_tokens.specs.Text.{IsToken, BeginsNoToken}
-use Rattle.rbg_tokens.specs.Spelling.{is_number, spelling, Spells}
 use Rattle.rbg_base.specs.Names.{is_name, is_name_start, is_name_part}
 
 -- no symbol begins as a name or a number does

@@ -1,18 +1,9 @@
 -- A text with tokens has no zero byte.
-use Rattle.std.proofs.Common.{ℕ, ◌≡◌, ◌≢◌, ◌==◌, ◌+◌, ◌∙◌, length, Bool, true, false, not, List, [], ◌∷◌, Result, Ok, Err, refl, sym}
-use Rattle.std.proofs.lemmas.Bool.{and_parts}
-use Rattle.std.proofs.lemmas.List.Elements.{All-nil, All-cons, All-append}
+use Rattle.rbg_base.proofs.Common.{ℕ, ◌≡◌, ◌≢◌, ◌==◌, ◌+◌, ◌∙◌, length, Bool, true, false, not, List, [], ◌∷◌, Result, Ok, Err, refl, sym, and_parts, All-nil, All-cons, All-append, All, list_all}
 use Rattle.std.specs.Char.{is_ascii_digit}
-use Rattle.std.specs.List.{All, list_all}
-use Rattle.rbg_tokens.specs.declared.error.TextError.{TextError}
-use Rattle.rbg_tokens.specs.declared.token.Symbol.{Symbol}
-use Rattle.rbg_tokens.specs.declared.token.Symbol.TheVariants.{DoubleArrow}
-use Rattle.rbg_tokens.specs.declared.token.TokenKind.{TokenKind}
+use Rattle.rbg_tokens.proofs.Common.{TextError, Symbol, DoubleArrow, TokenKind, Lexes, end, blank, comment, token, zero_byte, zero_in_comment, bad_byte, behind_token, is_comment_byte, IsComment, HasTokens, spelling, Spells, Lexeme}
 use Rattle.rbg_tokens.specs.declared.token.TokenKind.TheVariants.{Name, Number, Symbol as A_Symbol}
-use Rattle.rbg_tokens.specs.Text.{Lexes, end, blank, comment, token, zero_byte, zero_in_comment, bad_byte, behind_token, is_comment_byte, IsComment, HasTokens}
-use Rattle.rbg_tokens.specs.Spelling.{spelling, Spells}
 use Rattle.rbg_base.specs.Names.{is_name_part}
-use Rattle.rbg_tokens.specs.Token.{Lexeme}
 use Rattle.rbg_tokens.proofs.Words.{name_parts, number_digits}
 
 abbrev HasNoZero : List ℕ → Type 0

@@ -1,8 +1,6 @@
 -- Which variables the parts of arithmetic name.
-use Rattle.std.proofs.Common.{◌≡◌, ℕ, zero, suc, ◌+◌, ◌<◌, ◌==◌, ◌||◌, Bool, true, false, List, [], ◌∷◌, length, get_or, take, map, Option, None, refl, sym, ap, subst, ◌∙◌, arith}
+use Rattle.std.proofs.Common.{◌≡◌, ℕ, zero, suc, ◌+◌, ◌<◌, ◌==◌, ◌||◌, Bool, true, false, List, [], ◌∷◌, length, get_or, take, map, Option, None, refl, sym, ap, subst, ◌∙◌, arith, Vec, Box, Global}
 use Rattle.std.proofs.lemmas.Bool.{eqb-true, eq-eqb}
-use Rattle.std.specs.Prelude.{Vec, Box}
-use Rattle.std.specs.Global.{Global}
 use Rattle.rbg_rules.specs.Meaning.{AbstractArithmetic, arithmetic_of, operation_of, operated, changed}
 use Rattle.rbg_rules.specs.declared.arithmetic.Arithmetic.{Arithmetic}
 use Rattle.rbg_rules.specs.declared.arithmetic.Arithmetic.TheVariants.{Chain}

@@ -1,6 +1,5 @@
 -- Lists that keep some items of others.
-use Rattle.std.proofs.Common.{◌≡◌, ℕ, ◌+◌, List, [], ◌∷◌, ◌++◌, map, sym, subst, append_assoc, append-nil}
-use Rattle.std.specs.List.{range_with_len}
+use Rattle.rbg_base.proofs.Common.{◌≡◌, ℕ, ◌+◌, List, [], ◌∷◌, ◌++◌, map, sym, subst, append_assoc, append-nil, range_with_len}
 use Rattle.std.proofs.lemmas.List.FromFn.{map-range_with_len_more}
 use Rattle.rbg_rules.specs.Meaning.{AbstractGame}
 use Rattle.rbg_warnings.specs.declared.warning.Warning.{Warning}

@@ -1,10 +1,8 @@
 -- The actions of a game at its positions.
-use Rattle.std.proofs.Common.{◌≡◌, ℕ, zero, suc, ◌+◌, ◌<◌, ◌≤◌, ◌⊎◌, inl, inr, Bool, true, false, IsTrue, length, sym, ap, subst, ◌∙◌, arith}
+use Rattle.rbg_base.proofs.Common.{◌≡◌, ℕ, zero, suc, ◌+◌, ◌<◌, ◌≤◌, ◌⊎◌, inl, inr, Bool, true, false, IsTrue, length, sym, ap, subst, ◌∙◌, arith, range_with_len, cases_lt}
 use Rattle.rbg_rules.specs.Meaning.{AbstractAction, Expression, skip, HasAction, positions_of, IsNumbered, AbstractGame, Stands, action_of}
 use Rattle.rbg_rules.specs.declared.rule.Action.{Action}
 use Rattle.rbg_rules.specs.declared.rule.Action.TheVariants.{Shift, On, Off, Assign, Compare, Switch, Positive, Negative}
-use Rattle.std.specs.List.{range_with_len}
-use Rattle.std.proofs.lemmas.Bool.{cases_lt}
 use Rattle.rbg_rules.proofs.PositionLemmas.{Among, Among-range_with_len, has_position, one_stands}
 use Rattle.rbg_warnings.specs.declared.thing.Thing.{Thing}
 use Rattle.rbg_warnings.specs.Warnings.{IsWritten, HasTooGreat, uses, assigns_too_much}

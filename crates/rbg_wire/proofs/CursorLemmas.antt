@@ -1,14 +1,9 @@
 -- What a cursor has read of a buffer, and what is left.
-use Rattle.std.proofs.Common.{◌≡◌, ◌≢◌, ℕ, ◌+◌, ◌-◌, ◌<◌, ◌≤◌, Bool, true, cond, List, [], ◌∷◌, ◌++◌, length, take, drop, ap, sym, ◌∙◌, subst, arith, append_assoc}
-use Rattle.std.specs.Prelude.{slice_range}
+use Rattle.rbg_base.proofs.Common.{◌≡◌, ◌≢◌, ℕ, ◌+◌, ◌-◌, ◌<◌, ◌≤◌, Bool, true, cond, List, [], ◌∷◌, ◌++◌, length, take, drop, ap, sym, ◌∙◌, subst, arith, append_assoc, slice_range, All-append, All-take, All-drop}
 use Rattle.std.proofs.Math.Seq.{take-add}
 use Rattle.std.proofs.lemmas.List.{take-append-drop, drop-drop, length-drop, take_rest, take-append-le, drop-append-le, length-append, drop_all, drop-take, take-take}
 use Rattle.std.proofs.lemmas.List.Edits.{length-between}
-use Rattle.std.proofs.lemmas.List.Elements.{All-append, All-take, All-drop}
-use Rattle.rbg_wire.specs.declared.cursor.Cursor.{Cursor}
-use Rattle.rbg_wire.specs.Bytes.{LacksByte, IsFirstPlace}
-use Rattle.rbg_wire.specs.Cursors.{IsCursorOf, IsEnd, unread}
-use Rattle.rbg_wire.specs.Streams.{complete, too_long, Rest, incomplete, dropping, after_items, cut}
+use Rattle.rbg_wire.proofs.Common.{Cursor, LacksByte, IsFirstPlace, IsCursorOf, IsEnd, unread, complete, too_long, Rest, incomplete, dropping, after_items, cut}
 use Rattle.rbg_wire.proofs.CutLemmas.{cut-append, cut-none, cut-room, cut-message, cut-too_long, cut-dropping, cut-dropped}
 
 pub drop_from : (bytes : List ℕ) (start looked : ℕ) → start ≤ looked → drop (looked - start) (drop start bytes) ≡ drop looked bytes

@@ -1,10 +1,7 @@
 -- Cutting a stream, piece by piece.
-use Rattle.std.proofs.Common.{◌≡◌, ◌≢◌, ℕ, ◌+◌, ◌<◌, ◌≤◌, List, [], ◌∷◌, ◌++◌, length, ap, sym, ◌∙◌, refl, arith, append_assoc, append-nil, length-append, inl, inr}
+use Rattle.rbg_base.proofs.Common.{◌≡◌, ◌≢◌, ℕ, ◌+◌, ◌<◌, ◌≤◌, List, [], ◌∷◌, ◌++◌, length, ap, sym, ◌∙◌, refl, arith, append_assoc, append-nil, length-append, inl, inr, All-head, All-tail, nil_from_length}
 use Rattle.std.proofs.lemmas.Bool.{cases_lt, lt-ltb, le-ltb}
-use Rattle.std.proofs.lemmas.List.Elements.{All-head, All-tail}
-use Rattle.std.proofs.lemmas.List.{nil_from_length}
-use Rattle.rbg_wire.specs.Bytes.{LacksByte}
-use Rattle.rbg_wire.specs.Streams.{Item, complete, too_long, Rest, incomplete, dropping, Cut, next_byte, after_items, cut}
+use Rattle.rbg_wire.proofs.Common.{LacksByte, Item, complete, too_long, Rest, incomplete, dropping, Cut, next_byte, after_items, cut}
 use Rattle.rbg_wire.proofs.WordLemmas.{different_byte}
 
 pub after_items-after_items : (items more : List Item) (c : Cut) → after_items (items ++ more) c ≡ after_items items (after_items more c)

@@ -1,8 +1,6 @@
 -- The fields of a line: numbers with a space between them.
-use Rattle.std.proofs.Common.{◌≡◌, ℕ, ◌<◌, ◌^◌, List, ◌∷◌, ◌++◌, decimal, ap, sym, ◌∙◌, subst, arith}
-use Rattle.std.proofs.lemmas.Fmt.{decimal_injective}
-use Rattle.rbg_wire.specs.Bytes.{LacksByte}
-use Rattle.rbg_wire.specs.Words.{BeginsWithNumber}
+use Rattle.rbg_base.proofs.Common.{◌≡◌, ℕ, ◌<◌, ◌^◌, List, ◌∷◌, ◌++◌, decimal, ap, sym, ◌∙◌, subst, arith, decimal_injective}
+use Rattle.rbg_wire.proofs.Common.{LacksByte, BeginsWithNumber}
 use Rattle.rbg_wire.proofs.ByteLemmas.{no_cut, same_cut}
 use Rattle.rbg_wire.proofs.NumberLemmas.{lacks_byte-decimal}
 

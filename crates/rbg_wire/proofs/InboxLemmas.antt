@@ -1,8 +1,6 @@
 -- What an inbox holds after a piece of its stream.
 use Rattle.std.proofs.Common.{◌≡◌, ℕ, true, List, ◌++◌, Result, Ok, Err, OnOk, is_ok, ap, ◌∙◌, refl}
-use Rattle.rbg_wire.specs.declared.cursor.Cursor.{Cursor}
-use Rattle.rbg_wire.specs.Cursors.{IsCursorOf, unread}
-use Rattle.rbg_wire.specs.Streams.{Stream, after_items, cut, with_bytes}
+use Rattle.rbg_wire.proofs.Common.{Cursor, IsCursorOf, unread, Stream, after_items, cut, with_bytes}
 use Rattle.rbg_wire.proofs.CursorLemmas.{unread-append}
 
 pub on_ok_when : {T E : Type 0} (answer : Result T E) (P : Type 0) → (is_ok answer ≡ true → P) → OnOk answer P

@@ -1,6 +1,5 @@
 -- The first of the items that a stream has completed, or none.
-use Rattle.std.proofs.Common.{◌≡◌, List, [], ◌∷◌, drop, refl, sym, Some, None, slice_get}
-use Rattle.std.proofs.lemmas.Option.{none-some}
+use Rattle.rbg_base.proofs.Common.{◌≡◌, List, [], ◌∷◌, drop, refl, sym, Some, None, slice_get, none-some}
 use Rattle.rbg_base.proofs.CallerLemmas.{drop-from_get}
 
 pub first_and_others : {A : Type 0} (xs : List A) (x : A) → slice_get xs 0 ≡ Some x → xs ≡ x ∷ drop 1 xs

@@ -1,9 +1,6 @@
 -- What is left after a call that failed, after other calls.
-use Rattle.std.proofs.Common.{◌≡◌, List, ℕ, Result, ◌++◌, length, take, drop, ap, sym, ◌∙◌, append_assoc}
-use Rattle.std.specs.Prelude.{IsErrAnd}
+use Rattle.rbg_base.proofs.Common.{◌≡◌, List, ℕ, Result, ◌++◌, length, take, drop, ap, sym, ◌∙◌, append_assoc, IsErrAnd, err_from_is_err_and, take-append_seam}
 use Rattle.std.proofs.lemmas.List.{take-append-drop}
-use Rattle.std.proofs.lemmas.Result.{err_from_is_err_and}
-use Rattle.std.proofs.Math.Seq.{take-append_seam}
 use Rattle.rbg_wire.specs.Writing.{Appends}
 
 -- The bytes from before the calls are there after the last one too.

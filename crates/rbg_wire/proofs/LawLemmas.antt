@@ -1,21 +1,10 @@
 -- The laws of messages and streams.
-use Rattle.std.proofs.Common.{◌≡◌, ◌≢◌, ℕ, ◌+◌, ◌<◌, ◌≤◌, ◌^◌, true, false, List, [], ◌∷◌, ◌++◌, length, take, drop, decimal, codes, All, ap, sym, ◌∙◌, refl, subst, arith, append_assoc, inl, inr}
-use Rattle.std.specs.Prelude.{nat_le, IsTrue}
-use Rattle.std.specs.List.{flat_map, list_all}
-use Rattle.std.proofs.lemmas.Bool.{cases_lt}
-use Rattle.std.proofs.lemmas.Grind.{common_steps}
+use Rattle.rbg_base.proofs.Common.{◌≡◌, ◌≢◌, ℕ, ◌+◌, ◌<◌, ◌≤◌, ◌^◌, true, false, List, [], ◌∷◌, ◌++◌, length, take, drop, decimal, codes, All, ap, sym, ◌∙◌, refl, subst, arith, append_assoc, inl, inr, nat_le, IsTrue, flat_map, list_all, cases_lt, common_steps, All-nil, All-cons, All-append, All-head, All-tail, All-take, All-drop, All-push, and_parts}
 use Rattle.std.proofs.lemmas.List.{take-append-drop, length-take-le, length-append}
-use Rattle.std.proofs.lemmas.List.Elements.{All-nil, All-cons, All-append, All-head, All-tail, All-take, All-drop, All-push}
-use Rattle.rbg_wire.specs.declared.outcome.Outcome.{Outcome}
-use Rattle.rbg_wire.specs.declared.outcome.Outcome.TheVariants.{Finished, Time, Refusals, Gone, Heavy}
-use Rattle.rbg_wire.specs.Bytes.{LacksByte}
-use Rattle.rbg_wire.specs.Laws.{SpellingsAreApart, item_for, ItemsAreTexts, SpellingsAreItems, TooLongComesOnce, RestsStayShort}
-use Rattle.rbg_wire.specs.Messages.{AbstractMessage, who_message, game_message, limits_message, move_message, refusal_message, end_message, join_message, HasSpelling, message_text, spelling, outcome_text, OutcomeHasSpelling, pairs_text, pair_text, IsShortPair, reason_number}
+use Rattle.rbg_wire.proofs.Common.{Outcome, Finished, Time, Refusals, Gone, Heavy, LacksByte, SpellingsAreApart, item_for, ItemsAreTexts, SpellingsAreItems, TooLongComesOnce, RestsStayShort, AbstractMessage, who_message, game_message, limits_message, move_message, refusal_message, end_message, join_message, HasSpelling, message_text, spelling, outcome_text, OutcomeHasSpelling, pairs_text, pair_text, IsShortPair, reason_number, complete, too_long, Rest, incomplete, dropping, after_items, cut, IsRest, next_byte}
 use Rattle.rbg_base.specs.Names.{is_name, is_name_part, is_name_start}
-use Rattle.rbg_wire.specs.Streams.{complete, too_long, Rest, incomplete, dropping, after_items, cut, IsRest, next_byte}
 use Rattle.rbg_wire.proofs.CutLemmas.{cut-append, cut-none, cut-message, cut-too_long, cut-dropping, cut-dropped, next_kept, next_too_long, next_dropped}
 use Rattle.rbg_wire.proofs.MessageLemmas.{one_message, reason_number-small}
-use Rattle.std.proofs.lemmas.Bool.{and_parts}
 use Rattle.rbg_wire.proofs.NumberLemmas.{lacks_byte-decimal}
 
 -- A text of more bytes than the limit is too long after one byte more than the limit.

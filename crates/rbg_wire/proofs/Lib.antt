@@ -1,4 +1,5 @@
 -- What the proofs of this crate share.
+pub mod Common
 pub mod ByteLemmas
 pub mod CursorLemmas
 pub mod CutLemmas

@@ -1,18 +1,6 @@
 -- Messages and their texts.
-use Rattle.std.proofs.Common.{◌≡◌, ◌≢◌, ℕ, ◌+◌, ◌<◌, ◌≤◌, ◌^◌, List, ◌∷◌, ◌++◌, length, take, drop, subst, decimal, codes, ap, sym, ◌∙◌, refl, arith, append_assoc, cond, Result, Ok, Err, ◌↔◌, IsErrOf, IsOkAnd}
-use Rattle.std.specs.Prelude.{◌==◌}
-use Rattle.rbg_wire.specs.declared.error.WireError.{WireError}
-use Rattle.rbg_wire.specs.declared.error.WireError.TheVariants.{Malformed, TooManyPairs}
-use Rattle.rbg_wire.specs.declared.message.Message.{Message}
-use Rattle.rbg_wire.specs.declared.message.Reason.{Reason}
-use Rattle.rbg_wire.specs.declared.outcome.Outcome.{Outcome}
-use Rattle.std.proofs.lemmas.Fmt.{decimal_injective}
-use Rattle.std.proofs.lemmas.List.Elements.{All-drop, All-head}
-use Rattle.std.proofs.Math.Seq.{drop-append_seam}
-use Rattle.rbg_wire.specs.declared.message.Reason.TheVariants.{Unreadable, OutOfTurn, NotLegal, MoveTooLong, NoSeat}
-use Rattle.rbg_wire.specs.Bytes.{LacksByte, IsFirstPlace}
-use Rattle.rbg_wire.specs.Messages.{AbstractMessage, who_message, game_message, limits_message, move_message, refusal_message, end_message, join_message, message_text, outcome_text, pairs_text, reason_number, message_of}
-use Rattle.rbg_wire.specs.Reading.{SpellsMessage, SpellsMove, SpellsPairs, SpellsOutcome, SpellsWho, SpellsLimits, SpellsTooMany, HasFewPairs, ReadsPairs, ReadsMessage}
+use Rattle.rbg_base.proofs.Common.{◌≡◌, ◌≢◌, ℕ, ◌+◌, ◌<◌, ◌≤◌, ◌^◌, List, ◌∷◌, ◌++◌, length, take, drop, subst, decimal, codes, ap, sym, ◌∙◌, refl, arith, append_assoc, cond, Result, Ok, Err, ◌↔◌, IsErrOf, IsOkAnd, ◌==◌, decimal_injective, All-drop, All-head, drop-append_seam}
+use Rattle.rbg_wire.proofs.Common.{WireError, Malformed, TooManyPairs, Message, Reason, Outcome, Unreadable, OutOfTurn, NotLegal, MoveTooLong, NoSeat, LacksByte, IsFirstPlace, AbstractMessage, who_message, game_message, limits_message, move_message, refusal_message, end_message, join_message, message_text, outcome_text, pairs_text, reason_number, message_of, SpellsMessage, SpellsMove, SpellsPairs, SpellsOutcome, SpellsWho, SpellsLimits, SpellsTooMany, HasFewPairs, ReadsPairs, ReadsMessage}
 use Rattle.rbg_wire.proofs.FieldLemmas.{same_fields}
 use Rattle.rbg_wire.proofs.OutcomeLemmas.{outcome_text-kind, one_outcome}
 use Rattle.rbg_wire.proofs.PairLemmas.{one_spelled, SpellsMove-pairs}

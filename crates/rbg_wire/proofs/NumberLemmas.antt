@@ -1,8 +1,6 @@
 -- Numbers and the digits that spell them.
-use Rattle.std.proofs.Common.{◌≡◌, ◌≢◌, ℕ, ◌<◌, ◌≤◌, ◌^◌, List, length, decimal, arith, subst}
-use Rattle.std.proofs.lemmas.Fmt.{digits_decimal, length-decimal-le}
+use Rattle.rbg_base.proofs.Common.{◌≡◌, ◌≢◌, ℕ, ◌<◌, ◌≤◌, ◌^◌, List, length, decimal, arith, subst, digits_decimal, length-decimal-le, All-from_get_or}
 use Rattle.std.proofs.lemmas.Str.Parse.{not_in_digits}
-use Rattle.std.proofs.lemmas.List.Elements.{All-from_get_or}
 use Rattle.rbg_base.proofs.Numerals.{digits}
 use Rattle.rbg_base.proofs.CallerLemmas.{short_from_length}
 use Rattle.rbg_wire.specs.Bytes.{LacksByte}

@@ -1,11 +1,6 @@
 -- Outcomes and their texts.
-use Rattle.std.proofs.Common.{◌≡◌, ◌≢◌, ℕ, ◌+◌, ◌<◌, ◌^◌, List, [], ◌∷◌, ◌++◌, length, decimal, codes, Option, Some, None, IfSome, IfNone, ap, sym, ◌∙◌, refl, subst, arith}
-use Rattle.std.specs.List.{flat_map}
-use Rattle.std.proofs.lemmas.Fmt.{decimal_injective}
-use Rattle.rbg_wire.specs.declared.outcome.Outcome.{Outcome}
-use Rattle.rbg_wire.specs.declared.outcome.Outcome.TheVariants.{Finished, Time, Refusals, Gone, Heavy}
-use Rattle.rbg_wire.specs.Messages.{outcome_text}
-use Rattle.rbg_wire.specs.Reading.{SpellsOutcome, SpellsPlayer, SpellsScores}
+use Rattle.rbg_base.proofs.Common.{◌≡◌, ◌≢◌, ℕ, ◌+◌, ◌<◌, ◌^◌, List, [], ◌∷◌, ◌++◌, length, decimal, codes, Option, Some, None, IfSome, IfNone, ap, sym, ◌∙◌, refl, subst, arith, flat_map, decimal_injective}
+use Rattle.rbg_wire.proofs.Common.{Outcome, Finished, Time, Refusals, Gone, Heavy, outcome_text, SpellsOutcome, SpellsPlayer, SpellsScores}
 use Rattle.rbg_wire.proofs.ScoreLemmas.{same_scores}
 
 pub spells_finished : (fields scores : List ℕ) → SpellsScores fields scores → SpellsOutcome (69 ∷ 48 ∷ fields) (Finished scores)

@@ -1,18 +1,9 @@
 -- Pairs, their words and the text that spells them.
-use Rattle.std.proofs.Common.{◌≡◌, ◌≢◌, ℕ, ◌+◌, ◌<◌, ◌≤◌, ◌^◌, Bool, true, false, List, [], ◌∷◌, ◌++◌, length, decimal, codes, All, Result, Ok, Err, ap, subst, append-nil, sym, ◌∙◌, refl, arith, append_assoc, length-append}
-use Rattle.std.specs.Bool.{MatchBool}
-use Rattle.std.specs.List.{flat_map, AllByRecursion}
-use Rattle.std.proofs.lemmas.Fmt.{decimal_injective}
-use Rattle.std.proofs.lemmas.List.Elements.{All-head, All-tail, All-cons, All-nil, All-push}
+use Rattle.rbg_base.proofs.Common.{◌≡◌, ◌≢◌, ℕ, ◌+◌, ◌<◌, ◌≤◌, ◌^◌, Bool, true, false, List, [], ◌∷◌, ◌++◌, length, decimal, codes, All, Result, Ok, Err, ap, subst, append-nil, sym, ◌∙◌, refl, arith, append_assoc, length-append, MatchBool, flat_map, AllByRecursion, decimal_injective, All-head, All-tail, All-cons, All-nil, All-push}
 use Rattle.std.proofs.lemmas.List.Concat.{flat_map-append}
-use Rattle.rbg_wire.specs.Bytes.{LacksByte}
-use Rattle.rbg_wire.specs.declared.error.WireError.{WireError}
-use Rattle.rbg_wire.specs.declared.error.WireError.TheVariants.{Malformed, TooManyPairs}
-use Rattle.rbg_wire.specs.Words.{words_of}
+use Rattle.rbg_wire.proofs.Common.{LacksByte, WireError, Malformed, TooManyPairs, words_of, IsShortPair, pairs_text, pair_text, message_text, SpellsPairs, SpellsMove, SpellsTooMany, ReadsPairs, TellsPairs, ArePairWords, pair_words}
 use Rattle.rbg_wire.proofs.NumberLemmas.{lacks_byte-decimal}
 use Rattle.rbg_wire.proofs.WordLemmas.{words_of-spaced, same_words, some_word}
-use Rattle.rbg_wire.specs.Messages.{IsShortPair, pairs_text, pair_text, message_text}
-use Rattle.rbg_wire.specs.Reading.{SpellsPairs, SpellsMove, SpellsTooMany, ReadsPairs, TellsPairs, ArePairWords, pair_words}
 
 -- where no short number is the first word, or the second, the words are those of no pairs
 pub first_no_number : (word : List ℕ) (rest : List (List ℕ)) → ((n : ℕ) → n < 10 ^ 9 → word ≡ decimal n → ⊥) → (pairs : List (ℕ × ℕ)) → ArePairWords (word ∷ rest) pairs → ⊥

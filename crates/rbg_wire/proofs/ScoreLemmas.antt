@@ -1,12 +1,6 @@
 -- Scores, their words and the text that spells them.
-use Rattle.std.proofs.Common.{◌≡◌, ℕ, ◌+◌, ◌<◌, ◌≤◌, ◌^◌, List, [], ◌∷◌, ◌++◌, length, map, decimal, codes, All, ap, sym, ◌∙◌, refl, arith, append_assoc, append-nil, length-append}
-use Rattle.std.specs.List.{flat_map, AllByRecursion}
-use Rattle.std.proofs.lemmas.List.{length-map, map-append}
-use Rattle.std.proofs.lemmas.List.Elements.{All-head, All-tail, All-push, All-nil}
-use Rattle.std.proofs.lemmas.Fmt.{decimal_injective}
-use Rattle.rbg_wire.specs.Bytes.{LacksByte}
-use Rattle.rbg_wire.specs.Reading.{SpellsScores}
-use Rattle.rbg_wire.specs.Words.{words_of}
+use Rattle.rbg_base.proofs.Common.{◌≡◌, ℕ, ◌+◌, ◌<◌, ◌≤◌, ◌^◌, List, [], ◌∷◌, ◌++◌, length, map, decimal, codes, All, ap, sym, ◌∙◌, refl, arith, append_assoc, append-nil, length-append, flat_map, AllByRecursion, length-map, map-append, All-head, All-tail, All-push, All-nil, decimal_injective}
+use Rattle.rbg_wire.proofs.Common.{LacksByte, SpellsScores, words_of}
 use Rattle.rbg_wire.proofs.NumberLemmas.{lacks_byte-decimal}
 use Rattle.rbg_wire.proofs.WordLemmas.{words_of-spaced, same_words, some_word}
 

@@ -1,14 +1,6 @@
 -- Each item of a stream completes itself alone.
-use Rattle.std.proofs.Common.{◌≡◌, ◌≢◌, ℕ, ◌+◌, ◌<◌, ◌≤◌, true, false, List, [], ◌∷◌, ◌++◌, length, All, ap, sym, ◌∙◌, refl, subst, arith, inl, inr, replicate}
-use Rattle.std.specs.Prelude.{nat_le}
-use Rattle.std.proofs.lemmas.Bool.{cases_lt}
-use Rattle.std.proofs.lemmas.Grind.{common_steps}
-use Rattle.std.proofs.lemmas.List.{length-replicate}
-use Rattle.std.proofs.lemmas.List.Elements.{All-nil, All-cons, All-append, All-replicate}
-use Rattle.rbg_wire.specs.Bytes.{LacksByte}
-use Rattle.rbg_wire.specs.Laws.{item_for}
-use Rattle.rbg_wire.specs.Streams.{complete, too_long, Rest, incomplete, dropping, after_items, cut, IsRest, next_byte}
-use Rattle.rbg_wire.specs.Whole.{filler, IsCutAlone, ItemsAreCutAgain}
+use Rattle.rbg_base.proofs.Common.{◌≡◌, ◌≢◌, ℕ, ◌+◌, ◌<◌, ◌≤◌, true, false, List, [], ◌∷◌, ◌++◌, length, All, ap, sym, ◌∙◌, refl, subst, arith, inl, inr, replicate, nat_le, cases_lt, common_steps, length-replicate, All-nil, All-cons, All-append, All-replicate}
+use Rattle.rbg_wire.proofs.Common.{LacksByte, item_for, complete, too_long, Rest, incomplete, dropping, after_items, cut, IsRest, next_byte, filler, IsCutAlone, ItemsAreCutAgain}
 use Rattle.rbg_wire.proofs.CutLemmas.{cut-none, next_kept, next_too_long}
 use Rattle.rbg_wire.proofs.LawLemmas.{one_item, rest_more}
 

@@ -1,12 +1,7 @@
 -- The words of a text.
-use Rattle.std.proofs.Common.{◌≡◌, ◌≢◌, ℕ, ◌+◌, false, List, [], ◌∷◌, ◌++◌, length, take, drop, ap, sym, ◌∙◌, refl, arith, append-nil}
-use Rattle.std.specs.Prelude.{◌==◌, All}
-use Rattle.std.specs.List.{AllByRecursion, flat_map, join_with_byte}
-use Rattle.std.proofs.lemmas.Grind.{common_steps}
-use Rattle.std.proofs.lemmas.List.Elements.{All-weaker}
+use Rattle.rbg_base.proofs.Common.{◌≡◌, ◌≢◌, ℕ, ◌+◌, false, List, [], ◌∷◌, ◌++◌, length, take, drop, ap, sym, ◌∙◌, refl, arith, append-nil, ◌==◌, All, AllByRecursion, flat_map, join_with_byte, common_steps, All-weaker}
 use Rattle.std.proofs.lemmas.List.Splits.{slice_split_none, slice_split_at, length-slice_split, join_with_byte-slice_split}
-use Rattle.rbg_wire.specs.Bytes.{LacksByte, IsFirstPlace}
-use Rattle.rbg_wire.specs.Words.{words_of}
+use Rattle.rbg_wire.proofs.Common.{LacksByte, IsFirstPlace, words_of}
 
 pub different_byte : (byte other : ℕ) → other ≢ byte → (other == byte) ≡ false
 different_byte byte other different = grind (arith, common_steps)

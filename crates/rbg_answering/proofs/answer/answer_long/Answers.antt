@@ -1,6 +1,5 @@
 -- Too long a script is told of.
-use Rattle.std.proofs.Common.{◌≡◌, subst, sym}
-use Rattle.std.specs.Prelude.{IfOk}
+use Rattle.std.proofs.Common.{◌≡◌, subst, sym, IfOk}
 use Rattle.rbg_console.specs.declared.status.Status.TheVariants.{BadInput}
 use Rattle.rbg_refereeing.specs.Answers.{script_line}
 use Rattle.rbg_tasks.specs.declared.task.Command.TheVariants.{Referee}

@@ -1,6 +1,5 @@
 -- Too long a record is told of, or the refusal of the description.
-use Rattle.std.proofs.Common.{◌≡◌, subst, sym}
-use Rattle.std.specs.Prelude.{IfOk}
+use Rattle.std.proofs.Common.{◌≡◌, subst, sym, IfOk}
 use Rattle.std.proofs.lemmas.Result.{IfOk-weaker}
 use Rattle.rbg_console.specs.declared.status.Status.TheVariants.{BadInput}
 use Rattle.rbg_answering.specs.Answers.{form_line}

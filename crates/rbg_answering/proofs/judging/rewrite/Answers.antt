@@ -1,6 +1,5 @@
 -- The new record is the answer, or the fault of the old one.
-use Rattle.std.proofs.Common.{ap}
-use Rattle.std.specs.Prelude.{Err}
+use Rattle.std.proofs.Common.{ap, Err}
 use Rattle.std.proofs.lemmas.Result.{IfOk-weaker}
 use Rattle.rbg_answering.specs.Answers.IsGamesAnswer.{migrated}
 use Rattle.rbg_answering.proofs.JudgingLemmas.{plain_fault_answer}

@@ -1,8 +1,6 @@
 -- The text so far is that of the items so far.
-use Rattle.std.proofs.Common.{◌≡◌, ◌++◌, take}
-use Rattle.std.specs.List.{flat_map}
-use Rattle.rbg_wire.specs.Lines.{line_of}
-use Rattle.rbg_wire.specs.Messages.{pairs_text}
+use Rattle.std.proofs.Common.{◌≡◌, ◌++◌, take, flat_map}
+use Rattle.rbg_wire.proofs.Common.{line_of, pairs_text}
 use Rattle.rbg_ask.proofs.answer_writer.put_move_lines.Given as goal
 
 abbrev pub invariant-loop-pairs : goal.invariant-loop-pairs

@@ -1,6 +1,5 @@
 -- The text so far is that of the items so far.
-use Rattle.std.proofs.Common.{◌≡◌, ◌++◌, take, codes, decimal}
-use Rattle.std.specs.List.{flat_map}
+use Rattle.std.proofs.Common.{◌≡◌, ◌++◌, take, codes, decimal, flat_map}
 use Rattle.rbg_ask.proofs.answer_writer.put_spaced_scores.Given as goal
 
 abbrev pub invariant-loop-score : goal.invariant-loop-score

@@ -1,6 +1,5 @@
 -- The text so far is that of the items so far.
-use Rattle.std.proofs.Common.{◌≡◌, ◌++◌, take}
-use Rattle.std.specs.List.{flat_map}
+use Rattle.std.proofs.Common.{◌≡◌, ◌++◌, take, flat_map}
 use Rattle.rbg_ask.specs.Answers.{counted_text}
 use Rattle.rbg_ask.specs.Chance.{counted_by}
 use Rattle.rbg_ask.proofs.answer_writer.put_tallies.Given as goal

@@ -1,7 +1,5 @@
 -- The number is what stands behind the word.
-use Rattle.std.proofs.Common.{subst, sym, ◌∙◌, arith}
-use Rattle.std.proofs.lemmas.Bool.{false≢true}
-use Rattle.std.proofs.lemmas.Fmt.{decimal_injective}
+use Rattle.rbg_base.proofs.Common.{subst, sym, ◌∙◌, arith, false≢true, decimal_injective}
 use Rattle.rbg_ask.specs.Limits.{IsCount}
 use Rattle.rbg_ask.proofs.Reading.{behind_word}
 use Rattle.rbg_ask.proofs.question_reader.count_behind.Goals as goal

@@ -1,7 +1,5 @@
 -- The proofs of `compiling::fill` and the two functions over parts.
-use Rattle.std.proofs.Common.{rules, ◌≡◌, ◌<◌, [], length, List, ℕ, Bool, true, refl, sym, subst, arith}
-use Rattle.std.proofs.lemmas.List.Elements.{same_from_all_zip}
-use Rattle.std.proofs.lemmas.Result.{IfOk-weaker}
+use Rattle.rbg_base.proofs.Common.{rules, ◌≡◌, ◌<◌, [], length, List, ℕ, Bool, true, refl, sym, subst, arith, same_from_all_zip, IfOk-weaker}
 use Rattle.rbg_rules.specs.declared.rule.Rule.{Rule}
 use Rattle.rbg_rules.specs.declared.rule.Rule.TheVariants.{Star}
 use Rattle.rbg_auto.specs.internal.Trees.{GivesFirsts, IsAgain}

@@ -1,6 +1,5 @@
 -- The proof of `compiling::compile_tree`.
-use Rattle.std.proofs.Common.{◌≡◌, List, [], length, ℕ, true, ◌∙◌, subst}
-use Rattle.std.proofs.lemmas.List.{with_items_is}
+use Rattle.rbg_base.proofs.Common.{◌≡◌, List, [], length, ℕ, true, ◌∙◌, subst, with_items_is}
 use Rattle.rbg_auto.specs.declared.plain.PlainNode.{PlainNode}
 use Rattle.rbg_auto.specs.internal.Trees.{GivesFirsts}
 use Rattle.rbg_auto.specs.internal.PlainNodes.{FillsTree}

@@ -1,6 +1,5 @@
 -- The proofs of `tree::push_first` and the two functions over parts.
-use Rattle.std.proofs.Common.{rules, ◌≡◌, ℕ, Bool, true, false, List, subst, arith}
-use Rattle.std.proofs.lemmas.Result.{IfOk-weaker}
+use Rattle.rbg_base.proofs.Common.{rules, ◌≡◌, ℕ, Bool, true, false, List, subst, arith, IfOk-weaker}
 use Rattle.rbg_rules.specs.declared.rule.Rule.{Rule}
 use Rattle.rbg_rules.specs.declared.rule.Rule.TheVariants.{Then, Or}
 use Rattle.rbg_auto.specs.internal.Trees.{GivesFirsts, GivesFirstsOfSequence, GivesFirstsOfSum}

@@ -1,7 +1,6 @@
 -- What `parse` makes of digits.
-use Rattle.std.proofs.Common.{◌≡◌, true, sym, ◌∙◌, ap, subst}
+use Rattle.rbg_base.proofs.Common.{◌≡◌, true, sym, ◌∙◌, ap, subst, list_all}
 use Rattle.std.specs.Char.{is_ascii_digit}
-use Rattle.std.specs.List.{list_all}
 use Rattle.rbg_base.specs.Decimals.{number_of_digits}
 use Rattle.rbg_base.proofs.Numerals.{utf8-digits, text_read, not_refused, number_parsed, number_none}
 use Rattle.rbg_base.proofs.decimal.number_of_digits.Goals as goal

@@ -1,6 +1,5 @@
 -- The width grows by one direction at a time.
-use Rattle.std.proofs.Common.{◌≡◌, length, take, ap, ◌∙◌, arith}
-use Rattle.std.proofs.Math.Seq.{take-length}
+use Rattle.rbg_base.proofs.Common.{◌≡◌, length, take, ap, ◌∙◌, arith, take-length}
 use Rattle.rbg_board.specs.Cells.{width_of}
 use Rattle.rbg_board.proofs.Widths.{width_more, width_covers}
 use Rattle.rbg_board.proofs.directions.table_width.Goals as goal

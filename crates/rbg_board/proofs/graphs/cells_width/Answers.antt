@@ -1,9 +1,6 @@
 -- The width grows by the edges of one cell at a time.
-use Rattle.std.proofs.Common.{◌≡◌, length, take, ap, sym, ◌∙◌, arith}
-use Rattle.std.proofs.Math.Seq.{take-length}
-use Rattle.rbg_board.specs.Cells.{width_of}
-use Rattle.rbg_board.specs.Written.{directions_in, directions_of}
-use Rattle.rbg_board.specs.Vertices.{written, written_of}
+use Rattle.rbg_base.proofs.Common.{◌≡◌, length, take, ap, sym, ◌∙◌, arith, take-length}
+use Rattle.rbg_board.proofs.Common.{width_of, directions_in, directions_of, written, written_of}
 use Rattle.rbg_board.proofs.CellReads.{edges_read, length-written}
 use Rattle.rbg_board.proofs.Widths.{vertices_more, vertices_below}
 use Rattle.rbg_board.proofs.graphs.cells_width.Goals as goal

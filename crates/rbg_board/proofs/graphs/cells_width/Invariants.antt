@@ -1,8 +1,6 @@
 -- The width is that of the cells so far.
 use Rattle.std.proofs.Common.{◌≡◌, ◌≤◌, ◌^◌, take}
-use Rattle.rbg_board.specs.Cells.{width_of}
-use Rattle.rbg_board.specs.Written.{directions_of}
-use Rattle.rbg_board.specs.Vertices.{written_of}
+use Rattle.rbg_board.proofs.Common.{width_of, directions_of, written_of}
 use Rattle.rbg_board.proofs.graphs.cells_width.Given as goal
 
 -- the width of the cells so far

@@ -1,7 +1,6 @@
 -- The width is that of the edges so far.
 use Rattle.std.proofs.Common.{◌≡◌, ◌≤◌, ◌^◌, take}
-use Rattle.rbg_board.specs.Cells.{width_of}
-use Rattle.rbg_board.specs.Written.{directions_in}
+use Rattle.rbg_board.proofs.Common.{width_of, directions_in}
 use Rattle.rbg_board.proofs.graphs.edges_width.Given as goal
 
 -- the width of the edges so far

@@ -1,9 +1,6 @@
 -- A refusal of the edges is a refusal of the graph.
-use Rattle.std.proofs.Common.{length, sym, arith}
-use Rattle.std.proofs.lemmas.Bool.{eqb-false}
-use Rattle.std.proofs.lemmas.Result.{MatchResult-weaker}
-use Rattle.rbg_board.specs.Written.{HasCount}
-use Rattle.rbg_board.specs.Vertices.{written_of}
+use Rattle.rbg_base.proofs.Common.{length, sym, arith, eqb-false, MatchResult-weaker}
+use Rattle.rbg_board.proofs.Common.{HasCount, written_of}
 use Rattle.rbg_board.proofs.CellReads.{length-written}
 use Rattle.rbg_board.proofs.GraphEdges.{refusal_of_wiring}
 use Rattle.rbg_board.proofs.graphs.graph.Goals as goal

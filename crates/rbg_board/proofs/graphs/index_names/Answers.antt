@@ -2,8 +2,7 @@
 use Rattle.std.proofs.Common.{◌≡◌, ◌<◌, None, length, get_or, nat_eq, sym, ap, ◌∙◌, arith}
 use Rattle.std.specs.HashMap as hash
 use Rattle.std.proofs.lemmas.Bool.{ne_eqb}
-use Rattle.rbg_board.specs.Written.{names_of, GraphRefusal}
-use Rattle.rbg_board.specs.Vertices.{written_of}
+use Rattle.rbg_board.proofs.Common.{names_of, GraphRefusal, written_of}
 use Rattle.rbg_board.proofs.CellReads.{name_read, length-names}
 use Rattle.rbg_board.proofs.Indexing.{value_of_some, none_of_not_some, twice, index_more, index_all, index_differ}
 use Rattle.rbg_board.proofs.graphs.index_names.Goals as goal

@@ -1,8 +1,7 @@
 -- The index has the names so far.
 use Rattle.std.proofs.Common.{nat_eq}
 use Rattle.std.specs.HashMap as hash
-use Rattle.rbg_board.specs.Written.{names_of}
-use Rattle.rbg_board.specs.Vertices.{written_of}
+use Rattle.rbg_board.proofs.Common.{names_of, written_of}
 use Rattle.rbg_board.proofs.Indexing.{IndexesBelow}
 use Rattle.rbg_board.proofs.graphs.index_names.Given as goal
 

@@ -1,7 +1,6 @@
 -- The row of the table gains one edge at a time.
-use Rattle.std.proofs.Common.{◌≡◌, ℕ, ◌+◌, ◌<◌, Some, IsSome, get_or, set, nat_eq, refl, sym, subst, arith, below_more}
+use Rattle.rbg_base.proofs.Common.{◌≡◌, ℕ, ◌+◌, ◌<◌, Some, IsSome, get_or, set, nat_eq, refl, sym, subst, arith, below_more, get_or_default}
 use Rattle.std.specs.HashMap as hash
-use Rattle.std.proofs.lemmas.List.{get_or_default}
 use Rattle.rbg_board.specs.Wiring.{EdgesRefusal}
 use Rattle.rbg_board.proofs.Wirings.{FillsRow, fills_more, fills_all}
 use Rattle.rbg_board.proofs.graphs.push_edges.Goals as goal

@@ -1,10 +1,6 @@
 -- A vertex with two edges of one direction.
-use Rattle.std.proofs.Common.{◌≡◌, ℕ, get_or, map, sym, ap, ◌∙◌, subst, inl, inr, arith}
-use Rattle.std.proofs.lemmas.Bool.{cases_lt}
-use Rattle.std.proofs.lemmas.List.{length-map}
-use Rattle.rbg_board.specs.Cells.{HasTwice, AreDifferent}
-use Rattle.rbg_board.specs.Written.{Written, directions_in}
-use Rattle.rbg_board.specs.Vertices.{written, written_of}
+use Rattle.rbg_base.proofs.Common.{◌≡◌, ℕ, get_or, map, sym, ap, ◌∙◌, subst, inl, inr, arith, cases_lt, length-map}
+use Rattle.rbg_board.proofs.Common.{HasTwice, AreDifferent, Written, directions_in, written, written_of}
 use Rattle.rbg_board.proofs.CellReads.{cell_read}
 use Rattle.rbg_board.proofs.graphs.some_leads_twice.Goals as goal
 

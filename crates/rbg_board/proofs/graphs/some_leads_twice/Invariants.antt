@@ -1,8 +1,6 @@
 -- The cells so far have edges of different directions.
 use Rattle.std.proofs.Common.{ℕ, ◌<◌, get_or}
-use Rattle.rbg_board.specs.Cells.{AreDifferent}
-use Rattle.rbg_board.specs.Written.{Written, directions_in}
-use Rattle.rbg_board.specs.Vertices.{written_of}
+use Rattle.rbg_board.proofs.Common.{AreDifferent, Written, directions_in, written_of}
 use Rattle.rbg_board.proofs.graphs.some_leads_twice.Given as goal
 
 -- the directions of each cell so far differ

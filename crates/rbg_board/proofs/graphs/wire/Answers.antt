@@ -1,16 +1,7 @@
 -- The table gains the row of one cell at a time, and leads as the written edges do.
-use Rattle.std.proofs.Common.{◌≡◌, ℕ, ◌<◌, List, All, IsSome, length, get_or, map, take, nat_eq, sym, ap, ◌∙◌, subst, inl, inr, arith}
+use Rattle.rbg_base.proofs.Common.{◌≡◌, ℕ, ◌<◌, List, All, IsSome, length, get_or, map, take, nat_eq, sym, ap, ◌∙◌, subst, inl, inr, arith, take-length, cases_lt, take_more, length-map, err_from_is_err_and}
 use Rattle.std.specs.HashMap as hash
-use Rattle.std.proofs.Math.Seq.{take-length}
-use Rattle.std.proofs.lemmas.Bool.{cases_lt}
-use Rattle.std.proofs.lemmas.List.{take_more, length-map}
-use Rattle.std.proofs.lemmas.Result.{err_from_is_err_and}
-use Rattle.rbg_board.specs.Cells.{AreDifferent}
-use Rattle.rbg_board.specs.Table.{graph_of_table, IsTable}
-use Rattle.rbg_board.specs.Graph.{IsGraphOf}
-use Rattle.rbg_board.specs.Wiring.{EdgesRefusal}
-use Rattle.rbg_board.specs.Written.{Written, names_of, pieces_of, WrittenEdge}
-use Rattle.rbg_board.specs.Vertices.{written, written_of}
+use Rattle.rbg_board.proofs.Common.{AreDifferent, graph_of_table, IsTable, IsGraphOf, EdgesRefusal, Written, names_of, pieces_of, WrittenEdge, written, written_of}
 use Rattle.rbg_board.proofs.CellReads.{cell_read, piece_read, edges_read, length-written}
 use Rattle.rbg_board.proofs.Wirings.{FillsRows, rows_more}
 use Rattle.rbg_board.proofs.GraphEdges.{written_board, is_wired_table, contains_of_known, refusal_of_edges}

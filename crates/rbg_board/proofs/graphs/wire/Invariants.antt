@@ -1,8 +1,7 @@
 -- The table has the rows of the cells so far.
 use Rattle.std.proofs.Common.{◌≡◌, ℕ, ◌<◌, All, Contains, get_or, take, nat_eq}
 use Rattle.std.specs.HashMap as hash
-use Rattle.rbg_board.specs.Written.{Written, names_of, pieces_of}
-use Rattle.rbg_board.specs.Vertices.{written_of}
+use Rattle.rbg_board.proofs.Common.{Written, names_of, pieces_of, written_of}
 use Rattle.rbg_board.proofs.Wirings.{FillsRows}
 use Rattle.rbg_board.proofs.graphs.wire.Given as goal
 

@@ -1,7 +1,6 @@
 -- The rows so far fit, and grow until they shrink.
 use Rattle.std.proofs.Common.{ℕ, ◌+◌, ◌<◌, ◌≤◌, MatchBool}
-use Rattle.rbg_board.specs.Cells.{rows_of, cells_in}
-use Rattle.rbg_board.specs.Hexagon.{FitsAbove, Shrinks}
+use Rattle.rbg_board.proofs.Common.{rows_of, cells_in, FitsAbove, Shrinks}
 use Rattle.rbg_board.proofs.hexagons.first_misfit.Given as goal
 
 -- each row so far fits, and the flag tells whether one of them has been shorter than the row before it

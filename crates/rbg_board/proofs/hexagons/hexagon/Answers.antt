@@ -1,7 +1,6 @@
 -- The board that is laid out is the hexagon.
 use Rattle.std.proofs.Common.{arith, rules}
-use Rattle.rbg_board.specs.Cells.{rows_of}
-use Rattle.rbg_board.specs.Hexagon.{HasCells}
+use Rattle.rbg_board.proofs.Common.{rows_of, HasCells}
 use Rattle.rbg_board.proofs.Numbering.{start-suc, start-le-all}
 use Rattle.rbg_board.proofs.HexagonEdges.{hexagon_board, hexagon_uses}
 use Rattle.rbg_board.proofs.hexagons.hexagon.Goals as goal

@@ -1,6 +1,5 @@
 -- A row without a cell.
-use Rattle.std.proofs.Common.{below_more, sym, arith}
-use Rattle.std.proofs.lemmas.Bool.{eqb-false}
+use Rattle.rbg_base.proofs.Common.{below_more, sym, arith, eqb-false}
 use Rattle.rbg_board.proofs.Vectors.{length_read}
 use Rattle.rbg_board.proofs.hexagons.lacks_cell.Goals as goal
 

@@ -1,6 +1,5 @@
 -- A row that is not as long as the first.
-use Rattle.std.proofs.Common.{below_more, arith, sym, ◌∙◌}
-use Rattle.std.proofs.lemmas.List.{length-map}
+use Rattle.rbg_base.proofs.Common.{below_more, arith, sym, ◌∙◌, length-map}
 use Rattle.rbg_board.proofs.Vectors.{length_read}
 use Rattle.rbg_board.proofs.rectangles.first_uneven.Goals as goal
 

@@ -1,7 +1,6 @@
 -- The count is that of the rows so far.
 use Rattle.std.proofs.Common.{◌≡◌, ◌≤◌}
-use Rattle.rbg_board.specs.Cells.{rows_of}
-use Rattle.rbg_board.specs.Limits.{most_vertices}
+use Rattle.rbg_board.proofs.Common.{rows_of, most_vertices}
 use Rattle.rbg_board.proofs.Numbering.{start_of}
 use Rattle.rbg_board.proofs.rows.count_cells.Given as goal
 

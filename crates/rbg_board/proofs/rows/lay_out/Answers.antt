@@ -1,12 +1,6 @@
 -- The first pieces and the table grow by one row at a time.
-use Rattle.std.proofs.Common.{◌≡◌, ◌+◌, [], ◌++◌, length, get_or, take, refl, sym, ap, ◌∙◌, subst, arith, add-one}
-use Rattle.std.specs.List.{flat_map, concat}
-use Rattle.std.proofs.Math.Seq.{take-length}
-use Rattle.std.proofs.lemmas.List.{length-map}
-use Rattle.rbg_board.specs.Cells.{rows_of, cells_in}
-use Rattle.rbg_board.specs.Sites.{cells_above, site_at, IsRow, ways_from, sites_along}
-use Rattle.rbg_board.specs.declared.rows.Site.{Site}
-use Rattle.rbg_board.specs.Limits.{most_vertices}
+use Rattle.rbg_base.proofs.Common.{◌≡◌, ◌+◌, [], ◌++◌, length, get_or, take, refl, sym, ap, ◌∙◌, subst, arith, add-one, flat_map, concat, take-length, length-map}
+use Rattle.rbg_board.proofs.Common.{rows_of, cells_in, cells_above, site_at, IsRow, ways_from, sites_along, Site, most_vertices}
 use Rattle.rbg_board.proofs.Numbering.{start_of, concat_more}
 use Rattle.rbg_board.proofs.Vectors.{row_read, length_read}
 use Rattle.rbg_board.proofs.Layouts.{table_more, is_row, IsRow-le, same_site, is_table, is_laid_out}

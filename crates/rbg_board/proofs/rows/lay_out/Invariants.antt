@@ -1,8 +1,6 @@
 -- The first pieces and the table have the rows so far.
-use Rattle.std.proofs.Common.{◌≡◌, take}
-use Rattle.std.specs.List.{concat}
-use Rattle.rbg_board.specs.Cells.{rows_of}
-use Rattle.rbg_board.specs.Sites.{cells_above}
+use Rattle.rbg_base.proofs.Common.{◌≡◌, take, concat}
+use Rattle.rbg_board.proofs.Common.{rows_of, cells_above}
 use Rattle.rbg_board.proofs.Layouts.{table_of}
 use Rattle.rbg_board.proofs.rows.lay_out.Given as goal
 

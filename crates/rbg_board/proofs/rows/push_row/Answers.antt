@@ -1,9 +1,7 @@
 -- The table grows by one cell at a time.
-use Rattle.std.proofs.Common.{ℕ, arith}
-use Rattle.std.proofs.lemmas.List.{flat_map_more}
+use Rattle.rbg_base.proofs.Common.{ℕ, arith, flat_map_more}
 use Rattle.std.proofs.lemmas.List.FromFn.{map-range_with_len_more}
-use Rattle.rbg_board.specs.Sites.{ways_from, sites_along}
-use Rattle.rbg_board.specs.declared.rows.Site.{Site}
+use Rattle.rbg_board.proofs.Common.{ways_from, sites_along, Site}
 use Rattle.rbg_board.proofs.rows.push_row.Goals as goal
 
 pub loop-cell-preserved : goal.loop-cell-preserved

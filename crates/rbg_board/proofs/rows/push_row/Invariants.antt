@@ -1,6 +1,5 @@
 -- The table has the cells so far.
-use Rattle.std.proofs.Common.{◌≡◌, ◌++◌}
-use Rattle.std.specs.List.{flat_map}
+use Rattle.std.proofs.Common.{◌≡◌, ◌++◌, flat_map}
 use Rattle.rbg_board.specs.Sites.{ways_from, sites_along}
 use Rattle.rbg_board.proofs.rows.push_row.Given as goal
 

@@ -1,6 +1,5 @@
 -- The table grows by one direction at a time.
-use Rattle.std.proofs.Common.{ℕ, [], ◌∷◌, map, append_assoc, arith}
-use Rattle.std.specs.List.{range_with_len}
+use Rattle.rbg_base.proofs.Common.{ℕ, [], ◌∷◌, map, append_assoc, arith, range_with_len}
 use Rattle.std.proofs.lemmas.List.FromFn.{map-range_with_len_more}
 use Rattle.rbg_board.proofs.rows.push_ways.Goals as goal
 

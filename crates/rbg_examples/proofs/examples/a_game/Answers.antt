@@ -1,9 +1,5 @@
 -- The proof of `examples::a_game`.
-use Rattle.std.proofs.Common.{◌≡◌, ℕ, zero, suc, ◌<◌, ◌≤◌, [], ◌∷◌, false, refl, inl, inr, sym, subst, arith}
-use Rattle.std.specs.Prelude.{Some, IsTrue, List}
-use Rattle.std.specs.List.{list_any}
-use Rattle.std.specs.Str.{bytes_eq}
-use Rattle.std.proofs.lemmas.List.Elements.{All-cons, All-nil}
+use Rattle.rbg_base.proofs.Common.{◌≡◌, ℕ, zero, suc, ◌<◌, ◌≤◌, [], ◌∷◌, false, refl, inl, inr, sym, subst, arith, Some, IsTrue, List, list_any, bytes_eq, All-cons, All-nil}
 use Rattle.rbg_board.specs.Graph.{next}
 use Rattle.rbg_rules.specs.Meaning.{greatest_bound, AreLawfulNames, AbstractAction, positive, negative, switch, Expression, HasAction, IsLevel, inside, IsActionOf}
 use Rattle.rbg_examples.specs.ExampleGames.{looking_right, two_squares}

@@ -1,6 +1,5 @@
 -- The proof of `examples::negative_pattern`.
-use Rattle.std.proofs.Common.{◌≡◌, ℕ, List, [], ◌∷◌, ◌++◌, refl, inl, inr, subst, arith}
-use Rattle.std.specs.Prelude.{Some}
+use Rattle.std.proofs.Common.{◌≡◌, ℕ, List, [], ◌∷◌, ◌++◌, refl, inl, inr, subst, arith, Some}
 use Rattle.rbg_board.specs.Graph.{Graph, next}
 use Rattle.rbg_rules.specs.Meaning.{AbstractAction, shift, on, off, negative, switch, act, Expression, sequence_of, HasAction, IsNumbered, outermost, Word, AbstractState, Applies, Runs, ActsIn, rest, step, RunPairs, stay, modify, pass}
 use Rattle.rbg_examples.specs.ExampleGames.{nothing_right, one_square, two_squares, state_of}

@@ -1,6 +1,5 @@
 -- The proof of `examples::nested_patterns`.
-use Rattle.std.proofs.Common.{◌≡◌, ℕ, List, [], ◌∷◌, ◌++◌, refl, inl, inr, sym, ap, ◌∙◌, subst, append_assoc, false}
-use Rattle.std.specs.Prelude.{Some}
+use Rattle.std.proofs.Common.{◌≡◌, ℕ, List, [], ◌∷◌, ◌++◌, refl, inl, inr, sym, ap, ◌∙◌, subst, append_assoc, false, Some}
 use Rattle.rbg_board.specs.Graph.{next}
 use Rattle.rbg_rules.specs.Meaning.{AbstractAction, shift, off, positive, negative, switch, act, star, choice_of, Expression, HasAction, IsNumbered, IsSwitchAt, outermost, is_modifier, Word, Repeats, done, again, AbstractState, Applies, Runs, ActsIn, rest, step, RunPairs, stay, modify, pass, AbstractPlace, Legal, IsJoinOfWords}
 use Rattle.rbg_examples.specs.ExampleGames.{nested, only_right, two_squares, white_on}

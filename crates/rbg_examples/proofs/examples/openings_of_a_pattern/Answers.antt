@@ -1,6 +1,5 @@
 -- The proof of `examples::openings_of_a_pattern`.
-use Rattle.std.proofs.Common.{◌≡◌, ℕ, List, [], ◌∷◌, ◌++◌, refl, inl, inr, sym, ap, ◌∙◌, subst, ◌⊎◌, arith, Bool}
-use Rattle.std.specs.Prelude.{All, Contains}
+use Rattle.std.proofs.Common.{◌≡◌, ℕ, List, [], ◌∷◌, ◌++◌, refl, inl, inr, sym, ap, ◌∙◌, subst, ◌⊎◌, arith, Bool, All, Contains}
 use Rattle.rbg_rules.specs.Meaning.{on, off, positive, negative, Expression, HasAction, IsNumbered, IsPatternAt, IsLevel, inside, Word, WordOf, Start, beginning, Follows, AbstractState, Applies, RunPairs, stay, modify, pass, Item, modifier_at, RunsOn, Opening, at, behind, GoesTo, Forced, SomeWordRuns, pattern, items_of, is_pattern}
 use Rattle.rbg_examples.specs.ExampleGames.{asking_a_sum, off_and_stop}
 use Rattle.rbg_rules.proofs.PositionLemmas.{Among, Among_left, Among_right, one_stands}

@@ -1,6 +1,5 @@
 -- The proof of `examples::openings_of_a_sum`.
-use Rattle.std.proofs.Common.{◌≡◌, ℕ, List, [], ◌∷◌, ◌++◌, refl, inl, inr, sym, ap, subst, ◌⊎◌, arith}
-use Rattle.std.specs.Prelude.{All, Contains}
+use Rattle.std.proofs.Common.{◌≡◌, ℕ, List, [], ◌∷◌, ◌++◌, refl, inl, inr, sym, ap, subst, ◌⊎◌, arith, All, Contains}
 use Rattle.rbg_rules.specs.Meaning.{off, switch, act, choice_of, HasAction, IsNumbered, IsSwitchAt, HasNoSwitch, outermost, after, Follows, Word, AbstractState, RunPairs, stay, modify, pass, IsJoinOfWords, Item, modifier_at, Opening, at, behind, GoesTo, AnswersBehind, find_move, items_of, is_pattern, Expression}
 use Rattle.rbg_examples.specs.ExampleGames.{small_sum}
 use Rattle.rbg_examples.proofs.Standing.{none_such, no_switch_at, no_switches, no_pattern_at, ModifiesAt, not_quiet}

@@ -1,10 +1,6 @@
 -- A word is gone.
-use Rattle.std.proofs.Common.{◌≡◌, ◌<◌, ◌≤◌, ◌++◌, length, subst, arith}
-use Rattle.std.specs.Prelude.{Some}
-use Rattle.std.specs.List.Sorted.{IsPermutation}
-use Rattle.std.proofs.lemmas.List.Elements.{All-set, All-pop}
-use Rattle.rbg_flat.specs.internal.Bits.{pairs_of, pairs_in, IsFilled}
-use Rattle.rbg_flat.specs.declared.found.Word.{Word}
+use Rattle.rbg_base.proofs.Common.{◌≡◌, ◌<◌, ◌≤◌, ◌++◌, length, subst, arith, Some, IsPermutation, All-set, All-pop}
+use Rattle.rbg_flat.proofs.Common.{pairs_of, pairs_in, IsFilled, Word}
 use Rattle.rbg_flat.proofs.Spellings.{dropped_inside, dropped_last, front_same, last_same}
 use Rattle.rbg_flat.proofs.found.drop_word.Goals as goal
 

@@ -1,7 +1,6 @@
 use Rattle.std.proofs.Common.{ℕ, List, All, Contains, refl, subst}
 use Rattle.std.proofs.lemmas.List.{take_all}
-use Rattle.rbg_flat.specs.internal.Bits.{pairs_of, pairs_in}
-use Rattle.rbg_flat.specs.declared.found.Word.{Word}
+use Rattle.rbg_flat.proofs.Common.{pairs_of, pairs_in, Word}
 use Rattle.rbg_flat.proofs.Having.{in_word, none_yet, in_none, none_there}
 use Rattle.rbg_flat.proofs.found.has_pair.Goals as goal
 

@@ -1,7 +1,6 @@
 -- The pair is none of those of the words so far.
 use Rattle.std.proofs.Common.{ℕ, take, All, Contains}
-use Rattle.rbg_flat.specs.internal.Bits.{pairs_of}
-use Rattle.rbg_flat.specs.declared.found.Word.{Word}
+use Rattle.rbg_flat.proofs.Common.{pairs_of, Word}
 use Rattle.rbg_flat.proofs.found.has_pair.Given as goal
 
 abbrev pub invariant-loop-word : goal.invariant-loop-word

@@ -1,9 +1,7 @@
 -- Each word is looked at.
 use Rattle.std.proofs.Common.{◌≡◌, ◌<◌, ℕ, List, length, get_or, Contains, sym, subst, arith}
 use Rattle.std.proofs.lemmas.List.{take_all}
-use Rattle.rbg_flat.specs.Order.{IsBefore, IsLeast}
-use Rattle.rbg_flat.specs.internal.Bits.{first_of, first_at, pairs_in}
-use Rattle.rbg_flat.specs.declared.found.Word.{Word}
+use Rattle.rbg_flat.proofs.Common.{IsBefore, IsLeast, first_of, first_at, pairs_in, Word}
 use Rattle.rbg_flat.proofs.Spellings.{no_word, not_told, least_stays, least_moves, least_alone, least_of_all}
 use Rattle.rbg_flat.proofs.found.least_word.Goals as goal
 use Rattle.rbg_flat.proofs.found.least_word.Goals.{then-is_before, else-is_before}

@@ -1,8 +1,6 @@
 -- None of the words so far has a pair before the least.
 use Rattle.std.proofs.Common.{◌≡◌, ◌<◌, take, length, Contains}
-use Rattle.rbg_flat.specs.Order.{IsBefore}
-use Rattle.rbg_flat.specs.internal.Bits.{first_of, first_at}
-use Rattle.rbg_flat.specs.declared.found.Word.{Word}
+use Rattle.rbg_flat.proofs.Common.{IsBefore, first_of, first_at, Word}
 use Rattle.rbg_flat.proofs.found.least_word.Given as goal
 
 abbrev pub invariant-loop-index : goal.invariant-loop-index

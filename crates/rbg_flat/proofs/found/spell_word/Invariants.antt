@@ -1,6 +1,5 @@
 -- What isn't left is written.
-use Rattle.std.proofs.Common.{◌≡◌, ◌++◌, ℕ}
-use Rattle.std.specs.Int.{bit_at}
+use Rattle.rbg_base.proofs.Common.{◌≡◌, ◌++◌, ℕ, bit_at}
 use Rattle.rbg_flat.specs.internal.Bits.{pairs_of}
 use Rattle.rbg_flat.proofs.Spellings.{with_bits}
 use Rattle.rbg_flat.proofs.found.spell_word.Given as goal

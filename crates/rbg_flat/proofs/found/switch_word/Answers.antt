@@ -1,11 +1,7 @@
-use Rattle.std.proofs.Common.{◌<◌, ◌≤◌, ℕ, List, Option, take, get_or, length, subst}
-use Rattle.std.specs.Prelude.{All, Contains}
+use Rattle.rbg_base.proofs.Common.{◌<◌, ◌≤◌, ℕ, List, Option, take, get_or, length, subst, All, Contains, All-contains}
 use Rattle.std.proofs.lemmas.List.{take_all}
-use Rattle.std.proofs.lemmas.List.Elements.{All-contains}
 use Rattle.rbg_rules.specs.Meaning.{Expression, positions_of, IsSwitchAt}
-use Rattle.rbg_flat.specs.Order.{IsBefore}
-use Rattle.rbg_flat.specs.internal.Bits.{pairs_in, first_of, first_at, IsFilled}
-use Rattle.rbg_flat.specs.declared.found.Word.{Word}
+use Rattle.rbg_flat.proofs.Common.{IsBefore, pairs_in, first_of, first_at, IsFilled, Word}
 use Rattle.rbg_flat.proofs.Spellings.{no_word, not_told}
 use Rattle.rbg_flat.proofs.FirstSwitches.{IsLeastSoFar, first_among, known_still, known_more, at_end, told, if_told, told_some, told_none, told_either, either_below}
 use Rattle.rbg_flat.proofs.found.switch_word.Goals as goal

@@ -1,10 +1,6 @@
 -- The first pair of a word is taken.
-use Rattle.std.proofs.Common.{◌≡◌, ℕ, ◌+◌, ◌∷◌, List, sym, ap, subst, ◌∙◌}
-use Rattle.std.specs.Prelude.{Some}
-use Rattle.std.proofs.lemmas.List.Elements.{All-set}
-use Rattle.std.proofs.lemmas.Option.{slice_get-get_or}
-use Rattle.rbg_flat.specs.internal.Bits.{pairs_of, IsFilled}
-use Rattle.rbg_flat.specs.declared.found.Word.{Word}
+use Rattle.rbg_base.proofs.Common.{◌≡◌, ℕ, ◌+◌, ◌∷◌, List, sym, ap, subst, ◌∙◌, Some, All-set, slice_get-get_or}
+use Rattle.rbg_flat.proofs.Common.{pairs_of, IsFilled, Word}
 use Rattle.rbg_flat.proofs.Spellings.{with_bits, pairs_first, pairs_none, taken_first, fewer_filled, word_gone}
 use Rattle.rbg_flat.proofs.found.take_first.Goals as goal
 use Rattle.rbg_flat.proofs.found.take_first.Goals.{then-bits-eq0, else-bits-eq0}

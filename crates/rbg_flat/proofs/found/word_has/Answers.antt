@@ -1,5 +1,4 @@
-use Rattle.std.proofs.Common.{ℕ}
-use Rattle.std.specs.Prelude.{Contains}
+use Rattle.std.proofs.Common.{ℕ, Contains}
 use Rattle.rbg_flat.specs.internal.Bits.{pairs_of}
 use Rattle.rbg_flat.proofs.Spellings.{position_of}
 use Rattle.rbg_flat.proofs.Having.{not_below, bit_there, there_bit, none_there}

@@ -1,7 +1,5 @@
-use Rattle.std.proofs.Common.{◌≡◌, ℕ, ◌+◌, ◌*◌, ◌%◌, ◌≤◌, sym, ap, subst, refl, ◌∙◌}
-use Rattle.std.specs.Prelude.{count_ones}
-use Rattle.rbg_flat.specs.internal.Gathering.{IsBitOf, Gathers}
-use Rattle.rbg_flat.specs.internal.Places.{IsMetAt}
+use Rattle.std.proofs.Common.{◌≡◌, ℕ, ◌+◌, ◌*◌, ◌%◌, ◌≤◌, sym, ap, subst, refl, ◌∙◌, count_ones}
+use Rattle.rbg_flat.proofs.Common.{IsBitOf, Gathers, IsMetAt}
 use Rattle.rbg_flat.proofs.Gatherings.{gathers_kept, gathers_left, gathers_same, met_bit, bit_met}
 use Rattle.rbg_flat.proofs.PlaceLemmas.{of_parts}
 use Rattle.rbg_flat.proofs.gathering.gather_place.Goals as goal

@@ -1,8 +1,6 @@
 -- The targets so far.
 use Rattle.std.proofs.Common.{take}
-use Rattle.rbg_flat.specs.internal.Setting.{IsToTryIn}
-use Rattle.rbg_flat.specs.internal.Sets.{Meets}
-use Rattle.rbg_flat.specs.internal.Leading.{IsAmong}
+use Rattle.rbg_flat.proofs.Common.{IsToTryIn, Meets, IsAmong}
 use Rattle.rbg_flat.proofs.leading.meet_all.Given as goal
 
 abbrev pub invariant-loop-target : goal.invariant-loop-target

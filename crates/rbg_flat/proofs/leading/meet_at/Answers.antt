@@ -1,5 +1,4 @@
-use Rattle.rbg_flat.specs.internal.Setting.{IsToTryIn}
-use Rattle.rbg_flat.specs.internal.Sets.{IsInWord}
+use Rattle.rbg_flat.proofs.Common.{IsToTryIn, IsInWord}
 use Rattle.rbg_flat.proofs.Meetings.{meets_known, meets_word}
 use Rattle.rbg_flat.proofs.leading.meet_at.Goals as goal
 

@@ -1,8 +1,6 @@
 -- The targets so far were met.
 use Rattle.std.proofs.Common.{take}
-use Rattle.rbg_flat.specs.internal.Leading.{IsAmongBits}
-use Rattle.rbg_flat.specs.internal.Setting.{IsToTryIn}
-use Rattle.rbg_flat.specs.internal.Sets.{Meets}
+use Rattle.rbg_flat.proofs.Common.{IsAmongBits, IsToTryIn, Meets}
 use Rattle.rbg_flat.proofs.leading.meet_bits.Given as goal
 
 abbrev pub invariant-loop-target : goal.invariant-loop-target

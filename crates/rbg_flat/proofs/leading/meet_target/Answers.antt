@@ -1,7 +1,6 @@
 use Rattle.std.proofs.Common.{◌≡◌, ℕ, ◌<◌, ◌≤◌, subst, arith}
 use Rattle.rbg_leaps.specs.Limits.{row_words}
-use Rattle.rbg_flat.specs.internal.Setting.{IsToTryIn}
-use Rattle.rbg_flat.specs.internal.Sets.{IsInWord, Meets}
+use Rattle.rbg_flat.proofs.Common.{IsToTryIn, IsInWord, Meets}
 use Rattle.rbg_flat.proofs.leading.meet_target.Goals as goal
 
 pub returns-then-narrow : goal.returns-then-narrow

@@ -1,7 +1,5 @@
-use Rattle.std.proofs.Common.{◌≡◌, ℕ, ◌+◌, ◌*◌, ◌<◌, List, length, subst}
+use Rattle.rbg_base.proofs.Common.{◌≡◌, ℕ, ◌+◌, ◌*◌, ◌<◌, List, length, subst, ◌↔◌, bit_at}
 use Rattle.std.proofs.lemmas.List.{take_all}
-use Rattle.std.specs.Prelude.{◌↔◌}
-use Rattle.std.specs.Int.{bit_at}
 use Rattle.rbg_flat.specs.internal.Passing.{IsOneOf}
 use Rattle.rbg_flat.proofs.Passings.{one_of_more}
 use Rattle.rbg_flat.proofs.passing.any_standing.Goals as goal

@@ -1,7 +1,5 @@
 -- One of the pieces so far stands there.
-use Rattle.std.proofs.Common.{◌≡◌, ℕ, ◌+◌, ◌*◌, ◌<◌, take}
-use Rattle.std.specs.Prelude.{◌↔◌}
-use Rattle.std.specs.Int.{bit_at}
+use Rattle.rbg_base.proofs.Common.{◌≡◌, ℕ, ◌+◌, ◌*◌, ◌<◌, take, ◌↔◌, bit_at}
 use Rattle.rbg_flat.specs.internal.Passing.{IsOneOf}
 use Rattle.rbg_flat.proofs.passing.any_standing.Given as goal
 

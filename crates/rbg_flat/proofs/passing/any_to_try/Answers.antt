@@ -1,9 +1,6 @@
 use Rattle.std.proofs.Common.{◌≡◌, ℕ, ◌+◌, ◌*◌, ◌⊎◌, inl, inr, subst}
 use Rattle.rbg_rules.specs.Meaning.{IsNumbered, AbstractGame, AbstractState}
-use Rattle.rbg_flat.specs.Paths.{IsKind}
-use Rattle.rbg_flat.specs.declared.paths.Kind.{Kind}
-use Rattle.rbg_flat.specs.declared.paths.Kind.TheVariants.{Pattern, Plain}
-use Rattle.rbg_flat.specs.internal.Passing.{IsToTry}
+use Rattle.rbg_flat.proofs.Common.{IsKind, Kind, Pattern, Plain, IsToTry}
 use Rattle.rbg_flat.proofs.ToTry.{pattern_to_try, other_to_try}
 use Rattle.rbg_flat.proofs.passing.any_to_try.Goals as goal
 

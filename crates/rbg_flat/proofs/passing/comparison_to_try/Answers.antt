@@ -1,6 +1,4 @@
-use Rattle.std.proofs.Common.{◌≡◌, ℕ, true, false, sym, ◌∙◌, arith}
-use Rattle.std.specs.Int.{bit_at}
-use Rattle.std.proofs.lemmas.Nat.Bits.{bit_at-zero}
+use Rattle.rbg_base.proofs.Common.{◌≡◌, ℕ, true, false, sym, ◌∙◌, arith, bit_at, bit_at-zero}
 use Rattle.rbg_flat.specs.internal.Passing.{Passes}
 use Rattle.rbg_flat.proofs.ModifierLemmas.{comparison_plain}
 use Rattle.rbg_flat.proofs.Passings.{compares_everywhere}

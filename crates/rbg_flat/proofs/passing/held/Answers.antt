@@ -1,9 +1,6 @@
 use Rattle.std.proofs.Common.{◌≡◌, ℕ, ◌+◌, ◌*◌, ◌⊎◌, inl, inr, subst}
-use Rattle.rbg_flat.specs.Paths.{IsKind}
-use Rattle.rbg_flat.specs.declared.paths.Kind.{Kind}
-use Rattle.rbg_flat.specs.declared.paths.Kind.TheVariants.{On, OnEither, Comparison}
+use Rattle.rbg_flat.proofs.Common.{IsKind, Kind, On, OnEither, Comparison, Passes, IsToTry}
 use Rattle.rbg_rules.specs.Meaning.{IsNumbered, AbstractGame, AbstractState}
-use Rattle.rbg_flat.specs.internal.Passing.{Passes, IsToTry}
 use Rattle.rbg_flat.proofs.ToTry.{tried_passes, comparison_to_try}
 use Rattle.rbg_flat.proofs.passing.held.Goals as goal
 

@@ -1,6 +1,4 @@
-use Rattle.std.proofs.Common.{◌≡◌, ℕ, ◌+◌, ◌*◌, ◌<◌, true, false, sym, subst, ◌∙◌, arith}
-use Rattle.std.specs.Prelude.{◌↔◌, slice_get, Some}
-use Rattle.std.specs.Int.{bit_at}
+use Rattle.rbg_base.proofs.Common.{◌≡◌, ℕ, ◌+◌, ◌*◌, ◌<◌, true, false, sym, subst, ◌∙◌, arith, ◌↔◌, slice_get, Some, bit_at}
 use Rattle.rbg_flat.proofs.Passings.{no_bits, one_bit_more, no_bit_more}
 use Rattle.rbg_flat.proofs.passing.looked_up.Goals.{then-stands_at, else-stands_at}
 use Rattle.rbg_flat.proofs.passing.looked_up.Goals as goal

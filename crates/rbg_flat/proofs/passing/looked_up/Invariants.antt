@@ -1,7 +1,5 @@
 -- The bits so far tell where the piece stands.
-use Rattle.std.proofs.Common.{◌≡◌, ℕ, ◌+◌, ◌*◌, ◌<◌}
-use Rattle.std.specs.Prelude.{◌↔◌, slice_get, Some}
-use Rattle.std.specs.Int.{bit_at}
+use Rattle.rbg_base.proofs.Common.{◌≡◌, ℕ, ◌+◌, ◌*◌, ◌<◌, ◌↔◌, slice_get, Some, bit_at}
 use Rattle.rbg_flat.proofs.passing.looked_up.Given as goal
 
 abbrev pub invariant-loop-bit : goal.invariant-loop-bit

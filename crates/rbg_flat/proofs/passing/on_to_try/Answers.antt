@@ -1,6 +1,4 @@
-use Rattle.std.proofs.Common.{◌≡◌, ℕ, ◌+◌, ◌*◌, List, subst}
-use Rattle.std.specs.Prelude.{◌↔◌}
-use Rattle.std.specs.Int.{bit_at}
+use Rattle.rbg_base.proofs.Common.{◌≡◌, ℕ, ◌+◌, ◌*◌, List, subst, ◌↔◌, bit_at}
 use Rattle.rbg_rules.specs.Meaning.{HasAction, on, Stands}
 use Rattle.rbg_rules.specs.declared.rule.Action.{Action}
 use Rattle.rbg_flat.specs.internal.Passing.{IsOneOf}

@@ -1,7 +1,5 @@
 -- What is left and what passed are bits of the word; of those that aren't left it is told whether they passed.
-use Rattle.std.proofs.Common.{◌≡◌, ℕ, ◌+◌, ◌*◌, ◌<◌}
-use Rattle.std.specs.Prelude.{◌↔◌}
-use Rattle.std.specs.Int.{bit_at}
+use Rattle.rbg_base.proofs.Common.{◌≡◌, ℕ, ◌+◌, ◌*◌, ◌<◌, ◌↔◌, bit_at}
 use Rattle.rbg_flat.specs.internal.Passing.{Passes}
 use Rattle.rbg_flat.proofs.passing.passing.Given as goal
 

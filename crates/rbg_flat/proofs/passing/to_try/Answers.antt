@@ -1,8 +1,6 @@
-use Rattle.std.proofs.Common.{◌≡◌, ◌+◌, ◌*◌, [], ◌∷◌, subst}
-use Rattle.std.specs.Int.{bit_at}
+use Rattle.rbg_base.proofs.Common.{◌≡◌, ◌+◌, ◌*◌, [], ◌∷◌, subst, bit_at}
 use Rattle.rbg_rules.specs.Meaning.{IsPatternAt}
-use Rattle.rbg_flat.specs.Paths.{IsKind}
-use Rattle.rbg_flat.specs.declared.paths.Kind.{Kind}
+use Rattle.rbg_flat.proofs.Common.{IsKind, Kind}
 use Rattle.rbg_flat.proofs.Passings.{one_piece}
 use Rattle.rbg_flat.proofs.ToTry.{on_told, pattern_to_try}
 use Rattle.rbg_flat.proofs.passing.to_try.Goals as goal

@@ -1,5 +1,4 @@
-use Rattle.std.proofs.Common.{ap, ◌∙◌, length, arith}
-use Rattle.std.proofs.lemmas.List.{length_push}
+use Rattle.rbg_base.proofs.Common.{ap, ◌∙◌, length, arith, length_push}
 use Rattle.rbg_flat.proofs.Stills.{next_within, still_by, told_more}
 use Rattle.rbg_flat.proofs.paths.all_facts.Goals as goal
 

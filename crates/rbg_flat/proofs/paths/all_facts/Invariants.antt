@@ -1,8 +1,6 @@
 -- What is told so far is right.
-use Rattle.std.proofs.Common.{◌≡◌, ℕ, length}
-use Rattle.std.specs.Prelude.{slice_get, Some}
-use Rattle.rbg_flat.specs.declared.paths.Facts.{Facts}
-use Rattle.rbg_flat.specs.Paths.{AreFacts}
+use Rattle.std.proofs.Common.{◌≡◌, ℕ, length, slice_get, Some}
+use Rattle.rbg_flat.proofs.Common.{Facts, AreFacts}
 use Rattle.rbg_flat.proofs.paths.all_facts.Given as goal
 
 abbrev pub invariant-loop-index : goal.invariant-loop-index

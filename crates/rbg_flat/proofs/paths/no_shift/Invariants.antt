@@ -1,6 +1,5 @@
 -- None so far is a shift.
-use Rattle.std.proofs.Common.{take}
-use Rattle.std.specs.Prelude.{All}
+use Rattle.std.proofs.Common.{take, All}
 use Rattle.rbg_leaps.specs.Leaps.{IsShiftAt}
 use Rattle.rbg_flat.proofs.paths.no_shift.Given as goal
 

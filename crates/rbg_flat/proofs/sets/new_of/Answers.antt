@@ -1,9 +1,5 @@
-use Rattle.std.proofs.Common.{◌≡◌, ℕ, ◌^◌, ◌<◌, ◌⊎◌, inl, inr, arith}
-use Rattle.std.specs.Prelude.{bit_and}
+use Rattle.rbg_base.proofs.Common.{◌≡◌, ℕ, ◌^◌, ◌<◌, ◌⊎◌, inl, inr, arith, bit_and, bit_at, bit_not, w64, cases_lt, bit_at-lt, bit_at_not, bit_at_above}
 use Rattle.rbg_flat.proofs.Passings.{bit_of_second}
-use Rattle.std.specs.Int.{bit_at, bit_not, w64}
-use Rattle.std.proofs.lemmas.Bool.{cases_lt}
-use Rattle.std.proofs.lemmas.Nat.Bits.{bit_at-lt, bit_at_not, bit_at_above}
 use Rattle.rbg_flat.proofs.WordLemmas.{bit_of_first, left_or_taken, new_sum, new_fits}
 use Rattle.rbg_flat.proofs.sets.new_of.Goals as goal
 

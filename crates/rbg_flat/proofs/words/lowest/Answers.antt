@@ -1,5 +1,4 @@
-use Rattle.std.specs.Int.{w64}
-use Rattle.std.proofs.lemmas.Nat.Bits.{bit_at-trailing_zeros}
+use Rattle.rbg_base.proofs.Common.{w64, bit_at-trailing_zeros}
 use Rattle.rbg_flat.proofs.words.lowest.Goals as goal
 
 pub returns-clause-set : goal.returns-clause-set

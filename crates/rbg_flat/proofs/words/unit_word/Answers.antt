@@ -1,8 +1,4 @@
-use Rattle.std.proofs.Common.{◌≡◌, ℕ, ◌*◌, ◌^◌, ◌%◌, ◌<◌, ◌∙◌, arith}
-use Rattle.std.specs.Prelude.{bit_or}
-use Rattle.std.specs.Int.{bit_at, w64}
-use Rattle.std.proofs.lemmas.Nat.Bits.{bit_at-zero, bit_at_set_other, bit_at_set_same}
-use native.Mathlib.Decide.{ℕ_discrete}
+use Rattle.rbg_base.proofs.Common.{◌≡◌, ℕ, ◌*◌, ◌^◌, ◌%◌, ◌<◌, ◌∙◌, arith, bit_or, bit_at, w64, bit_at-zero, bit_at_set_other, bit_at_set_same, ℕ_discrete}
 use Rattle.rbg_flat.proofs.words.unit_word.Goals as goal
 
 only_bit : (bit : ℕ) → bit < 64 → (b : ℕ) → bit_at (bit_or 0 (1 * 2 ^ bit % 2 ^ 64)) b ≡ 1 → b ≡ bit

@@ -1,9 +1,5 @@
-use Rattle.std.proofs.Common.{sym, subst}
-use Rattle.std.proofs.lemmas.Result.{on_err_weaker, on_ok_weaker}
-use Rattle.std.specs.Prelude.{OnOk}
-use Rattle.rbg_floor.specs.Events.{event_of}
-use Rattle.rbg_floor.specs.Ledgers.{HallWrites}
-use Rattle.rbg_floor.specs.internal.Parts.{hall_of, ledgers_of}
+use Rattle.rbg_base.proofs.Common.{sym, subst, on_err_weaker, on_ok_weaker, OnOk}
+use Rattle.rbg_floor.proofs.Common.{event_of, HallWrites, hall_of, ledgers_of}
 use Rattle.rbg_floor.proofs.Halls.{clock_ticks, hall_stops}
 use Rattle.rbg_floor.proofs.events.hear_event.Goals as goal
 

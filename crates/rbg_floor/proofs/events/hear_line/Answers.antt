@@ -1,6 +1,4 @@
-use Rattle.std.proofs.Common.{length, refl, set, subst, sym}
-use Rattle.std.proofs.lemmas.Result.{on_err_weaker, on_ok_weaker}
-use Rattle.std.specs.Prelude.{option_copied}
+use Rattle.rbg_base.proofs.Common.{length, refl, set, subst, sym, on_err_weaker, on_ok_weaker, option_copied}
 use Rattle.rbg_floor.proofs.Halls.{past_said, line_sends, line_ends, found_by, hall_stops}
 use Rattle.rbg_floor.specs.internal.Parts.{IsReady}
 use Rattle.rbg_floor.proofs.Openings.{ready_with}

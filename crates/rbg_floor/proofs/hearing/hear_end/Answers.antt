@@ -1,9 +1,5 @@
-use Rattle.std.proofs.Common.{length, set, get_or, ap, sym, subst}
-use Rattle.std.specs.Prelude.{OnOk}
-use Rattle.std.proofs.lemmas.Result.{on_err_weaker, on_ok_weaker}
-use Rattle.rbg_floor.specs.Own.{heard_of_end}
-use Rattle.rbg_floor.specs.internal.Hearing.{TablesHear}
-use Rattle.rbg_floor.specs.internal.Parts.{IsReady, line_of}
+use Rattle.rbg_base.proofs.Common.{length, set, get_or, ap, sym, subst, OnOk, on_err_weaker, on_ok_weaker}
+use Rattle.rbg_floor.proofs.Common.{heard_of_end, TablesHear, IsReady, line_of}
 use Rattle.rbg_floor.proofs.Pieces.{end_of_silent, end_of_over, end_of_asking}
 use Rattle.rbg_floor.proofs.Taking.{stops_at}
 use Rattle.rbg_floor.proofs.Ticking.{one_stops}

@@ -1,8 +1,6 @@
 use Rattle.std.proofs.Common.{get_or, ap, sym, subst, length}
 use Rattle.rbg_wire.specs.Streams.{dropping}
-use Rattle.rbg_floor.specs.Lines.{over}
-use Rattle.rbg_floor.specs.internal.Hearing.{PieceHeard}
-use Rattle.rbg_floor.specs.internal.Parts.{IsReady, line_of}
+use Rattle.rbg_floor.proofs.Common.{over, PieceHeard, IsReady, line_of}
 use Rattle.rbg_floor.proofs.Pieces.{fed_by, heard_again, heard_over}
 use Rattle.rbg_floor.proofs.Taking.{on_error}
 use Rattle.rbg_floor.proofs.Ticking.{none_stops, one_stops}

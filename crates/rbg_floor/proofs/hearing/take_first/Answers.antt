@@ -1,5 +1,4 @@
-use Rattle.std.proofs.Common.{ap, ◌∙◌, sym}
-use Rattle.std.specs.Prelude.{option_map}
+use Rattle.std.proofs.Common.{ap, ◌∙◌, sym, option_map}
 use Rattle.rbg_wire.specs.Inboxes.{item_of}
 use Rattle.rbg_floor.proofs.Pieces.{first_nothing, first_table, first_no_table}
 use Rattle.rbg_floor.proofs.Requesting.{within_tables}

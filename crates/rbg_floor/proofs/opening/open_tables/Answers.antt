@@ -1,5 +1,4 @@
-use Rattle.std.proofs.Common.{Some}
-use Rattle.std.proofs.lemmas.List.Elements.{All-pop}
+use Rattle.rbg_base.proofs.Common.{Some, All-pop}
 use Rattle.rbg_game.specs.Loading.{Loads}
 use Rattle.rbg_match.specs.Config.{IsWithinLimits}
 use Rattle.rbg_floor.specs.declared.table.Table.{Table}

@@ -1,6 +1,5 @@
 use Rattle.std.proofs.Common.{◌≡◌, ◌++◌, length, reverse}
-use Rattle.rbg_floor.specs.Openings.{AreLoaded}
-use Rattle.rbg_floor.specs.internal.Parts.{HaveLimits, new_tables}
+use Rattle.rbg_floor.proofs.Common.{AreLoaded, HaveLimits, new_tables}
 use Rattle.rbg_floor.proofs.opening.open_tables.Given as goal
 
 abbrev pub invariant-loop-table : goal.invariant-loop-table

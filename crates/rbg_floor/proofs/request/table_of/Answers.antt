@@ -1,5 +1,4 @@
-use Rattle.std.proofs.Common.{ℕ, ◌+◌, ap, ◌∙◌, sym, arith}
-use Rattle.std.specs.Prelude.{option_map}
+use Rattle.std.proofs.Common.{ℕ, ◌+◌, ap, ◌∙◌, sym, arith, option_map}
 use Rattle.rbg_wire.specs.Inboxes.{item_of}
 use Rattle.rbg_floor.specs.Requests.{requested}
 use Rattle.rbg_floor.proofs.Requesting.{requested_of, too_long_requests}

@@ -1,8 +1,6 @@
 -- A line that asked for a table may speak if it has a seat there.
-use Rattle.std.proofs.Common.{length, subst, sym}
-use Rattle.std.specs.Prelude.{◌↔◌, IsTrue}
-use Rattle.rbg_floor.specs.Serving.{SpeaksAs}
-use Rattle.rbg_floor.specs.internal.Parts.{IsReady, line_of, states_of}
+use Rattle.std.proofs.Common.{length, subst, sym, ◌↔◌, IsTrue}
+use Rattle.rbg_floor.proofs.Common.{SpeaksAs, IsReady, line_of, states_of}
 use Rattle.rbg_floor.proofs.Logs.{seat_there}
 use Rattle.rbg_floor.proofs.speaking.speaks.Goals as goal
 

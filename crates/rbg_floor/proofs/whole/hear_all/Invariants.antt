@@ -1,7 +1,5 @@
 use Rattle.std.proofs.Common.{◌++◌, List, map, take}
-use Rattle.rbg_floor.specs.Events.{AbstractHallEvent, event_of}
-use Rattle.rbg_floor.specs.Halls.{AbstractTable}
-use Rattle.rbg_floor.specs.Wholes.{HasRun}
+use Rattle.rbg_floor.proofs.Common.{AbstractHallEvent, event_of, AbstractTable, HasRun}
 use Rattle.rbg_floor.proofs.whole.hear_all.Given as goal
 
 abbrev pub invariant-loop-event : goal.invariant-loop-event

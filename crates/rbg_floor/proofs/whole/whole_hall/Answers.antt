@@ -1,6 +1,5 @@
 use Rattle.std.proofs.Common.{[], map}
-use Rattle.rbg_floor.specs.Events.{event_of}
-use Rattle.rbg_floor.specs.Openings.{starts_of}
+use Rattle.rbg_floor.proofs.Common.{event_of, starts_of}
 use Rattle.rbg_floor.proofs.Openings.{memory_passed}
 use Rattle.rbg_floor.proofs.Wholes.{of_hall, new_run}
 use Rattle.rbg_floor.proofs.whole.whole_hall.Goals as goal

@@ -1,12 +1,7 @@
-use Rattle.std.proofs.Common.{subst}
-use Rattle.std.specs.Prelude.{◌≢◌, IfOk, IfErr}
-use Rattle.std.proofs.lemmas.Result.{IfErr-weaker}
-use Rattle.rbg_grammar.specs.Tree.{SpeltDescription}
-use Rattle.rbg_grammar.specs.Descriptions.{description_of}
+use Rattle.rbg_base.proofs.Common.{subst, ◌≢◌, IfOk, IfErr, IfErr-weaker}
+use Rattle.rbg_grammar.proofs.Common.{SpeltDescription, description_of}
 use Rattle.rbg_rules.specs.Meaning.{AbstractGame}
-use Rattle.rbg_game.specs.declared.game_error.GameError.TheVariants.{Memory}
-use Rattle.rbg_game.specs.Descriptions.{IsGameOf}
-use Rattle.rbg_game.specs.Faults.{HasFault}
+use Rattle.rbg_game.proofs.Common.{Memory, IsGameOf, HasFault}
 use Rattle.rbg_game.proofs.FaultLaw.{no_game_with_fault}
 use Rattle.rbg_game.proofs.checking.check.Goals as goal
 

@@ -1,10 +1,7 @@
 use Rattle.std.proofs.Common.{sym, subst}
 use Rattle.rbg_grammar.specs.Descriptions.{description_of_parts}
 use Rattle.rbg_rules.specs.Meaning.{AbstractGame, rules_of}
-use Rattle.rbg_game.specs.declared.game_error.GameError.TheVariants.{Memory}
-use Rattle.rbg_game.specs.GameErrors.{game_error_of}
-use Rattle.rbg_game.specs.Descriptions.{IsGameOf}
-use Rattle.rbg_game.specs.Faults.{HasFault, memory}
+use Rattle.rbg_game.proofs.Common.{Memory, game_error_of, IsGameOf, HasFault, memory}
 use Rattle.rbg_base.proofs.Errors.{passed_on}
 use Rattle.rbg_game.proofs.Assembly.{board_unlawful, rules_unlawful, game_made}
 use Rattle.rbg_game.proofs.checking.check_parts.Goals as goal

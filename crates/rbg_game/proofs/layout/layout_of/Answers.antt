@@ -1,12 +1,9 @@
-use Rattle.std.proofs.Common.{List, Vec, length, map, subst, sym, ap, ◌∙◌}
-use Rattle.std.specs.Global.{Global}
+use Rattle.std.proofs.Common.{List, Vec, length, map, subst, sym, ap, ◌∙◌, Global}
 use Rattle.rbg_grammar.specs.Views.{names_of, vertex_of, board_of}
 use Rattle.rbg_grammar.specs.declared.names.Name.{Name}
 use Rattle.rbg_grammar.specs.declared.description.Board.{Board}
 use Rattle.rbg_grammar.specs.declared.description.Vertex.{Vertex}
-use Rattle.rbg_game.specs.Descriptions.{vertex_names}
-use Rattle.rbg_game.specs.Layouts.{IsLayoutOf, of_rectangle, of_hexagon, of_graph}
-use Rattle.rbg_game.specs.declared.layout.Layout.TheVariants.{Rectangle, Hexagon, Graph}
+use Rattle.rbg_game.proofs.Common.{vertex_names, IsLayoutOf, of_rectangle, of_hexagon, of_graph, Rectangle, Hexagon, Graph}
 use Rattle.rbg_game.proofs.layout.layout_of.Goals as goal
 
 pub returns-in_ok-row_lengths-in-Rectangle : goal.returns-in_ok-row_lengths-in-Rectangle

@@ -1,7 +1,6 @@
 use Rattle.rbg_grammar.specs.Descriptions.{description_of}
 use Rattle.rbg_base.proofs.Errors.{passed_on}
-use Rattle.rbg_game.specs.declared.game_error.GameError.TheVariants.{Memory}
-use Rattle.rbg_game.specs.Faults.{HasFault, memory}
+use Rattle.rbg_game.proofs.Common.{Memory, HasFault, memory}
 use Rattle.rbg_game.proofs.loading.check_with_layout.Goals as goal
 
 pub returns-in_err-layout-clause-fault : goal.returns-in_err-layout-clause-fault

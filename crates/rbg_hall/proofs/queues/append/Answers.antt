@@ -1,5 +1,4 @@
-use Rattle.std.proofs.Common.{rules, ◌≡◌, ◌++◌, length, refl, sym, subst, Vec, Global, ℕ}
-use Rattle.std.specs.Prelude.{is_ok, if◌then◌else◌}
+use Rattle.std.proofs.Common.{rules, ◌≡◌, ◌++◌, length, refl, sym, subst, Vec, Global, ℕ, is_ok, if◌then◌else◌}
 use Rattle.rbg_hall.proofs.Telling.{appended, append_undone}
 use Rattle.rbg_hall.proofs.queues.append.Goals as goal
 

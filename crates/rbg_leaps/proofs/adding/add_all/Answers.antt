@@ -1,6 +1,5 @@
 use Rattle.std.proofs.Common.{◌≡◌, ◌<◌, ◌∙◌, ℕ, List, length, subst, arith}
-use Rattle.rbg_leaps.specs.declared.target.Target.{Target}
-use Rattle.rbg_leaps.specs.internal.Tables.{no_target, target_at, AddsTarget}
+use Rattle.rbg_leaps.proofs.Common.{Target, no_target, target_at, AddsTarget}
 use Rattle.rbg_leaps.proofs.Places.{any_default}
 use Rattle.rbg_leaps.proofs.Targets.{adds_none, adds_one, adds_all}
 use Rattle.rbg_leaps.proofs.adding.add_all.Goals as goal

@@ -1,7 +1,5 @@
-use Rattle.std.proofs.Common.{◌≡◌, ℕ, true, false, refl, sym, subst, arith}
-use Rattle.std.specs.Prelude.{Bool, IsTrue, not}
-use Rattle.rbg_leaps.specs.declared.table.Entry.{Entry}
-use Rattle.rbg_leaps.specs.internal.Tables.{entry_at}
+use Rattle.std.proofs.Common.{◌≡◌, ℕ, true, false, refl, sym, subst, arith, Bool, IsTrue, not}
+use Rattle.rbg_leaps.proofs.Common.{Entry, entry_at}
 use Rattle.rbg_leaps.proofs.Places.{before, last, last_place}
 use Rattle.rbg_leaps.proofs.closing.all_end.Goals as goal
 

@@ -1,6 +1,5 @@
 -- The entries so far tell that a word may end.
-use Rattle.std.proofs.Common.{◌<◌, ℕ}
-use Rattle.std.specs.Prelude.{IsTrue}
+use Rattle.std.proofs.Common.{◌<◌, ℕ, IsTrue}
 use Rattle.rbg_leaps.specs.internal.Tables.{entry_at}
 use Rattle.rbg_leaps.proofs.closing.all_end.Given as goal
 

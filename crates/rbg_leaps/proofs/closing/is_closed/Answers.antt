@@ -1,9 +1,6 @@
-use Rattle.std.proofs.Common.{ℕ, List, get_or, take, sym, subst}
-use Rattle.std.specs.Prelude.{All, IsTrue}
+use Rattle.rbg_base.proofs.Common.{ℕ, List, get_or, take, sym, subst, All, IsTrue, All-push}
 use Rattle.std.proofs.lemmas.List.{take_more, take_all}
-use Rattle.std.proofs.lemmas.List.Elements.{All-push}
-use Rattle.rbg_leaps.specs.internal.Interned.{list_at}
-use Rattle.rbg_leaps.specs.internal.Tables.{IsToldEverywhere}
+use Rattle.rbg_leaps.proofs.Common.{list_at, IsToldEverywhere}
 use Rattle.rbg_leaps.proofs.Cases.{not_both}
 use Rattle.rbg_leaps.proofs.closing.is_closed.Goals as goal
 use Rattle.rbg_leaps.proofs.closing.is_closed.Goals.{else-may_end-via-then-may_end+else-not-all_end, else-may_end-via-else-may_end}

@@ -1,6 +1,5 @@
 -- The positions so far are told of.
-use Rattle.std.proofs.Common.{take}
-use Rattle.std.specs.Prelude.{All}
+use Rattle.std.proofs.Common.{take, All}
 use Rattle.rbg_leaps.specs.internal.Tables.{IsToldEverywhere}
 use Rattle.rbg_leaps.proofs.closing.is_closed.Given as goal
 

@@ -1,6 +1,5 @@
 use Rattle.std.proofs.Common.{ℕ, sym, subst, arith}
-use Rattle.rbg_leaps.specs.declared.table.Entry.{Entry}
-use Rattle.rbg_leaps.specs.internal.Tables.{entry_at, IsToldAt}
+use Rattle.rbg_leaps.proofs.Common.{Entry, entry_at, IsToldAt}
 use Rattle.rbg_leaps.proofs.Places.{before, last, last_place}
 use Rattle.rbg_leaps.proofs.closing.is_told_everywhere.Goals as goal
 

@@ -1,6 +1,5 @@
 use Rattle.std.proofs.Common.{◌≡◌, ◌<◌, ◌∙◌, ℕ, List, length, bit_or, sym, ap, arith, rules}
-use Rattle.rbg_leaps.specs.declared.target.Target.{Target}
-use Rattle.rbg_leaps.specs.internal.Tables.{no_target, target_at}
+use Rattle.rbg_leaps.proofs.Common.{Target, no_target, target_at}
 use Rattle.rbg_leaps.proofs.Places.{any_default}
 use Rattle.rbg_leaps.proofs.Targets.{under_target}
 use Rattle.rbg_leaps.proofs.closing.tells.Goals as goal

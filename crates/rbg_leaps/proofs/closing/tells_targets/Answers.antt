@@ -1,7 +1,5 @@
 use Rattle.std.proofs.Common.{◌≡◌, ◌<◌, ◌∙◌, ℕ, ◌+◌, List, length, sym, subst, arith}
-use Rattle.rbg_leaps.specs.declared.target.Target.{Target}
-use Rattle.rbg_leaps.specs.Asked.{IsEndOf}
-use Rattle.rbg_leaps.specs.internal.Tables.{no_target, target_at, Tells}
+use Rattle.rbg_leaps.proofs.Common.{Target, IsEndOf, no_target, target_at, Tells}
 use Rattle.rbg_leaps.proofs.Places.{any_default, before, last, last_place}
 use Rattle.rbg_leaps.proofs.closing.tells_targets.Goals as goal
 

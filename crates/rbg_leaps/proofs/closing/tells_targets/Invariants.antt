@@ -1,7 +1,6 @@
 -- The entry tells of all vertices of the targets so far.
 use Rattle.std.proofs.Common.{◌<◌, ◌≤◌, ℕ}
-use Rattle.rbg_leaps.specs.Asked.{IsEndOf}
-use Rattle.rbg_leaps.specs.internal.Tables.{target_at, TellsAt}
+use Rattle.rbg_leaps.proofs.Common.{IsEndOf, target_at, TellsAt}
 use Rattle.rbg_leaps.proofs.closing.tells_targets.Given as goal
 
 abbrev pub invariant-loop-index : goal.invariant-loop-index

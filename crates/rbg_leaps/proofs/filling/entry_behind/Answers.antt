@@ -1,7 +1,5 @@
-use Rattle.std.proofs.Common.{◌∙◌, ℕ, length, inl, inr, sym, subst}
-use Rattle.std.specs.Prelude.{IsTrue}
-use Rattle.rbg_leaps.specs.Leaps.{IsShiftAt}
-use Rattle.rbg_leaps.specs.internal.Steps.{Comes}
+use Rattle.std.proofs.Common.{◌∙◌, ℕ, length, inl, inr, sym, subst, IsTrue}
+use Rattle.rbg_leaps.proofs.Common.{IsShiftAt, Comes}
 use Rattle.rbg_leaps.proofs.Cases.{not_both, no_some, some_same}
 use Rattle.rbg_leaps.proofs.Fillings.{told_nowhere}
 use Rattle.rbg_leaps.proofs.Sharing.{behind_there, entry_step, shared_told}

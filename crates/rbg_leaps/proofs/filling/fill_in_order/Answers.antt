@@ -1,6 +1,4 @@
-use Rattle.std.proofs.Common.{◌≡◌, ◌∙◌, false, length, sym, ap, subst, rules}
-use Rattle.std.specs.Prelude.{replicate}
-use Rattle.std.proofs.lemmas.List.{length-replicate}
+use Rattle.rbg_base.proofs.Common.{◌≡◌, ◌∙◌, false, length, sym, ap, subst, rules, replicate, length-replicate}
 use Rattle.rbg_leaps.specs.internal.Tables.{AreFilled}
 use Rattle.rbg_leaps.proofs.Fillings.{none_marked}
 use Rattle.rbg_leaps.proofs.filling.fill_in_order.Goals as goal

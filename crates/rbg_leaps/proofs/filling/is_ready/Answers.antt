@@ -1,6 +1,5 @@
 use Rattle.std.proofs.Common.{◌≢◌, ◌∙◌, ℕ, List, Bool, get_or, sym, subst, arith}
-use Rattle.rbg_leaps.specs.Leaps.{IsShiftAt}
-use Rattle.rbg_leaps.specs.internal.Tables.{IsMarked}
+use Rattle.rbg_leaps.proofs.Common.{IsShiftAt, IsMarked}
 use Rattle.rbg_leaps.proofs.Cases.{not_both}
 use Rattle.rbg_leaps.proofs.Fillings.{each_listed}
 use Rattle.rbg_leaps.proofs.Places.{before, last, last_place}

@@ -1,7 +1,6 @@
 -- The shifts so far lead to marked nodes, or to the node again.
 use Rattle.std.proofs.Common.{◌<◌, ◌≢◌, ℕ, get_or}
-use Rattle.rbg_leaps.specs.Leaps.{IsShiftAt}
-use Rattle.rbg_leaps.specs.internal.Tables.{IsMarked}
+use Rattle.rbg_leaps.proofs.Common.{IsShiftAt, IsMarked}
 use Rattle.rbg_leaps.proofs.filling.is_ready.Given as goal
 
 abbrev pub invariant-loop-listed : goal.invariant-loop-listed

@@ -1,8 +1,5 @@
-use Rattle.std.proofs.Common.{◌≡◌, ◌∙◌, ℕ, List, Bool, length, sym, subst, arith}
-use Rattle.std.specs.Prelude.{IsTrue}
-use Rattle.rbg_leaps.specs.Limits.{row_words}
-use Rattle.rbg_leaps.specs.internal.Interned.{list_at, may_end_at}
-use Rattle.rbg_leaps.specs.internal.Steps.{IsLeapBy}
+use Rattle.std.proofs.Common.{◌≡◌, ◌∙◌, ℕ, List, Bool, length, sym, subst, arith, IsTrue}
+use Rattle.rbg_leaps.proofs.Common.{row_words, list_at, may_end_at, IsLeapBy}
 use Rattle.rbg_leaps.proofs.Fillings.{one_filled, only_listed, told_plain, whole_of_one}
 use Rattle.rbg_leaps.proofs.Steppings.{ends_here}
 use Rattle.rbg_leaps.proofs.Tabling.{unit_sound}

@@ -1,7 +1,5 @@
-use Rattle.std.proofs.Common.{◌≡◌, ℕ, List, get_or, subst, arith}
-use Rattle.std.specs.Prelude.{Contains}
-use Rattle.rbg_leaps.specs.Leaps.{IsShiftAt}
-use Rattle.rbg_leaps.specs.internal.Tables.{StepsBack, StepsForth}
+use Rattle.std.proofs.Common.{◌≡◌, ℕ, List, get_or, subst, arith, Contains}
+use Rattle.rbg_leaps.proofs.Common.{IsShiftAt, StepsBack, StepsForth}
 use Rattle.rbg_leaps.proofs.Cases.{not_both}
 use Rattle.rbg_leaps.proofs.Fillings.{each_listed, is_listed}
 use Rattle.rbg_leaps.proofs.filling.repeats.Goals as goal

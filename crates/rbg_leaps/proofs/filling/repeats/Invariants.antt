@@ -1,7 +1,6 @@
 -- None of the positions so far is a shift that leads to the node that way.
 use Rattle.std.proofs.Common.{◌≡◌, ◌<◌, ℕ, get_or, true, false}
-use Rattle.rbg_leaps.specs.Leaps.{IsShiftAt}
-use Rattle.rbg_leaps.specs.internal.Tables.{StepsBack, StepsForth}
+use Rattle.rbg_leaps.proofs.Common.{IsShiftAt, StepsBack, StepsForth}
 use Rattle.rbg_leaps.proofs.filling.repeats.Given as goal
 
 abbrev pub invariant-loop-listed : goal.invariant-loop-listed

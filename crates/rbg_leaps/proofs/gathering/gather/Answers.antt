@@ -1,12 +1,5 @@
-use Rattle.std.proofs.Common.{◌≡◌, ◌<◌, ◌∙◌, ℕ, List, length, get_or, sym, ap, subst, arith}
-use Rattle.std.specs.Prelude.{All, Contains, IsTrue}
-use Rattle.rbg_leaps.specs.declared.branches.Branch.{Branch}
-use Rattle.rbg_leaps.specs.Entries.{IsWithin}
-use Rattle.rbg_leaps.specs.Limits.{row_words}
-use Rattle.rbg_leaps.specs.internal.Branches.{no_branch}
-use Rattle.rbg_leaps.specs.internal.Interned.{branches_at, list_at, may_end_at}
-use Rattle.rbg_leaps.specs.internal.Steps.{IsLeapBy}
-use Rattle.rbg_leaps.specs.internal.Tables.{IsToldFrom}
+use Rattle.std.proofs.Common.{◌≡◌, ◌<◌, ◌∙◌, ℕ, List, length, get_or, sym, ap, subst, arith, All, Contains, IsTrue}
+use Rattle.rbg_leaps.proofs.Common.{Branch, IsWithin, row_words, no_branch, branches_at, list_at, may_end_at, IsLeapBy, IsToldFrom}
 use Rattle.rbg_leaps.proofs.Cases.{not_both}
 use Rattle.rbg_leaps.proofs.Fillings.{is_listed, told_grown, raise_end}
 use Rattle.rbg_leaps.proofs.Places.{same_item, before, last, last_place}

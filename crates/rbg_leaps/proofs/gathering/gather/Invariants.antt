@@ -1,9 +1,6 @@
 -- What the branches so far lead to was gathered.
-use Rattle.std.proofs.Common.{◌<◌, ℕ, get_or}
-use Rattle.std.specs.Prelude.{IsTrue}
-use Rattle.rbg_leaps.specs.internal.Interned.{list_at, may_end_at}
-use Rattle.rbg_leaps.specs.internal.Steps.{EndsBy}
-use Rattle.rbg_leaps.specs.internal.Tables.{Grows, IsGathered, IsSoundTable, IsToldFrom}
+use Rattle.std.proofs.Common.{◌<◌, ℕ, get_or, IsTrue}
+use Rattle.rbg_leaps.proofs.Common.{list_at, may_end_at, EndsBy, Grows, IsGathered, IsSoundTable, IsToldFrom}
 use Rattle.rbg_leaps.proofs.gathering.gather.Given as goal
 
 abbrev pub invariant-loop-branch : goal.invariant-loop-branch

@@ -1,10 +1,5 @@
-use Rattle.std.proofs.Common.{◌≡◌, ◌<◌, ◌∙◌, ℕ, List, length, get_or, false, sym, ap, subst}
-use Rattle.std.specs.Prelude.{Bool}
-use Rattle.rbg_leaps.specs.declared.table.Entry.{Entry}
-use Rattle.rbg_leaps.specs.Leaps.{IsShiftAt}
-use Rattle.rbg_leaps.specs.internal.Tables.{entry_at, IsUnder}
-use Rattle.rbg_leaps.specs.internal.Interned.{list_at, may_end_at}
-use Rattle.rbg_leaps.specs.internal.Steps.{Comes}
+use Rattle.std.proofs.Common.{◌≡◌, ◌<◌, ◌∙◌, ℕ, List, length, get_or, false, sym, ap, subst, Bool}
+use Rattle.rbg_leaps.proofs.Common.{Entry, IsShiftAt, entry_at, IsUnder, list_at, may_end_at, Comes}
 use Rattle.rbg_leaps.proofs.Cases.{some_same}
 use Rattle.rbg_leaps.proofs.Fillings.{told_plain, told_behind, added_under}
 use Rattle.rbg_leaps.proofs.Sharing.{IsRightBehind, right_behind, behind_there}

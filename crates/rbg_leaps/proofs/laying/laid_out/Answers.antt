@@ -1,6 +1,5 @@
 use Rattle.std.proofs.Common.{ℕ, List, refl, subst, arith}
-use Rattle.rbg_leaps.specs.declared.table.Entry.{Entry}
-use Rattle.rbg_leaps.specs.internal.Tables.{AreLaid}
+use Rattle.rbg_leaps.proofs.Common.{Entry, AreLaid}
 use Rattle.rbg_leaps.proofs.Layings.{after_rows, inside_rows, first_row, are_leaps}
 use Rattle.rbg_leaps.proofs.laying.laid_out.Goals as goal
 

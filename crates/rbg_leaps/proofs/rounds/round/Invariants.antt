@@ -1,6 +1,5 @@
 -- Where nothing was missing so far, nothing is missing at the nodes so far.
-use Rattle.std.proofs.Common.{◌≡◌}
-use Rattle.std.specs.Prelude.{false}
+use Rattle.std.proofs.Common.{◌≡◌, false}
 use Rattle.rbg_leaps.specs.internal.Tables.{IsSoundTable, AreClosedFrom}
 use Rattle.rbg_leaps.proofs.rounds.round.Given as goal
 

@@ -1,7 +1,5 @@
 -- A table with a log hears something, or one with none.
-use Rattle.std.proofs.Common.{Some, subst, sym}
-use Rattle.std.proofs.lemmas.Result.{IfErr-weaker, on_ok_weaker}
-use Rattle.std.specs.Prelude.{IfErr, OnOk}
+use Rattle.rbg_base.proofs.Common.{Some, subst, sym, IfErr-weaker, on_ok_weaker, IfErr, OnOk}
 use Rattle.rbg_hall.specs.Hearing.{input_of}
 use Rattle.rbg_log.specs.declared.keeping.WriteError.TheVariants.{Memory}
 use Rattle.rbg_ledger.specs.Kept.{Changes, FailsSo, IsWritten, no_memory, with_log, without}

@@ -1,10 +1,8 @@
 -- What is written is what the match is handed.
-use Rattle.std.proofs.Common.{sym, subst}
-use Rattle.std.specs.Prelude.{OnErr, OnOk}
+use Rattle.std.proofs.Common.{sym, subst, OnErr, OnOk}
 use Rattle.rbg_wire.specs.Inboxes.{item_of}
-use Rattle.rbg_hall.specs.Hearing.{input_of}
+use Rattle.rbg_hall.proofs.Common.{input_of, clock, joins, arrives, says, leaves}
 use Rattle.rbg_hall.specs.Laws as laws
-use Rattle.rbg_hall.specs.Tables.{clock, joins, arrives, says, leaves}
 use Rattle.rbg_ledger.specs.Ledgers.{IsNotedIn}
 use Rattle.rbg_ledger.specs.internal.Parts.{IsNotedPart}
 use Rattle.rbg_ledger.proofs.Keeping.{handed_in, handed_part, nothing_in}

@@ -1,6 +1,5 @@
 -- The text so far is that of the items so far.
-use Rattle.std.proofs.Common.{◌≡◌, ◌++◌, take}
-use Rattle.std.specs.List.{flat_map}
+use Rattle.std.proofs.Common.{◌≡◌, ◌++◌, take, flat_map}
 use Rattle.rbg_listing.specs.Lines.{move_line}
 use Rattle.rbg_listing.proofs.lines.write_moves.Given as goal
 

@@ -1,6 +1,5 @@
 -- The lines of the opening, and then of how play can go on.
-use Rattle.std.proofs.Common.{◌≡◌, ◌++◌, rules}
-use Rattle.std.specs.List.{flat_map}
+use Rattle.std.proofs.Common.{◌≡◌, ◌++◌, rules, flat_map}
 use Rattle.rbg_listing.specs.Lines.{made_line}
 use Rattle.rbg_listing.proofs.opened.opened_lines.Goals as goal
 

@@ -1,7 +1,5 @@
 -- The moves that are listed, or the question is above the limits.
-use Rattle.std.proofs.Common.{◌≡◌, ◌++◌, subst, codes}
-use Rattle.std.proofs.lemmas.Result.{on_ok_weaker}
-use Rattle.std.specs.List.{flat_map}
+use Rattle.rbg_base.proofs.Common.{◌≡◌, ◌++◌, subst, codes, on_ok_weaker, flat_map}
 use Rattle.rbg_listing.specs.Lines.{move_line, cut_text}
 use Rattle.rbg_listing.specs.Openings.GoesOn.{listed, too_hard}
 use Rattle.rbg_listing.proofs.ListingLemmas.{both_hold, over_error}

@@ -1,6 +1,5 @@
 -- How the match ended, or how it can go on.
-use Rattle.std.proofs.Common.{◌∙◌, sym}
-use Rattle.std.proofs.lemmas.Result.{on_ok_weaker}
+use Rattle.rbg_base.proofs.Common.{◌∙◌, sym, on_ok_weaker}
 use Rattle.rbg_listing.specs.Lines.{end_text}
 use Rattle.rbg_listing.specs.Openings.GoesOn.{ended}
 use Rattle.rbg_listing.proofs.opened.write_rest.Goals as goal

@@ -1,8 +1,5 @@
 -- The scores where no move was found, or the moves.
-use Rattle.std.proofs.Common.{◌≡◌, ◌∙◌, ◌++◌, ap, subst}
-use Rattle.std.proofs.lemmas.Result.{on_ok_weaker}
-use Rattle.std.specs.List.{flat_map}
-use Rattle.std.specs.Prelude.{◌==◌}
+use Rattle.rbg_base.proofs.Common.{◌≡◌, ◌∙◌, ◌++◌, ap, subst, on_ok_weaker, flat_map, ◌==◌}
 use Rattle.rbg_listing.specs.Lines.{move_line, cut_text}
 use Rattle.rbg_listing.specs.Behind.GoesOnAt.{finished, listed}
 use Rattle.rbg_listing.proofs.Following.{nothing_left, something_left}

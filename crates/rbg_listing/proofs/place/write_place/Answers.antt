@@ -1,6 +1,5 @@
 -- What was found is written, or the question is above the limits.
-use Rattle.std.proofs.Common.{codes}
-use Rattle.std.proofs.lemmas.Result.{on_ok_weaker}
+use Rattle.rbg_base.proofs.Common.{codes, on_ok_weaker}
 use Rattle.rbg_listing.specs.Behind.GoesOnAt.{too_hard}
 use Rattle.rbg_listing.proofs.ListingLemmas.{both_hold, over_error}
 use Rattle.rbg_listing.proofs.place.write_place.Goals as goal

@@ -1,6 +1,5 @@
 -- What the file has is answered.
-use Rattle.std.proofs.Common.{subst}
-use Rattle.std.proofs.lemmas.Result.{IfOk-weaker}
+use Rattle.rbg_base.proofs.Common.{subst, IfOk-weaker}
 use Rattle.rbg_console.specs.Files.{IsFileReading}
 use Rattle.rbg_game.specs.declared.error.LoadError.TheVariants.{Text}
 use Rattle.rbg_tokens.specs.Limits.{longest_text}

@@ -1,6 +1,5 @@
 -- A call has as many arguments as the macro has parameters.
-use Rattle.std.proofs.Common.{◌∙◌, sym, ap, map}
-use Rattle.std.proofs.lemmas.List.{drop-map, length-map, take_rest}
+use Rattle.rbg_base.proofs.Common.{◌∙◌, sym, ap, map, drop-map, length-map, take_rest}
 use Rattle.rbg_macro.specs.internal.ReadTokens.{read_lexeme}
 use Rattle.rbg_macro.proofs.CallLemmas.{call_meets, call_within}
 use Rattle.rbg_macro.proofs.call.find_call.Goals as goal

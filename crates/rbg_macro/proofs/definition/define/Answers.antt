@@ -1,10 +1,6 @@
 -- A part's definition is added after the earlier ones.
-use Rattle.std.proofs.Common.{List, ◌∙◌, sym, ap, map}
-use Rattle.std.proofs.lemmas.List.{map-append}
-use Rattle.rbg_macro.specs.internal.Defines.{section_of}
-use Rattle.rbg_macro.specs.Definition.{Definitions}
-use Rattle.rbg_macro.specs.Sections.{SectionTokens}
-use Rattle.rbg_macro.specs.Macro.{Macro}
+use Rattle.rbg_base.proofs.Common.{List, ◌∙◌, sym, ap, map, map-append}
+use Rattle.rbg_macro.proofs.Common.{section_of, Definitions, SectionTokens, Macro}
 use Rattle.rbg_macro.proofs.Defined.{defined_section, defined_macro}
 use Rattle.rbg_macro.proofs.definition.define.Goals as goal
 

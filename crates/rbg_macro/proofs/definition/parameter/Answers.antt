@@ -1,6 +1,5 @@
 -- The first token is a new parameter.
-use Rattle.std.proofs.Common.{◌∙◌, sym, arith}
-use Rattle.std.proofs.lemmas.Bool.Decides.{nat_tests}
+use Rattle.rbg_base.proofs.Common.{◌∙◌, sym, arith, nat_tests}
 use Rattle.rbg_macro.proofs.Heads.{repeated, unfinished, adds}
 use Rattle.rbg_macro.proofs.definition.parameter.Goals as goal
 

@@ -1,7 +1,6 @@
 -- The list ends at a `)`, and continues after a `;`.
-use Rattle.std.proofs.Common.{◌∙◌, sym, ◌+◌}
+use Rattle.rbg_base.proofs.Common.{◌∙◌, sym, ◌+◌, take_rest}
 use Rattle.rbg_macro.proofs.Heads.{list_ends, list_goes_on, two_more}
-use Rattle.std.proofs.lemmas.List.{take_rest}
 use Rattle.rbg_macro.proofs.definition.parameter_list.Goals as goal
 
 pub returns-then-is : goal.returns-then-is

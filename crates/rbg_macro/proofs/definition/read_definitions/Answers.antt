@@ -1,12 +1,9 @@
 -- Definitions are read part by part.
-use Rattle.std.proofs.Common.{◌≡◌, Err, ◌+◌, ◌≤◌, length, map, arith}
-use Rattle.std.proofs.lemmas.Result.{err_from_is_err_and}
-use Rattle.rbg_macro.specs.internal.Defines.{defines_of}
-use Rattle.rbg_macro.specs.Definition.{definitions_of}
+use Rattle.rbg_base.proofs.Common.{◌≡◌, Err, ◌+◌, ◌≤◌, length, map, arith, err_from_is_err_and, take_rest}
+use Rattle.rbg_macro.proofs.Common.{defines_of, definitions_of}
 use Rattle.rbg_tokens.specs.Token.{lexeme_of}
 use Rattle.rbg_macro.proofs.Defined.{first_is_hash, defined_behind, faults_behind}
 use Rattle.rbg_macro.proofs.Exits.{unless_weaker}
-use Rattle.std.proofs.lemmas.List.{take_rest}
 use Rattle.rbg_macro.proofs.definition.read_definitions.Goals as goal
 
 pub loop-at-init : goal.loop-at-init

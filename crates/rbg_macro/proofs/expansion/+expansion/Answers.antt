@@ -1,11 +1,7 @@
 -- A joined list is read token by token.
-use Rattle.std.proofs.Common.{◌+◌, length, map, arith, sym, refl, ◌∙◌}
-use Rattle.std.proofs.lemmas.List.{take_rest}
-use Rattle.std.proofs.lemmas.Result.{err_from_is_err_and, IfErr-weaker, on_ok_weaker}
-use Rattle.rbg_macro.specs.Expansion.{FailsReading}
-use Rattle.rbg_macro.specs.Errors.{UnlessMemory}
+use Rattle.rbg_base.proofs.Common.{◌+◌, length, map, arith, sym, refl, ◌∙◌, take_rest, err_from_is_err_and, IfErr-weaker, on_ok_weaker}
+use Rattle.rbg_macro.proofs.Common.{FailsReading, UnlessMemory, read_lexeme}
 use Rattle.rbg_macro.specs.internal.ExpandedTokens.{FailsJoined, reading}
-use Rattle.rbg_macro.specs.internal.ReadTokens.{read_lexeme}
 use Rattle.rbg_macro.proofs.Exits.{unless_weaker}
 use Rattle.rbg_macro.proofs.JoinedLists.{joined_already}
 use Rattle.rbg_macro.proofs.Marks.{lexemes_of_words, marks_of_words}

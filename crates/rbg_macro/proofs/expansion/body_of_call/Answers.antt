@@ -1,8 +1,6 @@
 -- What replaces a call, and why a call is refused.
-use Rattle.std.proofs.Common.{ℕ, ◌∷◌, map}
-use Rattle.std.proofs.lemmas.Result.{err_from_is_err_and}
-use Rattle.rbg_macro.specs.Expansion.{FailsReading, too_deep}
-use Rattle.rbg_macro.specs.internal.ReadTokens.{read_lexeme}
+use Rattle.rbg_base.proofs.Common.{ℕ, ◌∷◌, map, err_from_is_err_and}
+use Rattle.rbg_macro.proofs.Common.{FailsReading, too_deep, read_lexeme}
 use Rattle.rbg_macro.proofs.Exits.{unless_weaker}
 use Rattle.rbg_macro.proofs.Failing.{fails_without_call, fails_too_long}
 use Rattle.rbg_macro.proofs.expansion.body_of_call.Goals as goal

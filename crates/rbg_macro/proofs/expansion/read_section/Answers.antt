@@ -1,9 +1,6 @@
 -- A section's list is counted and read.
-use Rattle.std.proofs.Common.{length, refl, arith}
-use Rattle.std.proofs.lemmas.List.{length-map}
-use Rattle.std.proofs.lemmas.Result.{err_from_is_err_and}
-use Rattle.rbg_macro.specs.internal.Defines.{section_of}
-use Rattle.rbg_macro.specs.Expansion.{Fails}
+use Rattle.rbg_base.proofs.Common.{length, refl, arith, length-map, err_from_is_err_and}
+use Rattle.rbg_macro.proofs.Common.{section_of, Fails}
 use Rattle.rbg_tokens.specs.Token.{lexeme_of}
 use Rattle.rbg_macro.proofs.Exits.{unless_weaker}
 use Rattle.rbg_macro.proofs.Reading.{counted_all}

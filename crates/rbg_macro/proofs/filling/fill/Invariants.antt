@@ -1,9 +1,6 @@
 -- The tokens so far are those of the items so far.
 use Rattle.std.proofs.Common.{◌≡◌, map, take}
-use Rattle.rbg_macro.specs.Macro.{filled}
-use Rattle.rbg_macro.specs.internal.Marks.{FillsMarks}
-use Rattle.rbg_macro.specs.internal.Template.{item_in, lists_in}
-use Rattle.rbg_macro.specs.internal.ReadTokens.{read_lexeme}
+use Rattle.rbg_macro.proofs.Common.{filled, FillsMarks, item_in, lists_in, read_lexeme}
 use Rattle.rbg_macro.proofs.filling.fill.Given as goal
 
 abbrev pub invariant-loop-item : goal.invariant-loop-item

@@ -1,6 +1,5 @@
 -- A list is joined token by token, and chain by chain.
-use Rattle.std.proofs.Common.{◌∙◌, sym, ◌+◌, ◌≤◌, length, map, arith}
-use Rattle.std.proofs.lemmas.List.{take_rest}
+use Rattle.rbg_base.proofs.Common.{◌∙◌, sym, ◌+◌, ◌≤◌, length, map, arith, take_rest}
 use Rattle.rbg_macro.specs.internal.Marks.{lexeme_in_word}
 use Rattle.rbg_macro.proofs.JoinedLists.{single_joined, chain_added}
 use Rattle.rbg_macro.proofs.Marks.{mark_added, word_added}

@@ -1,6 +1,5 @@
 -- The joined list is what was joined so far, followed by what the rest gives.
-use Rattle.std.proofs.Common.{length, map, ◌-◌}
-use Rattle.std.specs.List.{All}
+use Rattle.std.proofs.Common.{length, map, ◌-◌, All}
 use Rattle.rbg_macro.specs.internal.Marks.{IsMarkedWord, lexeme_in_word}
 use Rattle.rbg_macro.proofs.JoinedLists.{HasJoinedTo}
 use Rattle.rbg_macro.proofs.joining.join.Given as goal

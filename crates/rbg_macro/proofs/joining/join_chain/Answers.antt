@@ -1,7 +1,6 @@
 -- A chain continues as long as a `~` follows.
-use Rattle.std.proofs.Common.{◌∙◌, sym}
+use Rattle.rbg_base.proofs.Common.{◌∙◌, sym, take_rest}
 use Rattle.rbg_macro.proofs.Chains.{first_word, one_more_joined, chain_joined}
-use Rattle.std.proofs.lemmas.List.{take_rest}
 use Rattle.rbg_macro.proofs.joining.join_chain.Goals as goal
 
 pub loop-texts-init : goal.loop-texts-init

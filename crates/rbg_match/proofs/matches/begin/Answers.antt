@@ -1,7 +1,6 @@
 -- The referee is in the match, and its outbox is the caller's.
 use Rattle.std.proofs.Common.{◌≡◌, ap, rules, length}
-use Rattle.rbg_match.specs.PlayingOn.{seats_of}
-use Rattle.rbg_match.specs.internal.Replies.{RefereeState}
+use Rattle.rbg_match.proofs.Common.{seats_of, RefereeState}
 use Rattle.rbg_match.proofs.OpeningLemmas.{begun_so}
 use Rattle.rbg_match.proofs.matches.begin.Goals as goal
 

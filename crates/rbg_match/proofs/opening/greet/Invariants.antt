@@ -1,6 +1,5 @@
 use Rattle.std.proofs.Common.{◌≡◌, take}
-use Rattle.rbg_match.specs.Deliveries.{delivered}
-use Rattle.rbg_match.specs.Transcript.{greetings}
+use Rattle.rbg_match.proofs.Common.{delivered, greetings}
 use Rattle.rbg_match.proofs.opening.greet.Given as goal
 
 abbrev pub invariant-loop-index : goal.invariant-loop-index

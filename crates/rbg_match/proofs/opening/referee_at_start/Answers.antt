@@ -1,6 +1,5 @@
 -- The seats are greeted, and play is at its start.
-use Rattle.std.proofs.Common.{rules, length, replicate, [], ap, ◌∙◌, sym}
-use Rattle.std.proofs.lemmas.List.{length-replicate}
+use Rattle.rbg_base.proofs.Common.{rules, length, replicate, [], ap, ◌∙◌, sym, length-replicate}
 use Rattle.rbg_match.specs.PlayingOn.{seats_of}
 use Rattle.rbg_match.proofs.Delivering.{length-delivered}
 use Rattle.rbg_rules.specs.Meaning.{IsGame}

@@ -1,6 +1,5 @@
 -- The pairs that were found are those of the move.
-use Rattle.std.proofs.Common.{ℕ, List, length, sym, ◌∙◌, subst}
-use Rattle.std.specs.Prelude.{IfSome}
+use Rattle.std.proofs.Common.{ℕ, List, length, sym, ◌∙◌, subst, IfSome}
 use Rattle.rbg_base.specs.Move.{IsMoveLength}
 use Rattle.rbg_rules.specs.Meaning.{AbstractPlace, find_move}
 use Rattle.rbg_moves.specs.Answers.{GivesUp}

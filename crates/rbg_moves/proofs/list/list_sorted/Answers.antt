@@ -1,6 +1,5 @@
 -- What was gathered is listed.
-use Rattle.std.proofs.Common.{◌≢◌, ℕ, List, sym, subst}
-use Rattle.std.specs.Prelude.{AllPairs}
+use Rattle.std.proofs.Common.{◌≢◌, ℕ, List, sym, subst, AllPairs}
 use Rattle.rbg_rules.specs.Meaning.{AbstractPlace, list_moves}
 use Rattle.rbg_moves.specs.Answers.{GivesUp}
 use Rattle.rbg_moves.specs.Limits.{FitsLimits}

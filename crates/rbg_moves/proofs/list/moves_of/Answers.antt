@@ -1,7 +1,5 @@
 -- One more move of the list.
-use Rattle.std.proofs.Common.{◌≡◌, ◌<◌, ◌++◌, ◌∷◌, [], ℕ, List, length, take, get_or, sym, ap, ◌∙◌}
-use Rattle.std.proofs.lemmas.List.{take_more}
-use Rattle.std.proofs.lemmas.Option.{slice_get_within, get_or_from_slice_get}
+use Rattle.rbg_base.proofs.Common.{◌≡◌, ◌<◌, ◌++◌, ◌∷◌, [], ℕ, List, length, take, get_or, sym, ap, ◌∙◌, take_more, slice_get_within, get_or_from_slice_get}
 use Rattle.rbg_moves.proofs.list.moves_of.Goals as goal
 
 pub loop-index-preserved : goal.loop-index-preserved

@@ -1,6 +1,5 @@
-use Rattle.std.proofs.Common.{◌≡◌, ℕ, suc, ◌+◌, ◌<◌, List, ◌∷◌, length, get_or, drop, sym, ap, ◌∙◌, subst, arith}
+use Rattle.rbg_base.proofs.Common.{◌≡◌, ℕ, suc, ◌+◌, ◌<◌, List, ◌∷◌, length, get_or, drop, sym, ap, ◌∙◌, subst, arith, drop_all}
 use Rattle.std.proofs.Math.Seq.{drop-cons}
-use Rattle.std.proofs.lemmas.List.{drop_all}
 use Rattle.rbg_rules.specs.Meaning.{IsGame, AbstractGame, AbstractState, IsStateOf, Applies, AbstractPlace, stand_of, Legal}
 use Rattle.rbg_pairs.specs.Flat.{IsNext}
 use Rattle.rbg_state.specs.History.{History}

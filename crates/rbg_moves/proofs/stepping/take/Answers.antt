@@ -1,11 +1,7 @@
-use Rattle.std.proofs.Common.{◌≡◌, ◌<◌, ℕ, length, true, false, sym, ap, ◌∙◌, subst}
-use Rattle.std.specs.Prelude.{List, Bool, Contains, Result, Ok}
-use Rattle.std.proofs.lemmas.List.Elements.{All-contains}
+use Rattle.rbg_base.proofs.Common.{◌≡◌, ◌<◌, ℕ, length, true, false, sym, ap, ◌∙◌, subst, List, Bool, Contains, Result, Ok, All-contains}
 use Rattle.rbg_rules.specs.Meaning.{AbstractGame, AbstractState, IsStateOf, Applies, stand_of, Start, IsStart, reach}
 use Rattle.rbg_pairs.specs.Start.{start_of, IsPositionOf}
-use Rattle.rbg_search.specs.Answered.{IsAnswered, HasReached}
-use Rattle.rbg_search.specs.Searching.{Searching}
-use Rattle.rbg_search.specs.Taken.{CountsPairs}
+use Rattle.rbg_search.proofs.Common.{IsAnswered, HasReached, Searching, CountsPairs}
 use Rattle.rbg_search.specs.declared.over.Over.{Over}
 use Rattle.rbg_state.specs.History.{History}
 use Rattle.rbg_moves.specs.internal.Stepping.{at_vertex, IsValidAt}

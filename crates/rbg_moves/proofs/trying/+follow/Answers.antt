@@ -1,8 +1,5 @@
 -- What became of the pairs that were followed.
-use Rattle.std.proofs.Common.{rules, ◌≡◌, ℕ, List, [], ◌∷◌, length, true, false, refl, sym, ap, ◌∙◌, arith}
-use Rattle.std.specs.Prelude.{◌==◌, Some, None}
-use Rattle.std.proofs.lemmas.Result.{err_from_is_err_and}
-use Rattle.std.proofs.lemmas.Bool.Decides.{Decides-eqb}
+use Rattle.rbg_base.proofs.Common.{rules, ◌≡◌, ℕ, List, [], ◌∷◌, length, true, false, refl, sym, ap, ◌∙◌, arith, ◌==◌, Some, None, err_from_is_err_and, Decides-eqb}
 use Rattle.rbg_rules.specs.Meaning.{IsSwitchAt, AbstractPlace, stand_of}
 use Rattle.rbg_moves.specs.internal.Stepping.{IsStep}
 use Rattle.rbg_moves.proofs.Following.{followed_as, follows_none, follows_in_vain, follows_first, follows_on}

@@ -1,11 +1,8 @@
 -- The pairs lead to a place, or nowhere, or the question was given up.
-use Rattle.std.proofs.Common.{◌≡◌, ℕ, List, [], length, true, false, refl, ap, ◌∙◌, subst, arith}
-use Rattle.std.specs.Prelude.{Option, Some, None, IfSome}
+use Rattle.std.proofs.Common.{◌≡◌, ℕ, List, [], length, true, false, refl, ap, ◌∙◌, subst, arith, Option, Some, None, IfSome}
 use Rattle.rbg_rules.specs.Meaning.{AbstractGame, AbstractState, AbstractPlace, stand_of, IsPlaceOf, try_move}
 use Rattle.rbg_rules.proofs.PlaceLemmas.{one_place_law}
-use Rattle.rbg_search.specs.Forced.{CountsForced}
-use Rattle.rbg_search.specs.Passing.{somewhere}
-use Rattle.rbg_search.specs.Searching.{Searching}
+use Rattle.rbg_search.proofs.Common.{CountsForced, somewhere, Searching}
 use Rattle.rbg_moves.specs.Answers.{GivesUp}
 use Rattle.rbg_moves.specs.Limits.{FitsLimits}
 use Rattle.rbg_moves.specs.Tallying.{IsTallied}

@@ -1,9 +1,7 @@
 use Rattle.std.proofs.Common.{length, arith}
 use Rattle.rbg_grammar.specs.Tree.{SpeltRule}
 use Rattle.rbg_grammar.specs.Views.{action_of as spelt_action_of}
-use Rattle.rbg_numbering.specs.declared.error.NumberingError.TheVariants.{Memory}
-use Rattle.rbg_numbering.specs.Numbered.{names_of}
-use Rattle.rbg_numbering.specs.internal.Steps.{HasFaultFrom, from_positions, from_memory}
+use Rattle.rbg_numbering.proofs.Common.{Memory, names_of, HasFaultFrom, from_positions, from_memory}
 use Rattle.rbg_base.proofs.Errors.{passed_on}
 use Rattle.rbg_numbering.proofs.ActionLemmas.{counts_one, action_fault, action_added}
 use Rattle.rbg_numbering.proofs.actions.add_action.Goals as goal

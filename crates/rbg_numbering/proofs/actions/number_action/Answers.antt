@@ -1,8 +1,7 @@
 use Rattle.std.proofs.Common.{◌∙◌, ap, inl, inr, arith}
 use Rattle.rbg_grammar.specs.Views.{action_of as spelt_action_of}
 use Rattle.rbg_grammar.proofs.Trees.{action_of-PositivePattern, action_of-NegativePattern}
-use Rattle.rbg_numbering.specs.Numbered.{names_of}
-use Rattle.rbg_numbering.specs.internal.Actions.{is_spelt_pattern, HasActionFault}
+use Rattle.rbg_numbering.proofs.Common.{names_of, is_spelt_pattern, HasActionFault}
 use Rattle.rbg_base.proofs.Errors.{passed_on}
 use Rattle.rbg_numbering.proofs.ActionLemmas.{shift_fault, off_fault, on_fault, variable_fault, value_fault, left_fault, right_fault, switch_fault, switch_inside, value_formed, sides_formed, shift_made, off_made, on_made, assign_made, compare_made, switch_made}
 use Rattle.rbg_numbering.proofs.actions.number_action.Goals as goal

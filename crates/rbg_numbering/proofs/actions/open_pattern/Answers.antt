@@ -1,5 +1,4 @@
-use Rattle.std.proofs.Common.{arith}
-use Rattle.std.proofs.lemmas.Result.{err_from_is_err_and}
+use Rattle.rbg_base.proofs.Common.{arith, err_from_is_err_and}
 use Rattle.rbg_numbering.specs.internal.Actions.{too_many, too_deep, no_memory_left}
 use Rattle.rbg_numbering.proofs.actions.open_pattern.Goals as goal
 

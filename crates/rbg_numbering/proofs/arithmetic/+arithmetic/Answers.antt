@@ -1,12 +1,8 @@
 use Rattle.std.proofs.Common.{rules, ◌≡◌, ◌+◌, sym, subst, refl, map, get_or, true}
 use Rattle.rbg_grammar.specs.declared.expression.Expression.{the_lemmas}
-use Rattle.rbg_grammar.specs.Tree.{SpeltExpression, no_operands, operands_after}
-use Rattle.rbg_grammar.specs.Views.{expression_of, operand_of}
-use Rattle.rbg_grammar.specs.Formed.{is_formed_expression}
+use Rattle.rbg_grammar.proofs.Common.{SpeltExpression, no_operands, operands_after, expression_of, operand_of, is_formed_expression}
 use Rattle.rbg_rules.specs.Meaning.{arithmetic_of}
-use Rattle.rbg_numbering.specs.declared.error.NumberingError.TheVariants.{Memory}
-use Rattle.rbg_numbering.specs.Numbered.{names_of}
-use Rattle.rbg_numbering.specs.Faults.{HasArithmeticFault, arithmetic_memory}
+use Rattle.rbg_numbering.proofs.Common.{Memory, names_of, HasArithmeticFault, arithmetic_memory}
 use Rattle.rbg_base.proofs.Errors.{passed_on}
 use Rattle.rbg_numbering.proofs.ArithmeticLemmas.{fault_of_operand, one_operand, is_chain, operands_formed, is_number, is_name, negated_formed, fault_of_negated, negated_made, item_behind, take_first, chain_step, chain_made, combines_operand}
 use Rattle.rbg_numbering.proofs.arithmetic.+arithmetic.Goals as goal

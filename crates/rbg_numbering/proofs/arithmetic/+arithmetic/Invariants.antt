@@ -1,10 +1,8 @@
 -- The chain so far is that of the first operand and of those that were read.
 use Rattle.std.proofs.Common.{◌+◌, map, take}
-use Rattle.rbg_grammar.specs.Tree.{no_operands, operands_after}
-use Rattle.rbg_grammar.specs.Views.{operand_of}
+use Rattle.rbg_grammar.proofs.Common.{no_operands, operands_after, operand_of}
 use Rattle.rbg_rules.specs.Meaning.{changed, arithmetic_of, operation_of}
-use Rattle.rbg_numbering.specs.Numbered.{names_of}
-use Rattle.rbg_numbering.specs.Rules.{ChainIs}
+use Rattle.rbg_numbering.proofs.Common.{names_of, ChainIs}
 use Rattle.rbg_numbering.proofs.arithmetic.+arithmetic.Given as goal
 
 abbrev pub invariant-number_operands-loop-operand : goal.invariant-number_operands-loop-operand

@@ -1,9 +1,7 @@
 use Rattle.std.proofs.Common.{inl, inr}
-use Rattle.rbg_grammar.specs.Views.{name_of}
+use Rattle.rbg_grammar.proofs.Common.{name_of, SpeltExpression}
 use Rattle.rbg_rules.proofs.Bridge.{arithmetic_of-Variable, arithmetic_of-PieceCount}
-use Rattle.rbg_numbering.specs.Numbered.{names_of}
-use Rattle.rbg_grammar.specs.Tree.{SpeltExpression}
-use Rattle.rbg_numbering.specs.Faults.{HasArithmeticFault}
+use Rattle.rbg_numbering.proofs.Common.{names_of, HasArithmeticFault}
 use Rattle.rbg_base.proofs.Errors.{passed_on}
 use Rattle.rbg_numbering.proofs.ArithmeticLemmas.{unknown_alone}
 use Rattle.rbg_numbering.proofs.arithmetic.number_name.Goals as goal

@@ -1,5 +1,4 @@
-use Rattle.std.proofs.Common.{sym, ◌∙◌, arith}
-use Rattle.std.proofs.lemmas.Option.{same_Some}
+use Rattle.rbg_base.proofs.Common.{sym, ◌∙◌, arith, same_Some}
 use Rattle.rbg_grammar.specs.Views.{number_of}
 use Rattle.rbg_rules.proofs.Bridge.{arithmetic_of-Number}
 use Rattle.rbg_numbering.proofs.ArithmeticLemmas.{too_great_alone}

@@ -1,8 +1,5 @@
-use Rattle.std.proofs.Common.{rules, ◌≡◌, ap, ◌∙◌, Vec, ℕ, String}
-use Rattle.std.specs.Global.{Global}
+use Rattle.rbg_base.proofs.Common.{rules, ◌≡◌, ap, ◌∙◌, Vec, ℕ, String, Global, same_from_all_zip, IfOk-at_ok}
 use Rattle.std.specs.String.{string_vec}
-use Rattle.std.proofs.lemmas.List.Elements.{same_from_all_zip}
-use Rattle.std.proofs.lemmas.Result.{IfOk-at_ok}
 use Rattle.rbg_numbering.proofs.NameLemmas.{IsUtf8-from_is_name}
 use Rattle.rbg_numbering.proofs.name_table.name_text.Goals as goal
 

@@ -1,14 +1,9 @@
 use Rattle.std.proofs.Common.{rules, ◌∙◌, ap, sym, inl, inr, refl, map, length, arith}
-use Rattle.rbg_grammar.specs.Formed.{is_formed}
-use Rattle.rbg_grammar.specs.Tree.{SpeltRule, no_rules, rules_after}
-use Rattle.rbg_grammar.specs.Views.{rule_of, action_of}
+use Rattle.rbg_grammar.proofs.Common.{is_formed, SpeltRule, no_rules, rules_after, rule_of, action_of}
 use Rattle.rbg_grammar.specs.declared.rule.Rule.{the_lemmas}
 use Rattle.rbg_grammar.proofs.Trees.{action_of-Shift, action_of-On, action_of-Off, action_of-Assign, action_of-Compare, action_of-Switch}
 use Rattle.rbg_rules.specs.declared.rule.Action.TheVariants.{Positive, Negative}
-use Rattle.rbg_numbering.specs.declared.error.NumberingError.TheVariants.{Memory}
-use Rattle.rbg_numbering.specs.Numbered.{names_of}
-use Rattle.rbg_numbering.specs.internal.Actions.{is_spelt_pattern}
-use Rattle.rbg_numbering.specs.internal.Steps.{HasFaultFrom, from_memory}
+use Rattle.rbg_numbering.proofs.Common.{Memory, names_of, is_spelt_pattern, HasFaultFrom, from_memory}
 use Rattle.rbg_base.proofs.Errors.{passed_on}
 use Rattle.rbg_numbering.proofs.StepLemmas.{no_parts, sequence_added, choice_added, star_added, pattern_added, spelt_pattern_of}
 use Rattle.rbg_numbering.proofs.StepFaults.{fault_in_star, fault_in_choice, opening_fault}

@@ -1,8 +1,7 @@
 -- The actions so far are those of the parts that were read.
 use Rattle.std.proofs.Common.{map, take}
 use Rattle.rbg_grammar.specs.Views.{rule_of}
-use Rattle.rbg_numbering.specs.Numbered.{names_of}
-use Rattle.rbg_numbering.specs.internal.Steps.{AddsParts}
+use Rattle.rbg_numbering.proofs.Common.{names_of, AddsParts}
 use Rattle.rbg_numbering.proofs.rules.+numbering.Given as goal
 
 abbrev pub invariant-number_parts-loop-part : goal.invariant-number_parts-loop-part

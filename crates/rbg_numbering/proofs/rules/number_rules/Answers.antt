@@ -1,9 +1,7 @@
 use Rattle.std.proofs.Common.{[], length, subst}
 use Rattle.rbg_grammar.specs.Views.{rule_of}
 use Rattle.rbg_rules.specs.Meaning.{most_nested_patterns}
-use Rattle.rbg_numbering.specs.Numbered.{names_of}
-use Rattle.rbg_numbering.specs.Faults.{HasRuleFault}
-use Rattle.rbg_numbering.specs.internal.Steps.{AddsRule, HasFaultFrom}
+use Rattle.rbg_numbering.proofs.Common.{names_of, HasRuleFault, AddsRule, HasFaultFrom}
 use Rattle.rbg_base.proofs.Errors.{passed_on}
 use Rattle.rbg_numbering.proofs.StepFaults.{fault_of_rules}
 use Rattle.rbg_numbering.proofs.RuleLaws.{rules_made, one_each}

@@ -1,8 +1,6 @@
 -- Each line is read and told behind those before it.
-use Rattle.std.proofs.Common.{ap, length, sym, ◌∙◌, subst, []}
-use Rattle.std.specs.Prelude.{unwrap_or}
+use Rattle.rbg_base.proofs.Common.{ap, length, sym, ◌∙◌, subst, [], unwrap_or, nil_from_length}
 use Rattle.std.proofs.lemmas.Bool.{eqb-true, true≢false}
-use Rattle.std.proofs.lemmas.List.{nil_from_length}
 use Rattle.rbg_record.specs.ByLine.{reached_of}
 use Rattle.rbg_record.proofs.SoFarLemmas.{read_fault, read_short, not_empty}
 use Rattle.rbg_rules.specs.Meaning.{AbstractPlace}

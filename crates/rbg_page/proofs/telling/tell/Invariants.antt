@@ -1,6 +1,5 @@
 -- The lines before the rest are read and told.
-use Rattle.std.proofs.Common.{length, []}
-use Rattle.std.specs.Prelude.{unwrap_or}
+use Rattle.std.proofs.Common.{length, [], unwrap_or}
 use Rattle.rbg_record.specs.ByLine.{reached_of}
 use Rattle.rbg_page.proofs.Reading.{IsToldSoFar}
 use Rattle.rbg_page.proofs.telling.tell.Given as goal

@@ -1,6 +1,4 @@
-use Rattle.std.proofs.Common.{◌≡◌, sym, ◌∙◌}
-use Rattle.std.specs.Prelude.{slice_index}
-use Rattle.std.proofs.lemmas.Option.{get_or_from_slice_get}
+use Rattle.rbg_base.proofs.Common.{◌≡◌, sym, ◌∙◌, slice_index, get_or_from_slice_get}
 use Rattle.rbg_pairs.proofs.Glances.{on_leads, on_another}
 use Rattle.rbg_pairs.proofs.flat.stood_on.Goals as goal
 

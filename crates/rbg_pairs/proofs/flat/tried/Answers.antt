@@ -1,10 +1,7 @@
-use Rattle.std.proofs.Common.{[], ◌∷◌, refl, subst}
-use Rattle.std.specs.Prelude.{IfSome}
-use Rattle.std.proofs.lemmas.Option.{IfSome_then}
+use Rattle.rbg_base.proofs.Common.{[], ◌∷◌, refl, subst, IfSome, IfSome_then}
 use Rattle.rbg_rules.specs.Meaning.{shift, on, HasAction, AbstractGame}
 use Rattle.rbg_state.specs.Trials.{IsTrial}
-use Rattle.rbg_pairs.specs.Closure.{at_vertex}
-use Rattle.rbg_pairs.specs.Part.{IsTrialAt}
+use Rattle.rbg_pairs.proofs.Common.{at_vertex, IsTrialAt}
 use Rattle.rbg_pairs.proofs.Glances.{no_pattern, always_modifies, modifies_plain}
 use Rattle.rbg_pairs.proofs.Modifiers.{trial_at}
 use Rattle.rbg_pairs.proofs.flat.tried.Goals as goal

@@ -1,9 +1,5 @@
-use Rattle.std.proofs.Common.{◌≡◌, ℕ, List, ◌*◌, ◌+◌, ◌/◌, ◌%◌, ◌^◌, get_or, take, true, sym, ◌∙◌, subst}
-use Rattle.std.specs.Prelude.{All, bit_and}
-use Rattle.std.proofs.lemmas.Bool.Decides.{Decides-eqb}
+use Rattle.rbg_base.proofs.Common.{◌≡◌, ℕ, List, ◌*◌, ◌+◌, ◌/◌, ◌%◌, ◌^◌, get_or, take, true, sym, ◌∙◌, subst, All, bit_and, Decides-eqb, All-push, shr_and_one}
 use Rattle.std.proofs.lemmas.List.{take_more, take_all}
-use Rattle.std.proofs.lemmas.List.Elements.{All-push}
-use Rattle.std.proofs.lemmas.Nat.Bits.{shr_and_one}
 use Rattle.rbg_pairs.specs.Meeting.{is_marked, mark_at}
 use Rattle.rbg_pairs.proofs.Meetings.{set_in_both, marked_by_bit}
 use Rattle.rbg_pairs.proofs.marks.are_marked.Goals as goal

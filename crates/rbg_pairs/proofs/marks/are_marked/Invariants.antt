@@ -1,7 +1,5 @@
 -- A bit that is set in all words so far is set in each.
-use Rattle.std.proofs.Common.{◌≡◌, take, true}
-use Rattle.std.specs.Prelude.{All}
-use Rattle.std.specs.Int.{bit_at}
+use Rattle.rbg_base.proofs.Common.{◌≡◌, take, true, All, bit_at}
 use Rattle.rbg_pairs.specs.Meeting.{is_marked, mark_at}
 use Rattle.rbg_pairs.proofs.marks.are_marked.Given as goal
 

@@ -1,7 +1,4 @@
-use Rattle.std.proofs.Common.{ap, sym, ◌∙◌}
-use Rattle.std.specs.Prelude.{ℕ, ◌==◌, ◌/◌, slice_index}
-use Rattle.std.specs.Int.{bit_at}
-use Rattle.std.proofs.lemmas.Nat.Bits.{shr_and_one}
+use Rattle.rbg_base.proofs.Common.{ap, sym, ◌∙◌, ℕ, ◌==◌, ◌/◌, slice_index, bit_at, shr_and_one}
 use Rattle.rbg_pairs.specs.Meeting.{is_marked}
 use Rattle.rbg_pairs.proofs.marks.is_marked.Goals as goal
 

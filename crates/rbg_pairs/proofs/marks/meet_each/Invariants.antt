@@ -1,6 +1,5 @@
 -- The positions so far were met.
-use Rattle.std.proofs.Common.{◌≡◌, ℕ, ◌+◌, ◌≤◌, length, take}
-use Rattle.std.specs.Prelude.{All}
+use Rattle.std.proofs.Common.{◌≡◌, ℕ, ◌+◌, ◌≤◌, length, take, All}
 use Rattle.rbg_pairs.specs.Meeting.{HasMark, AreMarked, MeetsAll}
 use Rattle.rbg_pairs.proofs.marks.meet_each.Given as goal
 

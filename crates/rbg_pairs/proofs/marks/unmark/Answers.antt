@@ -1,5 +1,4 @@
-use Rattle.std.proofs.Common.{◌≡◌, ◌^◌, ◌*◌, ◌+◌, ◌/◌, ◌<◌, ℕ, List, length, get_or, false, sym, ◌∙◌, subst, ap, arith}
-use Rattle.std.specs.Prelude.{All}
+use Rattle.std.proofs.Common.{◌≡◌, ◌^◌, ◌*◌, ◌+◌, ◌/◌, ◌<◌, ℕ, List, length, get_or, false, sym, ◌∙◌, subst, ap, arith, All}
 use Rattle.std.proofs.lemmas.List.{take_all, length-set}
 use Rattle.rbg_pairs.specs.Meeting.{is_marked, mark_at}
 use Rattle.rbg_pairs.proofs.Meetings.{still_marked, gone_more, all_gone, none_marked, word_of_mark, one_column, narrow_mark}

@@ -1,6 +1,5 @@
 -- The marks of the pairs so far are gone, and none was set.
-use Rattle.std.proofs.Common.{◌≡◌, ◌+◌, ◌*◌, ℕ, length, take, true, false}
-use Rattle.std.specs.Prelude.{All}
+use Rattle.std.proofs.Common.{◌≡◌, ◌+◌, ◌*◌, ℕ, length, take, true, false, All}
 use Rattle.rbg_pairs.specs.Meeting.{is_marked}
 use Rattle.rbg_pairs.proofs.marks.unmark_narrow.Given as goal
 

@@ -1,6 +1,5 @@
 use Rattle.std.proofs.Common.{ℕ, List, length, take, arith}
-use Rattle.rbg_pairs.specs.Meeting.{AreMarked, MeetsAll}
-use Rattle.rbg_pairs.specs.internal.Taking.{marks_of}
+use Rattle.rbg_pairs.proofs.Common.{AreMarked, MeetsAll, marks_of}
 use Rattle.rbg_pairs.proofs.Meetings.{met_all_before}
 use Rattle.rbg_pairs.proofs.Parts.{quiet_lead_part}
 use Rattle.rbg_pairs.proofs.Takings.{marks_at, words_at, lengthened}

@@ -1,5 +1,4 @@
-use Rattle.std.proofs.Common.{◌≡◌, ℕ, List, [], ◌∷◌, ◌++◌, take, inl, inr, refl, sym, ap, ◌∙◌, subst}
-use Rattle.std.specs.Prelude.{slice_index}
+use Rattle.std.proofs.Common.{◌≡◌, ℕ, List, [], ◌∷◌, ◌++◌, take, inl, inr, refl, sym, ap, ◌∙◌, subst, slice_index}
 use Rattle.rbg_rules.specs.Meaning.{shift, on, AbstractState}
 use Rattle.rbg_pairs.specs.Part.{IsPart}
 use Rattle.rbg_pairs.proofs.Glances.{no_pattern, shift_leads, shift_stays, on_leads, on_another, either_leads, either_another, always_modifies, modifies_plain}

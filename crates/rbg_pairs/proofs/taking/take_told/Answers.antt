@@ -1,6 +1,4 @@
-use Rattle.std.proofs.Common.{◌≡◌, ℕ, ◌+◌, List, [], ◌∷◌, ◌++◌, get_or, take, sym, subst, arith}
-use Rattle.std.specs.Prelude.{Contains}
-use Rattle.std.proofs.lemmas.List.Elements.{Contains-append_left}
+use Rattle.rbg_base.proofs.Common.{◌≡◌, ℕ, ◌+◌, List, [], ◌∷◌, ◌++◌, get_or, take, sym, subst, arith, Contains, Contains-append_left}
 use Rattle.rbg_pairs.specs.Part.{IsPart}
 use Rattle.rbg_pairs.proofs.Takings.{there, once, one_more, no_fewer, quiet_before}
 use Rattle.rbg_pairs.proofs.taking.take_told.Goals as goal

@@ -1,9 +1,7 @@
 -- The pairs so far were taken, and the others were met.
-use Rattle.std.proofs.Common.{◌≡◌, ℕ, ◌-◌, ◌^◌, ◌≤◌, length, take}
-use Rattle.std.specs.Prelude.{Bool, Contains}
+use Rattle.std.proofs.Common.{◌≡◌, ℕ, ◌-◌, ◌^◌, ◌≤◌, length, take, Bool, Contains}
 use Rattle.rbg_rules.specs.Meaning.{IsPatternAt, AbstractState, Start}
-use Rattle.rbg_pairs.specs.Part.{IsPart}
-use Rattle.rbg_pairs.specs.internal.Taking.{AreMet}
+use Rattle.rbg_pairs.proofs.Common.{IsPart, AreMet}
 use Rattle.rbg_pairs.proofs.taking.take_told.Given as goal
 
 abbrev pub invariant-loop-taken : goal.invariant-loop-taken

@@ -1,15 +1,11 @@
 -- What is behind each first move is added to the counts so far.
-use Rattle.std.proofs.Common.{rules, ◌≡◌, ◌≢◌, ℕ, List, ◌+◌, ◌-◌, ◌<◌, ◌≤◌, ◌⊎◌, length, suc, take, refl, subst, sym, arith, Some}
-use Rattle.std.specs.Prelude.{All, IfSome}
-use Rattle.std.proofs.lemmas.Option.{slice_get_within, get_or_from_slice_get}
+use Rattle.rbg_base.proofs.Common.{rules, ◌≡◌, ◌≢◌, ℕ, List, ◌+◌, ◌-◌, ◌<◌, ◌≤◌, ◌⊎◌, length, suc, take, refl, subst, sym, arith, Some, All, IfSome, slice_get_within, get_or_from_slice_get, IfNone, All-take}
 use Rattle.rbg_rules.specs.Meaning.{AbstractPlace, IsLegal, IsPlaceOf}
 use Rattle.rbg_moves.specs.Settling.{Settles}
 use Rattle.rbg_perft.specs.Counting.{AreCountedBehind, AreLegalMoves}
 use Rattle.rbg_perft.specs.Counting.Sums.{none}
 use Rattle.rbg_perft.specs.declared.extent.Extent.TheVariants.{Moves}
 use Rattle.rbg_perft.specs.declared.error.CountError.TheVariants.{Unsettled}
-use Rattle.std.specs.Prelude.{IfNone}
-use Rattle.std.proofs.lemmas.List.Elements.{All-take}
 use Rattle.rbg_perft.specs.Counting.{Sums}
 use Rattle.rbg_perft.specs.Refusals.{IsNotCounted, most_counted}
 use Rattle.rbg_perft.specs.Refusals.Meets.{here}

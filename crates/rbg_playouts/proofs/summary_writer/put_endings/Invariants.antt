@@ -1,6 +1,5 @@
 -- The text so far is that of the endings so far.
-use Rattle.std.proofs.Common.{◌≡◌, ◌++◌, map, take}
-use Rattle.std.specs.List.{flat_map}
+use Rattle.std.proofs.Common.{◌≡◌, ◌++◌, map, take, flat_map}
 use Rattle.rbg_ask.specs.Chance.{counted_by}
 use Rattle.rbg_playouts.specs.Summary.{ended_line}
 use Rattle.rbg_playouts.proofs.summary_writer.put_endings.Given as goal

@@ -1,6 +1,5 @@
 -- The next number is added, and the sum is no more than the whole.
-use Rattle.std.proofs.Common.{arith, map, ap, ◌∙◌}
-use Rattle.std.specs.List.{sum_by}
+use Rattle.std.proofs.Common.{arith, map, ap, ◌∙◌, sum_by}
 use Rattle.std.proofs.lemmas.List.{take_all}
 use Rattle.rbg_ask.specs.Chance.{counted_by}
 use Rattle.rbg_playouts.specs.internal.Counts.{number_in}

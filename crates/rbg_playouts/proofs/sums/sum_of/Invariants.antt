@@ -1,6 +1,5 @@
 -- The sum over the tallies so far.
-use Rattle.std.proofs.Common.{◌≡◌, map, take}
-use Rattle.std.specs.List.{sum_by}
+use Rattle.std.proofs.Common.{◌≡◌, map, take, sum_by}
 use Rattle.rbg_ask.specs.Chance.{counted_by}
 use Rattle.rbg_playouts.specs.internal.Counts.{number_in}
 use Rattle.rbg_playouts.proofs.sums.sum_of.Given as goal

@@ -1,6 +1,5 @@
 -- The game made ready for play is the game.
-use Rattle.std.proofs.Common.{subst}
-use Rattle.std.proofs.lemmas.Result.{IfOk-weaker}
+use Rattle.rbg_base.proofs.Common.{subst, IfOk-weaker}
 use Rattle.rbg_position.specs.Positions.{BeginsAs}
 use Rattle.rbg_position.specs.Refusals.BeginsOtherwise.{unsettled}
 use Rattle.rbg_position.specs.Refusals.IsUnsettled.{no_memory}

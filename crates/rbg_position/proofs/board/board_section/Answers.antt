@@ -1,8 +1,7 @@
 -- Tokens expand to one list of sections.
 use Rattle.std.proofs.Common.{◌++◌, List, codes, ap, subst, ◌∙◌}
 use Rattle.rbg_grammar.specs.Spells.{HasSection}
-use Rattle.rbg_macro.specs.Expansion.{HasSections}
-use Rattle.rbg_macro.specs.Sections.{SectionTokens}
+use Rattle.rbg_macro.proofs.Common.{HasSections, SectionTokens}
 use Rattle.rbg_macro.specs.declared.source.SectionKind.TheVariants.{Board}
 use Rattle.rbg_macro.proofs.OneExpansion.{sections_once}
 use Rattle.rbg_tokens.specs.Token.{Lexeme}

@@ -1,7 +1,5 @@
 -- The section that was found is the one of the board.
-use Rattle.std.proofs.Common.{◌≡◌, ℕ, ◌++◌, List, Some, slice_get, sym, ap, subst, ◌∙◌}
-use Rattle.std.specs.Prelude.{OnOk}
-use Rattle.std.proofs.lemmas.Option.{same_Some}
+use Rattle.rbg_base.proofs.Common.{◌≡◌, ℕ, ◌++◌, List, Some, slice_get, sym, ap, subst, ◌∙◌, OnOk, same_Some}
 use Rattle.rbg_macro.specs.Sections.{SectionTokens}
 use Rattle.rbg_tokens.specs.Token.{Lexeme}
 use Rattle.rbg_position.specs.Sections.{section_text}

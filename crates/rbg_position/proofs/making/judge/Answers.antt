@@ -1,6 +1,5 @@
 -- The other game is the wanted one, or it isn't.
-use Rattle.std.proofs.Common.{◌≡◌, ◌≢◌, ℕ, List, Bool, false, IsTrue, sym, subst, ◌∙◌}
-use Rattle.std.proofs.lemmas.Bool.{false≢true}
+use Rattle.rbg_base.proofs.Common.{◌≡◌, ◌≢◌, ℕ, List, Bool, false, IsTrue, sym, subst, ◌∙◌, false≢true}
 use Rattle.rbg_rules.specs.Meaning.{AbstractGame}
 use Rattle.rbg_same.specs.Same.{IsNarrow, game_with}
 use Rattle.rbg_position.specs.declared.error.PositionError.TheVariants.{Memory}

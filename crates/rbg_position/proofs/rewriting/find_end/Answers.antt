@@ -1,6 +1,5 @@
 -- The next `#` is found, or there is none.
-use Rattle.std.proofs.Common.{sym, ◌∙◌, arith, length}
-use Rattle.std.proofs.lemmas.List.{length-map}
+use Rattle.rbg_base.proofs.Common.{sym, ◌∙◌, arith, length, length-map}
 use Rattle.rbg_tokens.specs.Token.{lexeme_of}
 use Rattle.rbg_position.proofs.Tokens.{no_hash_more, token_within}
 use Rattle.rbg_position.proofs.rewriting.find_end.Goals as goal

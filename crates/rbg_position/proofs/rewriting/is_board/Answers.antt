@@ -1,8 +1,5 @@
 -- Both tokens are looked at.
-use Rattle.std.proofs.Common.{◌≡◌, ℕ, List, Bool, true, false, IsTrue, sym, ◌∙◌}
-use Rattle.std.proofs.lemmas.Bool.{false≢true}
-use Rattle.std.specs.Prelude.{bytes_eq}
-use Rattle.std.proofs.lemmas.Slice.Eq.{bytes_eq-Decides}
+use Rattle.rbg_base.proofs.Common.{◌≡◌, ℕ, List, Bool, true, false, IsTrue, sym, ◌∙◌, false≢true, bytes_eq, bytes_eq-Decides}
 use Rattle.rbg_position.proofs.rewriting.is_board.Goals as goal
 
 both : (h : Bool) (t : Bool) (a b : List ℕ) → h ≡ true → t ≡ bytes_eq a b → (IsTrue t → (h ≡ true) × (a ≡ b)) × ((h ≡ true) × (a ≡ b) → IsTrue t)

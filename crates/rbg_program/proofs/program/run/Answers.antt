@@ -1,6 +1,5 @@
 -- What is run is what the words ask for.
-use Rattle.std.proofs.Common.{subst}
-use Rattle.std.specs.Prelude.{option_map}
+use Rattle.std.proofs.Common.{subst, option_map}
 use Rattle.rbg_tasks.specs.Tasks.{file_task}
 use Rattle.rbg_tasks.specs.Tasks.{record_task}
 use Rattle.rbg_program.specs.Runs.{IsRunFor}

@@ -1,9 +1,6 @@
 use Rattle.std.proofs.Common.{Result, subst, sym, ◌∙◌}
 use Rattle.std.proofs.lemmas.Bool.{true≢false}
-use Rattle.rbg_record.specs.declared.checked.Checked.{Checked}
-use Rattle.rbg_record.specs.declared.error.RecordError.{RecordError}
-use Rattle.rbg_record.specs.Judged.{IsJudged}
-use Rattle.rbg_record.specs.ByLine.{reached_of}
+use Rattle.rbg_record.proofs.Common.{Checked, RecordError, IsJudged, reached_of}
 use Rattle.rbg_record.proofs.SoFarLemmas.{read_none, read_more, read_fault, read_short, not_empty}
 use Rattle.rbg_record.proofs.checking.judge_lines.Goals as goal
 use Rattle.rbg_record.proofs.checking.judge_lines.Goals.{else-over-via-then-over+else-is_empty, else-over-via-else-over}

@@ -1,6 +1,5 @@
 use Rattle.std.proofs.Common.{length}
-use Rattle.rbg_record.specs.ByLine.{reached_of}
-use Rattle.rbg_record.specs.internal.SoFar.{IsReadSoFar}
+use Rattle.rbg_record.proofs.Common.{reached_of, IsReadSoFar}
 use Rattle.rbg_record.proofs.checking.judge_lines.Given as goal
 
 abbrev pub invariant-loop-text : goal.invariant-loop-text

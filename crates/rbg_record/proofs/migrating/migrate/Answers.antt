@@ -1,6 +1,5 @@
-use Rattle.std.proofs.Common.{length, sym, ◌∙◌}
+use Rattle.rbg_base.proofs.Common.{length, sym, ◌∙◌, nil_from_length}
 use Rattle.std.proofs.lemmas.Bool.{eqb-true, true≢false}
-use Rattle.std.proofs.lemmas.List.{nil_from_length}
 use Rattle.rbg_record.specs.internal.Migrating.{part_of}
 use Rattle.rbg_record.proofs.MatchSpelled.{players_named}
 use Rattle.rbg_record.proofs.MigratingLemmas.{migrated_none, migrated_more, migrated_fault, migrated_short, migrated_whole, form_line}

@@ -1,6 +1,5 @@
 -- The names so far are those of the first players.
-use Rattle.std.proofs.Common.{◌≡◌, ◌++◌, take, codes}
-use Rattle.std.specs.List.{flat_map}
+use Rattle.std.proofs.Common.{◌≡◌, ◌++◌, take, codes, flat_map}
 use Rattle.rbg_record.proofs.players.write_names.Given as goal
 
 abbrev pub invariant-loop-index : goal.invariant-loop-index

@@ -1,6 +1,5 @@
 -- The lines so far are those of the moves so far.
-use Rattle.std.proofs.Common.{◌≡◌, ◌++◌, take}
-use Rattle.std.specs.List.{flat_map}
+use Rattle.std.proofs.Common.{◌≡◌, ◌++◌, take, flat_map}
 use Rattle.rbg_wire.specs.Lines.{line_of}
 use Rattle.rbg_record.specs.internal.Written.{made_text}
 use Rattle.rbg_record.proofs.writing.write_moves.Given as goal

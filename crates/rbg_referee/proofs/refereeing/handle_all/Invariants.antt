@@ -1,7 +1,5 @@
 use Rattle.std.proofs.Common.{◌≡◌, length, map, take, false}
-use Rattle.rbg_match.specs.PlayingOn.{seats_of}
-use Rattle.rbg_match.specs.Inputs.{event_of}
-use Rattle.rbg_match.specs.Matches.{HasHistory, StepsAll}
+use Rattle.rbg_match.proofs.Common.{seats_of, event_of, HasHistory, StepsAll}
 use Rattle.rbg_referee.proofs.refereeing.handle_all.Given as goal
 
 abbrev pub invariant-loop-done : goal.invariant-loop-done

@@ -1,6 +1,5 @@
 -- All that was read is answered.
-use Rattle.std.proofs.Common.{subst}
-use Rattle.std.proofs.lemmas.Result.{IfOk-weaker}
+use Rattle.rbg_base.proofs.Common.{subst, IfOk-weaker}
 use Rattle.rbg_console.specs.Inputs.{most_input, IsAll, IsReading}
 use Rattle.rbg_refereeing.specs.Answers.{IsAnswer}
 use Rattle.rbg_refereeing.specs.Runs.{IsReadersAnswer}

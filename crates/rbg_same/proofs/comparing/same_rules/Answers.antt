@@ -1,6 +1,5 @@
 -- Rules are the same where their keys are.
-use Rattle.std.proofs.Common.{rules, ◌≡◌, Decides, ◌∙◌}
-use Rattle.std.proofs.lemmas.Slice.Eq.{slice_eq-Decides}
+use Rattle.rbg_base.proofs.Common.{rules, ◌≡◌, Decides, ◌∙◌, slice_eq-Decides}
 use Rattle.rbg_same.specs.contracts.mark.MarkPartialEq.TheImpl as equality
 use Rattle.rbg_same.specs.declared.mark.Mark.{Mark}
 use Rattle.rbg_same.specs.declared.mark.Mark.TheVariants.{Number}

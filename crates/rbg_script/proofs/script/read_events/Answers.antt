@@ -1,7 +1,6 @@
 -- The lines so far spell the events so far, and the next line spells one more or none.
-use Rattle.std.proofs.Common.{rules, ◌≡◌, ◌∙◌, sym, true, false, length}
+use Rattle.rbg_base.proofs.Common.{rules, ◌≡◌, ◌∙◌, sym, true, false, length, length-map, nil_from_length}
 use Rattle.std.proofs.lemmas.Bool.{eqb-true}
-use Rattle.std.proofs.lemmas.List.{length-map, nil_from_length}
 use Rattle.rbg_script.specs.declared.error.ScriptError.TheVariants.{Memory as OutOfMemory}
 use Rattle.rbg_script.specs.Events.{event_of}
 use Rattle.rbg_script.specs.internal.Reading.{out_of_memory}

@@ -1,6 +1,5 @@
 -- The event of the line is added behind the others.
-use Rattle.std.proofs.Common.{refl, ap, map, ◌∙◌}
-use Rattle.std.proofs.lemmas.List.{map-append}
+use Rattle.rbg_base.proofs.Common.{refl, ap, map, ◌∙◌, map-append}
 use Rattle.rbg_script.specs.Events.{SpellsEvent, event_of}
 use Rattle.rbg_script.specs.internal.Reading.{taken, not_taken}
 use Rattle.rbg_script.proofs.Apart.{some_here, no_event_here}

@@ -1,6 +1,5 @@
 -- The text so far is that of the bytes so far.
-use Rattle.std.proofs.Common.{◌≡◌, ◌++◌, take}
-use Rattle.std.specs.List.{flat_map}
+use Rattle.std.proofs.Common.{◌≡◌, ◌++◌, take, flat_map}
 use Rattle.rbg_script.specs.Events.{byte_text}
 use Rattle.rbg_script.proofs.writer.put_digits.Given as goal
 

@@ -1,6 +1,5 @@
 -- A match in play goes on to the moment.
-use Rattle.std.proofs.Common.{Option, subst, sym}
-use Rattle.std.specs.Prelude.{OnOk}
+use Rattle.std.proofs.Common.{Option, subst, sym, OnOk}
 use Rattle.rbg_wire.specs.declared.outcome.Outcome.{Outcome}
 use Rattle.rbg_script.specs.Events.{tick_event}
 use Rattle.rbg_scripting.specs.Scripting.{end_events}

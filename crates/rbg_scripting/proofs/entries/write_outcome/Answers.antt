@@ -1,7 +1,5 @@
 -- Each end has its event.
-use Rattle.std.proofs.Common.{◌≢◌, [], Some, subst, sym}
-use Rattle.std.specs.Prelude.{OnOk}
-use Rattle.std.proofs.lemmas.List.Elements.{All-nil}
+use Rattle.rbg_base.proofs.Common.{◌≢◌, [], Some, subst, sym, OnOk, All-nil}
 use Rattle.rbg_wire.specs.declared.outcome.Outcome.{Outcome}
 use Rattle.rbg_wire.specs.Lines.{line_feed}
 use Rattle.rbg_script.specs.Events.{end_event, tick_event}

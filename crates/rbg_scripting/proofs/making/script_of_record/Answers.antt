@@ -1,6 +1,5 @@
-use Rattle.std.proofs.Common.{length, sym, ◌∙◌}
+use Rattle.rbg_base.proofs.Common.{length, sym, ◌∙◌, nil_from_length}
 use Rattle.std.proofs.lemmas.Bool.{eqb-true, true≢false}
-use Rattle.std.proofs.lemmas.List.{nil_from_length}
 use Rattle.rbg_record.proofs.SoFarLemmas.{not_empty}
 use Rattle.rbg_scripting.proofs.TellingLemmas.{told_none, told_more, told_fault, told_short, told_whole, form_line}
 use Rattle.rbg_scripting.proofs.making.script_of_record.Goals as goal

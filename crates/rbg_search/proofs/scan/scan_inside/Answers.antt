@@ -1,5 +1,4 @@
-use Rattle.std.proofs.Common.{◌≡◌, ℕ, ◌*◌, ◌<◌, ◌≤◌, length, arith, sym, ◌∙◌}
-use Rattle.std.proofs.lemmas.Nat.{mul-le}
+use Rattle.rbg_base.proofs.Common.{◌≡◌, ℕ, ◌*◌, ◌<◌, ◌≤◌, length, arith, sym, ◌∙◌, mul-le}
 use Rattle.rbg_rules.specs.Meaning.{positions_of}
 use Rattle.rbg_pairs.specs.Start.{IsPositionOf}
 use Rattle.rbg_state.specs.declared.state.trials.Trial.TheVariants.{Invalid, LeadsTo}

@@ -1,6 +1,5 @@
 use Rattle.std.proofs.Common.{◌≡◌, ◌++◌, ◌∷◌, [], length, List, ℕ}
-use Rattle.rbg_serving.specs.internal.InCall.{Start, InCall}
-use Rattle.rbg_serving.specs.internal.Lines.{live_lines}
+use Rattle.rbg_serving.proofs.Common.{Start, InCall, live_lines}
 use Rattle.rbg_serving.proofs.passing.pass.Given as goal
 
 abbrev pub invariant-loop-index : goal.invariant-loop-index

@@ -1,6 +1,5 @@
 use Rattle.std.proofs.Common.{ap, subst, arith, length-drop, ◌≤◌, length, ◌+◌}
-use Rattle.rbg_serving.specs.Told.{Tells}
-use Rattle.rbg_serving.specs.internal.Lines.{has_taken}
+use Rattle.rbg_serving.proofs.Common.{Tells, has_taken}
 use Rattle.rbg_serving.proofs.PassingLemmas.{took_more, rest_is}
 use Rattle.rbg_serving.proofs.passing.pass_to.Goals as goal
 

@@ -1,6 +1,5 @@
 use Rattle.std.proofs.Common.{length, ◌-◌, ◌≡◌, ◌≤◌, true}
-use Rattle.rbg_serving.specs.Told.{Told, Tells}
-use Rattle.rbg_serving.specs.internal.Lines.{has_taken}
+use Rattle.rbg_serving.proofs.Common.{Told, Tells, has_taken}
 use Rattle.rbg_serving.proofs.passing.pass_to.Given as goal
 
 abbrev pub invariant-loop-state : goal.invariant-loop-state

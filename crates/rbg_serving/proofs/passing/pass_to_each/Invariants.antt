@@ -1,8 +1,5 @@
 use Rattle.std.proofs.Common.{◌≡◌, List}
-use Rattle.rbg_serving.specs.Heard.{Heard}
-use Rattle.rbg_serving.specs.Passing.{Intake}
-use Rattle.rbg_serving.specs.Told.{Told}
-use Rattle.rbg_serving.specs.internal.Lines.{AreServed, ArePassed, live_lines}
+use Rattle.rbg_serving.proofs.Common.{Heard, Intake, Told, AreServed, ArePassed, live_lines}
 use Rattle.rbg_serving.proofs.passing.pass_to_each.Given as goal
 
 abbrev pub invariant-loop-index : goal.invariant-loop-index

@@ -1,6 +1,5 @@
 -- One way to tell nothing after the other.
-use Rattle.std.proofs.Common.{refl}
-use Rattle.std.proofs.lemmas.Bool.{false≢true}
+use Rattle.rbg_base.proofs.Common.{refl, false≢true}
 use Rattle.rbg_show.specs.Lines.{by_comment, by_players, by_start}
 use Rattle.rbg_show.proofs.Lines.{passed_true, passed_config, not_empty}
 use Rattle.rbg_show.proofs.line.is_silent.Goals as goal

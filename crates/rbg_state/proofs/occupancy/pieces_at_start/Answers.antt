@@ -1,6 +1,4 @@
-use Rattle.std.proofs.Common.{◌<◌, length, arith}
-use Rattle.std.proofs.lemmas.List.{take_more}
-use Rattle.std.proofs.lemmas.Option.{get_or_from_slice_get}
+use Rattle.rbg_base.proofs.Common.{◌<◌, length, arith, take_more, get_or_from_slice_get}
 use Rattle.rbg_state.proofs.occupancy.pieces_at_start.Goals as goal
 
 pub loop-vertex-preserved : goal.loop-vertex-preserved

@@ -1,6 +1,5 @@
 use Rattle.std.proofs.Common.{sym, ◌∙◌, subst}
-use Rattle.rbg_grammar.specs.Descriptions.{description_of_parts}
-use Rattle.rbg_grammar.specs.Spells.{Spells}
+use Rattle.rbg_grammar.proofs.Common.{description_of_parts, Spells}
 use Rattle.rbg_grammar.proofs.OneDescription.{one_description}
 use Rattle.rbg_grammar.proofs.Whole.{spelt_whole}
 use Rattle.rbg_syntax.proofs.Faults.{fault_only}

@@ -1,5 +1,4 @@
-use Rattle.std.proofs.Common.{◌≡◌, ◌+◌, drop, true, false, Some, sym, ap, ◌∙◌, List}
-use Rattle.std.specs.Prelude.{slice_get}
+use Rattle.std.proofs.Common.{◌≡◌, ◌+◌, drop, true, false, Some, sym, ap, ◌∙◌, List, slice_get}
 use Rattle.rbg_macro.specs.Sections.{SectionTokens}
 use Rattle.rbg_grammar.specs.Sections.{same_kind, sections_of}
 use Rattle.rbg_syntax.proofs.SectionLists.{tested, sections_of-drop}

@@ -1,5 +1,4 @@
-use Rattle.std.proofs.Common.{◌≡◌, drop}
-use Rattle.std.specs.Prelude.{slice_get}
+use Rattle.std.proofs.Common.{◌≡◌, drop, slice_get}
 use Rattle.rbg_grammar.specs.Sections.{sections_of}
 use Rattle.rbg_syntax.proofs.sections.find.Given as goal
 

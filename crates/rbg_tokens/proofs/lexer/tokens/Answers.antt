@@ -1,6 +1,5 @@
 -- A text's tokens are found one by one.
-use Rattle.std.proofs.Common.{refl, arith, map}
-use Rattle.std.proofs.lemmas.List.{take_rest}
+use Rattle.rbg_base.proofs.Common.{refl, arith, map, take_rest}
 use Rattle.rbg_tokens.proofs.Scan.{read_token, has_tokens, has_fault}
 use Rattle.rbg_tokens.proofs.SpeltTokens.{tokens_are_lexemes}
 use Rattle.rbg_tokens.specs.Token.{lexeme_of}

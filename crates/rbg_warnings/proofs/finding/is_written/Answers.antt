@@ -1,6 +1,5 @@
 -- A position after the other.
-use Rattle.std.proofs.Common.{refl, arith}
-use Rattle.std.proofs.lemmas.Bool.{false≢true}
+use Rattle.rbg_base.proofs.Common.{refl, arith, false≢true}
 use Rattle.rbg_warnings.proofs.Standing.{unused_none, unused_more, unused_all, written}
 use Rattle.rbg_warnings.proofs.finding.is_written.Goals as goal
 

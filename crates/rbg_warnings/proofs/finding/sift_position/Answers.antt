@@ -1,6 +1,5 @@
 -- The game has the warning, or not.
-use Rattle.std.proofs.Common.{refl}
-use Rattle.std.proofs.lemmas.Bool.{false≢true}
+use Rattle.rbg_base.proofs.Common.{refl, false≢true}
 use Rattle.rbg_warnings.proofs.Sifting.{sifts_in, sifts_out}
 use Rattle.rbg_warnings.proofs.finding.sift_position.Goals as goal
 

@@ -1,6 +1,5 @@
 -- The warnings so far are those of the numbers so far.
-use Rattle.std.proofs.Common.{map}
-use Rattle.std.specs.List.{range_with_len}
+use Rattle.rbg_base.proofs.Common.{map, range_with_len}
 use Rattle.rbg_warnings.specs.declared.warning.Warning.TheVariants.{Unused}
 use Rattle.rbg_warnings.specs.internal.Kinds.{thing_of}
 use Rattle.rbg_warnings.specs.internal.Walking.{Sifts}

@@ -1,6 +1,5 @@
 -- The text so far is that of the pairs so far.
-use Rattle.std.proofs.Common.{◌≡◌, ◌++◌, codes, take}
-use Rattle.std.specs.List.{flat_map}
+use Rattle.std.proofs.Common.{◌≡◌, ◌++◌, codes, take, flat_map}
 use Rattle.rbg_wire.specs.Messages.{pair_text}
 use Rattle.rbg_wire.proofs.message_writer.put_more_pairs.Given as goal
 

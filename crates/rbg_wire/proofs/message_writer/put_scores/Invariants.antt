@@ -1,6 +1,5 @@
 -- The text so far is that of the scores so far.
-use Rattle.std.proofs.Common.{◌≡◌, ◌++◌, codes, decimal, take}
-use Rattle.std.specs.List.{flat_map}
+use Rattle.std.proofs.Common.{◌≡◌, ◌++◌, codes, decimal, take, flat_map}
 use Rattle.rbg_wire.proofs.message_writer.put_scores.Given as goal
 
 abbrev pub invariant-loop-score : goal.invariant-loop-score

@@ -1,6 +1,5 @@
 -- Each pair is one more of those that were read.
-use Rattle.std.proofs.Common.{◌∙◌, sym, ap, subst, rules, Err}
-use Rattle.std.proofs.lemmas.Result.{err_from_is_err_and}
+use Rattle.rbg_base.proofs.Common.{◌∙◌, sym, ap, subst, rules, Err, err_from_is_err_and}
 use Rattle.rbg_wire.specs.Reading.{ArePairWords}
 use Rattle.rbg_wire.proofs.PairLemmas.{HasRead-first, HasRead-push, HasRead-full, HasRead-spelled, HasRead-too_many, HasRead-none, reads_nothing, one_spelled, words_from_spelled}
 use Rattle.rbg_wire.proofs.WordLemmas.{some_word}

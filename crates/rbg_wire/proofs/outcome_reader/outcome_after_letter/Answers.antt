@@ -1,7 +1,6 @@
 -- Each kind of outcome has its own fields.
-use Rattle.std.proofs.Common.{length, arith, sym, ◌∙◌, ap}
+use Rattle.rbg_base.proofs.Common.{length, arith, sym, ◌∙◌, ap, nil_from_length}
 use Rattle.std.proofs.lemmas.Bool.{eqb-true, eqb-false}
-use Rattle.std.proofs.lemmas.List.{nil_from_length}
 use Rattle.rbg_wire.proofs.OutcomeLemmas.{no_outcome, no_empty_outcome, spells_finished, spells_heavy, spelled_after, of_player_found, of_player_none}
 use Rattle.rbg_wire.proofs.outcome_reader.outcome_after_letter.Goals as goal
 

@@ -1,6 +1,5 @@
 -- The line is too long, or no question, or its question is answered or refused.
-use Rattle.std.proofs.Common.{◌<◌, ◌≤◌, ℕ, false, refl, arith}
-use Rattle.std.specs.Prelude.{IsTrue}
+use Rattle.std.proofs.Common.{◌<◌, ◌≤◌, ℕ, false, refl, arith, IsTrue}
 use Rattle.rbg_ask.specs.Answering.{no_question, too_long}
 use Rattle.rbg_ask.proofs.Answering.{hears_question, refuses_question}
 use Rattle.rbg_ask.proofs.session.Session.hear_question.Goals as goal

@@ -1,6 +1,5 @@
 -- A move was made there.
-use Rattle.std.proofs.Common.{◌<◌, length, Some, ap, sym, subst, ◌∙◌}
-use Rattle.std.proofs.lemmas.Option.{slice_get-get_or}
+use Rattle.rbg_base.proofs.Common.{◌<◌, length, Some, ap, sym, subst, ◌∙◌, slice_get-get_or}
 use Rattle.rbg_ask.specs.Answers.{to_move}
 use Rattle.rbg_ask.specs.Answering.{StandsAt}
 use Rattle.rbg_ask.proofs.Answering.{stands_before}

@@ -1,6 +1,5 @@
 -- The proof of `may_be_empty` of `plain::Automaton`.
-use Rattle.std.proofs.Common.{[], subst}
-use Rattle.std.specs.Prelude.{IsTrue, ◌↔◌}
+use Rattle.std.proofs.Common.{[], subst, IsTrue, ◌↔◌}
 use Rattle.rbg_rules.specs.Meaning.{outermost, inside, beginning, Ends}
 use Rattle.rbg_auto.specs.internal.Laying.{Laid}
 use Rattle.rbg_auto.specs.internal.PlainNodes.{IsAutomatonOf}

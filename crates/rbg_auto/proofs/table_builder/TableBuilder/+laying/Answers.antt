@@ -1,6 +1,5 @@
 -- The proofs of the walk.
-use Rattle.std.proofs.Common.{rules, ◌<◌, List, [], length, ℕ, ◌+◌, ◌-◌, Bool, true, ap, subst, arith}
-use Rattle.std.proofs.lemmas.Result.{IfOk-weaker}
+use Rattle.rbg_base.proofs.Common.{rules, ◌<◌, List, [], length, ℕ, ◌+◌, ◌-◌, Bool, true, ap, subst, arith, IfOk-weaker}
 use Rattle.rbg_rules.specs.declared.rule.Rule.{Rule}
 use Rattle.rbg_rules.specs.declared.rule.Rule.TheVariants.{Star}
 use Rattle.rbg_auto.specs.internal.Trees.{GivesFirsts, IsAgain}

@@ -1,5 +1,4 @@
-use Rattle.std.proofs.Common.{◌≡◌, ◌<◌, ℕ, List, length, Some, ap, ◌∙◌, sym, subst, arith}
-use Rattle.std.specs.Prelude.{slice_get}
+use Rattle.std.proofs.Common.{◌≡◌, ◌<◌, ℕ, List, length, Some, ap, ◌∙◌, sym, subst, arith, slice_get}
 use Rattle.rbg_base.specs.List.{IsSpan, lists_at}
 use Rattle.rbg_base.specs.Move.{IsMoveLength}
 use Rattle.rbg_base.proofs.Lists.{lists_count, span_at, list_at, length_at}

@@ -1,6 +1,5 @@
 -- The entry of a vertex and a direction is where the direction leads.
-use Rattle.std.proofs.Common.{◌<◌, length, sym, subst, arith}
-use Rattle.std.proofs.lemmas.Nat.{mul-add-lt}
+use Rattle.rbg_base.proofs.Common.{◌<◌, length, sym, subst, arith, mul-add-lt}
 use Rattle.rbg_board.specs.Graph.{HasWidth}
 use Rattle.rbg_board.proofs.Tables.{next_within, has_width}
 use Rattle.rbg_board.proofs.board.LentBoard.step_within.Goals as goal

@@ -1,6 +1,5 @@
 -- The map keeps what it has by other names.
-use Rattle.std.proofs.Common.{ap, option_map}
-use Rattle.std.specs.Prelude.{string_bytes}
+use Rattle.std.proofs.Common.{ap, option_map, string_bytes}
 use Rattle.rbg_console.proofs.MemoryLemmas.{other_stays}
 use Rattle.rbg_console.proofs.memory.MemoryFiles.put.Goals as goal
 

@@ -1,9 +1,7 @@
 -- What was found so far is right.
 use Rattle.std.proofs.Common.{ℕ, ◌≤◌}
 use Rattle.rbg_rules.specs.Meaning.{IsPatternAt, Start}
-use Rattle.rbg_flat.specs.internal.Begun.{IsBegun}
-use Rattle.rbg_flat.specs.internal.Leading.{AreSizedFor, AreOn}
-use Rattle.rbg_flat.specs.internal.Sets.{IsMarked, IsOpen, IsDone, KeepsDone, weight}
+use Rattle.rbg_flat.proofs.Common.{IsBegun, AreSizedFor, AreOn, IsMarked, IsOpen, IsDone, KeepsDone, weight}
 use Rattle.rbg_flat.proofs.flat.Flat.advance.Given as goal
 
 abbrev pub invariant-loop-place : goal.invariant-loop-place

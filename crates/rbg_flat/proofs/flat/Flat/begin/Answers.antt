@@ -1,9 +1,6 @@
 use Rattle.std.proofs.Common.{ℕ, ◌<◌, length, false, subst, sym}
-use Rattle.rbg_leaps.specs.Leaps.{IsLeap, EndsAcross}
-use Rattle.rbg_leaps.specs.Origin.{start_of}
-use Rattle.rbg_flat.specs.internal.Leading.{LearnsEnd}
-use Rattle.rbg_flat.specs.internal.Passing.{IsToTry}
-use Rattle.rbg_flat.specs.internal.Sets.{Meets}
+use Rattle.rbg_leaps.proofs.Common.{IsLeap, EndsAcross, start_of}
+use Rattle.rbg_flat.proofs.Common.{LearnsEnd, IsToTry, Meets}
 use Rattle.rbg_flat.proofs.Doing.{nothing_done}
 use Rattle.rbg_flat.proofs.Takings.{begins}
 use Rattle.rbg_flat.proofs.ToTry.{pattern_to_try}

@@ -1,6 +1,5 @@
 use Rattle.std.proofs.Common.{ℕ, List, refl, sym, subst}
-use Rattle.rbg_flat.specs.internal.Gathering.{Gathered}
-use Rattle.rbg_flat.specs.internal.Sets.{HasBitAt}
+use Rattle.rbg_flat.proofs.Common.{Gathered, HasBitAt}
 use Rattle.rbg_flat.proofs.Leaping.{same_size}
 use Rattle.rbg_flat.proofs.Finishings.{gathered_none, gathered_more, count_fits, are_found, has_candidates, few_gathered}
 use Rattle.rbg_flat.proofs.flat.Flat.finish.Goals as goal

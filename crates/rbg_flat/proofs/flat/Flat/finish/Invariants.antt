@@ -1,8 +1,6 @@
 -- What is forgotten was gathered.
 use Rattle.std.proofs.Common.{◌≡◌, ℕ, length}
-use Rattle.rbg_flat.specs.internal.Gathering.{Gathered}
-use Rattle.rbg_flat.specs.internal.Leading.{AreSizedFor}
-use Rattle.rbg_flat.specs.internal.Sets.{IsOpen}
+use Rattle.rbg_flat.proofs.Common.{Gathered, AreSizedFor, IsOpen}
 use Rattle.rbg_flat.proofs.flat.Flat.finish.Given as goal
 
 abbrev pub invariant-loop-place : goal.invariant-loop-place

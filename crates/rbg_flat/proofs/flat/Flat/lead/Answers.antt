@@ -1,8 +1,6 @@
 use Rattle.std.proofs.Common.{ℕ}
-use Rattle.rbg_leaps.specs.Leaps.{IsLeap, EndsAcross}
-use Rattle.rbg_leaps.specs.Origin.{start_of}
-use Rattle.rbg_flat.specs.internal.Leading.{IsAmong}
-use Rattle.rbg_flat.specs.internal.Setting.{IsToTryIn}
+use Rattle.rbg_leaps.proofs.Common.{IsLeap, EndsAcross, start_of}
+use Rattle.rbg_flat.proofs.Common.{IsAmong, IsToTryIn}
 use Rattle.rbg_flat.proofs.Leaping.{targets_for, among_leap, leap_among, same_size, still_on}
 use Rattle.rbg_flat.proofs.Meetings.{meets_same}
 use Rattle.rbg_flat.proofs.Stills.{learns_or}

@@ -1,8 +1,6 @@
 -- From the vertices that aren't left all is led on.
-use Rattle.std.proofs.Common.{◌≡◌, ℕ}
-use Rattle.std.specs.Int.{bit_at}
-use Rattle.rbg_flat.specs.internal.Leading.{LeadsPast, EndsPast}
-use Rattle.rbg_flat.specs.internal.Setting.{LeadsOn}
+use Rattle.rbg_base.proofs.Common.{◌≡◌, ℕ, bit_at}
+use Rattle.rbg_flat.proofs.Common.{LeadsPast, EndsPast, LeadsOn}
 use Rattle.rbg_flat.proofs.flat.Flat.lead_word.Given as goal
 
 abbrev pub invariant-loop-rest : goal.invariant-loop-rest

@@ -1,6 +1,5 @@
 use Rattle.std.proofs.Common.{◌≡◌}
-use Rattle.rbg_flat.specs.internal.Leading.{LeadsFrom}
-use Rattle.rbg_flat.specs.internal.Setting.{IsToTryIn}
+use Rattle.rbg_flat.proofs.Common.{LeadsFrom, IsToTryIn}
 use Rattle.rbg_flat.proofs.Leaping.{same_on}
 use Rattle.rbg_flat.proofs.Trying.{word_done, marked_bits, leads_nowhere, ends_nowhere}
 use Rattle.rbg_flat.proofs.Doing.{meets_done, meets_quiet, closes_quiet, closes_done, closed_in}

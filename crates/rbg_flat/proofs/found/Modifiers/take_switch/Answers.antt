@@ -1,5 +1,4 @@
-use Rattle.std.proofs.Common.{ℕ, List}
-use Rattle.std.specs.Prelude.{Contains}
+use Rattle.std.proofs.Common.{ℕ, List, Contains}
 use Rattle.rbg_rules.specs.Meaning.{IsSwitchAt}
 use Rattle.rbg_flat.specs.Order.{IsBefore}
 use Rattle.rbg_flat.proofs.FirstSwitches.{taken_at}

@@ -1,6 +1,4 @@
-use Rattle.std.proofs.Common.{◌<◌, length, sym, ap, ◌∙◌, arith}
-use Rattle.std.specs.Prelude.{Some}
-use Rattle.std.proofs.lemmas.Option.{slice_get-get_or}
+use Rattle.rbg_base.proofs.Common.{◌<◌, length, sym, ap, ◌∙◌, arith, Some, slice_get-get_or}
 use Rattle.rbg_flat.proofs.paths.Paths.facts.Goals as goal
 
 pub returns : goal.returns

@@ -1,6 +1,4 @@
-use Rattle.std.proofs.Common.{◌≡◌, ℕ, ◌-◌, ◌%◌, sym, subst}
-use Rattle.std.specs.Prelude.{bit_and}
-use Rattle.std.proofs.lemmas.Nat.{and_mask}
+use Rattle.rbg_base.proofs.Common.{◌≡◌, ℕ, ◌-◌, ◌%◌, sym, subst, bit_and, and_mask}
 use Rattle.rbg_flat.proofs.sets.Sets.column_at.Goals as goal
 
 pub returns-clause-is : goal.returns-clause-is

@@ -1,7 +1,4 @@
-use Rattle.std.proofs.Common.{◌≡◌, ℕ, ◌<◌, ◌^◌, inl, inr, arith}
-use Rattle.std.specs.Int.{bit_at}
-use Rattle.std.proofs.lemmas.Bool.{cases_lt}
-use Rattle.std.proofs.lemmas.Nat.Bits.{bit_at_above}
+use Rattle.rbg_base.proofs.Common.{◌≡◌, ℕ, ◌<◌, ◌^◌, inl, inr, arith, bit_at, cases_lt, bit_at_above}
 use Rattle.rbg_flat.proofs.PlaceLemmas.{taken_there}
 use Rattle.rbg_flat.proofs.sets.Sets.open_at.Goals as goal
 

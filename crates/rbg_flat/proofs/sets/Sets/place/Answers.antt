@@ -1,6 +1,5 @@
-use Rattle.std.proofs.Common.{◌≡◌, ℕ, ◌+◌, ◌*◌, ◌%◌, ◌<◌, ◌^◌, sym, ap, subst, ◌∙◌, arith}
+use Rattle.rbg_base.proofs.Common.{◌≡◌, ℕ, ◌+◌, ◌*◌, ◌%◌, ◌<◌, ◌^◌, sym, ap, subst, ◌∙◌, arith, mul-add-lt}
 use Rattle.std.proofs.Math.Nat.{mul_comm, mod-eq_of_lt}
-use Rattle.std.proofs.lemmas.Nat.{mul-add-lt}
 use Rattle.rbg_flat.proofs.sets.Sets.place.Goals as goal
 
 -- A place is below the number of all words, which is a number of 64 bits.

@@ -1,7 +1,4 @@
-use Rattle.std.proofs.Common.{◌≡◌, ◌≢◌, ℕ, ◌≤◌, ◌<◌, List, length, get_or, sym, ◌∙◌, subst, arith}
-use Rattle.std.specs.Prelude.{bit_or}
-use Rattle.std.proofs.lemmas.List.{get_or_read}
-use Rattle.std.proofs.lemmas.Nat.{le_or_r}
+use Rattle.rbg_base.proofs.Common.{◌≡◌, ◌≢◌, ℕ, ◌≤◌, ◌<◌, List, length, get_or, sym, ◌∙◌, subst, arith, bit_or, get_or_read, le_or_r}
 use Rattle.rbg_flat.proofs.Listings.{has_room, listed_more, listed_set}
 use Rattle.rbg_flat.proofs.table.BitTable.add.Goals as goal
 

@@ -1,5 +1,4 @@
-use Rattle.std.proofs.Common.{◌-◌}
-use Rattle.std.specs.Prelude.{bit_and}
+use Rattle.std.proofs.Common.{◌-◌, bit_and}
 use Rattle.rbg_flat.proofs.Listings.{taken_last}
 use Rattle.rbg_flat.proofs.table.BitTable.take_bits.Goals as goal
 

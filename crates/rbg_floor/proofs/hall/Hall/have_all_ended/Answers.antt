@@ -1,9 +1,6 @@
-use Rattle.std.proofs.Common.{ap, subst, ◌∙◌}
-use Rattle.std.specs.Prelude.{◌↔◌, IsTrue, List}
+use Rattle.std.proofs.Common.{ap, subst, ◌∙◌, ◌↔◌, IsTrue, List}
 use Rattle.rbg_hall.specs.Tables.{TableState}
-use Rattle.rbg_floor.specs.Failing.{HeldHall}
-use Rattle.rbg_floor.specs.Serving.{HaveAllEnded}
-use Rattle.rbg_floor.specs.internal.Parts.{states_of}
+use Rattle.rbg_floor.proofs.Common.{HeldHall, HaveAllEnded, states_of}
 use Rattle.rbg_floor.proofs.hall.Hall.have_all_ended.Goals as goal
 
 pub returns : goal.returns

@@ -1,7 +1,6 @@
 use Rattle.std.proofs.Common.{◌≢◌, ◌≤◌, length, ap, subst, arith, ◌∙◌, sym}
 use Rattle.std.proofs.lemmas.Bool.{eqb-true, eqb-false}
-use Rattle.rbg_floor.specs.Openings.{starts_of}
-use Rattle.rbg_floor.specs.internal.Parts.{HaveLimits, IsFaulty, ledgers_of}
+use Rattle.rbg_floor.proofs.Common.{starts_of, HaveLimits, IsFaulty, ledgers_of}
 use Rattle.rbg_floor.proofs.Openings.{no_table_refused, too_many_refused, config_refused, fault_small, ledgers_new, memory_passed, made_new}
 use Rattle.rbg_floor.proofs.hall.Hall.new.Goals as goal
 

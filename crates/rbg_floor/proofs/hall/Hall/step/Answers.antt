@@ -1,6 +1,5 @@
 use Rattle.std.proofs.Common.{subst}
-use Rattle.rbg_floor.specs.Failing.{HeldHall}
-use Rattle.rbg_floor.specs.Ledgers.{HallStops}
+use Rattle.rbg_floor.proofs.Common.{HeldHall, HallStops}
 use Rattle.rbg_floor.proofs.Halls.{hall_stops}
 use Rattle.rbg_floor.proofs.Ticking.{none_stops}
 use Rattle.rbg_floor.proofs.hall.Hall.step.Goals as goal

@@ -1,13 +1,7 @@
-use Rattle.std.proofs.Common.{map, ap, arith}
-use Rattle.std.proofs.lemmas.List.{length-map}
-use Rattle.std.proofs.lemmas.Result.{IfOk-weaker, IfErr-weaker}
-use Rattle.rbg_board.specs.Cells.{rows_of}
-use Rattle.rbg_board.specs.Rectangle.{RectangleEdge, HasFirstCell, IsEven, RectangleRefusal}
-use Rattle.rbg_board.specs.Hexagon.{HexagonEdge, HasCells, GrowsThenShrinks, HexagonRefusal}
-use Rattle.rbg_grammar.specs.Views.{name_of, names_of}
-use Rattle.rbg_grammar.specs.Tree.{rectangle, hexagon}
-use Rattle.rbg_game.specs.GameErrors.{game_error_of}
-use Rattle.rbg_game.specs.Faults.{HasBoardFault, no_rectangle, no_hexagon}
+use Rattle.rbg_base.proofs.Common.{map, ap, arith, length-map, IfOk-weaker, IfErr-weaker}
+use Rattle.rbg_board.proofs.Common.{rows_of, RectangleEdge, HasFirstCell, IsEven, RectangleRefusal, HexagonEdge, HasCells, GrowsThenShrinks, HexagonRefusal}
+use Rattle.rbg_grammar.proofs.Common.{name_of, names_of, rectangle, hexagon}
+use Rattle.rbg_game.proofs.Common.{game_error_of, HasBoardFault, no_rectangle, no_hexagon}
 use Rattle.rbg_base.proofs.Errors.{passed_on}
 use Rattle.rbg_game.proofs.NamedRows.{cells_fault, rows_made, rows_refused}
 use Rattle.rbg_game.proofs.checking.boards.make_board.Goals as goal

@@ -1,5 +1,4 @@
-use Rattle.std.proofs.Common.{sym, subst, map}
-use Rattle.std.specs.Prelude.{flat_map}
+use Rattle.std.proofs.Common.{sym, subst, map, flat_map}
 use Rattle.rbg_grammar.specs.Views.{names_of}
 use Rattle.rbg_numbering.specs.declared.error.NumberingError.{NumberingError}
 use Rattle.rbg_numbering.specs.NameTables.{HasLookUpFault, no_memory}

@@ -1,12 +1,8 @@
-use Rattle.std.proofs.Common.{List, flat_map, map, subst}
-use Rattle.std.specs.List.{AllZip}
-use Rattle.std.proofs.lemmas.List.{map-append}
+use Rattle.rbg_base.proofs.Common.{List, flat_map, map, subst, AllZip, map-append}
 use Rattle.rbg_board.specs.Cells.{rows_of}
-use Rattle.rbg_grammar.specs.Tree.{SpeltName}
-use Rattle.rbg_grammar.specs.Views.{name_of, names_of}
+use Rattle.rbg_grammar.proofs.Common.{SpeltName, name_of, names_of}
 use Rattle.rbg_numbering.specs.declared.error.NumberingError.TheVariants.{Memory}
-use Rattle.rbg_numbering.specs.Names.{IsNumberOf}
-use Rattle.rbg_numbering.specs.NameTables.{HasLookUpFault, no_memory}
+use Rattle.rbg_numbering.proofs.Common.{IsNumberOf, HasLookUpFault, no_memory}
 use Rattle.rbg_numbering.proofs.Lists.{AllZip-step, Contains-flat_map, Contains-map_read}
 use Rattle.rbg_numbering.proofs.LookUps.{look_up_within}
 use Rattle.rbg_base.proofs.Errors.{passed_on}

@@ -1,5 +1,4 @@
-use Rattle.std.proofs.Common.{map, take}
-use Rattle.std.specs.List.{AllZip}
+use Rattle.rbg_base.proofs.Common.{map, take, AllZip}
 use Rattle.rbg_board.specs.Cells.{rows_of}
 use Rattle.rbg_grammar.specs.Views.{names_of}
 use Rattle.rbg_numbering.specs.Names.{IsNumberOf}

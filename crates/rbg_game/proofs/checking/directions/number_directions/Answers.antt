@@ -1,5 +1,4 @@
-use Rattle.std.proofs.Common.{◌≡◌, ◌+◌, map, take, length, arith}
-use Rattle.std.specs.Prelude.{slice_set}
+use Rattle.std.proofs.Common.{◌≡◌, ◌+◌, map, take, length, arith, slice_set}
 use Rattle.std.proofs.lemmas.List.{take_more_set, length-set}
 use Rattle.rbg_grammar.specs.Views.{name_of}
 use Rattle.rbg_base.proofs.CallerLemmas.{map-take_more}

@@ -1,29 +1,14 @@
-use Rattle.std.proofs.Common.{◌≡◌, ℕ, List, Result, length, map, ap, ◌∙◌, subst, sym, arith}
-use Rattle.std.specs.List.{AllZip}
-use Rattle.std.specs.Prelude.{OnOk}
-use Rattle.std.proofs.lemmas.List.{length-map}
-use Rattle.std.proofs.lemmas.Result.{IfOk-weaker, IfErr-weaker}
+use Rattle.rbg_base.proofs.Common.{◌≡◌, ℕ, List, Result, length, map, ap, ◌∙◌, subst, sym, arith, AllZip, OnOk, length-map, IfOk-weaker, IfErr-weaker}
 use Rattle.std.proofs.lemmas.Slice.Zip.{AllZip-long}
-use Rattle.rbg_board.specs.Cells.{width_of}
-use Rattle.rbg_board.specs.Graph.{Graph, HasWidth}
+use Rattle.rbg_board.proofs.Common.{width_of, Graph, HasWidth, written_of, Written, directions_of, IsWritten, MakesGraph, GraphRefusal}
 use Rattle.rbg_board.specs.declared.error.BoardError.{BoardError}
-use Rattle.rbg_board.specs.Vertices.{written_of}
-use Rattle.rbg_board.specs.Written.{Written, directions_of, IsWritten, MakesGraph, GraphRefusal}
 use Rattle.rbg_board.specs.declared.graphs.Cell.{Cell}
-use Rattle.rbg_grammar.specs.Tree.{SpeltVertex, graph}
-use Rattle.rbg_grammar.specs.Views.{vertex_of}
+use Rattle.rbg_grammar.proofs.Common.{SpeltVertex, graph, vertex_of}
 use Rattle.rbg_rules.specs.Meaning.{AreDifferentNames}
-use Rattle.rbg_game.specs.GameErrors.{game_error_of}
+use Rattle.rbg_game.proofs.Common.{game_error_of, GameError, TooMany, Directions, MakesBoard, vertex_names, board_pieces, HasBoardFault, many_directions, no_graph, many_vertices, board_memory, IsCell}
 use Rattle.rbg_game.specs.declared.checking.boards.NamedBoard.{NamedBoard}
-use Rattle.rbg_game.specs.declared.game_error.GameError.{GameError}
-use Rattle.rbg_game.specs.declared.game_error.GameError.TheVariants.{TooMany}
-use Rattle.rbg_game.specs.declared.game_error.Thing.TheVariants.{Directions}
-use Rattle.rbg_game.specs.internal.Boards.{MakesBoard}
 use Rattle.rbg_numbering.specs.Names.{IsNumberOf}
 use Rattle.rbg_base.proofs.Errors.{passed_on}
-use Rattle.rbg_game.specs.Descriptions.{vertex_names}
-use Rattle.rbg_game.specs.Faults.{board_pieces, HasBoardFault, many_directions, no_graph, many_vertices, board_memory}
-use Rattle.rbg_game.specs.internal.Graphs.{IsCell}
 use Rattle.rbg_game.proofs.NamedRows.{of_ok, of_err, cells_fault, by_refusal}
 use Rattle.rbg_game.proofs.NamedGraphs.{graph_made, graph_fault}
 use Rattle.rbg_game.proofs.checking.graphs.make_graph.Goals as goal

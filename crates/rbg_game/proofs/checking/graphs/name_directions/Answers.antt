@@ -1,7 +1,6 @@
 use Rattle.std.proofs.Common.{ℕ, List, map, take, subst, sym}
 use Rattle.rbg_grammar.specs.Views.{edge_of, vertex_of}
-use Rattle.rbg_game.specs.Descriptions.{IsOrderOfFirstUse, directions_named}
-use Rattle.rbg_game.specs.internal.Graphs.{AddsInOrder, edge_directions}
+use Rattle.rbg_game.proofs.Common.{IsOrderOfFirstUse, directions_named, AddsInOrder, edge_directions}
 use Rattle.rbg_game.proofs.GraphSteps.{directions_more}
 use Rattle.rbg_game.proofs.checking.graphs.name_directions.Goals as goal
 

@@ -1,10 +1,7 @@
 use Rattle.std.proofs.Common.{ℕ, List, map, subst, sym, arith}
-use Rattle.rbg_grammar.specs.Tree.{graph}
-use Rattle.rbg_grammar.specs.Views.{vertex_of}
-use Rattle.rbg_game.specs.GameErrors.{game_error_of}
-use Rattle.rbg_game.specs.declared.game_error.GameError.{GameError}
+use Rattle.rbg_grammar.proofs.Common.{graph, vertex_of}
+use Rattle.rbg_game.proofs.Common.{game_error_of, GameError, HasBoardFault, board_memory, no_graph}
 use Rattle.rbg_base.proofs.Errors.{passed_on}
-use Rattle.rbg_game.specs.Faults.{HasBoardFault, board_memory, no_graph}
 use Rattle.rbg_game.proofs.GraphSteps.{name_again, name_new}
 use Rattle.rbg_game.proofs.Joining.{still_differ}
 use Rattle.rbg_game.proofs.checking.graphs.name_vertices.Goals as goal

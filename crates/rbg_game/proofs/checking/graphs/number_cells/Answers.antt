@@ -1,11 +1,7 @@
-use Rattle.std.proofs.Common.{◌+◌, ◌++◌, ◌∷◌, [], List, get_or, map, take, subst, sym}
-use Rattle.std.specs.List.{AllZip, All}
-use Rattle.std.specs.Prelude.{Contains}
-use Rattle.std.proofs.lemmas.List.{map-append}
+use Rattle.rbg_base.proofs.Common.{◌+◌, ◌++◌, ◌∷◌, [], List, get_or, map, take, subst, sym, AllZip, All, Contains, map-append}
 use Rattle.rbg_base.proofs.CallerLemmas.{AllZip-push_one, map-take_more}
 use Rattle.rbg_board.specs.Vertices.{written_of}
-use Rattle.rbg_grammar.specs.Tree.{SpeltVertex}
-use Rattle.rbg_grammar.specs.Views.{edge_of, vertex_of}
+use Rattle.rbg_grammar.proofs.Common.{SpeltVertex, edge_of, vertex_of}
 use Rattle.rbg_grammar.specs.declared.description.Edge.{Edge}
 use Rattle.rbg_game.specs.internal.Graphs.{IsEdge, IsCell}
 use Rattle.rbg_game.proofs.GraphSteps.{all_known, cell_made}

@@ -1,11 +1,8 @@
-use Rattle.std.proofs.Common.{ℕ, List, map, take}
-use Rattle.std.specs.List.{AllZip}
+use Rattle.rbg_base.proofs.Common.{ℕ, List, map, take, AllZip}
 use Rattle.rbg_board.specs.Vertices.{written_of}
-use Rattle.rbg_grammar.specs.Tree.{graph}
-use Rattle.rbg_grammar.specs.Views.{vertex_of}
+use Rattle.rbg_grammar.proofs.Common.{graph, vertex_of}
 use Rattle.rbg_numbering.specs.Names.{IsNumberOf}
-use Rattle.rbg_game.specs.Faults.{board_pieces}
-use Rattle.rbg_game.specs.internal.Graphs.{IsCell}
+use Rattle.rbg_game.proofs.Common.{board_pieces, IsCell}
 use Rattle.rbg_game.proofs.checking.graphs.number_cells.Given as goal
 
 -- where the numbers are those of the pieces in a table

@@ -1,6 +1,4 @@
-use Rattle.std.proofs.Common.{sym, subst}
-use Rattle.std.specs.Prelude.{Contains}
-use Rattle.std.proofs.lemmas.Result.{err_from_is_err_and}
+use Rattle.rbg_base.proofs.Common.{sym, subst, Contains, err_from_is_err_and}
 use Rattle.rbg_grammar.specs.Views.{name_of, edge_of}
 use Rattle.rbg_grammar.specs.declared.description.Edge.{Edge}
 use Rattle.rbg_numbering.proofs.Lists.{AllZip-step}

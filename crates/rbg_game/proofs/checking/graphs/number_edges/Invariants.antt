@@ -1,5 +1,4 @@
-use Rattle.std.proofs.Common.{map, take}
-use Rattle.std.specs.List.{AllZip}
+use Rattle.rbg_base.proofs.Common.{map, take, AllZip}
 use Rattle.rbg_grammar.specs.Views.{edge_of}
 use Rattle.rbg_game.specs.internal.Graphs.{IsEdge}
 use Rattle.rbg_game.proofs.checking.graphs.number_edges.Given as goal

@@ -1,11 +1,8 @@
-use Rattle.std.proofs.Common.{◌++◌, ◌∷◌, [], List, map, take, subst, sym}
-use Rattle.std.specs.List.{AllZip}
+use Rattle.rbg_base.proofs.Common.{◌++◌, ◌∷◌, [], List, map, take, subst, sym, AllZip}
 use Rattle.rbg_base.proofs.CallerLemmas.{AllZip-push_one, Contains-map}
-use Rattle.rbg_grammar.specs.Tree.{SpeltName, SpeltVertex, graph}
-use Rattle.rbg_grammar.specs.Views.{name_of, vertex_of}
+use Rattle.rbg_grammar.proofs.Common.{SpeltName, SpeltVertex, graph, name_of, vertex_of}
 use Rattle.rbg_numbering.specs.declared.error.NumberingError.TheVariants.{Memory}
-use Rattle.rbg_numbering.specs.Names.{IsNumberOf}
-use Rattle.rbg_numbering.specs.NameTables.{HasLookUpFault, no_memory}
+use Rattle.rbg_numbering.proofs.Common.{IsNumberOf, HasLookUpFault, no_memory}
 use Rattle.rbg_numbering.proofs.Lists.{Contains-map_read}
 use Rattle.rbg_numbering.proofs.LookUps.{look_up_one}
 use Rattle.rbg_base.proofs.Errors.{passed_on}

@@ -1,7 +1,5 @@
-use Rattle.std.proofs.Common.{map, take}
-use Rattle.std.specs.List.{AllZip}
-use Rattle.rbg_grammar.specs.Tree.{graph}
-use Rattle.rbg_grammar.specs.Views.{vertex_of}
+use Rattle.rbg_base.proofs.Common.{map, take, AllZip}
+use Rattle.rbg_grammar.proofs.Common.{graph, vertex_of}
 use Rattle.rbg_numbering.specs.Names.{IsNumberOf}
 use Rattle.rbg_game.specs.Faults.{board_pieces}
 use Rattle.rbg_game.proofs.checking.graphs.number_pieces.Given as goal

@@ -1,10 +1,6 @@
-use Rattle.std.proofs.Common.{◌≡◌, ◌+◌, List, ◌++◌, ◌∷◌, [], ℕ, map, take, ap, sym, ◌∙◌, subst, append_assoc}
-use Rattle.std.proofs.lemmas.List.{map_more, map-append}
-use Rattle.rbg_grammar.specs.Views.{bounded_of}
-use Rattle.rbg_grammar.specs.Tree.{SpeltBounded}
-use Rattle.rbg_game.specs.Descriptions.{holder_names}
-use Rattle.rbg_game.specs.internal.Holders.{HasHolderFault}
-use Rattle.rbg_game.specs.internal.Things.{AddsBounds}
+use Rattle.rbg_base.proofs.Common.{◌≡◌, ◌+◌, List, ◌++◌, ◌∷◌, [], ℕ, map, take, ap, sym, ◌∙◌, subst, append_assoc, map_more, map-append}
+use Rattle.rbg_grammar.proofs.Common.{bounded_of, SpeltBounded}
+use Rattle.rbg_game.proofs.Common.{holder_names, HasHolderFault, AddsBounds}
 use Rattle.rbg_base.proofs.Errors.{passed_on}
 use Rattle.rbg_game.proofs.NameFaults.{holder_fault_in_loop, AddsBounds-append}
 use Rattle.rbg_game.proofs.checking.names.add_holders.Goals as goal

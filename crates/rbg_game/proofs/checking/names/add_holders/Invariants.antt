@@ -1,7 +1,6 @@
 use Rattle.std.proofs.Common.{◌≡◌, ◌++◌, map, take}
 use Rattle.rbg_grammar.specs.Views.{bounded_of}
-use Rattle.rbg_game.specs.Descriptions.{holder_names}
-use Rattle.rbg_game.specs.internal.Things.{AddsBounds}
+use Rattle.rbg_game.proofs.Common.{holder_names, AddsBounds}
 use Rattle.rbg_game.proofs.checking.names.add_holders.Given as goal
 
 abbrev pub invariant-loop-holder : goal.invariant-loop-holder

@@ -1,9 +1,6 @@
-use Rattle.std.proofs.Common.{◌≡◌, ◌++◌, List, map, take, ap, sym, ◌∙◌}
-use Rattle.std.proofs.lemmas.List.{take-map}
-use Rattle.rbg_grammar.specs.Views.{name_of}
-use Rattle.rbg_grammar.specs.Tree.{SpeltName}
-use Rattle.rbg_numbering.specs.Names.{texts_of}
-use Rattle.rbg_numbering.specs.NameTables.{HasNameFault}
+use Rattle.rbg_base.proofs.Common.{◌≡◌, ◌++◌, List, map, take, ap, sym, ◌∙◌, take-map}
+use Rattle.rbg_grammar.proofs.Common.{name_of, SpeltName}
+use Rattle.rbg_numbering.proofs.Common.{texts_of, HasNameFault}
 use Rattle.rbg_numbering.proofs.Lists.{slice_get-map_read}
 use Rattle.rbg_numbering.proofs.LookUps.{name_fault_at}
 use Rattle.rbg_base.proofs.Errors.{passed_on}

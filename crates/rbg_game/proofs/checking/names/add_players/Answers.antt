@@ -1,7 +1,6 @@
 use Rattle.std.proofs.Common.{map}
 use Rattle.rbg_grammar.specs.Views.{bounded_of}
-use Rattle.rbg_game.specs.GameErrors.{game_error_of}
-use Rattle.rbg_game.specs.internal.Holders.{HasHolderFault, by_name}
+use Rattle.rbg_game.proofs.Common.{game_error_of, HasHolderFault, by_name}
 use Rattle.rbg_base.proofs.Errors.{passed_on}
 use Rattle.rbg_game.proofs.NameFaults.{holder_fault_in_loop}
 use Rattle.rbg_game.proofs.checking.names.add_players.Goals as goal

@@ -1,19 +1,9 @@
-use Rattle.std.proofs.Common.{◌≡◌, List, ℕ, [], ◌++◌, map, length, sym, ap, ◌∙◌, subst, refl, arith}
-use Rattle.std.proofs.lemmas.List.{length-map, map-append}
-use Rattle.rbg_grammar.specs.Descriptions.{description_of_parts}
-use Rattle.rbg_grammar.specs.Views.{name_of, bounded_of}
-use Rattle.rbg_grammar.specs.Tree.{SpeltBounded, SpeltName, SpeltDescription}
+use Rattle.rbg_base.proofs.Common.{◌≡◌, List, ℕ, [], ◌++◌, map, length, sym, ap, ◌∙◌, subst, refl, arith, length-map, map-append}
+use Rattle.rbg_grammar.proofs.Common.{description_of_parts, name_of, bounded_of, SpeltBounded, SpeltName, SpeltDescription}
 use Rattle.rbg_grammar.specs.declared.names.Name.{Name}
 use Rattle.rbg_grammar.specs.declared.description.Bounded.{Bounded}
-use Rattle.rbg_game.specs.declared.game_error.GameError.TheVariants.{TooMany}
-use Rattle.rbg_game.specs.declared.game_error.Thing.TheVariants.{Players, Pieces, Variables}
-use Rattle.rbg_game.specs.GameErrors.{game_error_of}
-use Rattle.rbg_numbering.specs.Names.{texts_of}
-use Rattle.rbg_game.specs.Descriptions.{holder_names, holders_of}
-use Rattle.rbg_numbering.specs.NameTables.{HasNameFault}
-use Rattle.rbg_game.specs.internal.Holders.{HasHolderFault}
-use Rattle.rbg_game.specs.internal.Things.{AddsBounds}
-use Rattle.rbg_game.specs.Faults.{HasFault, many_players, many_pieces, many_variables}
+use Rattle.rbg_game.proofs.Common.{TooMany, Players, Pieces, Variables, game_error_of, holder_names, holders_of, HasHolderFault, AddsBounds, HasFault, many_players, many_pieces, many_variables}
+use Rattle.rbg_numbering.proofs.Common.{texts_of, HasNameFault}
 use Rattle.rbg_base.proofs.Errors.{passed_on}
 use Rattle.rbg_game.proofs.NameFaults.{AddsBounds-append, players_fault, variables_fault, pieces_fault}
 use Rattle.rbg_game.proofs.checking.names.number_things.Goals as goal

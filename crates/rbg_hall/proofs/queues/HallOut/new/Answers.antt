@@ -1,5 +1,4 @@
-use Rattle.std.proofs.Common.{◌≡◌, [], length, sym, ap, ◌∙◌, arith}
-use Rattle.std.proofs.lemmas.List.{length-map, length-replicate}
+use Rattle.rbg_base.proofs.Common.{◌≡◌, [], length, sym, ap, ◌∙◌, arith, length-map, length-replicate}
 use Rattle.rbg_hall.proofs.queues.HallOut.new.Goals as goal
 
 pub invariant_of-result : goal.invariant_of-result

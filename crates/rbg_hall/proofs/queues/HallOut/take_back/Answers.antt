@@ -1,5 +1,4 @@
-use Rattle.std.proofs.Common.{◌≡◌, length, ap, ◌∙◌, sym}
-use Rattle.std.proofs.lemmas.List.{with_items_is}
+use Rattle.rbg_base.proofs.Common.{◌≡◌, length, ap, ◌∙◌, sym, with_items_is}
 use Rattle.rbg_hall.specs.Undoing.{bytes_in, cut_back, undone}
 use Rattle.rbg_hall.proofs.Telling.{undone-more}
 use Rattle.rbg_hall.proofs.queues.HallOut.take_back.Goals as goal

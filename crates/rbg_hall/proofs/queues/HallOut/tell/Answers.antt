@@ -1,5 +1,4 @@
-use Rattle.std.proofs.Common.{◌≡◌, ◌≤◌, length, sym, arith}
-use Rattle.std.proofs.lemmas.List.{length-map}
+use Rattle.rbg_base.proofs.Common.{◌≡◌, ◌≤◌, length, sym, arith, length-map}
 use Rattle.rbg_hall.specs.Undoing.{bytes_in}
 use Rattle.rbg_hall.proofs.Telling.{told_to-past}
 use Rattle.rbg_hall.proofs.queues.HallOut.tell.Goals as goal

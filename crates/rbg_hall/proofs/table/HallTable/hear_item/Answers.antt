@@ -1,7 +1,5 @@
-use Rattle.std.proofs.Common.{rules, ◌≡◌, true, false, ◌∙◌}
-use Rattle.std.specs.Prelude.{is_none}
-use Rattle.rbg_wire.specs.Inboxes.{item_of}
-use Rattle.rbg_wire.specs.Whole.{whole_item}
+use Rattle.std.proofs.Common.{rules, ◌≡◌, true, false, ◌∙◌, is_none}
+use Rattle.rbg_wire.proofs.Common.{item_of, whole_item}
 use Rattle.rbg_match.specs.Limits.{message_limit}
 use Rattle.rbg_hall.proofs.Seated.{ok_so, early, said}
 use Rattle.rbg_hall.proofs.table.HallTable.hear_item.Goals as goal

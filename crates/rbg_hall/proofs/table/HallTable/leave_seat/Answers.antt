@@ -1,5 +1,4 @@
-use Rattle.std.proofs.Common.{rules, ◌≡◌, true, false}
-use Rattle.std.specs.Prelude.{is_none}
+use Rattle.std.proofs.Common.{rules, ◌≡◌, true, false, is_none}
 use Rattle.rbg_hall.proofs.Seated.{ok_so, freed, gone_by}
 use Rattle.rbg_hall.proofs.table.HallTable.leave_seat.Goals as goal
 

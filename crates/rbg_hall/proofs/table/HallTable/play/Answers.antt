@@ -1,7 +1,6 @@
 use Rattle.std.proofs.Common.{ap}
 use Rattle.rbg_match.specs.Inputs.{event_of}
-use Rattle.rbg_hall.specs.internal.Hearing.{nothing}
-use Rattle.rbg_hall.specs.internal.Parts.{begun_in}
+use Rattle.rbg_hall.proofs.Common.{nothing, begun_in}
 use Rattle.rbg_hall.proofs.Phases.{ok_phase}
 use Rattle.rbg_hall.proofs.table.HallTable.play.Goals.{in-Begun, in-Waiting, in-Failed}
 use Rattle.rbg_hall.proofs.table.HallTable.play.Goals as goal

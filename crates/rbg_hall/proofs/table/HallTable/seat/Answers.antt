@@ -1,5 +1,4 @@
-use Rattle.std.proofs.Common.{rules, ◌≡◌, true, false, None}
-use Rattle.std.specs.Prelude.{is_none}
+use Rattle.std.proofs.Common.{rules, ◌≡◌, true, false, None, is_none}
 use Rattle.rbg_hall.proofs.Places.{there_within}
 use Rattle.rbg_hall.proofs.Seated.{ok_so, none_by, late, full, sat, begun_by}
 use Rattle.rbg_hall.proofs.table.HallTable.seat.Goals as goal

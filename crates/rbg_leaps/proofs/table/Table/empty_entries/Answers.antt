@@ -1,8 +1,5 @@
-use Rattle.std.proofs.Common.{◌≡◌, ◌+◌, ◌*◌, ◌∙◌, ◌++◌, ℕ, List, ap, arith, rules}
-use Rattle.std.specs.Prelude.{replicate}
-use Rattle.std.proofs.lemmas.List.{replicate-append-replicate}
-use Rattle.rbg_leaps.specs.declared.table.Entry.{Entry}
-use Rattle.rbg_leaps.specs.Made.{no_entry}
+use Rattle.rbg_base.proofs.Common.{◌≡◌, ◌+◌, ◌*◌, ◌∙◌, ◌++◌, ℕ, List, ap, arith, rules, replicate, replicate-append-replicate}
+use Rattle.rbg_leaps.proofs.Common.{Entry, no_entry}
 use Rattle.rbg_leaps.proofs.table.Table.empty_entries.Goals as goal
 
 one_node_more : (k n : ℕ) → replicate (k * n) no_entry ++ replicate n no_entry ≡ replicate ((k + 1) * n) no_entry

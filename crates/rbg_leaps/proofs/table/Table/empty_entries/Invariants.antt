@@ -1,6 +1,5 @@
 -- There are the entries of the nodes so far.
-use Rattle.std.proofs.Common.{◌≡◌, ◌*◌}
-use Rattle.std.specs.Prelude.{replicate}
+use Rattle.std.proofs.Common.{◌≡◌, ◌*◌, replicate}
 use Rattle.rbg_leaps.specs.Made.{no_entry}
 use Rattle.rbg_leaps.proofs.table.Table.empty_entries.Given as goal
 

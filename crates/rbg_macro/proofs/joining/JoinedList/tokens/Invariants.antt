@@ -1,7 +1,6 @@
 -- The tokens so far are those of the list so far.
 use Rattle.std.proofs.Common.{◌≡◌, map, take}
-use Rattle.rbg_macro.specs.internal.Joined.{joined_word}
-use Rattle.rbg_macro.specs.internal.Marks.{word_of}
+use Rattle.rbg_macro.proofs.Common.{joined_word, word_of}
 use Rattle.rbg_macro.proofs.joining.JoinedList.tokens.Given as goal
 
 abbrev pub invariant-loop-token : goal.invariant-loop-token

@@ -1,7 +1,5 @@
 -- A look-up in the map finds a name where the list has it.
-use Rattle.std.proofs.Common.{◌∙◌, ap, List}
-use Rattle.std.specs.List.{list_any}
-use Rattle.std.specs.Str.{bytes_eq}
+use Rattle.rbg_base.proofs.Common.{◌∙◌, ap, List, list_any, bytes_eq}
 use Rattle.rbg_macro.specs.Macro.{Macro}
 use Rattle.rbg_macro.proofs.Names.{has_lookup}
 use Rattle.rbg_macro.proofs.macros.Macros.contains.Goals as goal

@@ -1,8 +1,6 @@
 -- A new name goes last.
-use Rattle.std.proofs.Common.{◌∷◌, [], ◌++◌, List, ◌∙◌, ap, map}
-use Rattle.std.proofs.lemmas.List.{map-append}
-use Rattle.rbg_macro.specs.Macro.{Macro}
-use Rattle.rbg_macro.specs.internal.Template.{macro_of, macro_in}
+use Rattle.rbg_base.proofs.Common.{◌∷◌, [], ◌++◌, List, ◌∙◌, ap, map, map-append}
+use Rattle.rbg_macro.proofs.Common.{Macro, macro_of, macro_in}
 use Rattle.rbg_macro.proofs.Names.{insert_entry-fresh}
 use Rattle.rbg_macro.proofs.macros.Macros.insert.Goals as goal
 

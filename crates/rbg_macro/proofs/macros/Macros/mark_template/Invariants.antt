@@ -1,8 +1,6 @@
 -- The items so far are the template's, marked.
-use Rattle.std.proofs.Common.{◌≡◌, map, take}
-use Rattle.std.specs.List.{All}
-use Rattle.rbg_macro.specs.internal.Marks.{IsMarkedItem}
-use Rattle.rbg_macro.specs.internal.Template.{item_in}
+use Rattle.std.proofs.Common.{◌≡◌, map, take, All}
+use Rattle.rbg_macro.proofs.Common.{IsMarkedItem, item_in}
 use Rattle.rbg_macro.proofs.macros.Macros.mark_template.Given as goal
 
 abbrev pub invariant-loop-item : goal.invariant-loop-item

@@ -1,7 +1,6 @@
 -- The body so far is that of the tokens so far.
 use Rattle.std.proofs.Common.{◌≡◌, map, take}
-use Rattle.rbg_macro.specs.Macro.{body_of}
-use Rattle.rbg_macro.specs.internal.Template.{item_in, texts_in}
+use Rattle.rbg_macro.proofs.Common.{body_of, item_in, texts_in}
 use Rattle.rbg_tokens.specs.Token.{lexeme_of}
 use Rattle.rbg_macro.proofs.macros.Template.new.Given as goal
 

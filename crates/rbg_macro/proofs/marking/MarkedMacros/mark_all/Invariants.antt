@@ -1,8 +1,6 @@
 -- The tokens so far are marked.
-use Rattle.std.proofs.Common.{◌≡◌, map, take}
-use Rattle.std.specs.List.{All}
-use Rattle.rbg_macro.specs.internal.Marks.{IsMarked}
-use Rattle.rbg_macro.specs.internal.ReadTokens.{read_lexeme}
+use Rattle.std.proofs.Common.{◌≡◌, map, take, All}
+use Rattle.rbg_macro.proofs.Common.{IsMarked, read_lexeme}
 use Rattle.rbg_tokens.specs.Token.{lexeme_of}
 use Rattle.rbg_macro.proofs.marking.MarkedMacros.mark_all.Given as goal
 

@@ -1,6 +1,5 @@
 -- The templates so far are those of the first macros, marked.
-use Rattle.std.proofs.Common.{length, take, ◌-◌}
-use Rattle.std.specs.List.{AllZip}
+use Rattle.rbg_base.proofs.Common.{length, take, ◌-◌, AllZip}
 use Rattle.rbg_macro.specs.internal.Marks.{IsMarkedTemplate}
 use Rattle.rbg_macro.proofs.marking.MarkedMacros.new.Given as goal
 

@@ -1,5 +1,4 @@
-use Rattle.std.proofs.Common.{◌≡◌, length, ap, ◌∙◌}
-use Rattle.std.proofs.lemmas.List.{with_items_is}
+use Rattle.rbg_base.proofs.Common.{◌≡◌, length, ap, ◌∙◌, with_items_is}
 use Rattle.rbg_match.proofs.Marking.{taken_back}
 use Rattle.rbg_match.proofs.outbox.Outbox.cut_back.Goals as goal
 

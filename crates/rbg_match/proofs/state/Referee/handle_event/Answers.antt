@@ -1,6 +1,5 @@
 use Rattle.std.proofs.Common.{◌≡◌, ◌-◌, ◌<◌, true, false, length, ap, ◌∙◌, arith}
-use Rattle.rbg_match.specs.internal.Inboxes.{rests_of}
-use Rattle.rbg_match.specs.Inputs.{event_of, inputs_in, has_seat}
+use Rattle.rbg_match.proofs.Common.{rests_of, event_of, inputs_in, has_seat}
 use Rattle.rbg_match.proofs.Replying.{replies_also, replies_with, replies_then, refused_then}
 use Rattle.rbg_match.proofs.Events.{one_handled, seat_test, handles_as, handles_piece, inputs_of_piece_of_none, inputs_of_end, inputs_of_end_of_none, rests_after_piece}
 use Rattle.rbg_match.proofs.state.Referee.handle_event.Goals as goal

@@ -1,6 +1,5 @@
 use Rattle.std.proofs.Common.{subst}
-use Rattle.rbg_match.specs.PlayingOn.{PlaysOn}
-use Rattle.rbg_match.specs.Handling.{heavy, illegal, legal}
+use Rattle.rbg_match.proofs.Common.{PlaysOn, heavy, illegal, legal}
 use Rattle.rbg_match.proofs.Replying.{replies_also, replies_then}
 use Rattle.rbg_match.proofs.state.Referee.judge.Goals as goal
 

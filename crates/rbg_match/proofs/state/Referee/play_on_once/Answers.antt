@@ -1,7 +1,6 @@
 use Rattle.std.proofs.Common.{sym, ◌∙◌, arith}
-use Rattle.rbg_match.specs.declared.turns.Progress.TheVariants.{Settled, KeeperMoved}
+use Rattle.rbg_match.proofs.Common.{Settled, KeeperMoved, play_of}
 use Rattle.rbg_match.specs.PlayingOn.{endless, heavy, finished, turn, MayBeAsked}
-use Rattle.rbg_match.specs.internal.PlayOf.{play_of}
 use Rattle.rbg_match.proofs.Replying.{replies_with, replies_quietly}
 use Rattle.rbg_match.proofs.state.Referee.play_on_once.Goals as goal
 use Rattle.rbg_match.proofs.state.Referee.play_on_once.Goals.{else-mover-eq0-via-then-mover-eq0+else-in_a_row-ge-MAX_KEEPER_MOVES, else-mover-eq0-via-else-mover-eq0, After-find_pairs}

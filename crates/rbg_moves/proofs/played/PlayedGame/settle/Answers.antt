@@ -1,6 +1,5 @@
 -- The keeper's moves lead from the first place to the present one.
-use Rattle.std.proofs.Common.{length, List, ℕ, ◌≡◌, ◌≤◌, inl, ap, ◌∙◌, sym, subst, arith, add-one}
-use Rattle.std.proofs.lemmas.Result.{IfOk-weaker}
+use Rattle.rbg_base.proofs.Common.{length, List, ℕ, ◌≡◌, ◌≤◌, inl, ap, ◌∙◌, sym, subst, arith, add-one, IfOk-weaker}
 use Rattle.rbg_base.specs.Move.{IsMoveLength}
 use Rattle.rbg_rules.specs.Meaning.{AbstractGame, AbstractPlace, IsLegal, Legal, IsPlaceOf}
 use Rattle.rbg_moves.specs.Limits.{most_keeper_moves}

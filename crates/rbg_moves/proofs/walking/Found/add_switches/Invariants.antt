@@ -1,6 +1,5 @@
 -- What the loop over the switches keeps.
-use Rattle.std.proofs.Common.{◌≡◌, ◌≤◌, ◌++◌, ℕ, List, [], All, length, false}
-use Rattle.std.specs.List.Sorted.{IsPermutation}
+use Rattle.std.proofs.Common.{◌≡◌, ◌≤◌, ◌++◌, ℕ, List, [], All, length, false, IsPermutation}
 use Rattle.rbg_rules.specs.Meaning.{IsSwitchAt}
 use Rattle.rbg_moves.specs.internal.Gathering.{ListsSwitches}
 use Rattle.rbg_moves.proofs.walking.Found.add_switches.Given as goal

@@ -1,8 +1,6 @@
 use Rattle.std.proofs.Common.{map}
 use Rattle.rbg_grammar.specs.Views.{name_of}
-use Rattle.rbg_numbering.specs.declared.error.NumberingError.TheVariants.{Memory}
-use Rattle.rbg_numbering.specs.Names.{IsNumberOf}
-use Rattle.rbg_numbering.specs.NameTables.{HasLookUpFault, no_memory}
+use Rattle.rbg_numbering.proofs.Common.{Memory, IsNumberOf, HasLookUpFault, no_memory}
 use Rattle.rbg_numbering.proofs.Lists.{AllZip-step, Contains-map_read}
 use Rattle.rbg_numbering.proofs.LookUps.{look_up_one}
 use Rattle.rbg_base.proofs.Errors.{passed_on}

@@ -1,8 +1,6 @@
-use Rattle.std.proofs.Common.{◌≡◌, ◌∙◌, sym, true, false, ℕ, Some, is_some, slice_get, ◌∷◌, []}
-use Rattle.std.specs.List.{Contains}
+use Rattle.std.proofs.Common.{◌≡◌, ◌∙◌, sym, true, false, ℕ, Some, is_some, slice_get, ◌∷◌, [], Contains}
 use Rattle.rbg_grammar.specs.Views.{name_of}
-use Rattle.rbg_numbering.specs.declared.error.NumberingError.TheVariants.{Memory}
-use Rattle.rbg_numbering.specs.NameTables.{HasNameFault, no_memory}
+use Rattle.rbg_numbering.proofs.Common.{Memory, HasNameFault, no_memory}
 use Rattle.rbg_numbering.proofs.LookUps.{same_name_alone}
 use Rattle.rbg_base.proofs.Errors.{passed_on}
 use Rattle.rbg_numbering.proofs.NameLemmas.{none_from_is_some, there_from_is_some}

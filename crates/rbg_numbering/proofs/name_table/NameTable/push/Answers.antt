@@ -1,6 +1,4 @@
-use Rattle.std.proofs.Common.{◌≡◌, ◌∙◌, ◌++◌, ◌∷◌, [], ap, ℕ, List, Vec, length, arith}
-use Rattle.std.specs.Global.{Global}
-use Rattle.std.proofs.lemmas.List.{length-map}
+use Rattle.rbg_base.proofs.Common.{◌≡◌, ◌∙◌, ◌++◌, ◌∷◌, [], ap, ℕ, List, Vec, length, arith, Global, length-map}
 use Rattle.rbg_numbering.specs.NameTables.{bytes_of}
 use Rattle.rbg_numbering.proofs.NameLemmas.{AreLawfulNames-push, GivesPlaces-push, bytes_of-push}
 use Rattle.rbg_numbering.proofs.name_table.NameTable.push.Goals as goal

@@ -1,6 +1,4 @@
-use Rattle.std.proofs.Common.{rules, ◌≡◌, ℕ, List, [], ◌∷◌, ◌++◌, take, sym, subst, arith}
-use Rattle.std.specs.Prelude.{Contains}
-use Rattle.std.proofs.lemmas.List.Elements.{Contains-append_left}
+use Rattle.rbg_base.proofs.Common.{rules, ◌≡◌, ℕ, List, [], ◌∷◌, ◌++◌, take, sym, subst, arith, Contains, Contains-append_left}
 use Rattle.std.proofs.lemmas.List.{take_all}
 use Rattle.rbg_rules.specs.Meaning.{IsPatternAt}
 use Rattle.rbg_pairs.specs.Part.{IsPart, IsTrialAt}

@@ -1,6 +1,5 @@
 -- Each pair so far is done.
-use Rattle.std.proofs.Common.{ℕ, ◌≤◌, ◌-◌, ◌^◌, length, take}
-use Rattle.std.specs.Prelude.{Contains}
+use Rattle.std.proofs.Common.{ℕ, ◌≤◌, ◌-◌, ◌^◌, length, take, Contains}
 use Rattle.rbg_rules.specs.Meaning.{Start, IsPatternAt}
 use Rattle.rbg_pairs.specs.Part.{IsPart, HasMarksOf}
 use Rattle.rbg_pairs.proofs.flat.Flat.advance.Given as goal

@@ -1,6 +1,5 @@
 use Rattle.std.proofs.Common.{◌≡◌, ℕ, List, [], sym, ap, subst}
-use Rattle.rbg_pairs.specs.Meeting.{Met, MeetsAll}
-use Rattle.rbg_pairs.specs.Start.{start_of}
+use Rattle.rbg_pairs.proofs.Common.{Met, MeetsAll, start_of}
 use Rattle.rbg_pairs.proofs.Parts.{begin_part}
 use Rattle.rbg_pairs.proofs.flat.Flat.begin.Goals as goal
 

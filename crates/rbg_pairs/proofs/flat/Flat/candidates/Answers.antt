@@ -1,5 +1,4 @@
-use Rattle.std.proofs.Common.{◌≡◌, ℕ, List, take, sym, ap, ◌∙◌, subst}
-use Rattle.std.specs.Prelude.{Contains, slice_get, Some}
+use Rattle.std.proofs.Common.{◌≡◌, ℕ, List, take, sym, ap, ◌∙◌, subst, Contains, slice_get, Some}
 use Rattle.rbg_pairs.specs.Plain.{HasPlain}
 use Rattle.rbg_pairs.proofs.Parts.{done_more}
 use Rattle.rbg_pairs.proofs.flat.Flat.candidates.Goals as goal

@@ -1,5 +1,4 @@
-use Rattle.std.proofs.Common.{◌≡◌, ℕ, List, [], ◌∷◌, ◌++◌, take, sym, ◌∙◌, subst}
-use Rattle.std.proofs.lemmas.Option.{get_or_from_slice_get}
+use Rattle.rbg_base.proofs.Common.{◌≡◌, ℕ, List, [], ◌∷◌, ◌++◌, take, sym, ◌∙◌, subst, get_or_from_slice_get}
 use Rattle.rbg_pairs.specs.Part.{IsTrialAt}
 use Rattle.rbg_pairs.proofs.flat.Flat.take.Goals as goal
 

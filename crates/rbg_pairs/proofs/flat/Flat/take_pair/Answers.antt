@@ -1,9 +1,7 @@
-use Rattle.std.proofs.Common.{ℕ, [], subst}
-use Rattle.std.specs.Prelude.{Decides}
+use Rattle.std.proofs.Common.{ℕ, [], subst, Decides}
 use Rattle.rbg_rules.specs.Meaning.{after, Ends}
 use Rattle.rbg_auto.specs.Steps.{AreAllThatFollow}
-use Rattle.rbg_pairs.specs.Meeting.{MeetsAll}
-use Rattle.rbg_pairs.specs.Part.{IsTrialAt}
+use Rattle.rbg_pairs.proofs.Common.{MeetsAll, IsTrialAt}
 use Rattle.rbg_pairs.proofs.Parts.{takes_invalid, takes_modifier, takes_lead, done_more, done_grown}
 use Rattle.rbg_pairs.proofs.flat.Flat.take_pair.Goals as goal
 

@@ -1,6 +1,4 @@
-use Rattle.std.proofs.Common.{◌≡◌, ℕ, List, [], length, true, false, sym, ◌∙◌, ap, subst, take, zero-le}
-use Rattle.std.specs.Prelude.{All}
-use Rattle.std.proofs.lemmas.List.{with_items_is}
+use Rattle.rbg_base.proofs.Common.{◌≡◌, ℕ, List, [], length, true, false, sym, ◌∙◌, ap, subst, take, zero-le, All, with_items_is}
 use Rattle.rbg_pairs.specs.Meeting.{AreMarked, is_marked, mark_at}
 use Rattle.rbg_pairs.proofs.Meetings.{all_unmarked}
 use Rattle.rbg_pairs.proofs.queue.Queue.clear.Goals as goal

@@ -1,5 +1,4 @@
-use Rattle.std.proofs.Common.{ℕ, List, length, length-take, take, ap, subst, ◌≡◌, ◌≢◌, arith}
-use Rattle.std.specs.Prelude.{AllPairs}
+use Rattle.std.proofs.Common.{ℕ, List, length, length-take, take, ap, subst, ◌≡◌, ◌≢◌, arith, AllPairs}
 use Rattle.rbg_pairs.specs.Meeting.{Met}
 use Rattle.rbg_pairs.proofs.Fewness.{few_met}
 use Rattle.rbg_pairs.proofs.queue.Queue.len.Goals as goal

@@ -1,6 +1,4 @@
-use Rattle.std.proofs.Common.{◌≡◌, ℕ, List, take, true, refl, ap, ◌∙◌, subst, arith}
-use Rattle.std.specs.Prelude.{All}
-use Rattle.std.proofs.lemmas.List.{with_items_is}
+use Rattle.rbg_base.proofs.Common.{◌≡◌, ℕ, List, take, true, refl, ap, ◌∙◌, subst, arith, All, with_items_is}
 use Rattle.rbg_pairs.specs.Meeting.{Met, HasMark, AreMarked, MeetsAll, is_marked, mark_at}
 use Rattle.rbg_pairs.proofs.Meetings.{met_all_before}
 use Rattle.rbg_pairs.proofs.queue.Queue.meet_all.Goals as goal

@@ -1,8 +1,5 @@
-use Rattle.std.proofs.Common.{◌≡◌, ℕ, List, take, ap, ◌∙◌, sym, subst}
-use Rattle.std.specs.Prelude.{Contains}
-use Rattle.std.proofs.lemmas.List.{with_items_is}
-use Rattle.rbg_pairs.specs.Meeting.{Met}
-use Rattle.rbg_pairs.specs.Part.{IsPart}
+use Rattle.rbg_base.proofs.Common.{◌≡◌, ℕ, List, take, ap, ◌∙◌, sym, subst, Contains, with_items_is}
+use Rattle.rbg_pairs.proofs.Common.{Met, IsPart}
 use Rattle.rbg_pairs.proofs.queue.Queue.take_told.Goals as goal
 
 -- The pairs that were met before.

@@ -1,5 +1,4 @@
-use Rattle.std.proofs.Common.{refl}
-use Rattle.std.proofs.lemmas.Bool.{false≢true}
+use Rattle.rbg_base.proofs.Common.{refl, false≢true}
 use Rattle.rbg_player.specs.declared.error.PlayerError.TheVariants.{Memory}
 use Rattle.rbg_player.specs.Hearing.{no_player, memory}
 use Rattle.rbg_base.proofs.Errors.{passed_on}

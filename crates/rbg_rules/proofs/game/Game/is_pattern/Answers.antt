@@ -1,6 +1,5 @@
 -- The proof of `game::Game::is_pattern`.
-use Rattle.std.proofs.Common.{subst, sym, ap}
-use Rattle.std.specs.Prelude.{IsTrue, ◌↔◌}
+use Rattle.std.proofs.Common.{subst, sym, ap, IsTrue, ◌↔◌}
 use Rattle.rbg_rules.specs.Expression.{Expression}
 use Rattle.rbg_rules.specs.Positions.{IsPatternAt}
 use Rattle.rbg_rules.specs.State.{AbstractGame}

@@ -1,35 +1,21 @@
-use Rattle.std.proofs.Common.{rules, ◌≡◌, ℕ, ◌^◌, ◌<◌, ◌≤◌, List, length, take, Bool, sym, ap, ◌∙◌, subst, arith, [], ◌∷◌, ◌++◌, ◌-◌, refl, false, true}
-use Rattle.std.specs.Prelude.{IsTrue, ◌↔◌, All, Contains}
+use Rattle.rbg_base.proofs.Common.{rules, ◌≡◌, ℕ, ◌^◌, ◌<◌, ◌≤◌, List, length, take, Bool, sym, ap, ◌∙◌, subst, arith, [], ◌∷◌, ◌++◌, ◌-◌, refl, false, true, IsTrue, ◌↔◌, All, Contains, All-contains}
 use Rattle.rbg_rules.specs.Meaning.{inside, IsPatternAt, Start, beginning, after, AbstractState, IsStateOf, Applies, SomeWordRuns, pattern, IsStart}
 use Rattle.rbg_state.specs.History.{History}
-use Rattle.rbg_pairs.specs.Flat.{IsFlatPart}
-use Rattle.rbg_pairs.specs.Start.{start_of}
+use Rattle.rbg_pairs.proofs.Common.{IsFlatPart, start_of, at_vertex, IsReached, NestsFrom, HasMarksOf}
 use Rattle.rbg_flat.specs.Paths.{ArePathsOf}
-use Rattle.rbg_search.specs.internal.Begun.{IsBegun}
-use Rattle.rbg_search.specs.internal.BySets.{HasSetsFor, IsWhole, IsToBeAsked}
-use Rattle.rbg_search.specs.internal.Finding.{FindsByPairs}
-use Rattle.rbg_search.specs.internal.Behind.{IsReady, RunsBehindPair, SomeRunsBehind}
-use Rattle.rbg_pairs.specs.Closure.{at_vertex, IsReached}
-use Rattle.rbg_pairs.specs.Nesting.{NestsFrom}
-use Rattle.rbg_pairs.specs.Part.{HasMarksOf}
+use Rattle.rbg_search.proofs.Common.{IsBegun, HasSetsFor, IsWhole, IsToBeAsked, FindsByPairs, IsReady, RunsBehindPair, SomeRunsBehind, StandsInPattern, CountsForced, RanBehind, Deep, Wide, Memory, Searching}
 use Rattle.rbg_search.proofs.Asking.{back, mark_within, given_room, runs_one, runs_here, runs_there}
 use Rattle.rbg_search.proofs.Behinds.{all_ready}
 use Rattle.rbg_search.proofs.Turns.{turn_fewer, turn_after, turn_there, turn_end, turn_some, none_of_all, ran_permuted}
 use Rattle.std.proofs.lemmas.List.Sorted.{IsPermutation-refl}
-use Rattle.std.proofs.lemmas.List.Elements.{All-contains}
 use Rattle.rbg_search.proofs.Kept.{onward, before, onward_rules, rules_before, further_on}
-use Rattle.rbg_search.specs.internal.Asked.{StandsInPattern}
-use Rattle.rbg_search.specs.Forced.{CountsForced}
-use Rattle.rbg_search.specs.internal.Taking.{RanBehind}
 use Rattle.rbg_search.proofs.Behinds.{runs_at_end}
 use Rattle.rbg_search.proofs.Counted.{search_before}
 use Rattle.rbg_search.proofs.Forcing.{word_forced}
 use Rattle.rbg_search.proofs.ForcingSteps.{ran_some, asked_forced}
-use Rattle.rbg_search.specs.declared.over.Over.TheVariants.{Deep, Wide, Memory}
 use Rattle.rbg_search.proofs.Patterns.{pattern_inside, inside_start}
 use Rattle.rbg_search.proofs.Counted.{memory_not_deep, memory_not_wide, ok_not_err}
 use Rattle.rbg_search.proofs.CountedSteps.{not_memory, inside_pairs}
-use Rattle.rbg_search.specs.Searching.{Searching}
 use Rattle.rbg_search.proofs.Asks.{asked_since, found_since, handed_on, answered_on, not_entered, as_pattern, asked_there, asked_behind, asked_same}
 use Rattle.rbg_search.proofs.Finding.{IsNextPair, finds_none, finds_room, finds_asked, finds_refused, asks_within, reached_next, pairs_begun, begun_now, pairs_on, pairs_failed, pairs_asked, pairs_more, pairs_forced, pairs_own}
 use Rattle.rbg_search.proofs.FindingBySets.{sets_begun, sets_on, sets_now, reached_here, sets_failed, sets_more, sets_forced, sets_part, sets_own}

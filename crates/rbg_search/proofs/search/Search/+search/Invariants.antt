@@ -1,11 +1,8 @@
 -- Each call has fewer patterns or fewer modifiers before it; the semi-state is given back after each.
-use Rattle.std.proofs.Common.{◌+◌, ◌*◌, ◌-◌, ◌^◌, ◌++◌, ℕ, List, length}
-use Rattle.std.specs.List.Sorted.{IsPermutation}
+use Rattle.std.proofs.Common.{◌+◌, ◌*◌, ◌-◌, ◌^◌, ◌++◌, ℕ, List, length, IsPermutation}
 use Rattle.rbg_pairs.specs.Start.{start_of}
 use Rattle.rbg_flat.specs.internal.Sets.{weight}
-use Rattle.rbg_search.specs.internal.BySets.{FindsBySets}
-use Rattle.rbg_search.specs.internal.Finding.{FindsByPairs}
-use Rattle.rbg_search.specs.internal.Trying.{TriesBehind}
+use Rattle.rbg_search.proofs.Common.{FindsBySets, FindsByPairs, TriesBehind}
 use Rattle.rbg_search.proofs.search.Search.+search.Given as goal
 
 abbrev pub decreases-flat_part : goal.decreases-flat_part

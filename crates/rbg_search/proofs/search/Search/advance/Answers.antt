@@ -1,11 +1,9 @@
-use Rattle.std.proofs.Common.{◌≡◌, ℕ, List, take, sym, ap, subst, arith}
-use Rattle.std.specs.Prelude.{Contains, Option, Some, None, Result, Ok, Err, IfOk, OnOk, IfNone}
+use Rattle.std.proofs.Common.{◌≡◌, ℕ, List, take, sym, ap, subst, arith, Contains, Option, Some, None, Result, Ok, Err, IfOk, OnOk, IfNone}
 use Rattle.std.proofs.lemmas.List.{take_all}
 use Rattle.rbg_rules.specs.Meaning.{IsPatternAt, AbstractGame, AbstractState}
 use Rattle.rbg_pairs.specs.declared.flat.Flat.{Flat}
 use Rattle.rbg_search.specs.Searching.{Searching}
-use Rattle.rbg_pairs.specs.Closure.{IsReached}
-use Rattle.rbg_pairs.specs.Part.{IsPart}
+use Rattle.rbg_pairs.proofs.Common.{IsReached, IsPart}
 use Rattle.rbg_pairs.proofs.Parts.{all_met}
 use Rattle.rbg_search.proofs.search.Search.advance.Goals as goal
 

@@ -1,8 +1,7 @@
 use Rattle.std.proofs.Common.{◌≡◌, ap, ◌∙◌, subst}
 use Rattle.rbg_rules.specs.Meaning.{AbstractGame}
 use Rattle.rbg_flat.specs.declared.flat.Flat.{Flat}
-use Rattle.rbg_search.specs.Searching.{Searching}
-use Rattle.rbg_search.specs.internal.BySets.{AdvancesBySets}
+use Rattle.rbg_search.proofs.Common.{Searching, AdvancesBySets}
 use Rattle.rbg_search.proofs.BySets.{asked_still}
 use Rattle.rbg_search.proofs.search.Search.advance_by_sets.Goals as goal
 

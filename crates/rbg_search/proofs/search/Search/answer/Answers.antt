@@ -1,10 +1,8 @@
-use Rattle.std.proofs.Common.{◌≡◌, ◌+◌, ◌≤◌, sym, ◌∙◌, arith}
-use Rattle.rbg_search.specs.Taken.{most_pairs_of}
+use Rattle.std.proofs.Common.{◌≡◌, ◌+◌, ◌≤◌, sym, ◌∙◌, arith, IsTrue, ◌↔◌}
+use Rattle.rbg_search.proofs.Common.{most_pairs_of, Deep, Wide}
 use Rattle.rbg_search.proofs.Fewness.{one_opened}
 use Rattle.rbg_search.proofs.Takings.{takes_nothing, takes_none_yet, takes_own, own_part, not_ok}
-use Rattle.std.specs.Prelude.{IsTrue, ◌↔◌}
 use Rattle.rbg_rules.specs.Meaning.{inside, beginning, Applies, IsStart, SomeWordRuns, pattern}
-use Rattle.rbg_search.specs.declared.over.Over.TheVariants.{Deep, Wide}
 use Rattle.rbg_search.proofs.Countings.{none_counted}
 use Rattle.rbg_search.proofs.Counted.{wide_not_deep, ok_not_err, counted_only, opened_one, refused_one}
 use Rattle.rbg_search.proofs.CountedSteps.{returned_is}

@@ -1,8 +1,7 @@
 use Rattle.std.proofs.Common.{◌≡◌, take, ap, ◌∙◌, subst}
 use Rattle.rbg_rules.specs.Meaning.{AbstractGame}
 use Rattle.rbg_search.specs.Searching.{Searching}
-use Rattle.rbg_pairs.specs.Start.{start_of}
-use Rattle.rbg_pairs.specs.Part.{IsPart, HasMarksOf}
+use Rattle.rbg_pairs.proofs.Common.{start_of, IsPart, HasMarksOf}
 use Rattle.rbg_search.proofs.search.Search.begun.Goals as goal
 
 pub returns-clause-begun : goal.returns-clause-begun

@@ -1,9 +1,8 @@
 use Rattle.std.proofs.Common.{◌≡◌, ap, sym, ◌∙◌, subst}
 use Rattle.rbg_rules.specs.Meaning.{IsGame, AbstractGame}
 use Rattle.rbg_flat.specs.declared.flat.Flat.{Flat}
-use Rattle.rbg_search.specs.Searching.{Searching}
+use Rattle.rbg_search.proofs.Common.{Searching, BeginsBySets}
 use Rattle.rbg_pairs.specs.Start.{start_of}
-use Rattle.rbg_search.specs.internal.BySets.{BeginsBySets}
 use Rattle.rbg_search.proofs.BySets.{asked_none}
 use Rattle.rbg_search.proofs.search.Search.begun_by_sets.Goals as goal
 

@@ -1,8 +1,6 @@
 use Rattle.std.proofs.Common.{rules, ◌≡◌, ◌^◌, ◌+◌, ◌<◌, ◌≤◌, sym, ap, subst}
 use Rattle.rbg_rules.specs.Meaning.{AbstractGame}
-use Rattle.rbg_search.specs.Searching.{Searching}
-use Rattle.rbg_search.specs.Taken.{most_pairs_of}
-use Rattle.rbg_search.specs.internal.Spent.{IsSpentButOne}
+use Rattle.rbg_search.proofs.Common.{Searching, most_pairs_of, IsSpentButOne}
 use Rattle.rbg_search.proofs.Fewness.{sum_fits}
 use Rattle.rbg_search.proofs.search.Search.count_pairs.Goals as goal
 

@@ -1,13 +1,9 @@
-use Rattle.std.proofs.Common.{◌≡◌, ◌≤◌, sym, ap, ◌∙◌, subst}
-use Rattle.std.specs.Prelude.{IsTrue, ◌↔◌}
+use Rattle.std.proofs.Common.{◌≡◌, ◌≤◌, sym, ap, ◌∙◌, subst, IsTrue, ◌↔◌}
 use Rattle.rbg_rules.specs.Meaning.{IsGame, AbstractGame}
 use Rattle.rbg_flat.specs.declared.flat.Flat.{Flat}
-use Rattle.rbg_flat.specs.Candidates.{MayEnd}
-use Rattle.rbg_flat.specs.Found.{AreFound, HasCandidates}
+use Rattle.rbg_flat.proofs.Common.{MayEnd, AreFound, HasCandidates}
 use Rattle.rbg_pairs.specs.Flat.{IsFlatPart}
-use Rattle.rbg_search.specs.Searching.{Searching}
-use Rattle.rbg_search.specs.Taken.{most_pairs_of}
-use Rattle.rbg_search.specs.internal.BySets.{IsBegunBySets, IsWhole}
+use Rattle.rbg_search.proofs.Common.{Searching, most_pairs_of, IsBegunBySets, IsWhole}
 use Rattle.rbg_search.proofs.BySets.{found_part}
 use Rattle.rbg_search.proofs.search.Search.finish_by_sets.Goals as goal
 

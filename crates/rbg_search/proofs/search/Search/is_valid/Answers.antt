@@ -1,5 +1,4 @@
-use Rattle.std.proofs.Common.{◌≡◌, sym, ap, ◌∙◌, subst}
-use Rattle.std.specs.Prelude.{IsTrue, ◌↔◌}
+use Rattle.std.proofs.Common.{◌≡◌, sym, ap, ◌∙◌, subst, IsTrue, ◌↔◌}
 use Rattle.rbg_rules.specs.Meaning.{inside, IsPatternAt, beginning, AbstractGame, Applies, SomeWordRuns, IsGame}
 use Rattle.rbg_search.specs.Searching.{Searching}
 use Rattle.rbg_search.proofs.Asking.{pattern_position}

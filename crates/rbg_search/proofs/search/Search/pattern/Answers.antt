@@ -1,20 +1,13 @@
-use Rattle.std.proofs.Common.{◌≡◌, ℕ, suc, ◌+◌, ◌<◌, ap, ◌∙◌, subst, arith, refl}
-use Rattle.std.specs.Prelude.{IsTrue, ◌↔◌, ◌≤◌, Result}
+use Rattle.std.proofs.Common.{◌≡◌, ℕ, suc, ◌+◌, ◌<◌, ap, ◌∙◌, subst, arith, refl, IsTrue, ◌↔◌, ◌≤◌, Result, sym}
 use Rattle.rbg_search.proofs.Takings.{takes_nothing, not_ok}
 use Rattle.rbg_rules.specs.Meaning.{inside, Start, beginning, AbstractGame, AbstractState, Applies, pattern}
 use Rattle.rbg_state.specs.History.{History}
-use Rattle.rbg_search.specs.Searching.{Searching}
-use Rattle.rbg_pairs.specs.Closure.{at_vertex}
-use Rattle.rbg_pairs.specs.Nesting.{NestsFrom}
+use Rattle.rbg_search.proofs.Common.{Searching, IsAsked, Over, Deep, Wide, Memory, CountsForced}
+use Rattle.rbg_pairs.proofs.Common.{at_vertex, NestsFrom}
 use Rattle.rbg_search.proofs.Asking.{room_twice}
-use Rattle.rbg_search.specs.internal.Asked.{IsAsked}
-use Rattle.rbg_search.specs.declared.over.Over.{Over}
-use Rattle.rbg_search.specs.declared.over.Over.TheVariants.{Deep, Wide, Memory}
-use Rattle.rbg_search.specs.Forced.{CountsForced}
 use Rattle.rbg_search.proofs.Countings.{none_counted}
 use Rattle.rbg_search.proofs.Counted.{memory_not_deep, memory_not_wide}
 use Rattle.rbg_search.proofs.CountedSteps.{not_memory}
-use Rattle.std.proofs.Common.{sym}
 use Rattle.rbg_search.proofs.Asks.{answered, handed_on, answered_on, asked_there}
 use Rattle.rbg_search.proofs.search.Search.pattern.Goals as goal
 

@@ -2,8 +2,7 @@ use Rattle.std.proofs.Common.{◌≡◌, ℕ, ◌<◌, ap, subst}
 use Rattle.rbg_search.proofs.Takings.{not_ok}
 use Rattle.rbg_rules.specs.Meaning.{AbstractGame}
 use Rattle.rbg_search.specs.Searching.{Searching}
-use Rattle.rbg_pairs.specs.Start.{start_of}
-use Rattle.rbg_pairs.specs.Nesting.{NestsFrom}
+use Rattle.rbg_pairs.proofs.Common.{start_of, NestsFrom}
 use Rattle.rbg_search.proofs.Asks.{answered, handed_on, answered_on}
 use Rattle.rbg_search.proofs.search.Search.reach_flat.Goals as goal
 

@@ -1,28 +1,18 @@
-use Rattle.std.proofs.Common.{◌≡◌, ℕ, ◌+◌, ◌-◌, ◌*◌, ◌<◌, ◌≤◌, [], ◌∷◌, length, ap, subst, arith}
-use Rattle.std.specs.Prelude.{Bool, Decides}
-use Rattle.std.proofs.lemmas.List.Elements.{All-nil, All-push}
+use Rattle.rbg_base.proofs.Common.{◌≡◌, ℕ, ◌+◌, ◌-◌, ◌*◌, ◌<◌, ◌≤◌, [], ◌∷◌, length, ap, subst, arith, Bool, Decides, All-nil, All-push, refl, Result, Err, IsOk}
 use Rattle.rbg_rules.specs.Meaning.{positions_of, IsNumbered, Start, Ends, reach, AbstractGame, AbstractState, IsStateOf}
 use Rattle.rbg_auto.specs.Steps.{AreAllThatFollow}
 use Rattle.rbg_state.specs.History.{History}
-use Rattle.rbg_search.specs.Searching.{Searching}
-use Rattle.rbg_pairs.specs.Start.{start_of, IsPositionOf}
+use Rattle.rbg_search.proofs.Common.{Searching, most_pairs_of, Deep, Wide, HasReached, IsAsked, Finds}
+use Rattle.rbg_pairs.proofs.Common.{start_of, IsPositionOf, IsTrialAt}
 use Rattle.rbg_search.proofs.Alone.{only_position, some_pair, alone_whole, alone_met, alone_pairs, alone_quiet}
-use Rattle.rbg_search.specs.Taken.{most_pairs_of}
 use Rattle.rbg_search.proofs.Fewness.{one_opened}
 use Rattle.rbg_search.proofs.Takings.{own_part, not_ok}
 use Rattle.rbg_search.proofs.Kept.{onward_rules, rules_before}
-use Rattle.std.proofs.Common.{refl}
-use Rattle.rbg_search.specs.declared.over.Over.TheVariants.{Deep, Wide}
 use Rattle.rbg_search.proofs.Asks.{answered, not_entered}
 use Rattle.rbg_search.proofs.Counted.{ok_not_err}
 use Rattle.rbg_search.proofs.Finding.{finds_none, finds_asked, finds_own}
-use Rattle.std.specs.Prelude.{Result, Err, IsOk}
-use Rattle.rbg_pairs.specs.Part.{IsTrialAt}
 use Rattle.rbg_state.specs.declared.state.trials.Trial.TheVariants.{Modifies}
-use Rattle.rbg_search.specs.Answered.{HasReached}
 use Rattle.rbg_search.specs.declared.over.Over.{Over as AnyOver}
-use Rattle.rbg_search.specs.internal.Asked.{IsAsked}
-use Rattle.rbg_search.specs.internal.Finding.{Finds}
 use Rattle.rbg_search.proofs.Alone.{none_there}
 use Rattle.rbg_search.proofs.Finding.{finds_quiet, finds_forced}
 use Rattle.rbg_search.proofs.search.Search.reach_only.Goals as goal

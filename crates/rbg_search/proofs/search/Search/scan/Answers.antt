@@ -1,8 +1,7 @@
 use Rattle.std.proofs.Common.{◌∙◌, ap, sym, subst}
 use Rattle.rbg_rules.specs.Meaning.{IsGame, inside, AbstractGame, beginning}
 use Rattle.rbg_pairs.specs.Closure.{at_vertex}
-use Rattle.rbg_search.specs.Searching.{Searching}
-use Rattle.rbg_search.specs.internal.Straight.{IsTold}
+use Rattle.rbg_search.proofs.Common.{Searching, IsTold}
 use Rattle.rbg_search.proofs.DeadEnds.{dead_told}
 use Rattle.rbg_search.proofs.search.Search.scan.Goals as goal
 

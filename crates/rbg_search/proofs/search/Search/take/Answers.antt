@@ -1,5 +1,4 @@
-use Rattle.std.proofs.Common.{◌≡◌, take, sym, ap, subst}
-use Rattle.std.specs.Prelude.{Some, slice_get}
+use Rattle.std.proofs.Common.{◌≡◌, take, sym, ap, subst, Some, slice_get}
 use Rattle.rbg_pairs.specs.declared.flat.Flat.{Flat}
 use Rattle.rbg_rules.specs.Meaning.{AbstractGame, IsGame}
 use Rattle.rbg_search.specs.Searching.{Searching}

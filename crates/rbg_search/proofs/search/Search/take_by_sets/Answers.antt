@@ -1,8 +1,7 @@
 use Rattle.std.proofs.Common.{◌≡◌, ap, sym, ◌∙◌, subst}
 use Rattle.rbg_rules.specs.Meaning.{IsGame, AbstractGame}
 use Rattle.rbg_flat.specs.declared.flat.Flat.{Flat}
-use Rattle.rbg_search.specs.Searching.{Searching}
-use Rattle.rbg_search.specs.internal.BySets.{HasSetsFor, IsToBeAsked, TakesBySets}
+use Rattle.rbg_search.proofs.Common.{Searching, HasSetsFor, IsToBeAsked, TakesBySets}
 use Rattle.rbg_search.proofs.BySets.{asked_one, pattern_holds}
 use Rattle.rbg_search.proofs.search.Search.take_by_sets.Goals as goal
 

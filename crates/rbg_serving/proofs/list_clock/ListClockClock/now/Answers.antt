@@ -1,6 +1,4 @@
-use Rattle.std.proofs.Common.{◌<◌, ◌-◌, ap, arith, get_or, length, sym, subst, ◌∙◌}
-use Rattle.std.specs.Option.{unwrap_or}
-use Rattle.std.proofs.lemmas.Option.{unwrap_or-slice_get}
+use Rattle.rbg_base.proofs.Common.{◌<◌, ◌-◌, ap, arith, get_or, length, sym, subst, ◌∙◌, unwrap_or, unwrap_or-slice_get}
 use Rattle.rbg_serving.specs.ListClocks.{last_moment}
 use Rattle.rbg_serving.proofs.ClockLemmas.{told_next, told_again}
 use Rattle.rbg_serving.proofs.list_clock.ListClockClock.now.Goals as goal

@@ -1,6 +1,5 @@
 -- A line that is none of the others tells nothing, or may be a move.
-use Rattle.std.proofs.Common.{refl}
-use Rattle.std.proofs.lemmas.Bool.{false≢true}
+use Rattle.rbg_base.proofs.Common.{refl, false≢true}
 use Rattle.rbg_script.specs.Events.{by_message}
 use Rattle.rbg_show.specs.Lines.{passed_over}
 use Rattle.rbg_show.proofs.Lines.{event_found, event_line, event_only, no_event, not_silent}

@@ -1,6 +1,5 @@
 -- The pairs of a reading are its move.
-use Rattle.std.proofs.Common.{◌≡◌, IfSome, ℕ, refl, subst}
-use Rattle.std.proofs.lemmas.Result.{IfOk-weaker}
+use Rattle.rbg_base.proofs.Common.{◌≡◌, IfSome, ℕ, refl, subst, IfOk-weaker}
 use Rattle.rbg_show.specs.internal.Trying.{TellsMade}
 use Rattle.rbg_show.proofs.Trying.{tells_made}
 use Rattle.rbg_show.proofs.scene.Scene.make.Goals as goal

@@ -1,6 +1,5 @@
 -- The game is led on behind the last line, or it can't be.
-use Rattle.std.proofs.Common.{Err, ap, ◌∙◌}
-use Rattle.std.proofs.lemmas.Result.{IfOk-weaker}
+use Rattle.rbg_base.proofs.Common.{Err, ap, ◌∙◌, IfOk-weaker}
 use Rattle.rbg_show.specs.declared.stop.Stop.TheVariants.{Heavy, Keeper}
 use Rattle.rbg_show.specs.Following.StopsBehind.{keeper, heavy}
 use Rattle.rbg_show.specs.internal.Standing.{TellsEnd, standing_of}

@@ -1,6 +1,5 @@
 -- One line after the other, and then the last one.
-use Rattle.std.proofs.Common.{◌≡◌, false, true, subst, arith}
-use Rattle.std.proofs.lemmas.Result.{IfOk-weaker}
+use Rattle.rbg_base.proofs.Common.{◌≡◌, false, true, subst, arith, IfOk-weaker}
 use Rattle.rbg_show.specs.internal.Standing.{TellsLine, TellsList, standing_of}
 use Rattle.rbg_show.proofs.Lists.{followed_more, followed_none, last_stops, list_stops, list_told, number_fits, shorter}
 use Rattle.rbg_show.proofs.showing.Showing.show_list.Goals as goal

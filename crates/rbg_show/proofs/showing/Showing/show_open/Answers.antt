@@ -1,6 +1,5 @@
 -- Each line that holds this is followed, or stops.
-use Rattle.std.proofs.Common.{subst, sym}
-use Rattle.std.proofs.lemmas.Result.{IfOk-weaker}
+use Rattle.rbg_base.proofs.Common.{subst, sym, IfOk-weaker}
 use Rattle.rbg_show.specs.Following.Follows.{ends}
 use Rattle.rbg_show.specs.Lines.{IsLine, SaysMessage}
 use Rattle.rbg_show.specs.internal.Standing.{standing_of}

@@ -1,6 +1,5 @@
-use Rattle.std.proofs.Common.{◌≡◌, ◌<◌, ◌≤◌, ◌*◌, ℕ, List, Some, length, get_or, slice_set, sym, ap, subst, ◌∙◌}
+use Rattle.rbg_base.proofs.Common.{◌≡◌, ◌<◌, ◌≤◌, ◌*◌, ℕ, List, Some, length, get_or, slice_set, sym, ap, subst, ◌∙◌, slice_get-get_or}
 use Rattle.std.proofs.lemmas.List.{get_or_read, length-set}
-use Rattle.std.proofs.lemmas.Option.{slice_get-get_or}
 use Rattle.rbg_state.specs.Rows.{AreRows, ChangesBit}
 use Rattle.rbg_state.proofs.RowLemmas.{rows_after_put}
 use Rattle.rbg_state.proofs.occupancy.Occupancy.put.Goals as goal

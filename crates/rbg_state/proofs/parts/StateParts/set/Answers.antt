@@ -1,6 +1,5 @@
-use Rattle.std.proofs.Common.{◌≡◌, ℕ, List, slice_set, get_or, refl, sym, ap, ◌∙◌}
+use Rattle.rbg_base.proofs.Common.{◌≡◌, ℕ, List, slice_set, get_or, refl, sym, ap, ◌∙◌, get_or_from_slice_get}
 use Rattle.std.proofs.lemmas.List.{set-set, set-get_or}
-use Rattle.std.proofs.lemmas.Option.{get_or_from_slice_get}
 use Rattle.rbg_state.proofs.parts.StateParts.set.Goals as goal
 
 -- an element is set, and then set back

@@ -1,5 +1,4 @@
-use Rattle.std.proofs.Common.{◌≡◌, ℕ, ◌+◌, ◌*◌, ◌<◌, List, length, sym, subst, ap, ◌∙◌, arith}
-use Rattle.std.proofs.lemmas.List.{get_or_read}
+use Rattle.rbg_base.proofs.Common.{◌≡◌, ℕ, ◌+◌, ◌*◌, ◌<◌, List, length, sym, subst, ap, ◌∙◌, arith, get_or_read}
 use Rattle.rbg_state.specs.Rows.{IsWordOf}
 use Rattle.rbg_state.proofs.Counts.{column_more}
 use Rattle.rbg_state.proofs.RowLemmas.{word_is}

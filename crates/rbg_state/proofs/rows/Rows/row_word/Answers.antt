@@ -1,5 +1,4 @@
-use Rattle.std.proofs.Common.{ℕ, ◌+◌, ◌*◌, ◌<◌, List, length, sym, ◌∙◌, subst}
-use Rattle.std.proofs.lemmas.List.{get_or_read}
+use Rattle.rbg_base.proofs.Common.{ℕ, ◌+◌, ◌*◌, ◌<◌, List, length, sym, ◌∙◌, subst, get_or_read}
 use Rattle.rbg_state.specs.Rows.{IsWordOf}
 use Rattle.rbg_state.proofs.RowLemmas.{word_is}
 use Rattle.rbg_state.proofs.rows.Rows.row_word.Goals as goal

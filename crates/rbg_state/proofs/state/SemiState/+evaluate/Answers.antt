@@ -1,6 +1,5 @@
-use Rattle.std.proofs.Common.{◌+◌, Some, length, refl, arith, rules}
+use Rattle.rbg_base.proofs.Common.{◌+◌, Some, length, refl, arith, rules, get_or_from_slice_get}
 use Rattle.std.proofs.lemmas.Int.{to_z-of_z}
-use Rattle.std.proofs.lemmas.Option.{get_or_from_slice_get}
 use Rattle.rbg_rules.specs.declared.arithmetic.Arithmetic.TheViews.{the_lemmas}
 use Rattle.rbg_rules.proofs.Bridge.{arithmetic_of-Variable}
 use Rattle.rbg_state.specs.Evaluation.{value_after}

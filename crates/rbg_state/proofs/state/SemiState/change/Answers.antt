@@ -1,5 +1,4 @@
-use Rattle.std.proofs.Common.{◌≡◌, ap, ◌∙◌, ◌-◌, arith}
-use Rattle.std.specs.Prelude.{vec_len, vec_capacity}
+use Rattle.std.proofs.Common.{◌≡◌, ap, ◌∙◌, ◌-◌, arith, vec_len, vec_capacity}
 use Rattle.rbg_state.specs.Changes.{history_of}
 use Rattle.rbg_state.specs.History.{changed_to}
 use Rattle.rbg_state.proofs.Pasts.{written}

@@ -1,6 +1,5 @@
-use Rattle.std.proofs.Common.{arith}
+use Rattle.rbg_base.proofs.Common.{arith, get_or_from_slice_get}
 use Rattle.std.proofs.lemmas.Int.{to_z-of_z}
-use Rattle.std.proofs.lemmas.Option.{get_or_from_slice_get}
 use Rattle.rbg_rules.proofs.Bridge.{arithmetic_of-Variable}
 use Rattle.rbg_state.proofs.Fits.{fits-of_below}
 use Rattle.rbg_state.proofs.state.SemiState.plain_value.Goals as goal

@@ -1,5 +1,4 @@
-use Rattle.std.proofs.Common.{◌<◌, ◌-◌, length, sym, ◌∙◌, arith}
-use Rattle.std.specs.Prelude.{vec_len, vec_capacity}
+use Rattle.std.proofs.Common.{◌<◌, ◌-◌, length, sym, ◌∙◌, arith, vec_len, vec_capacity}
 use Rattle.rbg_state.specs.Changes.{past_of}
 use Rattle.rbg_state.proofs.Pasts.{taken_back, rest_within, length-past_of, capacity_is}
 use Rattle.rbg_state.proofs.state.SemiState.undo.Goals as goal

@@ -1,5 +1,4 @@
-use Rattle.std.proofs.Common.{◌≡◌, ℕ, List, Some, length, take, slice_get, sym, ap, subst, ◌∙◌, arith}
-use Rattle.std.proofs.lemmas.List.{length_push}
+use Rattle.rbg_base.proofs.Common.{◌≡◌, ℕ, List, Some, length, take, slice_get, sym, ap, subst, ◌∙◌, arith, length_push}
 use Rattle.rbg_rules.specs.Meaning.{AbstractState}
 use Rattle.rbg_state.specs.History.{states_of}
 use Rattle.rbg_state.proofs.Histories.{after_undo, after_both, marked_state, marked_past, given_back}

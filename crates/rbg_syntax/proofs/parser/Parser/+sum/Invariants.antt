@@ -3,9 +3,7 @@
 use Rattle.std.proofs.Common.{ℕ, ◌+◌, ◌*◌, length, map}
 use Rattle.rbg_grammar.specs.declared.expression.Rank.{Rank}
 use Rattle.rbg_grammar.specs.declared.expression.Rank.TheVariants as ranks
-use Rattle.rbg_grammar.specs.RuleReading.{further_operand_at, is_operator, operand_at, primary_at}
-use Rattle.rbg_grammar.specs.Tree.{first_of}
-use Rattle.rbg_grammar.specs.Views.{expression_of, operand_of}
+use Rattle.rbg_grammar.proofs.Common.{further_operand_at, is_operator, operand_at, primary_at, first_of, expression_of, operand_of}
 use Rattle.rbg_grammar.proofs.Turns.{ReadsOn}
 use Rattle.rbg_syntax.proofs.parser.Parser.+sum.Given as goal
 

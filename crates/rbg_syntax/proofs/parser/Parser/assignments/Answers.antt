@@ -1,7 +1,6 @@
 use Rattle.std.proofs.Common.{rules, ◌≡◌, [], ◌∷◌, map}
 use Rattle.rbg_tokens.specs.declared.token.Symbol.TheVariants as symbols
-use Rattle.rbg_grammar.specs.RuleReading.{assignment_at, sum_at}
-use Rattle.rbg_grammar.specs.Views.{rule_of}
+use Rattle.rbg_grammar.proofs.Common.{assignment_at, sum_at, rule_of}
 use Rattle.rbg_grammar.proofs.PhraseLaws.{assignment_takes_some}
 use Rattle.rbg_syntax.proofs.Exits.{GivesWithin-from_err}
 use Rattle.rbg_grammar.proofs.Turns.{separated_begins, separated_begin_fails, separated_turn, separated_turn_fails, separated_ends, separated_smaller, map-push, taken, left}

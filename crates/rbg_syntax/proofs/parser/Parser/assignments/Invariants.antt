@@ -1,9 +1,7 @@
 use Rattle.std.proofs.Common.{◌≡◌, length, map}
 use Rattle.rbg_tokens.specs.declared.token.Symbol.TheVariants as symbols
 use Rattle.rbg_tokens.specs.Kinds.{is_symbol}
-use Rattle.rbg_grammar.specs.Reading.{after_at, repeated_at, separated_at}
-use Rattle.rbg_grammar.specs.RuleReading.{assignment_at, sum_at}
-use Rattle.rbg_grammar.specs.Views.{rule_of}
+use Rattle.rbg_grammar.proofs.Common.{after_at, repeated_at, separated_at, assignment_at, sum_at, rule_of}
 use Rattle.rbg_grammar.proofs.Turns.{prepend}
 use Rattle.rbg_syntax.proofs.parser.Parser.assignments.Given as goal
 

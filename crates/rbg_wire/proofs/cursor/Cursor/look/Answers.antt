@@ -1,6 +1,5 @@
 -- What was looked at before has no zero byte.
-use Rattle.std.proofs.Common.{refl, arith}
-use Rattle.std.proofs.lemmas.List.{take_rest}
+use Rattle.rbg_base.proofs.Common.{refl, arith, take_rest}
 use Rattle.rbg_wire.proofs.CursorLemmas.{looked_none, looked_end, cursor_at_all, cursor_at_end}
 use Rattle.rbg_wire.proofs.cursor.Cursor.look.Goals as goal
 

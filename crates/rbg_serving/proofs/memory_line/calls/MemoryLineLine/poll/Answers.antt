@@ -1,7 +1,5 @@
 use Rattle.std.proofs.Common.{◌<◌, ap, length, subst, take, drop, refl, ◌++◌, ◌∙◌, arith}
-use Rattle.rbg_serving.specs.declared.give.Give.TheVariants.{Nothing, Failed}
-use Rattle.rbg_serving.specs.MemoryLines.{bytes_in, all_given, gives_nothing, ends, fails}
-use Rattle.rbg_serving.specs.Told.{Told}
+use Rattle.rbg_serving.proofs.Common.{Nothing, Failed, bytes_in, all_given, gives_nothing, ends, fails, Told}
 use Rattle.rbg_serving.proofs.MemoryLemmas.{give_at, given_some, only_gives, part_given, rest_given}
 use Rattle.rbg_serving.proofs.memory_line.calls.MemoryLineLine.poll.Goals as goal
 

@@ -1,7 +1,5 @@
 use Rattle.std.proofs.Common.{◌<◌, ◌-◌, ap, get_or, length, sym, subst, take, refl, ◌∙◌, arith, append-nil, [], min}
-use Rattle.rbg_serving.specs.declared.answer.Put.TheVariants.{Took}
-use Rattle.rbg_serving.specs.declared.give.Take.TheVariants.{Fail}
-use Rattle.rbg_serving.specs.MemoryLines.{TakesNext, takes_all, takes_some, fails_to_take}
+use Rattle.rbg_serving.proofs.Common.{Took, Fail, TakesNext, takes_all, takes_some, fails_to_take}
 use Rattle.rbg_serving.proofs.MemoryLemmas.{only_takes}
 use Rattle.rbg_serving.proofs.memory_line.calls.MemoryLineLine.put.Goals as goal
 use Rattle.rbg_serving.proofs.memory_line.calls.MemoryLineLine.put.Goals.{in-None, in-Some-UpTo}
