@@ -17,7 +17,6 @@ mod workspace;
 
 pub use finding::find_move;
 pub use list::{Gathered, Listed, list_moves};
-pub use making::make_move;
 pub use place::Place;
 pub use played::PlayedGame;
 pub use rbg_base::{MAX_PAIRS, Move, MoveList, Pair};

@@ -5,21 +5,9 @@ ghost use Rattle.rbg_state.specs.History.{IsAfter};
 
 use crate::place::Place;
 use crate::stepping::apply_at;
-use rbg_base::{Memory, Move, Pair, Position};
+use rbg_base::{Memory, Pair, Position};
 use rbg_rules::Game;
 use rbg_state::SemiState;
-
-/// The place to which a move leads that is known to be legal. Nothing is searched.
-pub fn make_move(game: &Game, place: &Place, pairs: &Move) -> Result<Place, Memory>
-    requires place { IsPlaceOf game.now place.now }
-    requires legal { IsLegal game.now place.now pairs.now }
-    ensures to { IfOk result (Legal game.now place.now pairs.now) }
-    ensures in_game { IfOk result (IsPlaceOf game.now) }
-{
-    let mut to = place.try_clone()?;
-    make_pairs(game, &mut to, pairs.as_slice())?;
-    Ok(to)
-}
 
 /// Makes the move of these pairs, which is legal, in place. Its changes stay on the list of the place's semi-state. Where
 /// memory is refused, the place stays as it is.
