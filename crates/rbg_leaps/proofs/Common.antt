@@ -9,9 +9,9 @@ pub use Rattle.rbg_leaps.specs.declared.asking.Leaps.{Leaps}
 pub use Rattle.rbg_leaps.specs.declared.branches.Branch.{Branch}
 pub use Rattle.rbg_leaps.specs.declared.interner.Interner.{Interner}
 pub use Rattle.rbg_leaps.specs.declared.interner.Node.{Node}
-pub use Rattle.rbg_leaps.specs.declared.lists.Lists.{Lists}
-pub use Rattle.rbg_leaps.specs.declared.origin.Origin.{Origin}
 pub use Rattle.rbg_leaps.specs.declared.origin.Origin.TheVariants.{After, Begin}
+pub use Rattle.rbg_leaps.specs.declared.origin.Origin.{Origin}
+pub use Rattle.rbg_leaps.specs.declared.lists.Lists.{Lists}
 pub use Rattle.rbg_leaps.specs.declared.table.Entry.{Entry}
 pub use Rattle.rbg_leaps.specs.declared.table.Table.{Table}
 pub use Rattle.rbg_leaps.specs.declared.target.Target.{Target}
