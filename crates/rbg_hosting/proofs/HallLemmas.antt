@@ -1,5 +1,6 @@
 -- Lemmas on why a hall has no printed lines.
-use Rattle.rbg_base.proofs.Common.{◌≡◌, ℕ, ◌≤◌, List, All, Some, length, map, slice_get, sym, subst, Vec, length-map, All-get_or, slice_get_within, get_or_from_slice_get}
+use Rattle.rbg_base.proofs.Common.{◌≡◌, ℕ, ◌≤◌, List, All, Some, length, map, slice_get, sym, subst, length-map, All-get_or, slice_get_within, get_or_from_slice_get}
+use Rattle.std.specs.Global.{Vec}
 use Rattle.rbg_floor.proofs.Common.{AbstractHallEvent, AbstractTable, most_tables, IsRefusedHall}
 use Rattle.rbg_floor.specs.Openings.IsRefusedHall.{tables as wrong_tables, config as wrong_config, memory as no_memory}
 use Rattle.rbg_floor.specs.Wholes.{IsOfHall as IsAllowedHall}

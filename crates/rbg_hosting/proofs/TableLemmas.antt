@@ -1,5 +1,6 @@
 -- Lemmas on the tables of descriptions.
-use Rattle.rbg_base.proofs.Common.{◌≡◌, ℕ, ◌+◌, ◌<◌, List, [], ◌∷◌, ◌++◌, All, length, take, drop, get_or, ap, sym, ◌∙◌, refl, subst, Vec, All-nil, All-push}
+use Rattle.rbg_base.proofs.Common.{◌≡◌, ℕ, ◌+◌, ◌<◌, List, [], ◌∷◌, ◌++◌, All, length, take, drop, get_or, ap, sym, ◌∙◌, refl, subst, All-nil, All-push}
+use Rattle.std.specs.Global.{Vec}
 use Rattle.std.proofs.lemmas.List.{length-append, map-append, take-append-drop, take_more, drop_more}
 use Rattle.rbg_floor.specs.declared.table.Table.{Table}
 use Rattle.rbg_floor.proofs.Common.{AbstractTable, AreLoaded, start_of, starts_of}
