@@ -27,10 +27,21 @@ impl Rows {
             columns,
             words: vec![in alloc; 0; kinds.saturating_mul(columns)]?,
         };
-        for index in 0..pieces.len() {
-            rows.change(pieces[index], index as Vertex, true);
-        }
+        rows.place_all(pieces);
         Ok(rows)
+    }
+
+    /// Places each piece on its vertex, where none stands on any.
+    fn place_all(&mut self, pieces: &[Piece])
+        requires few { length pieces.now < 2 ^ 16 }
+        requires wide { length pieces.now ≤ self.old.columns * 64 }
+        requires none { AreRows pieces.now 0 self.old.columns self.old.words.items }
+        ensures columns { self.new.columns ≡ self.old.columns }
+        ensures rows { AreRows pieces.now (length pieces.now) self.new.columns self.new.words.items }
+    {
+        for index in 0..pieces.len() {
+            self.change(pieces[index], index as Vertex, true);
+        }
     }
 
     /// No rows.
