@@ -68,9 +68,6 @@ fn expect_equals<'t, 's>(tokens: &'s [Token<'t>], end: usize) -> Result<&'s [Tok
     Ok(behind)
 }
 
-/// A macro's parameters, and what follows them.
-type Parameters<'t, 's> = (IndexSet<&'t [u8]>, &'s [Token<'t>]);
-
 /// Adds the parameter that is the first token, and returns the token after it.
 fn parameter<'t>(
     names: &mut IndexSet<&'t [u8]>,
@@ -99,22 +96,22 @@ fn parameter<'t>(
     Ok(tokens[1])
 }
 
-/// The parameters after a `(`, up to the `)` after the last one, put into an empty set of names.
+/// Puts the parameters after a `(` into an empty set of names, and returns what follows the `)` after the last one.
 fn parameter_list<'t, 's>(
-    mut names: IndexSet<&'t [u8]>,
+    names: &mut IndexSet<&'t [u8]>,
     tokens: &'s [Token<'t>],
     end: usize,
-) -> Result<Parameters<'t, 's>, MacroError>
-    requires { names.keys ≡ [] }
-    ensures { Gives (λ x. (texts_in x.0.keys, map lexeme_of x.1.now)) result
+) -> Result<&'s [Token<'t>], MacroError>
+    requires { names.old.keys ≡ [] }
+    ensures { Gives (λ x. (texts_in names.new.keys, map lexeme_of x.now)) result
         (parameter_list end [] (map lexeme_of tokens.now)) }
 {
     let mut at = 0;
     loop {
-        let next = parameter(&mut names, &tokens[at..], end)?;
+        let next = parameter(names, &tokens[at..], end)?;
         at += 2;
         if next.kind.is(Symbol::CloseParenthesis) {
-            return Ok((names, &tokens[at..]));
+            return Ok(&tokens[at..]);
         }
         if !next.kind.is(Symbol::Semicolon) {
             return Err(MacroError::BadDefinition { at: next.at });
@@ -122,28 +119,27 @@ fn parameter_list<'t, 's>(
     }
 }
 
-/// A macro's parameters and its body, which follow its name.
+/// Puts the parameters of the macro whose name the tokens follow into an empty set of names, and returns its body.
 fn behind_name<'t, 's>(
-    alloc: Global,
+    names: &mut IndexSet<&'t [u8]>,
     tokens: &'s [Token<'t>],
     end: usize,
-) -> Result<Parameters<'t, 's>, MacroError>
-    ensures { Gives (λ x. (texts_in x.0.keys, map lexeme_of x.1.now)) result
+) -> Result<&'s [Token<'t>], MacroError>
+    requires { names.old.keys ≡ [] }
+    ensures { Gives (λ x. (texts_in names.new.keys, map lexeme_of x.now)) result
         (behind_name end (map lexeme_of tokens.now)) }
 {
     let Some((token, behind)) = tokens.split_first() else {
         return Err(MacroError::BadDefinition { at: end });
     };
-    let names = IndexSet::new(alloc);
     if token.kind.is(Symbol::Equals) {
-        return Ok((names, behind));
+        return Ok(behind);
     }
     if !token.kind.is(Symbol::OpenParenthesis) {
         return Err(MacroError::BadDefinition { at: token.at });
     }
-    let (names, behind) = parameter_list(names, behind, end)?;
-    let body = expect_equals(behind, end)?;
-    Ok((names, body))
+    let behind = parameter_list(names, behind, end)?;
+    expect_equals(behind, end)
 }
 
 /// The template of the macro whose name the tokens follow.
@@ -155,7 +151,8 @@ fn read_template<'t>(
     ensures ok { IfOk result (IsTemplateBehind end (map lexeme_of tokens.now)) }
     ensures err { IfErr result (UnlessMemory (λ e. behind_name end (map lexeme_of tokens.now) ≡ Err e)) }
 {
-    let (parameters, body) = behind_name(alloc, tokens, end)?;
+    let mut parameters = IndexSet::new(alloc);
+    let body = behind_name(&mut parameters, tokens, end)?;
     Ok(Template::new(alloc, &parameters, body)?)
 }
 
