@@ -1,6 +1,6 @@
 -- Calls of macros with parameters, as the code finds them.
 use Rattle.rbg_base.proofs.Common.{ℕ, ◌≡◌, ◌+◌, ◌≤◌, true, false, nat_eq, List, [], ◌∷◌, length, drop, map, Some, refl, sym, ap, ◌∙◌, arith, add-one, nat_tests}
-use Rattle.rbg_macro.proofs.Common.{Template, arguments, Calls, meets, called, AreArguments, begins_with_parenthesis, Macro, filled, item_in, macro_of, IsNamed}
+use Rattle.rbg_macro.proofs.Common.{Template, arguments, Calls, met, meets, called, AreArguments, IsCall, begins_with_parenthesis, Macro, filled, item_in, macro_of, IsNamed}
 use Rattle.rbg_tokens.specs.Token.{Lexeme}
 
 called_with : (m : Macro) (behind rest : List Lexeme) (lists : List (List Lexeme)) (n : ℕ) → begins_with_parenthesis behind ≡ true → rest ≡ drop 1 behind →
@@ -13,14 +13,19 @@ called_with m (t ∷ ts) rest lists n opens is found many =
     let left : found.found.rest ≡ drop n ts = found.rest ∙ ap (drop n) is in
     rw (opens, arguments_are, enough, ← found.are, left, add-one) refl
 
-pub call_meets : (macros : List Macro) (t : Lexeme) (template : Template) (behind : List Lexeme) (rest : List Lexeme) (lists : List (List Lexeme)) (n : ℕ) →
-    IsNamed macros t template → (template.parameters ≡ 0 → ⊥) → begins_with_parenthesis behind ≡ true → rest ≡ drop 1 behind →
+pub call_meets : (template : Template) (name : List ℕ) (behind : List Lexeme) (rest : List Lexeme) (lists : List (List Lexeme)) (n : ℕ) →
+    (template.parameters ≡ 0 → ⊥) → begins_with_parenthesis behind ≡ true → rest ≡ drop 1 behind →
     AreArguments rest lists n → length lists ≡ template.parameters →
-    meets macros t behind ≡ Calls (filled (map item_in template.body.items) lists) (drop (n + 1) behind)
-call_meets macros t template behind rest lists n is some opens is_rest found many =
+    met (Some (macro_of name template)) behind ≡ Calls (filled (map item_in template.body.items) lists) (drop (n + 1) behind)
+call_meets template name behind rest lists n some opens is_rest found many =
     let none : nat_eq template.parameters 0 ≡ false = grind (arith, nat_tests) in
-    rw (is.named, none) (called_with (macro_of is.name template) behind rest lists n opens is_rest found many)
+    rw none (called_with (macro_of name template) behind rest lists n opens is_rest found many)
 
 pub call_within : (behind rest : List Lexeme) (lists : List (List Lexeme)) (n : ℕ) → begins_with_parenthesis behind ≡ true → rest ≡ drop 1 behind → AreArguments rest lists n → n + 1 ≤ length behind
 call_within [] rest lists n opens is found = cc
 call_within (t ∷ ts) rest lists n opens is found = omega (arith, found.within, ap length is)
+
+-- the call of a macro that a token names
+pub named_call : (macros : List Macro) (t : Lexeme) (template : Template) (ts : List Lexeme) (lists : List (List Lexeme)) (n : ℕ) →
+    IsNamed macros t template → IsCall template ts lists n → meets macros t ts ≡ Calls (filled (map item_in template.body.items) lists) (drop n ts)
+named_call macros t template ts lists n named is = ap (λ m. met m ts) named.named ∙ is.meets named.name

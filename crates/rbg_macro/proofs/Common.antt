@@ -20,7 +20,7 @@ pub use Rattle.rbg_macro.specs.declared.macros.Template.{Template}
 pub use Rattle.rbg_macro.specs.declared.read_token.ReadToken.{ReadToken}
 pub use Rattle.rbg_macro.specs.declared.source.SectionKind.{SectionKind}
 pub use Rattle.rbg_macro.specs.declared.source.SectionSpan.{SectionSpan}
-pub use Rattle.rbg_macro.specs.internal.Calls.{AreArguments, IsNoCall, begins_with_parenthesis}
+pub use Rattle.rbg_macro.specs.internal.Calls.{AreArguments, IsCall, IsMiscall, begins_with_parenthesis}
 pub use Rattle.rbg_macro.specs.internal.Defines.{AddsDefined, AddsParameter, BeginsDefinition, defines_of, section_of, with_one_more}
 pub use Rattle.rbg_macro.specs.internal.Joined.{AddsChain, FailsChain, IsJoinedWithin, JoinsChain, JoinsNext, begins_with_tilde, joined_word, word_at}
 pub use Rattle.rbg_macro.specs.internal.Marks.{AreMarkedLists, FillsMarks, IsMarked, IsMarkedItem, IsMarkedTemplate, IsMarkedWord, IsNumberOf, IsTemplateAt, KeepsMarks, Word, lexeme_in_word, word_of}

@@ -1,30 +1,27 @@
 //! Calls of macros: a macro's name, and the arguments in parentheses after it.
 ghost use Rattle.std.specs.Prelude.{◌≡◌, ◌+◌, ◌<◌, ◌^◌, [], drop, map, None, Some, Ok};
-ghost use Rattle.std.specs.Prelude.{All, Err, IfOk, IfErr, IfSome, MatchOption};
-ghost use Rattle.rbg_macro.specs.Call.{Stays, arguments, closing, meets, nesting};
-ghost use Rattle.rbg_macro.specs.internal.Calls.{nesting_of, AreArguments, IsCall, IsNoCall, begins_with_parenthesis};
+ghost use Rattle.std.specs.Prelude.{Err, IfOk, IfErr, IfSome, MatchOption};
+ghost use Rattle.rbg_macro.specs.Call.{arguments, closing, nesting};
+ghost use Rattle.rbg_macro.specs.internal.Calls.{nesting_of, AreArguments, IsCall, IsMiscall, begins_with_parenthesis};
 ghost use Rattle.rbg_macro.specs.Errors.{UnlessMemory};
-ghost use Rattle.rbg_macro.specs.internal.Marks.{IsMarked, IsMarkedCall, KeepsMarks};
+ghost use Rattle.rbg_macro.specs.internal.Marks.{KeepsMarks};
 ghost use Rattle.rbg_macro.specs.internal.ReadTokens.{read_lexeme};
 ghost use Rattle.rbg_macro.specs.internal.Template.{lists_in};
 
 use crate::error::MacroError;
-use crate::macros::BodyItem;
-use crate::marking::MarkedMacros;
+use crate::macros::{BodyItem, Template};
 use crate::read_token::ReadToken;
 use rbg_base::Memory;
 use rbg_tokens::{Symbol, TokenKind};
 use smallvec::SmallVec;
-use std::alloc::Global;
 
 /// The arguments of a call. Most calls have few.
 pub(crate) type Arguments<'t, 'j> = SmallVec<&'j [ReadToken<'t, 'j>], 4>;
 
-/// A call of a macro: the macro's body, the arguments, and the number of tokens of the call after the macro's name.
+/// A call of a macro: the macro's body, and the arguments.
 pub(crate) struct Call<'m, 't, 'j> {
     pub body: &'m [BodyItem<'t>],
     pub arguments: Arguments<'t, 'j>,
-    pub len: usize,
 }
 
 /// Written out, so that letting a call go is one call in the proofs of those who hold one, not a step for each part.
@@ -33,7 +30,6 @@ impl Drop for Call<'_, '_, '_> {
         let Call {
             body: _,
             arguments: _,
-            len: _,
         } = self;
     }
 }
@@ -113,45 +109,34 @@ fn find_arguments<'t, 'j>(
     Ok(None)
 }
 
-/// The call that the token begins if it is a macro's name: of a macro without parameters it is the
-/// name alone, else the arguments follow.
-pub(crate) fn find_call<'m, 't, 'j>(
-    alloc: Global,
-    macros: &'m MarkedMacros<'t>,
-    name: &ReadToken<'t, 'j>,
+/// Puts the arguments of a call into `found`, which is empty before. Returns the number of tokens of the call after the
+/// macro's name, which is at this offset: none where the macro has no parameters, else the arguments follow.
+pub(crate) fn read_arguments<'t, 'j>(
+    found: &mut Arguments<'t, 'j>,
+    template: &Template<'t>,
+    at: usize,
     behind: &'j [ReadToken<'t, 'j>],
-) -> Result<Option<Call<'m, 't, 'j>>, MacroError>
-    requires named { IsMarked macros.now name.now }
-    requires behind { All (IsMarked macros.now) behind.now }
-    ensures ok { IfOk result (λ o. MatchOption o
-        (meets macros.now (read_lexeme name.now) (map read_lexeme behind.now) ≡ Stays)
-        (IsCall macros.now (read_lexeme name.now) (map read_lexeme behind.now))) }
-    ensures marked { IfOk result (λ o. IfSome o (IsMarkedCall macros.now)) }
-    ensures err { IfErr result (UnlessMemory (λ e. IsNoCall macros.now (read_lexeme name.now)
-        (map read_lexeme behind.now) e)) }
+) -> Result<usize, MacroError>
+    requires { found.old.items ≡ [] }
+    ensures ok { IfOk result (IsCall template.now (map read_lexeme behind.now)
+        (lists_in found.new.items)) }
+    ensures marks { IfOk result (λ _. KeepsMarks behind.now found.new.items) }
+    ensures err { IfErr result (UnlessMemory
+        (IsMiscall template.now at (map read_lexeme behind.now))) }
 {
-    let Some(template) = macros.get(name) else {
-        return Ok(None);
-    };
-    let mut call = Call {
-        body: template.body.as_slice(),
-        arguments: SmallVec::new(alloc),
-        len: 0,
-    };
     if template.parameters == 0 {
-        return Ok(Some(call));
+        return Ok(0);
     }
     if !begins_with_parenthesis(behind) {
-        return Err(MacroError::ArgumentCount { at: name.at });
+        return Err(MacroError::ArgumentCount { at });
     }
-    let Some(len) = find_arguments(&mut call.arguments, &behind[1..])? else {
-        return Err(MacroError::ArgumentCount { at: name.at });
+    let Some(len) = find_arguments(found, &behind[1..])? else {
+        return Err(MacroError::ArgumentCount { at });
     };
-    if call.arguments.len() != template.parameters {
-        return Err(MacroError::ArgumentCount { at: name.at });
+    if found.len() != template.parameters {
+        return Err(MacroError::ArgumentCount { at });
     }
-    call.len = len + 1;
-    Ok(Some(call))
+    Ok(len + 1)
 }
 
 /// Whether the first token is `(`.

@@ -15,7 +15,7 @@ ghost use Rattle.rbg_macro.specs.internal.Span.{section_in, IsSectionWithin};
 ghost use Rattle.rbg_macro.specs.internal.ReadTokens.{read_lexeme};
 
 use crate::buffer::TokenBuffer;
-use crate::call::find_call;
+use crate::call::{Call, read_arguments};
 use crate::definition::{SectionBody, read_definitions};
 use crate::error::MacroError;
 use crate::filling::{fill, filled_len};
@@ -25,6 +25,7 @@ use crate::marking::MarkedMacros;
 use crate::read_token::ReadToken;
 use crate::source::{SectionSpan, Source};
 use rbg_tokens::{Symbol, Tokens};
+use smallvec::SmallVec;
 use std::alloc::Global;
 
 /// How far an expansion has come: how many tokens were read, and which were kept.
@@ -81,13 +82,17 @@ fn body_of_call<'t, 'j>(
         FailsReading macros.now level read k (read_lexeme name.now
         ∷ map read_lexeme behind.now) e)) }
 {
-    let Some(call) = find_call(alloc, macros, name, behind)? else {
+    let Some(template) = macros.get(name) else {
         return Ok(None);
     };
+    let mut call = Call {
+        body: template.body.as_slice(),
+        arguments: SmallVec::new(alloc),
+    };
+    let len = read_arguments(&mut call.arguments, template, name.at, behind)?;
     if level >= MAX_LEVEL {
         return Err(MacroError::Depth { at: name.at });
     }
-    let len = call.len;
     let Some(count) = filled_len(call.body, &call.arguments, MAX_READ - read) else {
         return Err(MacroError::TooManyTokens);
     };

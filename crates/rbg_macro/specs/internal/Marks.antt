@@ -2,7 +2,6 @@
 use Rattle.std.specs.Prelude.{ℕ, ◌≡◌, List, map, Option, None, Some, MatchOption, slice_get}
 use Rattle.std.specs.Borrow.{Bor}
 use Rattle.std.specs.List.{All}
-use Rattle.rbg_macro.specs.declared.call.Call.{Call}
 use Rattle.rbg_macro.specs.declared.macros.BodyItem.{BodyItem as KeptItem}
 use Rattle.rbg_macro.specs.declared.macros.BodyItem.TheVariants as kept
 use Rattle.rbg_macro.specs.declared.macros.Template.{Template}
@@ -65,8 +64,3 @@ pub record KeepsMarks (tokens : List ReadToken) (lists : List (Bor (List ReadTok
 pub record FillsMarks (body : List KeptItem) (arguments : List (Bor (List ReadToken))) (tokens : List ReadToken) : Type 0 where
   pub fills : (macros : List Macro) → All (IsMarkedItem macros) body → AreMarkedLists macros arguments →
       All (IsMarked macros) tokens
-
--- the body of the call and its arguments are marked
-pub record IsMarkedCall (macros : List Macro) (call : Call) : Type 0 where
-  pub body : All (IsMarkedItem macros) call.body.now
-  pub arguments : AreMarkedLists macros call.arguments.items
