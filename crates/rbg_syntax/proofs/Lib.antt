@@ -7,3 +7,4 @@ pub mod Fronts
 pub mod Parts
 pub mod Places
 pub mod SectionLists
+mod Separated

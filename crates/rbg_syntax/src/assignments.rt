@@ -72,11 +72,12 @@ impl<'a> Parser<'a> {
             (separated_at symbols.Comma (assignment_at (sum_at brackets)) self.old) }
     {
         let mut parts = Vec::new(alloc);
-        parts.push(self.assignment(alloc, brackets)?)?;
-        while self.takes(Symbol::Comma) {
+        loop {
             parts.push(self.assignment(alloc, brackets)?)?;
+            if !self.takes(Symbol::Comma) {
+                return Ok(parts);
+            }
         }
-        Ok(parts)
     }
 
     /// An assignment.

@@ -58,11 +58,12 @@ impl<'a> Parser<'a> {
             (map T.view v.items, self.new)) result (separated_at separator T.read self.old) }
     {
         let mut phrases = Vec::new(alloc);
-        phrases.push(T::read_from(self, alloc)?)?;
-        while self.takes(separator) {
+        loop {
             phrases.push(T::read_from(self, alloc)?)?;
+            if !self.takes(separator) {
+                return Ok(phrases);
+            }
         }
-        Ok(phrases)
     }
 
     /// Any number of phrases, with commas between them.
