@@ -2,7 +2,6 @@
 mod Following
 mod Lines
 mod Lists
-mod Pieces
 mod Readings
 mod Texts
 mod Trying

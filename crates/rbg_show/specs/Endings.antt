@@ -1,10 +1,10 @@
 -- How the end of a list is told: how the match ended, who is to move, or why it stops.
-use Rattle.std.specs.Prelude.{◌≡◌, ℕ, ◌-◌, ◌==◌, ◌&&◌, Bool, true, false, nat_lt, nat_le, if◌then◌else◌, List, ◌++◌, length, get_or, Option, Some, None, codes, decimal}
+use Rattle.std.specs.Prelude.{◌≡◌, ℕ, ◌-◌, ◌&&◌, Bool, true, false, nat_lt, nat_le, if◌then◌else◌, List, ◌++◌, length, get_or, Option, Some, None, codes, decimal}
 use Rattle.rbg_wire.specs.declared.outcome.Outcome.{Outcome}
 use Rattle.rbg_wire.specs.declared.outcome.Outcome.TheVariants.{Finished, Time, Refusals, Gone, Heavy}
 use Rattle.rbg_show.specs.declared.stop.Stop.{Stop}
 use Rattle.rbg_show.specs.declared.stop.Stop.TheVariants.{NotLegal, NoMove, Mark, BehindEnd, Heavy as HeavyQuestion, Keeper, Memory}
-use Rattle.rbg_show.specs.Playing.{Playing}
+use Rattle.rbg_playthrough.specs.Playing.{Playing, mover_text}
 
 -- the name of a player, or its number where the game has no such player
 unfoldable pub who_text : List (List ℕ) → ℕ → List ℕ
@@ -24,12 +24,6 @@ ending_words players Heavy = codes "a limit of play was reached"
 -- the line that tells how a match ended
 abbrev pub ending_text : List (List ℕ) → Outcome → List ℕ
 ending_text players outcome = codes "the match ended: " ++ ending_words players outcome ++ codes "\n"
-
--- who is to move
-abbrev pub mover_text : Playing → List ℕ
-mover_text at =
-    if at.place.state.player == 0 then codes "the keeper"
-    else get_or at.game.players (at.place.state.player - 1) (codes "")
 
 -- The last line of a list that is followed whole: how the match ended if a record has told it, or else who is to move,
 -- or that play is finished.

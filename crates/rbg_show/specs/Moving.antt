@@ -1,22 +1,10 @@
 -- How a game that is followed goes on: by the moves that lines may mean, and by the keeper's between them.
-use Rattle.std.specs.Prelude.{◌≡◌, ◌≢◌, ◌==◌, ℕ, ◌+◌, ◌<◌, ◌⊎◌, min, if◌then◌else◌, List, [], ◌∷◌, ◌++◌, IfSome, All, Contains, Bool, true, false}
-use Rattle.rbg_rules.specs.Meaning.{AbstractPlace, Legal, IsLegal, Finished, IsHeavyToFind, IsHeavyToTry}
+use Rattle.std.specs.Prelude.{◌≡◌, ◌≢◌, ℕ, ◌<◌, ◌⊎◌, List, [], ◌∷◌, ◌++◌, IfSome, All, Contains, Bool, true, false}
+use Rattle.rbg_rules.specs.Meaning.{IsLegal, Finished, IsHeavyToFind, IsHeavyToTry}
 use Rattle.rbg_moves.specs.Limits.{most_keeper_moves}
 use Rattle.rbg_show.specs.declared.reading.Reading.{Reading}
-use Rattle.rbg_show.specs.Playing.{Playing}
-
--- how many moves the keeper has made in a row after a move from here
-abbrev pub in_a_row_after : Playing → ℕ
-in_a_row_after from = if from.place.state.player == 0 then min (from.in_a_row + 1) most_keeper_moves else 0
-
--- where the game stands after a move to this place
-abbrev pub moved_to : Playing → AbstractPlace → Playing
-moved_to from place = record { game = from.game; place = place; in_a_row = in_a_row_after from }
-
--- The pairs are a legal move from the one to the other.
-pub record Moves (from : Playing) (pairs : List (ℕ × ℕ)) (to : Playing) : Type 0 where
-  pub legal : Legal from.game from.place pairs to.place
-  pub is : to ≡ moved_to from to.place
+use Rattle.rbg_playthrough.specs.Moving.{Moves}
+use Rattle.rbg_playthrough.specs.Playing.{Playing}
 
 -- The reading names no player but the one who is to move.
 abbrev pub IsOfMover : Playing → Reading → Type 0

@@ -4,7 +4,6 @@
 mod drawing;
 mod ending;
 mod line;
-mod playthrough;
 mod reading;
 mod scene;
 mod sheet;

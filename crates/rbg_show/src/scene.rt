@@ -5,16 +5,17 @@ ghost use Rattle.rbg_moves.specs.Limits.{most_keeper_moves};
 ghost use Rattle.rbg_show.specs.declared.stop.Stop.TheVariants.{Memory as NoMemory};
 ghost use Rattle.rbg_show.specs.Endings.{EndsWith, ended_text, stopped_text};
 ghost use Rattle.rbg_show.specs.internal.Standing.{TellsLimit};
-ghost use Rattle.rbg_show.specs.Moving.{IsHeavyAt, MeetsHeavy, Moves, Settles, SettlesHeavy, TiresKeeper};
+ghost use Rattle.rbg_playthrough.specs.Moving.{Moves};
+ghost use Rattle.rbg_show.specs.Moving.{IsHeavyAt, MeetsHeavy, Settles, SettlesHeavy, TiresKeeper};
 ghost use Rattle.rbg_wire.specs.declared.outcome.Outcome.TheVariants.{Heavy as HeavyEnd};
 ghost use Rattle.rbg_show.specs.internal.Trying.{IsHeavyPairs, IsHeavyReading, TellsFirst, TellsKeeper, TellsMade, TellsMoved, TellsOne};
 
-use crate::playthrough::Playthrough;
 use crate::reading::Reading;
 use crate::sheet::Sheet;
 use crate::stop::Stop;
 use rbg_base::{Memory, Move, Pair, Player};
 use rbg_moves::Unsettled;
+use rbg_playthrough::Playthrough;
 use rbg_wire::Outcome;
 
 /// A game that is followed, and what is written of it.
@@ -81,13 +82,10 @@ impl Scene<'_> {
         ensures endless { result ≡ Err Unsettled.Endless → ⊥ }
     {
         let player = self.play.player();
-        if player != 0 {
-            self.sheet.draw(&self.play)?;
-        }
-        let before = self.play.pieces()?;
+        self.sheet.begin_move(&self.play)?;
         let is_legal = self.play.try_pairs(pairs)?;
         if is_legal {
-            self.sheet.tell_move(&self.play, player, before.as_slice())?;
+            self.sheet.tell_move(&self.play, player)?;
             Ok(true)
         } else {
             Ok(false)
@@ -127,9 +125,9 @@ impl Scene<'_> {
         requires { IsLegal self.old.play.game self.old.play.place pairs.now }
         ensures { OnOk result (Moves self.old.play pairs.now self.new.play) }
     {
-        let before = self.play.pieces()?;
+        self.sheet.begin_move(&self.play)?;
         self.play.make(pairs)?;
-        self.sheet.tell_move(&self.play, 0, before.as_slice())
+        self.sheet.tell_move(&self.play, 0)
     }
 
     /// Says that a seat's message is refused.

@@ -1,15 +1,15 @@
 //! What is written of a game that is followed.
-ghost use Rattle.std.specs.Prelude.{◌≢◌, OnOk};
+ghost use Rattle.std.specs.Prelude.{◌≢◌, ◌<◌, OnOk, length};
 ghost use Rattle.rbg_show.specs.Endings.{EndsWith, ended_text, stopped_text};
 ghost use Rattle.rbg_show.specs.declared.stop.Stop.TheVariants.{Memory as NoMemory};
 
 use crate::drawing::Drawing;
 use crate::ending::{put_end, put_stop, put_who};
-use crate::playthrough::Playthrough;
 use crate::signs::Signs;
 use crate::stop::Stop;
-use rbg_base::{Piece, Player};
+use rbg_base::{Piece, Player, Variable};
 use rbg_game::{Game, Layout};
+use rbg_playthrough::Playthrough;
 use rbg_wire::{Outcome, write_number};
 use std::alloc::{AllocError, Global};
 
@@ -26,6 +26,8 @@ pub(crate) struct Sheet<'a> {
     moves: u64,
     /// Whether the board isn't drawn yet.
     is_new: bool,
+    /// What stood on the board before the latest move.
+    before: Vec<Piece>,
 }
 
 impl<'a> Sheet<'a> {
@@ -52,18 +54,27 @@ impl<'a> Sheet<'a> {
             only_last,
             moves: 0,
             is_new: true,
+            before: Vec::new(alloc),
         })
     }
 
     /// Draws the board, and writes the values of the variables below it, if something was done since it was drawn.
     pub(crate) fn draw(&mut self, play: &Playthrough<'_>) -> Result<(), AllocError> {
         if self.is_new {
-            let pieces = play.pieces()?;
-            self.drawing.push_board(&mut self.text, pieces.as_slice())?;
-            play.push_values(&mut self.text)?;
+            self.drawing.push_board(&mut self.text, play.pieces())?;
+            push_values(play, &mut self.text)?;
             self.is_new = false;
         }
         Ok(())
+    }
+
+    /// Keeps what stands on the board before a move. Before a move of a player the board is drawn.
+    pub(crate) fn begin_move(&mut self, play: &Playthrough<'_>) -> Result<(), AllocError> {
+        if play.player() != 0 {
+            self.draw(play)?;
+        }
+        self.before.clear();
+        self.before.extend_from_slice(play.pieces())
     }
 
     /// Says what a move of a player has changed. The keeper's moves that change no piece are not told.
@@ -71,30 +82,37 @@ impl<'a> Sheet<'a> {
         &mut self,
         play: &Playthrough<'_>,
         player: Player,
-        before: &[Piece],
     ) -> Result<(), AllocError> {
-        let after = play.pieces()?;
         self.is_new = true;
-        if player == 0 {
-            if before == after.as_slice() {
-                return Ok(());
-            }
-            self.text.extend_from_slice(b"keeper:")?;
-        } else {
-            self.moves = self.moves.saturating_add(1);
-            if self.only_last {
-                self.text.truncate(self.kept);
-            }
-            self.text.push(b'\n')?;
-            write_number(self.moves, &mut self.text)?;
-            self.text.push(b' ')?;
-            put_who(play.game(), u64::from(player), &mut self.text)?;
-            self.text.push(b':')?;
+        if player != 0 {
+            self.number_move(play.game(), player)?;
+            return self.tell_changes(play.pieces());
         }
-        self.drawing
-            .push_changes(&mut self.text, before, after.as_slice())?;
+        if self.before.as_slice() == play.pieces() {
+            return Ok(());
+        }
+        self.text.extend_from_slice(b"keeper:")?;
+        self.tell_changes(play.pieces())
+    }
+
+    /// Begins the line of a player's move.
+    fn number_move(&mut self, game: &Game, player: Player) -> Result<(), AllocError> {
+        self.moves = self.moves.saturating_add(1);
+        if self.only_last {
+            self.text.truncate(self.kept);
+        }
         self.text.push(b'\n')?;
-        Ok(())
+        write_number(self.moves, &mut self.text)?;
+        self.text.push(b' ')?;
+        put_who(game, u64::from(player), &mut self.text)?;
+        self.text.extend_from_slice(b":")
+    }
+
+    /// Says what is different on the board since a move was begun, and ends the line.
+    fn tell_changes(&mut self, after: &[Piece]) -> Result<(), AllocError> {
+        self.drawing
+            .push_changes(&mut self.text, self.before.as_slice(), after)?;
+        self.text.extend_from_slice(b"\n")
     }
 
     /// Says that a seat's message is refused.
@@ -145,4 +163,28 @@ impl<'a> Sheet<'a> {
         self.draw(play)?;
         self.text.extend_from_slice(line)
     }
+}
+
+/// Writes what each variable holds, in a line.
+fn push_values(play: &Playthrough<'_>, output: &mut Vec<u8>) -> Result<(), AllocError> {
+    let mut lead = b"".as_slice();
+    for index in 0..play.game().variables() {
+        output.extend_from_slice(lead)?;
+        push_value(play, index as Variable, output)?;
+        lead = b", ";
+    }
+    output.extend_from_slice(b"\n")
+}
+
+/// Writes the name of a variable, and what it holds.
+fn push_value(
+    play: &Playthrough<'_>,
+    variable: Variable,
+    output: &mut Vec<u8>,
+) -> Result<(), AllocError>
+    requires { variable < length play.now.game.variables }
+{
+    output.extend_from_slice(play.game().variable_name(variable).as_bytes())?;
+    output.push(b' ')?;
+    write_number(u64::from(play.value(variable)), output)
 }

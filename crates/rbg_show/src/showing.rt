@@ -8,13 +8,13 @@ ghost use Rattle.rbg_show.specs.Following.{Follows, Stops, outcome_of};
 ghost use Rattle.rbg_show.specs.internal.Standing.{IsMessageShown, IsMoveShown, KeepsLine, StopsMessage, StopsMove, TellsEnd, TellsLine, TellsList, standing_of};
 
 use crate::line::{ListLine, RecordEnd, without_return};
-use crate::playthrough::Playthrough;
 use crate::reading::{Lead, readings, said_readings};
 use crate::scene::Scene;
 use crate::sheet::Sheet;
 use crate::stop::Stop;
 use rbg_game::LoadedGame;
 use rbg_moves::{PlayedGame, Unsettled};
+use rbg_playthrough::Playthrough;
 use rbg_wire::{Outcome, cut_at};
 use std::alloc::{AllocError, Global};
 

@@ -1,5 +1,5 @@
--- Where a game that is followed stands.
-use Rattle.std.specs.Prelude.{ℕ, refl}
+-- Where a game that is played move by move stands, and who is to move.
+use Rattle.std.specs.Prelude.{ℕ, ◌-◌, ◌==◌, if◌then◌else◌, List, get_or, codes, refl}
 use Rattle.std.specs.Coded.{Coded, coded_ℕ, coded×, code_by}
 use Rattle.rbg_rules.specs.Meaning.{AbstractGame, AbstractPlace}
 use Rattle.rbg_rules.specs.Codes.{coded_game}
@@ -19,3 +19,9 @@ coded_playing =
     (λ p. (p.game, (p.place, p.in_a_row)))
     (λ t. record { game = t.0; place = t.1.0; in_a_row = t.1.1 })
     (λ _. refl)
+
+-- who is to move
+abbrev pub mover_text : Playing → List ℕ
+mover_text at =
+    if at.place.state.player == 0 then codes "the keeper"
+    else get_or at.game.players (at.place.state.player - 1) (codes "")

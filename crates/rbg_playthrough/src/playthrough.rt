@@ -1,11 +1,11 @@
 //! A game that is played move by move.
-ghost use Rattle.std.specs.Prelude.{◌≡◌, ◌⊎◌, ◌<◌, Err, None, IfOk, IfSome, IfNone, IsTrue, OnOk, OnErr};
+ghost use Rattle.std.specs.Prelude.{◌≡◌, ◌⊎◌, ◌<◌, Err, None, Some, length, slice_get, IfOk, IfSome, IfNone, IsTrue, OnOk, OnErr};
 ghost use Rattle.rbg_rules.specs.Meaning.{IsHeavyToFind, IsHeavyToTry, start_of, AbstractPlace, Legal, IsLegal, Finished, IsGame, IsPlaceOf};
 ghost use Rattle.rbg_moves.specs.Limits.{most_keeper_moves};
-ghost use Rattle.rbg_show.specs.Endings.{mover_text};
-ghost use Rattle.rbg_show.specs.Moving.{Moves, moved_to};
+ghost use Rattle.rbg_playthrough.specs.Playing.{mover_text};
+ghost use Rattle.rbg_playthrough.specs.Moving.{Moves, moved_to};
 
-use rbg_base::{Memory, Pair, Piece, Player, Variable, Vertex};
+use rbg_base::{Memory, Pair, Piece, Player, Variable};
 use rbg_moves::{MAX_KEEPER_MOVES, Move, Over, Place, PlayedGame, Workspace};
 use rbg_rules::Game;
 use std::alloc::Global;
@@ -13,9 +13,7 @@ use std::marker::Model;
 
 /// A game that is played move by move, and the place that is reached. Contracts see both, and how many moves the keeper
 /// has made in a row.
-#[derive(Drop)]
-pub(crate) struct Playthrough<'a> {
-    alloc: Global,
+pub struct Playthrough<'a> {
     game: &'a PlayedGame,
     place: Place,
     /// How many moves of the keeper were made in a row, at most `MAX_KEEPER_MOVES`.
@@ -25,7 +23,7 @@ pub(crate) struct Playthrough<'a> {
 }
 
 impl<'a> Model for Playthrough<'a> {
-    ghost use Rattle.rbg_show.specs.Playing.{Playing, coded_playing};
+    ghost use Rattle.rbg_playthrough.specs.Playing.{Playing, coded_playing};
 
     ghost Value = { Playing };
 
@@ -40,9 +38,21 @@ impl<'a> Model for Playthrough<'a> {
     ghost invariant = { λ p. IsPlaceOf p.game.now p.place × (p.in_a_row ≤ most_keeper_moves) };
 }
 
+/// Written out, so that letting a game go that is played is one call in the proofs of those who hold one.
+impl Drop for Playthrough<'_> {
+    fn drop(self) {
+        let Playthrough {
+            game: _,
+            place: _,
+            in_a_row: _,
+            workspace: _,
+        } = self;
+    }
+}
+
 impl<'a> Playthrough<'a> {
     /// The beginning of play.
-    pub(crate) fn start(alloc: Global, game: &'a PlayedGame) -> Result<Playthrough<'a>, Memory>
+    pub fn start(alloc: Global, game: &'a PlayedGame) -> Result<Playthrough<'a>, Memory>
         ensures game { IfOk result (λ play. play.game ≡ game.now) }
         ensures place { IfOk result (λ play.
             play.place ≡ record { state = start_of game.now; last = None }) }
@@ -50,7 +60,6 @@ impl<'a> Playthrough<'a> {
     {
         let place = game.start()?;
         Ok(Playthrough {
-            alloc,
             game,
             place,
             in_a_row: 0,
@@ -59,7 +68,7 @@ impl<'a> Playthrough<'a> {
     }
 
     /// The game.
-    pub(crate) fn game(&self) -> &'a Game
+    pub fn game(&self) -> &'a Game
         ensures game { result.now ≡ self.now.game }
         ensures lawful { IsGame result.now }
     {
@@ -67,14 +76,14 @@ impl<'a> Playthrough<'a> {
     }
 
     /// The player to move; 0 is the keeper.
-    pub(crate) fn player(&self) -> Player
+    pub fn player(&self) -> Player
         ensures { result ≡ self.now.place.state.player }
     {
         self.place.state.player()
     }
 
     /// Whether the keeper has made as many moves in a row as it may.
-    pub(crate) fn keeper_is_tired(&self) -> bool
+    pub fn keeper_is_tired(&self) -> bool
         ensures tired { IsTrue result → self.now.in_a_row ≡ most_keeper_moves }
         ensures fresh { ¬ IsTrue result → self.now.in_a_row < most_keeper_moves }
     {
@@ -82,7 +91,7 @@ impl<'a> Playthrough<'a> {
     }
 
     /// The name of the player to move.
-    pub(crate) fn mover(&self) -> &'a str
+    pub fn mover(&self) -> &'a str
         ensures { result.now ≡ mover_text self.now }
     {
         let player = self.place.state.player();
@@ -94,7 +103,7 @@ impl<'a> Playthrough<'a> {
     }
 
     /// Makes a move, if it is legal. Tells whether it was.
-    pub(crate) fn try_pairs(&mut self, pairs: &Move) -> Result<bool, Over>
+    pub fn try_pairs(&mut self, pairs: &Move) -> Result<bool, Over>
         ensures legal { IfOk result (λ made. IsTrue made → Moves self.old pairs.now self.new) }
         ensures illegal { IfOk result (λ made. ¬ IsTrue made
             → (to : AbstractPlace) → ¬ Legal self.old.game self.old.place pairs.now to) }
@@ -113,7 +122,7 @@ impl<'a> Playthrough<'a> {
     }
 
     /// A legal move, the one that the referee would make for the keeper. None where play is finished.
-    pub(crate) fn find(&mut self) -> Result<Option<Vec<Pair>>, Over>
+    pub fn find(&mut self) -> Result<Option<Vec<Pair>>, Over>
         ensures found { IfOk result (λ found.
             IfSome found (λ pairs. IsLegal self.old.game self.old.place pairs.items)) }
         ensures finished { IfOk result (λ found.
@@ -126,7 +135,7 @@ impl<'a> Playthrough<'a> {
     }
 
     /// Makes a legal move.
-    pub(crate) fn make(&mut self, pairs: &[Pair]) -> Result<(), Memory>
+    pub fn make(&mut self, pairs: &[Pair]) -> Result<(), Memory>
         requires { IsLegal self.old.game self.old.place pairs.now }
         ensures { OnOk result (Moves self.old pairs.now self.new) }
     {
@@ -149,30 +158,18 @@ impl<'a> Playthrough<'a> {
         self.place = place;
     }
 
-    /// The pieces on the vertices.
-    #[tactic(auto, using(crate::proofs::Pieces::take_one))]
-    pub(crate) fn pieces(&self) -> Result<Vec<Piece>, Memory>
-        ensures { IfOk result (λ pieces. pieces.items ≡ self.now.place.state.pieces) }
+    /// The piece on each vertex.
+    pub fn pieces(&self) -> &[Piece]
+        ensures { result.now ≡ self.now.place.state.pieces }
     {
-        let mut pieces = Vec::new(self.alloc);
-        for vertex in 0..self.game().board().len() {
-            pieces.push(self.place.state.piece(vertex as Vertex))?;
-        }
-        Ok(pieces)
+        self.place.state.pieces()
     }
 
-    /// Writes what each variable holds, in a line.
-    pub(crate) fn push_values(&self, output: &mut Vec<u8>) -> Result<(), Memory> {
-        let mut lead = "";
-        for index in 0..self.game().variables() {
-            let variable = index as Variable;
-            let name = self.game().variable_name(variable);
-            let value = self.place.state.value(variable);
-            let text = format!(in self.alloc; "{lead}{name} {value}")?;
-            output.extend_from_slice(text.as_bytes())?;
-            lead = ", ";
-        }
-        output.push(b'\n')?;
-        Ok(())
+    /// What a variable holds.
+    pub fn value(&self, variable: Variable) -> u32
+        requires { variable < length self.now.game.bounds }
+        ensures { slice_get self.now.place.state.values variable ≡ Some result }
+    {
+        self.place.state.value(variable)
     }
 }
