@@ -3,6 +3,7 @@
 use crate::signs::Signs;
 use rbg_base::Piece;
 use rbg_game::Layout;
+use rbg_wire::write_number;
 use std::alloc::{AllocError, Global};
 
 /// About how many bytes a line of a graph's vertices has.
@@ -38,7 +39,7 @@ impl Drawing<'_> {
                 let half = self.signs.width() / 2 + 1;
                 self.push_rows(output, pieces, rows, half.saturating_mul(2), half)
             }
-            Layout::Graph { names } => self.push_vertices(output, pieces, names),
+            Layout::Graph { .. } => self.push_vertices(output, pieces),
         }
     }
 
@@ -51,19 +52,22 @@ impl Drawing<'_> {
         cell: usize,
         shift: usize,
     ) -> Result<(), AllocError> {
-        let longest = rows.iter().copied().max().unwrap_or(0);
+        let longest = longest_of(rows);
         let mut first = 0usize;
         for row in rows {
-            let rest = pieces.get(first..).unwrap_or(&[]);
-            let here = rest.get(..*row).unwrap_or(rest);
-            let label = format!(in self.alloc; "{first:>4} |")?;
-            output.extend_from_slice(label.as_bytes())?;
             let missing = longest.saturating_sub(*row);
+            self.push_label(output, first)?;
             push_spaces(output, missing.saturating_mul(shift))?;
-            self.push_row(output, here, cell)?;
+            self.push_row(output, row_from(pieces, first, *row), cell)?;
             first = first.saturating_add(*row);
         }
         Ok(())
+    }
+
+    /// Writes the number of the first vertex of a row.
+    fn push_label(&self, output: &mut Vec<u8>, first: usize) -> Result<(), AllocError> {
+        let label = format!(in self.alloc; "{first:>4} |")?;
+        output.extend_from_slice(label.as_bytes())
     }
 
     /// Draws the cells of a row. There are no spaces at its end.
@@ -85,25 +89,30 @@ impl Drawing<'_> {
     }
 
     /// Lists the vertices by their names.
-    fn push_vertices(
-        &self,
-        output: &mut Vec<u8>,
-        pieces: &[Piece],
-        names: &[Vec<u8>],
-    ) -> Result<(), AllocError> {
+    fn push_vertices(&self, output: &mut Vec<u8>, pieces: &[Piece]) -> Result<(), AllocError> {
         let mut start = output.len();
-        for (name, piece) in names.iter().zip(pieces.iter()) {
+        for (vertex, piece) in pieces.iter().enumerate() {
             if output.len().saturating_sub(start) > GRAPH_LINE {
                 output.push(b'\n')?;
                 start = output.len();
             }
-            output.push(b' ')?;
-            output.extend_from_slice(name)?;
-            output.push(b':')?;
-            output.extend_from_slice(self.signs.sign(*piece))?;
+            self.push_named(output, vertex, *piece)?;
         }
         output.push(b'\n')?;
         Ok(())
+    }
+
+    /// Writes a vertex and the piece on it: ` e4:p`.
+    fn push_named(
+        &self,
+        output: &mut Vec<u8>,
+        vertex: usize,
+        piece: Piece,
+    ) -> Result<(), AllocError> {
+        output.push(b' ')?;
+        self.push_vertex(output, vertex)?;
+        output.push(b':')?;
+        output.extend_from_slice(self.signs.sign(piece))
     }
 
     /// Writes a vertex: its name in a graph, else its number.
@@ -117,8 +126,7 @@ impl Drawing<'_> {
         {
             return output.extend_from_slice(name);
         }
-        let number = vertex.to_string(self.alloc)?;
-        output.extend_from_slice(number.as_bytes())
+        write_number(vertex as u64, output)
     }
 
     /// Writes what is different on the board: `4 . > x`, and so on.
@@ -129,19 +137,42 @@ impl Drawing<'_> {
         after: &[Piece],
     ) -> Result<(), AllocError> {
         let mut lead = b" ".as_slice();
-        for (vertex, (old, new)) in before.iter().zip(after.iter()).enumerate() {
+        for (vertex, new) in after.iter().enumerate() {
+            let old = before.get(vertex).unwrap_or(new);
             if old != new {
                 output.extend_from_slice(lead)?;
-                self.push_vertex(output, vertex)?;
-                output.push(b' ')?;
-                output.extend_from_slice(self.signs.sign(*old))?;
-                output.extend_from_slice(b" > ")?;
-                output.extend_from_slice(self.signs.sign(*new))?;
+                self.push_change(output, vertex, *old, *new)?;
                 lead = b", ";
             }
         }
         Ok(())
     }
+
+    /// Writes what has become of the piece on a vertex.
+    fn push_change(
+        &self,
+        output: &mut Vec<u8>,
+        vertex: usize,
+        old: Piece,
+        new: Piece,
+    ) -> Result<(), AllocError> {
+        self.push_vertex(output, vertex)?;
+        output.push(b' ')?;
+        output.extend_from_slice(self.signs.sign(old))?;
+        output.extend_from_slice(b" > ")?;
+        output.extend_from_slice(self.signs.sign(new))
+    }
+}
+
+/// The length of the longest row.
+fn longest_of(rows: &[usize]) -> usize {
+    rows.iter().copied().max().unwrap_or(0)
+}
+
+/// The pieces of a row of this length that begins with this vertex.
+fn row_from(pieces: &[Piece], first: usize, length: usize) -> &[Piece] {
+    let rest = pieces.get(first..).unwrap_or(&[]);
+    rest.get(..length).unwrap_or(rest)
 }
 
 fn push_spaces(output: &mut Vec<u8>, count: usize) -> Result<(), AllocError> {
