@@ -4,8 +4,10 @@ use rbg_base::Piece;
 use rbg_game::Game;
 use std::alloc::{AllocError, Global};
 
-/// The names of a piece that stands for an empty vertex.
-const EMPTY_NAMES: [&[u8]; 2] = [b"e", b"empty"];
+/// The name of a piece that stands for an empty vertex, and the one that counts where no piece has it.
+const EMPTY_NAME: &[u8] = b"e";
+
+const LONG_EMPTY_NAME: &[u8] = b"empty";
 
 /// The sign of that piece.
 const EMPTY_SIGN: &[u8] = b".";
@@ -80,10 +82,17 @@ fn names_of(alloc: Global, game: &Game) -> Result<Vec<&[u8]>, AllocError> {
 
 /// The piece that stands for an empty vertex.
 fn empty_of(names: &[&[u8]]) -> Option<usize> {
-    for empty in EMPTY_NAMES {
-        let found = names.iter().position(|name| *name == empty);
-        if found.is_some() {
-            return found;
+    match index_of(names, EMPTY_NAME) {
+        Some(index) => Some(index),
+        None => index_of(names, LONG_EMPTY_NAME),
+    }
+}
+
+/// The index of the first of these names that is the wanted one.
+fn index_of(names: &[&[u8]], wanted: &[u8]) -> Option<usize> {
+    for (index, name) in names.iter().enumerate() {
+        if *name == wanted {
+            return Some(index);
         }
     }
     None
@@ -102,8 +111,11 @@ fn least_width(names: &[&[u8]]) -> usize {
 
 /// How many bytes two texts share from their beginning on.
 fn shared_start(left: &[u8], right: &[u8]) -> usize {
-    left.iter()
-        .zip(right.iter())
-        .take_while(|(left, right)| left == right)
-        .count()
+    let shorter = left.len().min(right.len());
+    for index in 0..shorter {
+        if left[index] != right[index] {
+            return index;
+        }
+    }
+    shorter
 }
