@@ -47,15 +47,17 @@ fn read_chunks<R: Read>(
     for _ in 0..MAX_READS {
         match reader.read(room) {
             Ok(0) => return Ok(Input::Whole(bytes)),
-            Ok(count) => bytes.extend_from_slice(&room[..count])?,
+            Ok(count) => {
+                bytes.extend_from_slice(&room[..count])?;
+                if bytes.len() > limit {
+                    return Ok(Input::TooLong);
+                }
+            }
             Err(fault) => {
                 if fault.kind() != ErrorKind::Interrupted {
                     return Ok(Input::Device);
                 }
             }
-        }
-        if bytes.len() > limit {
-            return Ok(Input::TooLong);
         }
     }
     Ok(Input::Device)
