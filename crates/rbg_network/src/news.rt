@@ -42,68 +42,92 @@ pub enum News<'a> {
 impl fmt::Display for News<'_> {
     fn fmt<W: fmt::Write>(&self, f: &mut Formatter<W>) -> fmt::Result {
         match self {
-            News::Listening { port } => write!(f, "listening on port {port}"),
-            News::MostRounds { rounds } => {
-                write!(f, "a match may take {}", Count(*rounds, "round"))
+            News::Listening { port } => {
+                write_number(f, "listening on port ", u64::from(*port), "")
             }
-            News::MostMinutes { minutes } => {
-                write!(f, "a match may take {}", Count(*minutes, "minute"))
-            }
-            News::Connected { seat } => write!(f, "seat {seat} connected"),
-            News::Left { seat } => write!(f, "seat {seat} left"),
+            News::MostRounds { rounds } => write_count(f, "a match may take", *rounds, "round"),
+            News::MostMinutes { minutes } => write_count(f, "a match may take", *minutes, "minute"),
+            News::Connected { seat } => write_number(f, "seat ", *seat as u64, " connected"),
+            News::Left { seat } => write_number(f, "seat ", *seat as u64, " left"),
             News::Absent { seconds } => {
-                write!(
-                    f,
-                    "not all seats were taken within {}",
-                    Count(*seconds, "second")
-                )
+                write_count(f, "not all seats were taken within", *seconds, "second")
             }
             News::Begins => f.write_str("match begins"),
             News::GoesOn => f.write_str("match goes on"),
             News::Ended { outcome } => write_end(f, outcome),
             News::Unfinished { rounds } => {
-                write!(f, "match not ended within {}", Count(*rounds, "round"))
+                write_count(f, "match not ended within", *rounds, "round")
             }
             News::OutOfTime { minutes } => {
-                write!(f, "match not ended within {}", Count(*minutes, "minute"))
+                write_count(f, "match not ended within", *minutes, "minute")
             }
-            News::Sits { seat, name } => write!(f, "seat {seat} is {name}"),
-            News::GaveUp { seat, error } => write!(f, "seat {seat} gave up: {error}"),
-            News::Lost { port, error } => write!(f, "port {port}: {error}"),
-            News::Plays { player, name } => write!(f, "seat {player} plays {name}"),
+            News::Sits { seat, name } => write_name(f, *seat as u64, "is", name),
+            News::GaveUp { seat, error } => {
+                write_failure(f, "seat ", *seat as u64, " gave up", *error)
+            }
+            News::Lost { port, error } => write_failure(f, "port ", u64::from(*port), "", *error),
+            News::Plays { player, name } => write_name(f, *player, "plays", name),
         }
     }
 }
 
-/// So many of something with this name.
-#[derive(Clone, Copy)]
-struct Count(u64, &'static str);
+/// A number between two texts.
+fn write_number<W: fmt::Write>(
+    f: &mut Formatter<W>,
+    before: &str,
+    number: u64,
+    after: &str,
+) -> fmt::Result {
+    write!(f, "{before}{number}{after}")
+}
 
-impl fmt::Display for Count {
-    fn fmt<W: fmt::Write>(&self, f: &mut Formatter<W>) -> fmt::Result {
-        let Count(count, name) = self;
-        let ending = if *count == 1 { "" } else { "s" };
-        write!(f, "{count} {name}{ending}")
-    }
+/// So many of something with this name, behind a text.
+fn write_count<W: fmt::Write>(
+    f: &mut Formatter<W>,
+    before: &str,
+    count: u64,
+    name: &str,
+) -> fmt::Result {
+    let ending = if count == 1 { "" } else { "s" };
+    write!(f, "{before} {count} {name}{ending}")
+}
+
+/// What a seat has to do with a name.
+fn write_name<W: fmt::Write>(
+    f: &mut Formatter<W>,
+    seat: u64,
+    verb: &str,
+    name: &str,
+) -> fmt::Result {
+    write!(f, "seat {seat} {verb} {name}")
+}
+
+/// An error behind a number between two texts.
+fn write_failure<W: fmt::Write>(
+    f: &mut Formatter<W>,
+    before: &str,
+    number: u64,
+    after: &str,
+    error: ClientError,
+) -> fmt::Result {
+    write!(f, "{before}{number}{after}: {error}")
 }
 
 /// How a match ended, by the message that its seats are sent.
 fn write_end<W: fmt::Write>(f: &mut Formatter<W>, outcome: &Outcome) -> fmt::Result {
     f.write_str("match ended: ")?;
     match outcome {
-        Outcome::Finished { scores } => {
-            f.write_str("E0")?;
-            write_scores(f, scores.as_slice())
-        }
-        Outcome::Time { player } => write!(f, "E1 {player}"),
-        Outcome::Refusals { player } => write!(f, "E2 {player}"),
-        Outcome::Gone { player } => write!(f, "E3 {player}"),
+        Outcome::Finished { scores } => write_scores(f, scores.as_slice()),
+        Outcome::Time { player } => write_number(f, "E1 ", *player, ""),
+        Outcome::Refusals { player } => write_number(f, "E2 ", *player, ""),
+        Outcome::Gone { player } => write_number(f, "E3 ", *player, ""),
         Outcome::Heavy => f.write_str("E4"),
     }
 }
 
-/// Each score, with a space before it.
+/// The message of a match that was played to its end, with each score, a space before it.
 fn write_scores<W: fmt::Write>(f: &mut Formatter<W>, scores: &[u64]) -> fmt::Result {
+    f.write_str("E0")?;
     for score in scores {
         write!(f, " {score}")?;
     }
