@@ -118,12 +118,17 @@ fn is_late<N: Network>(network: &mut N, clock: &mut N::Clock, hosting: Hosting) 
 }
 
 fn is_full<S: Read + Write + Drop>(seats: &[Option<StreamLine<S>>]) -> bool {
-    for seat in seats {
-        if seat.is_none() {
-            return false;
+    lowest_free(seats) == seats.len()
+}
+
+/// The index of the lowest free seat, or the number of seats if each is taken.
+fn lowest_free<S: Read + Write + Drop>(seats: &[Option<StreamLine<S>>]) -> usize {
+    for index in 0..seats.len() {
+        if seats[index].is_none() {
+            return index;
         }
     }
-    true
+    seats.len()
 }
 
 /// Gives a line the lowest free seat. Where none is free, its connection is closed.
@@ -133,12 +138,15 @@ fn take_seat<N: Network>(
     seats: &mut [Option<StreamLine<N::Stream>>],
     hosting: Hosting,
 ) {
-    for index in 0..seats.len() {
-        if seats[index].is_none() {
-            seats[index] = Some(line);
-            hosting.tell(network, &News::Connected { seat: index + 1 });
-            return;
-        }
+    let index = lowest_free(seats);
+    if let Some(seat) = seats.get_mut(index) {
+        *seat = Some(line);
+        hosting.tell(
+            network,
+            &News::Connected {
+                seat: index.saturating_add(1),
+            },
+        );
     }
 }
 
@@ -149,12 +157,22 @@ fn free_closed<N: Network>(
     hosting: Hosting,
 ) -> Result<(), AllocError> {
     for index in 0..seats.len() {
-        if is_closed(&mut seats[index])? {
-            seats[index] = None;
+        if free_if_closed(&mut seats[index])? {
             hosting.tell(network, &News::Left { seat: index + 1 });
         }
     }
     Ok(())
+}
+
+/// Frees a seat whose connection is closed. Returns whether it did.
+fn free_if_closed<S: Read + Write + Drop>(
+    seat: &mut Option<StreamLine<S>>,
+) -> Result<bool, AllocError> {
+    let closed = is_closed(seat)?;
+    if closed {
+        *seat = None;
+    }
+    Ok(closed)
 }
 
 /// Whether a seat is taken by a connection that is closed.
