@@ -41,10 +41,14 @@ impl Log for SystemLog<'_> {
         match self.write(bytes) {
             Ok(()) => Ok(()),
             Err(error) => {
-                let name = self.name.as_str();
-                let _said = eprintln!(self.rt; "can't write the log {name}: {error}");
+                say_log_failure(self.rt, "write", self.name.as_str(), &error);
                 Err(LogFailure)
             }
         }
     }
+}
+
+/// Says that something can't be done with a log, and why.
+pub(crate) fn say_log_failure(rt: &HostRuntime, deed: &str, name: &str, error: &io::Error) {
+    let _said = eprintln!(rt; "can't {deed} the log {name}: {error}");
 }

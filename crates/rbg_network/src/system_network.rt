@@ -1,8 +1,10 @@
 //! The connections and the clock of the system. What fails is said on standard error, and so is what is told.
 
 use crate::network::{Network, is_nothing_yet};
+use crate::system_log::say_log_failure;
 use crate::{News, SystemLog};
 use rbg_serving::Clock;
+use std::alloc::AllocError;
 use std::fs::{self, File};
 use std::net::{Ipv4Addr, TcpListener, TcpStream};
 use std::time::{Duration, Instant};
@@ -44,7 +46,7 @@ impl<'a> SystemNetwork<'a> {
                 Ok(SystemLog::new(self.rt, name, file, sync))
             }
             Err(error) => {
-                let _said = eprintln!(self.rt; "can't begin the log {path}: {error}");
+                say_log_failure(self.rt, "begin", path, &error);
                 Err(error)
             }
         }
@@ -64,6 +66,11 @@ impl<'a> SystemNetwork<'a> {
             }
         }
     }
+}
+
+/// The name of the file that is to replace a log, and lies beside it.
+fn name_beside(rt: &HostRuntime, name: &str) -> Result<String, AllocError> {
+    format!(in rt.alloc(); "{name}.new")
 }
 
 /// Says that something fails, and why.
@@ -120,16 +127,16 @@ impl<'a> Network for SystemNetwork<'a> {
     }
 
     fn rewrite_log(&mut self, name: &str, sync: bool) -> io::Result<SystemLog<'a>> {
-        let beside = format!(in self.rt.alloc(); "{name}.new")?;
+        let beside = name_beside(self.rt, name)?;
         let file = File::create(self.rt, beside.as_str());
         self.begin_log(name, beside.as_str(), file, sync)
     }
 
     fn replace_log(&mut self, name: &str) -> io::Result<()> {
-        let beside = format!(in self.rt.alloc(); "{name}.new")?;
+        let beside = name_beside(self.rt, name)?;
         let renamed = fs::rename(self.rt, beside.as_str(), name);
         if let Err(error) = &renamed {
-            let _said = eprintln!(self.rt; "can't replace the log {name}: {error}");
+            say_log_failure(self.rt, "replace", name, error);
         }
         renamed
     }
