@@ -12,6 +12,17 @@ pub(crate) fn index_of(tokens: &[Token<'_>], symbol: Symbol) -> Option<usize> {
     None
 }
 
+/// The tokens from the last one that is this symbol; none where none is.
+pub(crate) fn from_last<'a>(tokens: &'a [Token<'a>], symbol: Symbol) -> &'a [Token<'a>] {
+    let mut start = tokens.len();
+    for (index, token) in tokens.iter().enumerate() {
+        if token.is(symbol) {
+            start = index;
+        }
+    }
+    tokens.get(start..).unwrap_or(&[])
+}
+
 /// The tokens before the first one that is this symbol; all of them where none is.
 pub(crate) fn before_first<'a, 't>(tokens: &'a [Token<'t>], symbol: Symbol) -> &'a [Token<'t>] {
     let end = index_of(tokens, symbol).unwrap_or(tokens.len());
@@ -40,6 +51,11 @@ pub(crate) fn count_names(tokens: &[Token<'_>]) -> usize {
 /// The offset of a token, if there is one.
 pub(crate) fn offset_of(token: Option<Token<'_>>) -> Option<usize> {
     Some(token?.at)
+}
+
+/// The offset of the first token.
+pub(crate) fn start_of(tokens: &[Token<'_>]) -> Option<usize> {
+    Some(tokens.first()?.at)
 }
 
 /// Whether one of these tokens has this text.

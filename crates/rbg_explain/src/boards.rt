@@ -21,11 +21,9 @@ pub(crate) fn board_place<'a>(error: &BoardError, board: &'a [Token<'a>]) -> Opt
 
 /// The first row without a cell, or else the name of the generator.
 fn empty_row<'a>(board: &'a [Token<'a>]) -> Option<Token<'a>> {
-    for pair in board.windows(2) {
-        if let [token, next] = pair
-            && token.is(Symbol::OpenBracket)
-            && next.is(Symbol::CloseBracket)
-        {
+    for (index, token) in board.iter().enumerate() {
+        let is_empty = is_at(board, index.saturating_add(1), Symbol::CloseBracket);
+        if token.is(Symbol::OpenBracket) && is_empty {
             return Some(*token);
         }
     }
@@ -87,9 +85,12 @@ fn second_name<'a>(tokens: &'a [Token<'a>]) -> Option<Token<'a>> {
 
 /// The second one of two equal directions of the edges of one vertex.
 fn second_edge<'a>(board: &'a [Token<'a>]) -> Option<Token<'a>> {
-    for vertex in board.split(|token| token.is(Symbol::CloseBrace)) {
-        if let Some(token) = second_before(vertex, Symbol::Colon) {
-            return Some(token);
+    let mut start = 0usize;
+    for (index, token) in board.iter().enumerate() {
+        if token.is(Symbol::CloseBrace) {
+            start = index;
+        } else if is_second(board, start, index, Symbol::Colon) {
+            return Some(*token);
         }
     }
     None
@@ -103,21 +104,29 @@ fn second_vertex<'a>(board: &'a [Token<'a>]) -> Option<Token<'a>> {
 /// The first name before such a symbol that stood before one already.
 fn second_before<'a>(tokens: &'a [Token<'a>], symbol: Symbol) -> Option<Token<'a>> {
     for (index, token) in tokens.iter().enumerate() {
-        let is_before = is_at(tokens, index.saturating_add(1), symbol);
-        if is_before && stands_before(tokens.get(..=index).unwrap_or(&[]), token.text, symbol) {
+        if is_second(tokens, 0, index, symbol) {
             return Some(*token);
         }
     }
     None
 }
 
+/// Whether the name at an index stands before such a symbol, as one from a start on before it does already.
+fn is_second(tokens: &[Token<'_>], start: usize, index: usize, symbol: Symbol) -> bool {
+    let earlier = tokens.get(start..=index).unwrap_or(&[]);
+    match earlier.last() {
+        Some(token) => {
+            is_at(tokens, index.saturating_add(1), symbol)
+                && stands_before(earlier, token.text, symbol)
+        }
+        None => false,
+    }
+}
+
 /// Whether a name stands directly before such a symbol.
 fn stands_before(tokens: &[Token<'_>], name: &[u8], symbol: Symbol) -> bool {
-    for pair in tokens.windows(2) {
-        if let [token, next] = pair
-            && token.text == name
-            && next.is(symbol)
-        {
+    for (index, token) in tokens.iter().enumerate() {
+        if token.text == name && is_at(tokens, index.saturating_add(1), symbol) {
             return true;
         }
     }
@@ -126,12 +135,10 @@ fn stands_before(tokens: &[Token<'_>], name: &[u8], symbol: Symbol) -> bool {
 
 /// The first target of an edge that is no vertex.
 fn unknown_target<'a>(board: &'a [Token<'a>]) -> Option<Token<'a>> {
-    for pair in board.windows(2) {
-        if let [token, next] = pair
-            && token.is(Symbol::Colon)
-            && !stands_before(board, next.text, Symbol::OpenBracket)
-        {
-            return Some(*next);
+    for (index, token) in board.iter().enumerate() {
+        let is_target = is_at(board, index.saturating_sub(1), Symbol::Colon);
+        if is_target && !stands_before(board, token.text, Symbol::OpenBracket) {
+            return Some(*token);
         }
     }
     None

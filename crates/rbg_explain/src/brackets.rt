@@ -6,17 +6,30 @@ use rbg_tokens::{Symbol, Token};
 /// The last opening bracket of these tokens that isn't closed among them.
 pub(crate) fn open_bracket<'a>(tokens: &'a [Token<'a>]) -> Option<Token<'a>> {
     let mut closed = 0usize;
-    for token in tokens.iter().rev() {
-        if token.kind.closes() {
-            closed = closed.saturating_add(1);
-        } else if token.kind.opens() {
-            if closed == 0 {
-                return Some(*token);
-            }
-            closed -= 1;
+    for index in (0..tokens.len()).rev() {
+        let from = tokens.get(index..).unwrap_or(&[]);
+        if stays_open(from, &mut closed) {
+            return from.first().copied();
         }
     }
     None
+}
+
+/// Whether the first token opens a bracket that isn't closed, where so many that are closed behind it weren't opened yet.
+/// Counts it among these.
+pub(crate) fn stays_open(tokens: &[Token<'_>], closed: &mut usize) -> bool {
+    match tokens.first() {
+        Some(token) if token.kind.closes() => {
+            *closed = closed.saturating_add(1);
+            false
+        }
+        Some(token) if token.kind.opens() => {
+            let stays_open = *closed == 0;
+            *closed = closed.saturating_sub(1);
+            stays_open
+        }
+        _ => false,
+    }
 }
 
 /// What follows the name of a macro.

@@ -1,7 +1,7 @@
 //! Where a macro is called in a text.
 
-use crate::among::{has_text, index_of, is_at};
-use crate::output::push_made;
+use crate::among::{before_first, has_text, is_at};
+use crate::output::Telling;
 use rbg_tokens::{Symbol, Token, count_line_feeds};
 use std::alloc::{AllocError, Global};
 
@@ -22,12 +22,14 @@ pub fn called_lines(
 fn push_lines(text: &[u8], offsets: &[usize], lines: &mut Vec<usize>) -> Result<(), AllocError> {
     let mut number = 1usize;
     let mut start = 0usize;
+    let mut last = 0usize;
     for offset in offsets {
         let between = text.get(start..*offset).unwrap_or(&[]);
         number = number.saturating_add(count_line_feeds(between));
         start = *offset;
-        if lines.last() != Some(&number) {
+        if number != last {
             lines.push(number)?;
+            last = number;
         }
     }
     Ok(())
@@ -40,25 +42,34 @@ pub(crate) fn calls_of(
     name: &[u8],
 ) -> Result<Vec<usize>, AllocError> {
     let mut found = Vec::new(alloc);
-    for definition in tokens.split(|token| token.is(Symbol::Hash)) {
-        push_calls_in(definition, name, &mut found)?;
-    }
+    push_all_calls(tokens, name, &mut found)?;
     Ok(found)
 }
 
-/// Adds the offsets at which the body of a definition calls a macro. A parameter of the macro's name hides it.
-fn push_calls_in(
-    definition: &[Token<'_>],
+/// Adds the offsets at which the definitions call a macro.
+fn push_all_calls(
+    tokens: &[Token<'_>],
     name: &[u8],
     found: &mut Vec<usize>,
 ) -> Result<(), AllocError> {
-    let Some(equals) = index_of(definition, Symbol::Equals) else {
-        return Ok(());
-    };
-    if has_text(definition.get(1..equals).unwrap_or(&[]), name) {
-        return Ok(());
+    for index in 0..tokens.len() {
+        if is_at(tokens, index, Symbol::Hash) {
+            let behind = tokens.get(index.saturating_add(1)..).unwrap_or(&[]);
+            push_calls_among(body(behind, name), name, found)?;
+        }
     }
-    push_calls_among(definition.get(equals..).unwrap_or(&[]), name, found)
+    Ok(())
+}
+
+/// The body of the definition behind a `#`, from its `=`. None where a parameter of this name hides the macro.
+fn body<'a>(tokens: &'a [Token<'a>], hidden: &[u8]) -> &'a [Token<'a>] {
+    let definition = before_first(tokens, Symbol::Hash);
+    let head = before_first(definition, Symbol::Equals);
+    if has_text(head.get(1..).unwrap_or(&[]), hidden) {
+        &[]
+    } else {
+        definition.get(head.len()..).unwrap_or(&[])
+    }
 }
 
 /// Adds the offsets at which these tokens of a body call a macro.
@@ -81,16 +92,26 @@ fn is_joined(tokens: &[Token<'_>], index: usize) -> bool {
         || is_at(tokens, index.saturating_sub(1), Symbol::Tilde)
 }
 
-/// Adds the line that lists the lines of calls, if there are any.
-pub fn push_calls(alloc: Global, output: &mut Vec<u8>, lines: &[usize]) -> Result<(), AllocError> {
-    let made = match lines {
-        [] => return Ok(()),
-        [line] => format!(in alloc; "called on line {line}\n"),
-        [first, second] => format!(in alloc; "called on lines {first} and {second}\n"),
-        [first, second, rest @ ..] => {
-            let count = rest.len();
-            format!(in alloc; "called on lines {first}, {second} and {count} more\n")
+/// Tells the lines of calls, if there are any.
+pub fn tell_calls(told: &mut Telling<'_>, lines: &[usize]) {
+    match lines {
+        [] => {}
+        [line] => told.number("called on line ", *line, "\n"),
+        [first, others @ ..] => {
+            told.number("called on lines ", *first, "");
+            tell_others(told, others);
         }
-    };
-    push_made(output, made)
+    }
+}
+
+/// Tells the lines of calls behind the first one.
+fn tell_others(told: &mut Telling<'_>, lines: &[usize]) {
+    match lines {
+        [] => {}
+        [line] => told.number(" and ", *line, "\n"),
+        [line, others @ ..] => {
+            told.number(", ", *line, "");
+            told.number(" and ", others.len(), " more\n");
+        }
+    }
 }

@@ -1,9 +1,10 @@
 //! The places of refusals, also of those that name none: of a board, and of too many things.
 
-use crate::among::{count_names, offset_of};
+use crate::among::{count_names, offset_of, start_of};
 use crate::boards::{board_place, nth_direction};
 use crate::place::place_of;
 use crate::sections::{expanded, nth_name, section_tokens};
+use rbg_board::BoardError;
 use rbg_game::limits::{MAX_DIRECTIONS, MAX_PIECES, MAX_PLAYERS, MAX_POSITIONS, MAX_VARIABLES};
 use rbg_game::{GameError, LoadError, Thing};
 use rbg_macro::{SectionKind, Source};
@@ -53,13 +54,20 @@ fn place_in_source(
     source: &Source<'_>,
 ) -> Result<Option<usize>, AllocError> {
     match error {
-        LoadError::Game(GameError::Board { error }) => {
-            let board = section_tokens(alloc, source, SectionKind::Board)?;
-            Ok(offset_of(board_place(error, &board)))
-        }
+        LoadError::Game(GameError::Board { error }) => place_in_board(alloc, error, source),
         LoadError::Game(GameError::TooMany { what }) => further_thing(alloc, *what, source),
         _ => Ok(None),
     }
+}
+
+/// What a refusal of the board is about.
+fn place_in_board(
+    alloc: Global,
+    error: &BoardError,
+    source: &Source<'_>,
+) -> Result<Option<usize>, AllocError> {
+    let board = section_tokens(alloc, source, SectionKind::Board)?;
+    Ok(offset_of(board_place(error, &board)))
 }
 
 /// The first thing above its limit.
@@ -86,13 +94,16 @@ fn further_direction(alloc: Global, source: &Source<'_>) -> Result<Option<usize>
 /// The first action above the limit of positions.
 fn further_action(alloc: Global, source: &Source<'_>) -> Result<Option<usize>, AllocError> {
     let rules = section_tokens(alloc, source, SectionKind::Rules)?;
-    let actions = actions(alloc, &rules)?;
-    Ok(start_of(actions.get(MAX_POSITIONS).copied().unwrap_or(&[])))
+    further_action_of(alloc, &rules)
 }
 
-/// The offset of the first token.
-fn start_of(tokens: &[Token<'_>]) -> Option<usize> {
-    Some(tokens.first()?.at)
+/// The first action of these rules above the limit of positions.
+fn further_action_of(alloc: Global, rules: &[Token<'_>]) -> Result<Option<usize>, AllocError> {
+    let actions = actions(alloc, rules)?;
+    match actions.get(MAX_POSITIONS) {
+        Some(action) => Ok(start_of(action)),
+        None => Ok(None),
+    }
 }
 
 /// The name behind so many names of a section.

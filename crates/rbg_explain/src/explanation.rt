@@ -1,12 +1,12 @@
 //! A refused description, explained.
 
 use crate::brackets::open_bracket;
-use crate::calls::{called_lines, push_calls};
+use crate::calls::{called_lines, tell_calls};
 use crate::exact::find_place;
-use crate::joined::{joined_text, push_joins};
-use crate::message::{Found, Message};
+use crate::joined::{joined_text, tell_joins};
+use crate::message::{Message, tell_name};
 use crate::origin::faulty_call;
-use crate::output::{File, line_and_column, push_location, push_made};
+use crate::output::{File, Telling, line_and_column, tell_location};
 use crate::spot::{Spot, head_name};
 use rbg_console::Refusal;
 use rbg_game::LoadError;
@@ -21,7 +21,7 @@ use std::alloc::{AllocError, Global};
 struct Refused<'a> {
     file: File<'a>,
     tokens: Option<&'a Tokens<'a>>,
-    error: LoadError,
+    error: &'a LoadError,
 }
 
 /// What an author is told of a refused text: the file, the line and the column, what was expected and what stands
@@ -38,73 +38,88 @@ pub fn explain(
     let refused = Refused {
         file: File { name: file, text },
         tokens,
-        error,
+        error: &error,
     };
     push_explanation(alloc, &mut output, &refused)?;
-    push_refusal(alloc, &mut output, error)?;
     Ok(output)
 }
 
-/// The printed line of the refusal.
-fn push_refusal(alloc: Global, output: &mut Vec<u8>, error: LoadError) -> Result<(), AllocError> {
-    let refusal = Refusal(error);
-    push_made(output, format!(in alloc; "refused {refusal}\n"))
-}
-
-/// What is told of the text before the refusal itself.
+/// Adds what is told of a refused text.
 fn push_explanation(
     alloc: Global,
     output: &mut Vec<u8>,
     refused: &Refused<'_>,
 ) -> Result<(), AllocError> {
-    let file = refused.file;
-    let error = refused.error;
-    if let Some(at) = find_place(alloc, &error, file.text, refused.tokens)? {
-        return push_refused(alloc, output, refused, at);
-    }
-    let message = Message {
-        error,
-        spot: None,
-        joined: None,
-        has_mark: begins_with_mark(file.text, &error),
-    };
-    let name = file.name;
-    push_made(output, format!(in alloc; "{name}: {message}\n"))
+    let mut told = Telling::new(alloc, output);
+    tell_explanation(alloc, &mut told, refused)?;
+    told.text("refused ");
+    told.shown(&Refusal(*refused.error));
+    told.text("\n");
+    told.end()
 }
 
-/// What is told of a text that is refused at an offset.
-fn push_refused(
+/// Tells of the text before the printed line of the refusal.
+fn tell_explanation(
     alloc: Global,
-    output: &mut Vec<u8>,
+    told: &mut Telling<'_>,
+    refused: &Refused<'_>,
+) -> Result<(), AllocError> {
+    let text = refused.file.text;
+    match find_place(alloc, refused.error, text, refused.tokens)? {
+        Some(at) => tell_refused(alloc, told, refused, at),
+        None => {
+            tell_whole(told, refused);
+            Ok(())
+        }
+    }
+}
+
+/// Tells of a text that is refused at no offset.
+fn tell_whole(told: &mut Telling<'_>, refused: &Refused<'_>) {
+    let message = Message {
+        error: refused.error,
+        spot: None,
+        joined: None,
+        has_mark: begins_with_mark(refused.file.text, refused.error),
+    };
+    told.text(refused.file.name);
+    told.text(": ");
+    message.tell(told);
+    told.text("\n");
+}
+
+/// Tells of a text that is refused at an offset.
+fn tell_refused(
+    alloc: Global,
+    told: &mut Telling<'_>,
     refused: &Refused<'_>,
     at: usize,
 ) -> Result<(), AllocError> {
-    let error = refused.error;
-    let joined = joined_text(alloc, &error, refused.tokens, at)?;
+    let joined = joined_text(alloc, refused.error, refused.tokens, at)?;
     let cut = slice_of(refused.tokens);
     let message = Message {
-        error,
+        error: refused.error,
         spot: Spot::find(cut, at),
         joined: joined.as_deref(),
-        has_mark: begins_with_mark(refused.file.text, &error),
+        has_mark: begins_with_mark(refused.file.text, refused.error),
     };
-    push_message(alloc, output, refused.file, cut, at, message)
+    tell_message(alloc, told, refused.file, cut, at, &message)
 }
 
-/// The place with the message, where its token is joined, and what else is told of it.
-fn push_message(
+/// Tells the place with the message, where its token is joined, and what else is told of it.
+fn tell_message(
     alloc: Global,
-    output: &mut Vec<u8>,
+    told: &mut Telling<'_>,
     file: File<'_>,
     tokens: &[Token<'_>],
     at: usize,
-    message: Message<'_>,
+    message: &Message<'_>,
 ) -> Result<(), AllocError> {
-    push_place(alloc, output, file, at, message)?;
+    tell_place(told, file, at, message);
     if let Some(joined) = message.joined {
-        push_joins(alloc, output, file.text, tokens, at, joined)?;
+        tell_joins(alloc, told, file.text, tokens, at, joined)?;
     }
-    push_notes(alloc, output, file.text, tokens, message)
+    tell_notes(alloc, told, file.text, tokens, message)
 }
 
 fn slice_of<'a>(tokens: Option<&'a Tokens<'a>>) -> &'a [Token<'a>] {
@@ -120,99 +135,73 @@ fn begins_with_mark(text: &[u8], error: &LoadError) -> bool {
         && text.starts_with(b"\xef\xbb\xbf")
 }
 
-/// The file, the line, the column and the message, and the line itself with carets below the place.
-fn push_place(
-    alloc: Global,
-    output: &mut Vec<u8>,
-    file: File<'_>,
-    at: usize,
-    message: Message<'_>,
-) -> Result<(), AllocError> {
-    let at = at.min(file.text.len());
-    let line = TextLine::of(file.text, at);
-    let offset = at - line.start;
-    let place = (line.number, offset.saturating_add(1));
-    push_location(alloc, output, file, place)?;
-    push_made(output, format!(in alloc; "{message}\n"))?;
-    let excerpt = Excerpt {
+/// Tells the file, the line, the column and the message, and the line itself with carets below the place.
+fn tell_place(told: &mut Telling<'_>, file: File<'_>, at: usize, message: &Message<'_>) {
+    tell_location(told, file, at);
+    message.tell(told);
+    told.text("\n");
+    told.excerpt(&excerpt_of(file.text, at, message.width()));
+}
+
+/// So many bytes at an offset, or at the end of the text where that is before, in their line.
+fn excerpt_of(text: &[u8], at: usize, width: usize) -> Excerpt<'_> {
+    let at = at.min(text.len());
+    let line = TextLine::of(text, at);
+    Excerpt {
         number: line.number,
         bytes: line.bytes.strip_suffix(b"\r").unwrap_or(line.bytes),
-        offset,
-        width: message.width(),
-    };
-    excerpt.write(alloc, output)
+        offset: at - line.start,
+        width,
+    }
 }
 
-/// Which bracket isn't closed, the macro in whose body the place is and where it is called, and where the macro is defined
-/// that the refusal is about.
-fn push_notes(
+/// Tells which bracket isn't closed, the macro in whose body the place is and where it is called, and where the macro is
+/// defined that the refusal is about.
+fn tell_notes(
     alloc: Global,
-    output: &mut Vec<u8>,
+    told: &mut Telling<'_>,
     text: &[u8],
     tokens: &[Token<'_>],
-    message: Message<'_>,
+    message: &Message<'_>,
 ) -> Result<(), AllocError> {
-    if let Some(bracket) = unclosed_bracket(&message) {
-        push_bracket(alloc, output, text, &bracket)?;
+    if let Some(bracket) = unclosed_bracket(message) {
+        let place = line_and_column(text, bracket.at);
+        told.place("the bracket opened at ", place, " isn't closed\n");
     }
-    if let Some(head) = enclosing_macro(&message) {
-        let name = Found(Some(head));
-        push_made(
-            output,
-            format!(in alloc; "in the body of the macro {name}\n"),
-        )?;
-        push_call(alloc, output, text, tokens, head.text)?;
+    if let Some(head) = enclosing_macro(message) {
+        tell_body(alloc, told, text, tokens, head.text)?;
     }
-    match defined_macro(&message, tokens) {
-        Some(head) => push_definition(alloc, output, text, head),
-        None => Ok(()),
+    if let Some(head) = defined_macro(message, tokens) {
+        tell_definition(told, text, head);
     }
+    Ok(())
 }
 
-/// The line that says on which line the macro is defined that has this name in its head.
-fn push_definition(
-    alloc: Global,
-    output: &mut Vec<u8>,
-    text: &[u8],
-    head: Token<'_>,
-) -> Result<(), AllocError> {
-    let (number, _) = line_and_column(text, head.at);
-    let name = Found(Some(head));
-    push_made(
-        output,
-        format!(in alloc; "the macro {name} is defined on line {number}\n"),
-    )
+/// Tells on which line the macro is defined that has this name in its head.
+fn tell_definition(told: &mut Telling<'_>, text: &[u8], head: Token<'_>) {
+    let (line, _) = line_and_column(text, head.at);
+    told.text("the macro ");
+    tell_name(told, head.text);
+    told.number(" is defined on line ", line, "\n");
 }
 
-/// The line that says at which line and column the macro is called from whose body the fault comes, or else on which
-/// lines it is called.
-fn push_call(
+/// Tells in the body of which macro the place is. In the next line stands at which line and column the macro is called
+/// from whose body the fault comes, or else on which lines it is called.
+fn tell_body(
     alloc: Global,
-    output: &mut Vec<u8>,
+    told: &mut Telling<'_>,
     text: &[u8],
     tokens: &[Token<'_>],
     name: &[u8],
 ) -> Result<(), AllocError> {
-    let Some(call) = faulty_call(alloc, text, tokens, name)? else {
-        let lines = called_lines(alloc, text, tokens, name)?;
-        return push_calls(alloc, output, lines.as_slice());
-    };
-    let (number, column) = line_and_column(text, call);
-    push_made(output, format!(in alloc; "called at {number}:{column}\n"))
-}
-
-/// The line that says which bracket isn't closed.
-fn push_bracket(
-    alloc: Global,
-    output: &mut Vec<u8>,
-    text: &[u8],
-    bracket: &Token<'_>,
-) -> Result<(), AllocError> {
-    let (number, column) = line_and_column(text, bracket.at);
-    push_made(
-        output,
-        format!(in alloc; "the bracket opened at {number}:{column} isn't closed\n"),
-    )
+    told.text("in the body of the macro ");
+    tell_name(told, name);
+    told.text("\n");
+    match faulty_call(alloc, text, tokens, name)? {
+        Some(call) => told.place("called at ", line_and_column(text, call), "\n"),
+        None => tell_calls(told, &called_lines(alloc, text, tokens, name)?),
+    }
+    Ok(())
 }
 
 /// The bracket that isn't closed where a section ends too early, or where the arguments of a call don't end.

@@ -1,6 +1,6 @@
 //! Names and numbers that `~` has joined: the whole text of a refused one, and the `~` that joined it.
 
-use crate::output::{line_and_column, push_made};
+use crate::output::{Telling, line_and_column};
 use crate::sections::{cut, expanded};
 use rbg_game::{GameError, LoadError};
 use rbg_macro::{Section, SectionKind, Source};
@@ -118,49 +118,42 @@ fn gives_name(section: &Section<'_>, name: &[u8]) -> bool {
     false
 }
 
-/// Adds the line that says at which lines and columns the `~` stand that join this text at an offset: those without which
-/// it isn't there. The first 100 of the text are tried.
-pub(crate) fn push_joins(
+/// Tells in a line at which lines and columns the `~` stand that join this text at an offset: those without which it
+/// isn't there. The first 100 of the text are tried.
+pub(crate) fn tell_joins(
     alloc: Global,
-    output: &mut Vec<u8>,
+    told: &mut Telling<'_>,
     text: &[u8],
     tokens: &[Token<'_>],
     at: usize,
     joined: &[u8],
 ) -> Result<(), AllocError> {
-    let mut count = 0usize;
     let mut variant = text.to_vec(alloc)?;
-    for token in tokens
-        .iter()
-        .filter(|token| token.is(Symbol::Tilde))
-        .take(MOST_TRIED)
-    {
-        if joins(alloc, &mut variant, token.at, at, joined)? {
-            push_join(alloc, output, text, token.at, count)?;
-            count = count.saturating_add(1);
+    let mut tried = 0usize;
+    let mut count = 0usize;
+    for token in tokens {
+        if token.is(Symbol::Tilde) && tried < MOST_TRIED {
+            tried = tried.saturating_add(1);
+            if joins(alloc, &mut variant, token.at, at, joined)? {
+                tell_join(told, text, token.at, count);
+                count = count.saturating_add(1);
+            }
         }
     }
     if count > 0 {
-        output.push(b'\n')?;
+        told.text("\n");
     }
     Ok(())
 }
 
-/// Adds the line and the column of one `~`, behind those of so many others.
-fn push_join(
-    alloc: Global,
-    output: &mut Vec<u8>,
-    text: &[u8],
-    at: usize,
-    count: usize,
-) -> Result<(), AllocError> {
-    let word = if count == 0 {
-        "joined by `~` at"
+/// Tells the line and the column of one `~`, behind those of so many others.
+fn tell_join(told: &mut Telling<'_>, text: &[u8], at: usize, count: usize) {
+    let before = if count == 0 {
+        "joined by `~` at "
     } else {
-        " and"
+        " and "
     };
-    let (number, column) = line_and_column(text, at);
-    push_made(output, format!(in alloc; "{word} {number}:{column}"))
+    told.place(before, line_and_column(text, at), "");
 }
 
 /// Whether this text isn't at an offset where a space stands in place of a `~`, which stands again afterwards.

@@ -1,10 +1,11 @@
 //! What a game's positions and vertices are: a line for each.
 
-use crate::output::{line_and_column, push_made};
+use crate::among::start_of;
+use crate::output::{Telling, line_and_column};
 use crate::sections::{expanded, section_tokens};
 use rbg_game::Layout;
 use rbg_macro::SectionKind;
-use rbg_passages::{actions, push_action};
+use rbg_passages::actions;
 use rbg_tokens::{Token, Tokens};
 use std::alloc::{AllocError, Global};
 
@@ -31,28 +32,20 @@ fn push_actions(
     rules: &[Token<'_>],
 ) -> Result<(), AllocError> {
     let actions = actions(alloc, rules)?;
-    for (index, action) in actions.iter().enumerate() {
-        push_position(alloc, output, text, index.saturating_add(1), action)?;
-    }
-    Ok(())
+    let mut told = Telling::new(alloc, output);
+    tell_actions(&mut told, text, &actions);
+    told.end()
 }
 
-fn push_position(
-    alloc: Global,
-    output: &mut Vec<u8>,
-    text: &[u8],
-    position: usize,
-    action: &[Token<'_>],
-) -> Result<(), AllocError> {
-    let at = action.first().map_or(0, |token| token.at);
-    let (number, column) = line_and_column(text, at);
-    push_made(
-        output,
-        format!(in alloc; "position {position} {number}:{column} "),
-    )?;
-    push_action(output, action)?;
-    output.push(b'\n')?;
-    Ok(())
+/// Tells each action of the rules in a line.
+fn tell_actions(told: &mut Telling<'_>, text: &[u8], actions: &[&[Token<'_>]]) {
+    for (index, action) in actions.iter().enumerate() {
+        let at = start_of(action).unwrap_or(0);
+        told.number("position ", index.saturating_add(1), " ");
+        told.place("", line_and_column(text, at), " ");
+        told.action(action);
+        told.text("\n");
+    }
 }
 
 /// Adds a line for each vertex: its number and its name, or its row and its cell there, which are counted from 0.
@@ -61,32 +54,40 @@ pub fn push_vertices(
     output: &mut Vec<u8>,
     layout: &Layout,
 ) -> Result<(), AllocError> {
+    let mut told = Telling::new(alloc, output);
+    tell_vertices(&mut told, layout);
+    told.end()
+}
+
+fn tell_vertices(told: &mut Telling<'_>, layout: &Layout) {
     match layout {
-        Layout::Rectangle { rows } => push_cells(alloc, output, rows),
-        Layout::Hexagon { rows } => push_cells(alloc, output, rows),
-        Layout::Graph { names } => push_names(alloc, output, names),
+        Layout::Rectangle { rows } => tell_rows(told, rows),
+        Layout::Hexagon { rows } => tell_rows(told, rows),
+        Layout::Graph { names } => tell_names(told, names),
     }
 }
 
-fn push_cells(alloc: Global, output: &mut Vec<u8>, rows: &[usize]) -> Result<(), AllocError> {
+fn tell_rows(told: &mut Telling<'_>, rows: &[usize]) {
     let mut vertex = 0usize;
     for (row, length) in rows.iter().enumerate() {
-        for cell in 0..*length {
-            push_made(
-                output,
-                format!(in alloc; "vertex {vertex} row {row} cell {cell}\n"),
-            )?;
-            vertex = vertex.saturating_add(1);
-        }
+        tell_row(told, vertex, row, *length);
+        vertex = vertex.saturating_add(*length);
     }
-    Ok(())
 }
 
-fn push_names(alloc: Global, output: &mut Vec<u8>, names: &[Vec<u8>]) -> Result<(), AllocError> {
-    for (vertex, name) in names.iter().enumerate() {
-        push_made(output, format!(in alloc; "vertex {vertex} "))?;
-        output.extend_from_slice(name)?;
-        output.push(b'\n')?;
+/// Tells the cells of a row, which begins with this vertex.
+fn tell_row(told: &mut Telling<'_>, vertex: usize, row: usize, length: usize) {
+    for cell in 0..length {
+        told.number("vertex ", vertex.saturating_add(cell), "");
+        told.number(" row ", row, "");
+        told.number(" cell ", cell, "\n");
     }
-    Ok(())
+}
+
+fn tell_names(told: &mut Telling<'_>, names: &[Vec<u8>]) {
+    for (vertex, name) in names.iter().enumerate() {
+        told.number("vertex ", vertex, " ");
+        told.bytes(name);
+        told.text("\n");
+    }
 }

@@ -1,6 +1,7 @@
 //! What is said of a refusal: what was expected, and what stands there.
 
 use crate::brackets::CallForm;
+use crate::output::Telling;
 use crate::spot::{Needed, Spot};
 use rbg_board::BoardError;
 use rbg_game::limits::{
@@ -8,16 +9,15 @@ use rbg_game::limits::{
     MAX_VARIABLES, MAX_VERTICES,
 };
 use rbg_game::{GameError, LoadError, Thing};
-use rbg_macro::{MAX_JOINED, MAX_KEPT, MAX_LEVEL, MAX_READ, MacroError};
+use rbg_macro::{MAX_JOINED, MAX_KEPT, MAX_LEVEL, MAX_READ, MacroError, SectionKind};
 use rbg_syntax::{Expectation, SyntaxError};
 use rbg_tokens::{MAX_TEXT, Symbol, TextError, Token};
-use std::fmt::{self, Formatter, Write};
 use std::str;
 
 /// A refusal in words. Its text is one line without a line feed.
 #[derive(Clone, Copy)]
-pub struct Message<'a> {
-    pub error: LoadError,
+pub(crate) struct Message<'a> {
+    pub error: &'a LoadError,
     /// What stands at the refusal's place.
     pub spot: Option<Spot<'a>>,
     /// The whole text of what stands there, if `~` has joined it.
@@ -26,25 +26,21 @@ pub struct Message<'a> {
     pub has_mark: bool,
 }
 
-impl fmt::Display for Message<'_> {
-    fn fmt<W: Write>(&self, f: &mut Formatter<W>) -> fmt::Result {
-        match &self.error {
-            LoadError::Text(error) => self.write_text(f, error),
-            LoadError::Macro(error) => self.write_macro(f, error),
-            LoadError::Syntax(error) => self.write_syntax(f, error),
-            LoadError::Game(error) => self.write_game(f, error),
+impl Message<'_> {
+    /// Tells the refusal.
+    pub fn tell(&self, told: &mut Telling<'_>) {
+        match self.error {
+            LoadError::Text(error) => self.tell_text(told, error),
+            LoadError::Macro(error) => self.tell_macro(told, error),
+            LoadError::Syntax(error) => self.tell_syntax(told, error),
+            LoadError::Game(error) => self.tell_game(told, error),
         }
     }
-}
 
-impl<'a> Message<'a> {
-    /// The token at the refusal's place, with its whole text.
-    pub fn found(&self) -> Option<Token<'a>> {
-        let token = self.spot?.token;
-        Some(Token {
-            text: self.joined.unwrap_or(token.text),
-            ..token
-        })
+    /// The text of the token at the refusal's place.
+    fn found(&self) -> Option<&[u8]> {
+        let spot = self.spot?;
+        Some(self.joined.unwrap_or(spot.token.text))
     }
 
     /// How many bytes stand at the refusal's place.
@@ -55,54 +51,46 @@ impl<'a> Message<'a> {
         }
     }
 
-    fn write_text<W: Write>(&self, f: &mut Formatter<W>, error: &TextError) -> fmt::Result {
-        let words = match error {
-            TextError::TooLong => return write!(f, "the text has more than {MAX_TEXT} bytes"),
-            TextError::ZeroByte => "expected no zero byte in the text",
-            TextError::BadByte { .. } if self.has_mark =>
-                "expected a token, found a byte order mark",
-            TextError::BadByte { .. } => "expected a token, found a byte that begins none",
-            TextError::Memory => "out of memory",
-        };
-        f.write_str(words)
-    }
-
-    fn write_macro<W: Write>(&self, f: &mut Formatter<W>, error: &MacroError) -> fmt::Result {
+    fn tell_text(&self, told: &mut Telling<'_>, error: &TextError) {
         match error {
-            MacroError::BadDefinition { .. } => self.write_head(f),
-            MacroError::Twice { .. } => self.write_around(f, "a second macro has the name ", ""),
-            MacroError::ArgumentCount { .. } => self.write_call(f),
-            MacroError::Depth { .. } => self.write_depth(f),
-            MacroError::TooManyTokens => write!(
-                f,
-                "the macros expand to more than {MAX_KEPT} tokens, or more than {MAX_READ} are read"
-            ),
-            MacroError::BadJoin { .. } => write!(
-                f,
-                "expected two tokens beside `~` that make a name or a number of at most {MAX_JOINED} bytes"
-            ),
-            MacroError::Memory => f.write_str("out of memory"),
+            TextError::TooLong => told.number("the text has more than ", MAX_TEXT, " bytes"),
+            TextError::ZeroByte => told.text("expected no zero byte in the text"),
+            TextError::BadByte { .. } => told.text(if self.has_mark {
+                "expected a token, found a byte order mark"
+            } else {
+                "expected a token, found a byte that begins none"
+            }),
+            TextError::Memory => told.text("out of memory"),
         }
     }
 
-    /// What is said of a call within too many others.
-    fn write_depth<W: Write>(&self, f: &mut Formatter<W>) -> fmt::Result {
-        let found = Found(self.found());
-        write!(
-            f,
-            "the call of {found} is more than {MAX_LEVEL} levels deep"
-        )
+    fn tell_macro(&self, told: &mut Telling<'_>, error: &MacroError) {
+        match error {
+            MacroError::BadDefinition { .. } => self.tell_head(told),
+            MacroError::Twice { .. } => self.tell_around(told, "a second macro has the name ", ""),
+            MacroError::ArgumentCount { .. } => self.tell_call(told),
+            MacroError::Depth { .. } => {
+                self.tell_around(told, "the call of ", " is more than ");
+                told.number("", MAX_LEVEL, " levels deep");
+            }
+            MacroError::TooManyTokens => {
+                told.number("the macros expand to more than ", MAX_KEPT, " tokens, or");
+                told.number(" more than ", MAX_READ, " are read");
+            }
+            MacroError::BadJoin { .. } => told.number(
+                "expected two tokens beside `~` that make a name or a number of at most ",
+                MAX_JOINED,
+                " bytes",
+            ),
+            MacroError::Memory => told.text("out of memory"),
+        }
     }
 
-    /// What was found, between these words.
-    fn write_around<W: Write>(
-        &self,
-        f: &mut Formatter<W>,
-        before: &str,
-        behind: &str,
-    ) -> fmt::Result {
-        let found = Found(self.found());
-        write!(f, "{before}{found}{behind}")
+    /// Tells what was found, between these words.
+    fn tell_around(&self, told: &mut Telling<'_>, before: &str, behind: &str) {
+        told.text(before);
+        tell_found(told, self.found());
+        told.text(behind);
     }
 
     /// How many parameters the macro has that is called here, and what stands behind its name.
@@ -112,187 +100,163 @@ impl<'a> Message<'a> {
     }
 
     /// What is wrong with the arguments of a call.
-    fn write_call<W: Write>(&self, f: &mut Formatter<W>) -> fmt::Result {
+    fn tell_call(&self, told: &mut Telling<'_>) {
         match self.call() {
-            Some((wanted, CallForm::NoParenthesis)) => self.write_no_parenthesis(f, wanted),
+            Some((wanted, CallForm::NoParenthesis)) => {
+                tell_arguments(told, "expected `(` and ", wanted);
+                self.tell_around(told, " behind the macro's name ", "");
+            }
             Some((_, CallForm::Open)) => {
-                self.write_around(f, "expected a `)` behind the arguments of ", "")
+                self.tell_around(told, "expected a `)` behind the arguments of ", "");
             }
             Some((wanted, CallForm::Arguments(count))) if count != wanted => {
-                self.write_count(f, wanted, count)
+                tell_arguments(told, "expected ", wanted);
+                self.tell_around(told, " of ", ", separated by `;`");
+                told.number(", found ", count, "");
             }
-            _ => self.write_around(
-                f,
+            _ => self.tell_around(
+                told,
                 "expected a call of ",
                 " with as many arguments as it has parameters",
             ),
         }
     }
 
-    /// What is said of a call without a `(`.
-    fn write_no_parenthesis<W: Write>(&self, f: &mut Formatter<W>, wanted: usize) -> fmt::Result {
-        let found = Found(self.found());
-        let wanted = ArgumentCount(wanted);
-        write!(
-            f,
-            "expected `(` and {wanted} behind the macro's name {found}"
-        )
-    }
-
-    /// What is said of a call with another number of arguments.
-    fn write_count<W: Write>(
-        &self,
-        f: &mut Formatter<W>,
-        wanted: usize,
-        count: usize,
-    ) -> fmt::Result {
-        let found = Found(self.found());
-        let wanted = ArgumentCount(wanted);
-        write!(
-            f,
-            "expected {wanted} of {found}, separated by `;`, found {count}"
-        )
-    }
-
     /// What is wrong with the head of a definition.
-    fn write_head<W: Write>(&self, f: &mut Formatter<W>) -> fmt::Result {
-        let Some(spot) = self.spot else {
-            return f.write_str("expected a definition");
-        };
-        if spot.starts_definition() {
-            return f.write_str("expected a whole head of a definition, found the end of the text");
+    fn tell_head(&self, told: &mut Telling<'_>) {
+        match self.spot {
+            None => told.text("expected a definition"),
+            Some(spot) if spot.starts_definition() => {
+                told.text("expected a whole head of a definition, found the end of the text");
+            }
+            Some(spot) => self.tell_mismatch(told, head_words(spot.definition()), ""),
         }
-        self.write_mismatch(f, head_words(spot.definition()), "")
     }
 
     /// What was expected, and what was found in its place.
-    fn write_mismatch<W: Write>(
-        &self,
-        f: &mut Formatter<W>,
-        expected: &str,
-        behind: &str,
-    ) -> fmt::Result {
-        let found = Found(self.found());
-        write!(f, "expected {expected}, found {found}{behind}")
+    fn tell_mismatch(&self, told: &mut Telling<'_>, expected: &str, behind: &str) {
+        told.text("expected ");
+        told.text(expected);
+        self.tell_around(told, ", found ", behind);
     }
 
-    fn write_syntax<W: Write>(&self, f: &mut Formatter<W>, error: &SyntaxError) -> fmt::Result {
+    fn tell_syntax(&self, told: &mut Telling<'_>, error: &SyntaxError) {
         match error {
-            SyntaxError::Expected { what, .. } => self.write_expected(f, *what),
-            SyntaxError::MissingSection { which } => write!(f, "expected a section `#{which}`"),
-            SyntaxError::SectionTwice { which } => write!(
-                f,
-                "a second section has the name `{which}`"
-            ),
+            SyntaxError::Expected { what, .. } => self.tell_expected(told, *what),
+            SyntaxError::MissingSection { which } => {
+                tell_section(told, "expected a section `#", *which);
+            }
+            SyntaxError::SectionTwice { which } => {
+                tell_section(told, "a second section has the name `", *which);
+            }
             SyntaxError::TooDeep { .. } => {
-                self.write_around(f, "more than 128 brackets are open at ", "")
+                self.tell_around(told, "more than 128 brackets are open at ", "");
             }
-            SyntaxError::Memory => f.write_str("out of memory"),
+            SyntaxError::Memory => told.text("out of memory"),
         }
     }
 
-    fn write_expected<W: Write>(&self, f: &mut Formatter<W>, what: Expectation) -> fmt::Result {
+    fn tell_expected(&self, told: &mut Telling<'_>, what: Expectation) {
         let expected = expectation_words(what);
-        let comma = match self.spot {
-            Some(spot) => spot.comma_words(),
-            None => "",
-        };
-        match self.found() {
-            Some(token) if token.is(Symbol::Hash) => {
-                write!(f, "expected {expected}, found the end of the section")
+        match self.spot {
+            Some(spot) if spot.token.is(Symbol::Hash) => {
+                told.text("expected ");
+                told.text(expected);
+                told.text(", found the end of the section");
             }
-            _ => self.write_mismatch(f, expected, comma),
+            Some(spot) => self.tell_mismatch(told, expected, spot.comma_words()),
+            None => self.tell_mismatch(told, expected, ""),
         }
     }
 
-    fn write_game<W: Write>(&self, f: &mut Formatter<W>, error: &GameError) -> fmt::Result {
+    fn tell_game(&self, told: &mut Telling<'_>, error: &GameError) {
         match error {
-            GameError::UnknownName { .. } => self.write_mismatch(f, needed_words(self.spot), ""),
-            GameError::SameName { .. } => self.write_mismatch(f, "a new name", " again"),
-            GameError::Bound { .. } => self.write_bound(f),
-            GameError::SwitchInPattern { .. } => self.write_around(
-                f,
+            GameError::UnknownName { .. } => {
+                self.tell_mismatch(told, needed_words(self.spot), "");
+            }
+            GameError::SameName { .. } => self.tell_mismatch(told, "a new name", " again"),
+            GameError::Bound { .. } => self.tell_bound(told),
+            GameError::SwitchInPattern { .. } => self.tell_around(
+                told,
                 "expected an action that may be in a pattern, found the switch ",
                 "",
             ),
-            GameError::PatternTooDeep { .. } => {
-                write!(
-                    f,
-                    "more than {MAX_NESTED_PATTERNS} patterns are one inside the other"
-                )
-            }
+            GameError::PatternTooDeep { .. } => told.number(
+                "more than ",
+                MAX_NESTED_PATTERNS,
+                " patterns are one inside the other",
+            ),
             GameError::TooMany { what } => {
-                let most = most_of(*what);
-                write!(f, "expected at most {most} {what}")
+                told.number("expected at most ", most_of(*what), " ");
+                told.text(what.name());
             }
-            GameError::Board { error } => self.write_board(f, error),
-            GameError::Memory => f.write_str("out of memory"),
+            GameError::Board { error } => self.tell_board(told, error),
+            GameError::Memory => told.text("out of memory"),
         }
     }
 
     /// What is said of too great a number.
-    fn write_bound<W: Write>(&self, f: &mut Formatter<W>) -> fmt::Result {
-        let found = Found(self.found());
-        write!(
-            f,
-            "expected a bound of at most {MAX_BOUND}, or in arithmetic a number of at most {}, found {found}",
-            i64::MAX
-        )
+    fn tell_bound(&self, told: &mut Telling<'_>) {
+        told.text("expected a bound of at most ");
+        told.shown(&MAX_BOUND);
+        told.text(", or in arithmetic a number of at most ");
+        told.shown(&i64::MAX);
+        self.tell_around(told, ", found ", "");
     }
 
-    fn write_board<W: Write>(&self, f: &mut Formatter<W>, error: &BoardError) -> fmt::Result {
-        let (expected, again) = match error {
-            BoardError::SameDirection => ("another direction", " again"),
-            BoardError::UnknownVertex => ("the name of a vertex", ""),
-            BoardError::SameVertex => ("a new name of a vertex", " again"),
-            BoardError::RowLength { row } => {
-                return write!(
-                    f,
-                    "row {row}, counted from 0, has a length that doesn't fit"
-                );
-            }
+    fn tell_board(&self, told: &mut Telling<'_>, error: &BoardError) {
+        match error {
+            BoardError::SameDirection => self.tell_mismatch(told, "another direction", " again"),
+            BoardError::UnknownVertex => self.tell_mismatch(told, "the name of a vertex", ""),
+            BoardError::SameVertex => self.tell_mismatch(told, "a new name of a vertex", " again"),
+            BoardError::RowLength { row } => told.number(
+                "row ",
+                *row,
+                ", counted from 0, has a length that doesn't fit",
+            ),
             BoardError::TooManyVertices => {
-                return write!(f, "expected at most {MAX_VERTICES} vertices");
+                told.number("expected at most ", MAX_VERTICES, " vertices");
             }
             BoardError::NoCell => {
-                return f.write_str("expected a cell, found a board or a row without one");
+                told.text("expected a cell, found a board or a row without one");
             }
-            BoardError::Memory => return f.write_str("out of memory"),
-        };
-        self.write_mismatch(f, expected, again)
+            BoardError::Memory => told.text("out of memory"),
+        }
     }
 }
 
-/// A token's text between back quotes; of a long one the beginning.
-#[derive(Clone, Copy)]
-pub struct Found<'a>(pub Option<Token<'a>>);
-
-/// How many bytes of a token are written.
+/// How many bytes of a token are told.
 const MOST_SHOWN: usize = 40;
 
-impl fmt::Display for Found<'_> {
-    fn fmt<W: Write>(&self, f: &mut Formatter<W>) -> fmt::Result {
-        let Some(token) = self.0 else {
-            return write!(f, "nothing");
-        };
-        let text = token.text;
-        let start = text.get(..MOST_SHOWN).unwrap_or(text);
-        let mark = if start.len() < text.len() { ".." } else { "" };
-        let start = str::from_utf8(start).unwrap_or("");
-        write!(f, "`{start}{mark}`")
+/// Tells a token's text between back quotes; of a long one the beginning.
+fn tell_found(told: &mut Telling<'_>, found: Option<&[u8]>) {
+    match found {
+        Some(text) => tell_name(told, text),
+        None => told.text("nothing"),
     }
 }
 
-/// So many arguments.
-#[derive(Clone, Copy)]
-struct ArgumentCount(usize);
+/// Tells a name between back quotes; of a long one the beginning.
+pub(crate) fn tell_name(told: &mut Telling<'_>, name: &[u8]) {
+    let start = name.get(..MOST_SHOWN).unwrap_or(name);
+    told.text("`");
+    told.text(str::from_utf8(start).unwrap_or(""));
+    told.text(if start.len() < name.len() { "..`" } else { "`" });
+}
 
-impl fmt::Display for ArgumentCount {
-    fn fmt<W: Write>(&self, f: &mut Formatter<W>) -> fmt::Result {
-        let count = self.0;
-        let ending = if count == 1 { "" } else { "s" };
-        write!(f, "{count} argument{ending}")
+/// Tells of so many arguments.
+fn tell_arguments(told: &mut Telling<'_>, before: &str, count: usize) {
+    told.number(before, count, " argument");
+    if count != 1 {
+        told.text("s");
     }
+}
+
+/// Tells the name of a section.
+fn tell_section(told: &mut Telling<'_>, before: &str, section: SectionKind) {
+    told.text(before);
+    told.text(section.name());
+    told.text("`");
 }
 
 /// What fits behind the first tokens of a definition's head.

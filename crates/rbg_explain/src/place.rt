@@ -19,10 +19,20 @@ pub fn place_of(error: &LoadError, text: &[u8], tokens: &[Token<'_>]) -> Option<
 
 fn place_in_text(error: &TextError, text: &[u8]) -> Option<usize> {
     match error {
-        TextError::ZeroByte => text.iter().position(|byte| *byte == 0),
+        TextError::ZeroByte => zero_byte(text),
         TextError::BadByte { at } => Some(*at),
         TextError::TooLong | TextError::Memory => None,
     }
+}
+
+/// The offset of the first zero byte.
+fn zero_byte(text: &[u8]) -> Option<usize> {
+    for (index, byte) in text.iter().enumerate() {
+        if *byte == 0 {
+            return Some(index);
+        }
+    }
+    None
 }
 
 fn place_in_macros(error: &MacroError) -> Option<usize> {

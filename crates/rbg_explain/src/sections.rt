@@ -1,13 +1,16 @@
 //! The tokens of a description's sections, with the macros expanded.
 
-use rbg_game::LoadError;
-use rbg_macro::{Section, SectionKind, Source, expand};
-use rbg_tokens::{Token, Tokens, tokens};
+use rbg_macro::{MacroError, Section, SectionKind, Source, expand};
+use rbg_tokens::{TextError, Token, Tokens, tokens};
 use std::alloc::{AllocError, Global};
 
 /// The tokens of a text, or None where it can't be cut into tokens.
 pub(crate) fn cut(alloc: Global, text: &[u8]) -> Result<Option<Tokens<'_>>, AllocError> {
-    given(tokens(alloc, text).map_err(LoadError::Text))
+    match tokens(alloc, text) {
+        Ok(tokens) => Ok(Some(tokens)),
+        Err(TextError::Memory) => Err(AllocError),
+        Err(_) => Ok(None),
+    }
 }
 
 /// The expanded sections, or None where the macros are refused.
@@ -15,14 +18,9 @@ pub(crate) fn expanded<'t>(
     alloc: Global,
     tokens: &Tokens<'t>,
 ) -> Result<Option<Source<'t>>, AllocError> {
-    given(expand(alloc, tokens).map_err(LoadError::Macro))
-}
-
-/// What a layer gives, or None where it refuses.
-fn given<T: Drop>(outcome: Result<T, LoadError>) -> Result<Option<T>, AllocError> {
-    match outcome {
-        Ok(value) => Ok(Some(value)),
-        Err(error) if error.is_memory() => Err(AllocError),
+    match expand(alloc, tokens) {
+        Ok(source) => Ok(Some(source)),
+        Err(MacroError::Memory) => Err(AllocError),
         Err(_) => Ok(None),
     }
 }
@@ -33,21 +31,31 @@ pub(crate) fn section_tokens<'a>(
     source: &'a Source<'_>,
     kind: SectionKind,
 ) -> Result<Vec<Token<'a>>, AllocError> {
+    let mut tokens = Vec::new(alloc);
+    push_section(source, kind, &mut tokens)?;
+    Ok(tokens)
+}
+
+/// Adds the tokens of the first section of a kind.
+fn push_section<'a>(
+    source: &'a Source<'_>,
+    kind: SectionKind,
+    tokens: &mut Vec<Token<'a>>,
+) -> Result<(), AllocError> {
     for index in 0..source.len() {
         let section = source.section(index);
         if section.kind() == kind {
-            return tokens_of(alloc, &section);
+            return push_tokens(&section, tokens);
         }
     }
-    Ok(Vec::new(alloc))
+    Ok(())
 }
 
-fn tokens_of<'a>(alloc: Global, section: &Section<'a>) -> Result<Vec<Token<'a>>, AllocError> {
-    let mut tokens = Vec::new(alloc);
+fn push_tokens<'a>(section: &Section<'a>, tokens: &mut Vec<Token<'a>>) -> Result<(), AllocError> {
     for index in 0..section.len() {
         tokens.push(section.token(index))?;
     }
-    Ok(tokens)
+    Ok(())
 }
 
 /// The name behind so many names.

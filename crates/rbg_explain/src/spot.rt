@@ -1,7 +1,7 @@
 //! What stands around a token of a text.
 
-use crate::among::{before_first, index_of};
-use crate::brackets::{CallForm, call_form, parameter_count};
+use crate::among::{before_first, from_last, index_of, is_at};
+use crate::brackets::{CallForm, call_form, parameter_count, stays_open};
 use rbg_tokens::{Symbol, Token, TokenKind};
 
 /// The names of the sections.
@@ -48,6 +48,11 @@ impl<'a> Spot<'a> {
         self.before.last().copied()
     }
 
+    /// Of what kind the token before this one is.
+    fn last_kind(&self) -> Option<TokenKind> {
+        Some(self.last()?.kind)
+    }
+
     /// The name of the macro in whose definition the token stands.
     pub fn macro_name(&self) -> Option<Token<'a>> {
         let name = self.definition().get(1)?;
@@ -60,10 +65,7 @@ impl<'a> Spot<'a> {
 
     /// The tokens before this one in the same definition, from its `#`.
     pub fn definition(&self) -> &'a [Token<'a>] {
-        match self.before.iter().rposition(|token| token.is(Symbol::Hash)) {
-            Some(hash) => &self.before[hash..],
-            None => &[],
-        }
+        from_last(self.before, Symbol::Hash)
     }
 
     /// The tokens behind this one in the same definition, or those of the definition that begins here.
@@ -139,7 +141,7 @@ impl<'a> Spot<'a> {
     /// What a name must be outside of brackets, or in an argument of a call. One that follows a name or a closed
     /// bracket is an item of rules.
     fn needed_in_rules(&self) -> Needed {
-        match self.last().map(|last| last.kind) {
+        match self.last_kind() {
             Some(TokenKind::Symbol(Symbol::Arrow)) => Needed::Player,
             Some(
                 TokenKind::Name
@@ -175,22 +177,20 @@ impl<'a> Spot<'a> {
     fn innermost(&self) -> &'a [Token<'a>] {
         let tokens = self.definition();
         let mut closed = 0usize;
-        for (index, token) in tokens.iter().enumerate().rev() {
-            if is_closing(token) {
-                closed = closed.saturating_add(1);
-            } else if is_opening(token) {
-                if closed > 0 {
-                    closed -= 1;
-                } else if !token.is(Symbol::OpenParenthesis) || self.follows_macro(tokens, index) {
-                    return tokens.get(index..).unwrap_or(&[]);
-                }
+        for index in (0..tokens.len()).rev() {
+            let from = tokens.get(index..).unwrap_or(&[]);
+            if stays_open(from, &mut closed) && self.is_sought(tokens, index) {
+                return from;
             }
         }
         &[]
     }
 
-    /// Whether the token before that at an index is the name of a macro with parameters.
-    fn follows_macro(&self, tokens: &[Token<'a>], index: usize) -> bool {
+    /// Whether the bracket at an index is no `(`, or one behind the name of a macro with parameters.
+    fn is_sought(&self, tokens: &[Token<'a>], index: usize) -> bool {
+        if !is_at(tokens, index, Symbol::OpenParenthesis) {
+            return true;
+        }
         match tokens.get(index.saturating_sub(1)) {
             Some(name) => has_parameters(self.tokens, name.text),
             None => false,
@@ -198,36 +198,16 @@ impl<'a> Spot<'a> {
     }
 }
 
-fn is_opening(token: &Token<'_>) -> bool {
-    matches!(
-        token.kind,
-        TokenKind::Symbol(Symbol::OpenParenthesis | Symbol::OpenBracket | Symbol::OpenBrace)
-    )
-}
-
-fn is_closing(token: &Token<'_>) -> bool {
-    matches!(
-        token.kind,
-        TokenKind::Symbol(Symbol::CloseParenthesis | Symbol::CloseBracket | Symbol::CloseBrace)
-    )
-}
-
 /// Whether a macro with parameters has this name.
 fn has_parameters(tokens: &[Token<'_>], name: &[u8]) -> bool {
-    for head in tokens.windows(3) {
-        if let [hash, found, bracket] = head
-            && hash.is(Symbol::Hash)
-            && found.text == name
-            && bracket.is(Symbol::OpenParenthesis)
-        {
-            return true;
-        }
+    match behind_head(tokens, name) {
+        Some([bracket, ..]) => bracket.is(Symbol::OpenParenthesis),
+        _ => false,
     }
-    false
 }
 
 /// The tokens behind the name in the first head of a definition that has this name.
-fn behind_head<'a>(tokens: &'a [Token<'a>], name: &[u8]) -> Option<&'a [Token<'a>]> {
+pub fn behind_head<'a>(tokens: &'a [Token<'a>], name: &[u8]) -> Option<&'a [Token<'a>]> {
     for index in 0..tokens.len() {
         if let Some([hash, head, behind @ ..]) = tokens.get(index..)
             && hash.is(Symbol::Hash)
@@ -252,13 +232,10 @@ pub fn is_section(name: &[u8]) -> bool {
 /// The name in the head of the definition with this name, counted from 0 among those of one name.
 pub fn head_name<'a>(tokens: &'a [Token<'a>], name: &[u8], count: usize) -> Option<Token<'a>> {
     let mut left = count;
-    for pair in tokens.windows(2) {
-        if let [hash, head] = pair
-            && hash.is(Symbol::Hash)
-            && head.text == name
-        {
+    for (index, token) in tokens.iter().enumerate() {
+        if token.text == name && is_at(tokens, index.saturating_sub(1), Symbol::Hash) {
             if left == 0 {
-                return Some(*head);
+                return Some(*token);
             }
             left -= 1;
         }

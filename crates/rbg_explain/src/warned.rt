@@ -3,7 +3,7 @@
 use crate::among::index_of;
 use crate::boards::nth_direction;
 use crate::calls::calls_of;
-use crate::output::{File, line_and_column, push_location, push_made};
+use crate::output::{File, Telling, tell_location};
 use crate::sections::{expanded, nth_name, section_tokens};
 use crate::spot::is_section;
 use rbg_game::Game;
@@ -25,102 +25,114 @@ pub fn warn(
     game: &Game,
 ) -> Result<Vec<u8>, AllocError> {
     let mut output = Vec::new(alloc);
-    let file = File { name: file, text };
-    push_warnings(alloc, &mut output, file, tokens, game)?;
-    push_uncalled(alloc, &mut output, file, tokens.as_slice())?;
+    push_lines(alloc, &mut output, File { name: file, text }, tokens, game)?;
     if output.is_empty() {
         output.extend_from_slice(b"no warnings\n")?;
     }
     Ok(output)
 }
 
-/// Adds the line of a warning about a token, with a name between two parts of its words.
-fn push_line(
-    alloc: Global,
-    output: &mut Vec<u8>,
-    file: File<'_>,
-    token: Token<'_>,
-    words: [&str; 2],
-) -> Result<(), AllocError> {
-    let place = line_and_column(file.text, token.at);
-    push_location(alloc, output, file, place)?;
-    let [before, behind] = words;
-    let name = str::from_utf8(token.text).unwrap_or("");
-    push_made(output, format!(in alloc; "{before} `{name}`{behind}\n"))
-}
-
-/// Adds a line for each warning of the game, where the macros of the text are expanded.
-fn push_warnings(
+/// Adds the lines of the warnings.
+fn push_lines(
     alloc: Global,
     output: &mut Vec<u8>,
     file: File<'_>,
     tokens: &Tokens<'_>,
     game: &Game,
 ) -> Result<(), AllocError> {
-    let Some(source) = expanded(alloc, tokens)? else {
-        return Ok(());
-    };
-    let rules = section_tokens(alloc, &source, SectionKind::Rules)?;
-    push_warnings_in(alloc, output, file, &source, &rules, game)
+    let mut told = Telling::new(alloc, output);
+    tell_warnings(alloc, &mut told, file, tokens, game)?;
+    tell_uncalled(alloc, &mut told, file, tokens.as_slice())?;
+    told.end()
 }
 
-/// Adds a line for each warning of the game with these sections and rules.
-fn push_warnings_in(
+/// Tells a warning about a token in a line, with a name between two parts of its words.
+fn tell_line(told: &mut Telling<'_>, file: File<'_>, token: Token<'_>, words: [&str; 2]) {
+    let [before, behind] = words;
+    tell_location(told, file, token.at);
+    told.text(before);
+    told.text(" `");
+    told.text(str::from_utf8(token.text).unwrap_or(""));
+    told.text("`");
+    told.text(behind);
+    told.text("\n");
+}
+
+/// Tells each warning of the game in a line, where the macros of the text are expanded.
+fn tell_warnings(
     alloc: Global,
-    output: &mut Vec<u8>,
+    told: &mut Telling<'_>,
     file: File<'_>,
-    source: &Source<'_>,
-    rules: &[Token<'_>],
+    tokens: &Tokens<'_>,
     game: &Game,
 ) -> Result<(), AllocError> {
-    let actions = actions(alloc, rules)?;
+    match expanded(alloc, tokens)? {
+        Some(source) => tell_warnings_in(alloc, told, file, &source, game),
+        None => Ok(()),
+    }
+}
+
+/// Tells each warning of the game with these sections in a line.
+fn tell_warnings_in(
+    alloc: Global,
+    told: &mut Telling<'_>,
+    file: File<'_>,
+    source: &Source<'_>,
+    game: &Game,
+) -> Result<(), AllocError> {
+    let rules = section_tokens(alloc, source, SectionKind::Rules)?;
+    let actions = actions(alloc, &rules)?;
+    tell_warnings_among(alloc, told, file, source, &actions, game)
+}
+
+/// Tells each warning of the game with these sections and actions in a line.
+fn tell_warnings_among(
+    alloc: Global,
+    told: &mut Telling<'_>,
+    file: File<'_>,
+    source: &Source<'_>,
+    actions: &[&[Token<'_>]],
+    game: &Game,
+) -> Result<(), AllocError> {
     for warning in &warnings(alloc, game)? {
         match warning {
             Warning::TooGreat { position } => {
                 let index = (*position as usize).saturating_sub(1);
-                push_too_great(alloc, output, file, actions.get(index).copied())?;
+                tell_too_great(told, file, actions.get(index).copied().unwrap_or(&[]));
             }
             Warning::Unused { thing } => {
-                push_unused(alloc, output, file, source, game.players(), *thing)?;
+                tell_unused(alloc, told, file, source, game.players(), *thing)?;
             }
         }
     }
     Ok(())
 }
 
-/// Adds the line of an assignment whose number is above the bound of its variable, the first name of its action.
-fn push_too_great(
-    alloc: Global,
-    output: &mut Vec<u8>,
-    file: File<'_>,
-    action: Option<&[Token<'_>]>,
-) -> Result<(), AllocError> {
-    match nth_name(action.unwrap_or(&[]), 0) {
-        Some(token) => {
-            let words = [
-                "the number is above the bound of",
-                ", so this assignment is never valid",
-            ];
-            push_line(alloc, output, file, token, words)
-        }
-        None => Ok(()),
+/// Tells in a line that the number of an assignment is above the bound of its variable, the first name of its action.
+fn tell_too_great(told: &mut Telling<'_>, file: File<'_>, action: &[Token<'_>]) {
+    if let Some(token) = nth_name(action, 0) {
+        let words = [
+            "the number is above the bound of",
+            ", so this assignment is never valid",
+        ];
+        tell_line(told, file, token, words);
     }
 }
 
-/// Adds the line of a thing that the rules never use, at its name in the section that lists it.
-fn push_unused(
+/// Tells in a line that the rules never use a thing, at its name in the section that lists it.
+fn tell_unused(
     alloc: Global,
-    output: &mut Vec<u8>,
+    told: &mut Telling<'_>,
     file: File<'_>,
     source: &Source<'_>,
     players: usize,
     thing: Thing,
 ) -> Result<(), AllocError> {
     let tokens = section_tokens(alloc, source, section_of(thing))?;
-    match named_token(&tokens, players, thing) {
-        Some(token) => push_line(alloc, output, file, token, unused_words(thing)),
-        None => Ok(()),
+    if let Some(token) = named_token(&tokens, players, thing) {
+        tell_line(told, file, token, unused_words(thing));
     }
+    Ok(())
 }
 
 /// The section that lists a thing.
@@ -158,38 +170,36 @@ fn unused_words(thing: Thing) -> [&'static str; 2] {
     }
 }
 
-/// Adds a line for each macro that is never called. Where a text joins tokens any name may be made, so none is told.
-fn push_uncalled(
+/// Tells each macro that is never called in a line. Where a text joins tokens any name may be made, so none is told.
+fn tell_uncalled(
     alloc: Global,
-    output: &mut Vec<u8>,
+    told: &mut Telling<'_>,
     file: File<'_>,
     tokens: &[Token<'_>],
 ) -> Result<(), AllocError> {
     if index_of(tokens, Symbol::Tilde).is_some() {
         return Ok(());
     }
-    for pair in tokens.windows(2) {
-        if let [hash, head] = pair
-            && hash.is(Symbol::Hash)
-            && !is_section(head.text)
+    for (index, token) in tokens.iter().enumerate() {
+        if token.is(Symbol::Hash)
+            && let Some(head) = tokens.get(index.saturating_add(1))
         {
-            push_if_uncalled(alloc, output, file, tokens, *head)?;
+            tell_if_uncalled(alloc, told, file, tokens, *head)?;
         }
     }
     Ok(())
 }
 
-/// Adds the line of the macro with this name in its head, if nothing calls it.
-fn push_if_uncalled(
+/// Tells the macro with this name in its head in a line, if nothing calls it.
+fn tell_if_uncalled(
     alloc: Global,
-    output: &mut Vec<u8>,
+    told: &mut Telling<'_>,
     file: File<'_>,
     tokens: &[Token<'_>],
     head: Token<'_>,
 ) -> Result<(), AllocError> {
-    if !is_called(alloc, tokens, head.text)? {
-        let words = ["nothing calls the macro", ""];
-        push_line(alloc, output, file, head, words)?;
+    if !is_section(head.text) && !is_called(alloc, tokens, head.text)? {
+        tell_line(told, file, head, ["nothing calls the macro", ""]);
     }
     Ok(())
 }
