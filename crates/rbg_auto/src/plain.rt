@@ -15,12 +15,22 @@ pub(crate) struct PlainNode {
 
 /// The steps of a game's rules, with lists of its own for each position. `Compact` answers the same in less memory, and
 /// also tells of actions at a glance. This form tells of none.
-#[derive(Drop)]
 pub struct Automaton {
     /// By position. Nothing is laid at position 0.
     pub(crate) nodes: Vec<PlainNode>,
     pub(crate) first: Vec<Position>,
     pub(crate) may_be_empty: bool,
+}
+
+/// Written out, so that letting an automaton go is one call in the proofs of those who hold one, not a step for each part.
+impl Drop for Automaton {
+    fn drop(self) {
+        let Automaton {
+            nodes: _,
+            first: _,
+            may_be_empty: _,
+        } = self;
+    }
 }
 
 impl Steps for Automaton {

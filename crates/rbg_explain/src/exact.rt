@@ -54,7 +54,7 @@ fn place_in_source(
     source: &Source<'_>,
 ) -> Result<Option<usize>, AllocError> {
     match error {
-        LoadError::Game(GameError::Board { error }) => place_in_board(alloc, error, source),
+        LoadError::Game(GameError::Board { error }) => place_in_board(alloc, source, error),
         LoadError::Game(GameError::TooMany { what }) => further_thing(alloc, *what, source),
         _ => Ok(None),
     }
@@ -63,8 +63,8 @@ fn place_in_source(
 /// What a refusal of the board is about.
 fn place_in_board(
     alloc: Global,
-    error: &BoardError,
     source: &Source<'_>,
+    error: &BoardError,
 ) -> Result<Option<usize>, AllocError> {
     let board = section_tokens(alloc, source, SectionKind::Board)?;
     Ok(offset_of(board_place(error, &board)))

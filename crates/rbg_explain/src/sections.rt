@@ -19,9 +19,9 @@ pub(crate) fn expanded<'t>(
     tokens: &Tokens<'t>,
 ) -> Result<Option<Source<'t>>, AllocError> {
     match expand(alloc, tokens) {
-        Ok(source) => Ok(Some(source)),
         Err(MacroError::Memory) => Err(AllocError),
         Err(_) => Ok(None),
+        Ok(source) => Ok(Some(source)),
     }
 }
 

@@ -67,7 +67,7 @@ fn tell_warnings(
     game: &Game,
 ) -> Result<(), AllocError> {
     match expanded(alloc, tokens)? {
-        Some(source) => tell_warnings_in(alloc, told, file, &source, game),
+        Some(source) => tell_warnings_in(alloc, told, game, file, &source),
         None => Ok(()),
     }
 }
@@ -76,9 +76,9 @@ fn tell_warnings(
 fn tell_warnings_in(
     alloc: Global,
     told: &mut Telling<'_>,
+    game: &Game,
     file: File<'_>,
     source: &Source<'_>,
-    game: &Game,
 ) -> Result<(), AllocError> {
     let rules = section_tokens(alloc, source, SectionKind::Rules)?;
     let actions = actions(alloc, &rules)?;

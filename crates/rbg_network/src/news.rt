@@ -45,28 +45,28 @@ impl fmt::Display for News<'_> {
             News::Listening { port } => {
                 write_number(f, "listening on port ", u64::from(*port), "")
             }
-            News::MostRounds { rounds } => write_count(f, "a match may take", *rounds, "round"),
-            News::MostMinutes { minutes } => write_count(f, "a match may take", *minutes, "minute"),
+            News::MostRounds { rounds } => write_count(f, *rounds, "a match may take", "round"),
+            News::MostMinutes { minutes } => write_count(f, *minutes, "a match may take", "minute"),
             News::Connected { seat } => write_number(f, "seat ", *seat as u64, " connected"),
             News::Left { seat } => write_number(f, "seat ", *seat as u64, " left"),
             News::Absent { seconds } => {
-                write_count(f, "not all seats were taken within", *seconds, "second")
+                write_count(f, *seconds, "not all seats were taken within", "second")
             }
             News::Begins => f.write_str("match begins"),
             News::GoesOn => f.write_str("match goes on"),
             News::Ended { outcome } => write_end(f, outcome),
             News::Unfinished { rounds } => {
-                write_count(f, "match not ended within", *rounds, "round")
+                write_count(f, *rounds, "match not ended within", "round")
             }
             News::OutOfTime { minutes } => {
-                write_count(f, "match not ended within", *minutes, "minute")
+                write_count(f, *minutes, "match not ended within", "minute")
             }
-            News::Sits { seat, name } => write_name(f, *seat as u64, "is", name),
+            News::Sits { seat, name } => write_name(f, "is", name, *seat as u64),
             News::GaveUp { seat, error } => {
-                write_failure(f, "seat ", *seat as u64, " gave up", *error)
+                write_failure(f, *error, "seat ", *seat as u64, " gave up")
             }
-            News::Lost { port, error } => write_failure(f, "port ", u64::from(*port), "", *error),
-            News::Plays { player, name } => write_name(f, *player, "plays", name),
+            News::Lost { port, error } => write_failure(f, *error, "port ", u64::from(*port), ""),
+            News::Plays { player, name } => write_name(f, "plays", name, *player),
         }
     }
 }
@@ -84,8 +84,8 @@ fn write_number<W: fmt::Write>(
 /// So many of something with this name, behind a text.
 fn write_count<W: fmt::Write>(
     f: &mut Formatter<W>,
-    before: &str,
     count: u64,
+    before: &str,
     name: &str,
 ) -> fmt::Result {
     let ending = if count == 1 { "" } else { "s" };
@@ -95,22 +95,11 @@ fn write_count<W: fmt::Write>(
 /// What a seat has to do with a name.
 fn write_name<W: fmt::Write>(
     f: &mut Formatter<W>,
-    seat: u64,
     verb: &str,
     name: &str,
+    seat: u64,
 ) -> fmt::Result {
     write!(f, "seat {seat} {verb} {name}")
-}
-
-/// An error behind a number between two texts.
-fn write_failure<W: fmt::Write>(
-    f: &mut Formatter<W>,
-    before: &str,
-    number: u64,
-    after: &str,
-    error: ClientError,
-) -> fmt::Result {
-    write!(f, "{before}{number}{after}: {error}")
 }
 
 /// How a match ended, by the message that its seats are sent.
@@ -132,4 +121,15 @@ fn write_scores<W: fmt::Write>(f: &mut Formatter<W>, scores: &[u64]) -> fmt::Res
         write!(f, " {score}")?;
     }
     Ok(())
+}
+
+/// An error behind a number between two texts.
+fn write_failure<W: fmt::Write>(
+    f: &mut Formatter<W>,
+    error: ClientError,
+    before: &str,
+    number: u64,
+    after: &str,
+) -> fmt::Result {
+    write!(f, "{before}{number}{after}: {error}")
 }
