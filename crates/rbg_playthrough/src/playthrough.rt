@@ -137,7 +137,8 @@ impl<'a> Playthrough<'a> {
     /// Makes a legal move.
     pub fn make(&mut self, pairs: &[Pair]) -> Result<(), Memory>
         requires { IsLegal self.old.game self.old.place pairs.now }
-        ensures { OnOk result (Moves self.old pairs.now self.new) }
+        ensures made { OnOk result (Moves self.old pairs.now self.new) }
+        ensures failed { OnErr result (self.new ≡ self.old) }
     {
         let mut place = self.place.try_clone()?;
         self.game.make_move(&mut place, pairs)?;
