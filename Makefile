@@ -9,41 +9,55 @@ CRATES := $(wildcard crates/*)
 # is rbg_test_search, whose 2,000 games take too long where each step is checked.
 STORED := $(filter-out $(patsubst crates/%/args,%,$(wildcard crates/*/args)) rbg_games,$(patsubst crates/%/stdin,%,$(wildcard crates/*/stdin)))
 TESTED := $(filter-out rbg_test_search,$(sort $(foreach file,$(shell grep -rl --include='*.rt' '^ *#\[test\]' crates),$(word 2,$(subst /, ,$(file))))))
-# The game of `make demo`, the games of `make clients`, and the port on which the clients' matches are served.
+# The game of `make demo`, and the games of `make clients`, and of `make hall` and `make crash`, each of two players.
 GAME := crates/rbg_games/data/tictactoe.rbg
 GAMES := tictactoe connect_four breakthrough hex reversi
-# The games of `make hall`, each of two players.
 HALL := tictactoe connect_four breakthrough
-PORT := 4710
-# How many cases `make compare` makes by chance, the seed of the first one, and the program that it runs.
+# The program that is run where a target needs ./rbg.
+RBG := ./rbg
+# How many matches `make crash` kills.
+MATCHES := 50
+# How many cases `make compare` makes by chance, and the seed of the first one.
 N := 10000
 SEED := 1
-RBG := ./rbg
 # How many requests of each run `make refusals` refuses one after the other, and how many of the later ones, spread out.
+# With BUILT=yes it runs rbg_refusals and rbg_cases as they were built last.
 FIRST := 5000
 SPREAD := 100
+BUILT :=
+# How many processes `make compare` and `make refusals` run at once, if not one for each processor.
+JOBS :=
+# How many crates `make build` proves at once, if not one for each processor and 3 GB of memory.
+LANES :=
 # How long a test may take without the proof: its build checks each step.
 SECONDS := 600
 # The requests for memory of the first match that `make try` refuses, one in each of ten runs.
 REFUSED := 1 2 5 10 20 50 100 150 200 300
 
-.PHONY: help run demo games clients clients-match hall tournament crash page compare refusals try build bench test check fmt clean
+# What stands before a command that runs this program.
+needs = @test -x $(1) || { echo 'make $@ needs $(1): run make build first, or give RBG=path'; exit 1; }
+data = $(1:%=crates/rbg_games/data/%.rbg)
+
+.PHONY: help run demo games clients hall tournament crash page compare refusals doctests links try build bench test parts check fmt clean
 
 help:
 	@echo 'make run      referees the first match of README.md (crates/rbg_manager/stdin), with no proof'
 	@echo 'make demo     referees a match between two players over connections, and prints its record, with no proof'
 	@echo 'make games    checks each of the games that come with it, counts its first moves, compares both forms of its automaton and referees a match, with no proof'
-	@echo 'make clients  lets two example clients play matches of five games over ./rbg serve, and checks their records (after make build)'
+	@echo 'make clients  lets two example clients play a match of each of five games over ./rbg serve, and checks the records (after make build)'
 	@echo 'make hall     lets example clients play three matches at once over ./rbg hall, and checks the records and logs (after make build)'
 	@echo 'make tournament lets three example players meet in three games, 36 matches, and prints the table (after make build)'
-	@echo 'make crash    kills ./rbg in the middle of 50 matches, lets each go on, and compares its record (after make build)'
+	@echo 'make crash    kills ./rbg in the middle of MATCHES=50 matches, lets each go on, and compares its record (after make build)'
 	@echo 'make page     plays a match of chess, hex, abalone and reversi, makes a page of each, and takes pictures by a browser if there is one (after make build)'
 	@echo 'make compare  compares ./rbg with the interpreter of tools/slow, on stored cases and N=10000 others of SEED=1 (after make build)'
 	@echo 'make refusals refuses each request for memory in turn, and checks each answer; this alone needs gcc (after make build)'
+	@echo 'make doctests runs the examples in the comments of the clients and tools (after make build)'
+	@echo 'make links    looks whether what the pages link is there'
 	@echo 'make try      runs the stored runs, ten with a request for memory refused, and the tests, with no proof; make -j4 try runs four at once'
-	@echo 'make build    proves the programs and what they stand on, and leaves them as ./rbg and ./rbg_author'
+	@echo 'make build    proves the programs and what they stand on, LANES crates at once, and leaves them as ./rbg and ./rbg_author'
 	@echo 'make bench    prints the tables of docs/COSTS.md, by valgrind (after make build); SECTIONS="texts search" prints some'
-	@echo 'make test     the gate: every proof from nothing, the must-fail edits, each test, each program'
+	@echo 'make test     the gate: every proof from nothing, the must-fail edits, each test and program, and then make parts'
+	@echo 'make parts    refusals, compare, crash, tournament, clients and hall with smaller numbers, doctests and links, with the programs as the gate built them'
 	@echo 'make check    proves what changed since the last check, lowest crates first'
 	@echo 'make fmt      lays out the sources and the proofs'
 	@echo 'make clean    removes what was built'
@@ -58,26 +72,12 @@ games:
 	@cd crates/rbg_games && sed 's/ [0-9]*$$/ 1/' stdin | $(RT) try --seconds $(SECONDS) $(foreach file,$(notdir $(filter-out %.md,$(wildcard crates/rbg_games/data/*))),--data $(file)=data/$(file))
 
 clients:
-	@test -x ./rbg || { echo 'make clients needs ./rbg: run make build first'; exit 1; }
-	@python3 -m doctest clients/rbg_rules.py
-	@python3 -m doctest clients/rbg_thinker.py
-	@python3 -m doctest clients/rbg_turns.py
-	@for game in $(GAMES); do $(MAKE) --no-print-directory clients-match GAME=crates/rbg_games/data/$$game.rbg || exit 1; done
+	$(call needs,$(RBG))
+	@python3 clients/matches.py --rbg $(RBG) $(call data,$(GAMES))
 
-# One match: the first player thinks, the second one chooses by chance.
-clients-match:
-	@record=$$(mktemp) && \
-	{ ./rbg serve $(GAME) --port $(PORT) > $$record & served=$$!; sleep 1; \
-	  python3 clients/rbg_player.py $(PORT) --think 200 & first=$$!; sleep 1; \
-	  python3 clients/rbg_player.py $(PORT) --random 1 && wait $$first && wait $$served || \
-	  { kill $$first $$served 2> /dev/null; false; }; } && \
-	echo $(notdir $(GAME)): $$(tail -1 $$record) && ./rbg replay $(GAME) $$record; status=$$?; rm -f $$record; exit $$status
-
-# Matches of some games at once in one hall.
 hall:
-	@test -x ./rbg || { echo 'make hall needs ./rbg: run make build first'; exit 1; }
-	@python3 -m doctest clients/hall.py
-	@python3 clients/hall.py --port $(PORT) $(HALL:%=crates/rbg_games/data/%.rbg)
+	$(call needs,$(RBG))
+	@python3 clients/hall.py --rbg $(RBG) $(call data,$(HALL))
 
 # The example tournament: each line of its jobs is a command, so whatever runs commands side by side can play it.
 tournament:
@@ -89,28 +89,34 @@ tournament:
 	python3 clients/tournament.py table $$folder --html $$folder/table.html > $$folder/table.txt && cat $$folder/table.txt && \
 	echo "the files are in $$folder" && grep -q '^36 of 36 matches' $$folder/table.txt
 
-# Matches of these games are killed and go on.
 crash:
-	@test -x ./rbg || { echo 'make crash needs ./rbg: run make build first'; exit 1; }
-	@python3 -m doctest clients/crash.py
-	@python3 clients/crash.py $(HALL:%=crates/rbg_games/data/%.rbg)
+	$(call needs,$(RBG))
+	@python3 clients/crash.py --rbg $(RBG) --count $(MATCHES) $(call data,$(HALL))
 
 page:
 	@test -x ./rbg && test -x ./rbg_author || { echo 'make page needs ./rbg and ./rbg_author: run make build first'; exit 1; }
 	@python3 tools/page/page.py
 
 compare:
-	@test -x $(RBG) || { echo 'make compare needs $(RBG): run make build first, or give RBG=path'; exit 1; }
-	@python3 tools/slow/compare.py --rbg $(RBG) --count $(N) --seed $(SEED)
+	$(call needs,$(RBG))
+	@python3 tools/slow/compare.py --rbg $(RBG) --count $(N) --seed $(SEED) $(JOBS:%=--processes %)
 
 refusals:
-	@test -x $(RBG) || { echo 'make refusals needs $(RBG): run make build first, or give RBG=path'; exit 1; }
-	@for crate in $(REFUSALS) $(CASES); do \
-	  (cd $$crate && printed=$$(mktemp) && $(RT) run < stdin > $$printed && diff stdout $$printed && rm $$printed) || exit 1; done
+	$(call needs,$(RBG))
+	@$(if $(BUILT),,for crate in $(REFUSALS) $(CASES); do \
+	  (cd $$crate && printed=$$(mktemp) && $(RT) run < stdin > $$printed && diff stdout $$printed && rm $$printed) || exit 1; done)
 	@folder=$$(mktemp -d) && \
 	gcc -O2 -Wall -Wextra -shared -fPIC -o $$folder/refuse.so tools/refuse/refuse.c && \
-	python3 tools/refuse/refuse.py $$folder/refuse.so --rbg $(RBG) --refusals $(REFUSALS)/out/rbg_refusals --cases $(CASES)/out/rbg_cases --first $(FIRST) --spread $(SPREAD); \
+	python3 tools/refuse/refuse.py $$folder/refuse.so --rbg $(RBG) --refusals $(REFUSALS)/out/rbg_refusals --cases $(CASES)/out/rbg_cases \
+	  --first $(FIRST) --spread $(SPREAD) $(JOBS:%=--processes %); \
 	status=$$?; rm -rf $$folder; exit $$status
+
+doctests:
+	$(call needs,./rbg)
+	@tools/doctests
+
+links:
+	@tools/links
 
 try: $(STORED:%=try-run-%) $(REFUSED:%=try-memory-%) $(TESTED:%=try-test-%)
 
@@ -129,6 +135,7 @@ try-test-%:
 	@cd crates/$* && $(RT) try --test --seconds $(SECONDS)
 
 build:
+	tools/lanes --rt '$(RT)' $(LANES:%=--lanes %) $(notdir $(PROGRAM) $(AUTHOR))
 	cd $(PROGRAM) && $(RT) run < stdin
 	cp $(PROGRAM)/out/rbg_manager rbg
 	cd $(AUTHOR) && $(RT) run -- --help
@@ -138,7 +145,10 @@ bench:
 	@python3 tools/bench/bench.py $(SECTIONS)
 
 test:
-	$(RT) ci
+	@tools/gate --rt '$(RT)'
+
+parts:
+	@tools/gate --rt '$(RT)' --built
 
 check:
 	$(RT) all check
@@ -147,4 +157,4 @@ fmt:
 	@for crate in $(CRATES); do (cd $$crate && $(RT) fmt) || exit 1; done
 
 clean:
-	rm -rf $(addsuffix /out,$(CRATES)) rbg rbg_author
+	rm -rf $(addsuffix /out,$(CRATES)) out rbg rbg_author

@@ -15,10 +15,7 @@ It needs nothing but Linux, Python 3.11 and the program rbg.
 """
 
 import argparse
-import contextlib
 import random
-import resource
-import signal
 import socket
 import subprocess
 import sys
@@ -28,23 +25,11 @@ import time
 from pathlib import Path
 from typing import Optional
 
-CLIENT = Path(__file__).resolve().with_name("rbg_player.py")
-PATIENCE = 60  # seconds in which a match has to end
+from faults import check_failures, check_faults
+from served import PATIENCE, Match, Wrong, end, free_port, is_good, listen
+
 ROUNDS = 600  # the rounds of the match that is to last a minute; they are over in 3 to 17 seconds
-LOG_ROOM = 100  # the bytes of a file that gets no longer; a log has more after one long message
-FILES_ROOM = 5  # the open files of a process that can accept one connection: three streams, its listener and this one
 PAUSE = 0.02  # seconds between two bytes, so that in a minute they are no message that is too long
-
-
-class Wrong(Exception):
-    """What isn't as it should be."""
-
-
-def free_port() -> int:
-    """A port on which nothing listens now."""
-    with socket.socket() as tried:
-        tried.bind(("127.0.0.1", 0))
-        return tried.getsockname()[1]
 
 
 def moves_of(record: str) -> list[str]:
@@ -56,90 +41,27 @@ def moves_of(record: str) -> list[str]:
     return [line.split(" ", 1)[1] for line in record.splitlines()[3:]]
 
 
-class Match:
-    """A match of a game, and its files."""
+def run(match: Match, *words: str, text: Optional[bytes] = None) -> tuple[int, bytes]:
+    """What another command of rbg prints, and its status."""
+    done = subprocess.run([match.rbg, *words], input=text, capture_output=True)
+    return done.returncode, done.stdout
 
-    def __init__(self, rbg: str, game: Path, folder: Path):
-        self.rbg, self.game = rbg, game
-        self.log, self.record = folder / "match.log", folder / "match.record"
-        self.lasted = 0.0  # how many seconds the last match took, from the last connection on
 
-    def serve(self, players: list[list[str]], *words: str) -> tuple[subprocess.Popen, list[subprocess.Popen]]:
-        """Starts a referee and, one after the other, its clients."""
-        port = free_port()
-        referee = subprocess.Popen(
-            [self.rbg, "serve", str(self.game), "--port", str(port), "--minutes", "5", *words],
-            stdout=subprocess.PIPE, stderr=subprocess.PIPE, text=True,
-        )
-        self.wait_for(referee, "listening")
-        clients = []
-        for seat, player in enumerate(players, 1):
-            clients.append(subprocess.Popen(
-                [sys.executable, str(CLIENT), str(port), "--rbg", self.rbg, *player],
-                stdout=subprocess.DEVNULL, stderr=subprocess.DEVNULL,
-            ))
-            self.wait_for(referee, f"seat {seat} connected")
-        return referee, clients
-
-    @staticmethod
-    def wait_for(referee: subprocess.Popen, news: str) -> None:
-        """Reads standard error up to a line that begins so."""
-        assert referee.stderr is not None
-        for line in referee.stderr:
-            if line.startswith(news):
-                return
-        raise Wrong(f"the referee ended before it said {news!r}")
-
-    @staticmethod
-    def end(referee: subprocess.Popen, clients: list[subprocess.Popen]) -> None:
-        for process in (referee, *clients):
-            if process.poll() is None:
-                process.kill()
-            process.wait()
-
-    def play(self, players: list[list[str]], *words: str, kill_after: Optional[float] = None) -> Optional[str]:
-        """Plays on. Returns the record, or None if the referee was killed before the end."""
-        referee, clients = self.serve(players, *words)
-        began = time.monotonic()
-        try:
-            output, _ = referee.communicate(timeout=PATIENCE if kill_after is None else kill_after)
-        except subprocess.TimeoutExpired:
-            if kill_after is None:
-                raise Wrong(f"not ended after {PATIENCE} seconds") from None
-            referee.send_signal(signal.SIGKILL)
-            referee.communicate()
-            return None
-        finally:
-            self.lasted = time.monotonic() - began
-            self.end(referee, clients)
-        if referee.returncode:
-            raise Wrong(f"the referee ended with status {referee.returncode}: {output.strip()}")
-        return output
-
-    def play_again(self, *words: str, kill_after: Optional[float] = None) -> Optional[str]:
-        """Plays as the record says."""
-        return self.play([["--record", str(self.record)]] * 2, *words, kill_after=kill_after)
-
-    def run(self, *words: str, text: Optional[bytes] = None) -> tuple[int, bytes]:
-        """What another command of rbg prints, and its status."""
-        done = subprocess.run([self.rbg, *words], input=text, capture_output=True)
-        return done.returncode, done.stdout
-
-    def check(self, record: str) -> None:
-        """The record is good, has the moves of the first one, and the log tells the same match."""
-        if moves_of(record) != moves_of(self.record.read_text()):
-            raise Wrong(f"another match than without a crash:\n{record}")
-        file = self.log.with_suffix(".again")
-        file.write_text(record)
-        if self.run("replay", str(self.game), str(file)) != (0, b"good\n"):
-            raise Wrong("the record isn't good")
-        status, printed = self.run("referee", str(self.game), text=self.log.read_bytes())
-        if status:
-            raise Wrong(f"the log is refused: {printed!r}")
-        heard = [line.removeprefix("1 ") for line in printed.decode().splitlines() if line[:3] in ("1 M", "1 E")]
-        moves = [move if move[0] == "E" else "M" + move.split(" ", 1)[1] for move in moves_of(record)]
-        if heard != moves:
-            raise Wrong("the log tells another match than the record")
+def check(match: Match, record: str) -> None:
+    """The record is good, has the moves of the first one, and the log tells the same match."""
+    if moves_of(record) != moves_of(match.record.read_text()):
+        raise Wrong(f"another match than without a crash:\n{record}")
+    file = match.log.with_suffix(".again")
+    file.write_text(record)
+    if not is_good(match.rbg, match.game, file):
+        raise Wrong("the record isn't good")
+    status, printed = run(match, "referee", str(match.game), text=match.log.read_bytes())
+    if status:
+        raise Wrong(f"the log is refused: {printed!r}")
+    heard = [line.removeprefix("1 ") for line in printed.decode().splitlines() if line[:3] in ("1 M", "1 E")]
+    moves = [move if move[0] == "E" else "M" + move.split(" ", 1)[1] for move in moves_of(record)]
+    if heard != moves:
+        raise Wrong("the log tells another match than the record")
 
 
 class Dripping:
@@ -148,13 +70,8 @@ class Dripping:
     def __init__(self, rbg: str, game: Path, folder: Path):
         folder.mkdir()
         self.match = Match(rbg, game, folder)
-        port = free_port()
         words = ["--rounds", str(ROUNDS), "--minutes", "1", "--turn", "3600000", "--log", str(self.match.log)]
-        self.referee = subprocess.Popen(
-            [rbg, "serve", str(game), "--port", str(port), *words],
-            stdout=subprocess.PIPE, stderr=subprocess.PIPE, text=True,
-        )
-        Match.wait_for(self.referee, "listening")
+        self.referee, port = listen([rbg, "serve", str(game), *words])
         for _ in range(2):
             connection = socket.create_connection(("127.0.0.1", port))
             threading.Thread(target=self.drip, args=(connection,), daemon=True).start()
@@ -182,75 +99,8 @@ class Dripping:
         self.match.record.write_text(record)
         again = self.match.play_again("--resume", str(self.match.log))
         assert again is not None
-        self.match.check(again)
+        check(self.match, again)
         return rounds
-
-    def end(self) -> None:
-        Match.end(self.referee, [])
-
-
-def check_faults(match: Match) -> int:
-    """What can't be opened is named on standard error. Returns how many such faults were looked at."""
-    game, record, none = str(match.game), str(match.record), str(match.log.with_name("none"))
-    before = match.record.read_text()
-    with socket.create_server(("127.0.0.1", 0)) as server:
-        taken, free = str(server.getsockname()[1]), str(free_port())
-        faults = [
-            (["serve", game, "--port", taken], taken),
-            (["serve", none, "--port", free], none),
-            (["serve", game, "--port", free, "--log", record], record),
-            (["serve", game, "--port", free, "--log", none + "/log"], none + "/log"),
-            (["serve", game, "--port", free, "--resume", none], none),
-            (["hall", game, "--port", taken], taken),
-            (["play", "--port", free], free),
-            (["replay", game, none], none),
-        ]
-        for words, name in faults:
-            done = subprocess.run([match.rbg, *words], capture_output=True, text=True)
-            if (done.returncode, done.stdout) != (3, "device\n") or name not in done.stderr:
-                raise Wrong(f"{words}: status {done.returncode}, {done.stdout}{done.stderr}")
-    if match.record.read_text() != before:
-        raise Wrong("a file was written over by a log")
-    return len(faults)
-
-
-def fail_at(match: Match, limit: int, room: int, *words: str) -> str:
-    """What standard error tells last of a match in which the system gives the referee no more than this of something, and
-    each player says a long message."""
-    port = free_port()
-    referee = subprocess.Popen(
-        [match.rbg, "serve", str(match.game), "--port", str(port), *words],
-        stdout=subprocess.PIPE, stderr=subprocess.PIPE, text=True,
-        restore_signals=False, preexec_fn=lambda: resource.setrlimit(limit, (room, room)),
-    )
-    with contextlib.ExitStack() as connections:
-        try:
-            Match.wait_for(referee, "listening")
-            with contextlib.suppress(OSError):  # the referee may have ended
-                for _ in range(2):
-                    connection = connections.enter_context(socket.create_connection(("127.0.0.1", port)))
-                    connection.sendall(b"x" * LOG_ROOM + b"\0")
-            output, told = referee.communicate(timeout=PATIENCE)
-        finally:
-            Match.end(referee, [])
-    if (referee.returncode, output) != (3, "device\n"):
-        raise Wrong(f"where something can't be had: status {referee.returncode}, {output}{told}")
-    return told
-
-
-def check_failures(match: Match) -> int:
-    """A log that can't be written is named on standard error, and so is a connection that can't be accepted. Returns how
-    many such failures were looked at."""
-    log = match.log.with_name("full.log")
-    told = fail_at(match, resource.RLIMIT_FSIZE, LOG_ROOM, "--log", str(log))
-    if f"can't write the log {log}: " not in told:
-        raise Wrong(f"a log that can't be written: {told}")
-    if len(log.read_bytes()) > LOG_ROOM or not log.read_bytes().startswith(b"config "):
-        raise Wrong("a log that can't be written is longer than it may be, or doesn't begin as a log")
-    told = fail_at(match, resource.RLIMIT_NOFILE, FILES_ROOM)
-    if "can't accept a connection: " not in told:
-        raise Wrong(f"a connection that can't be accepted: {told}")
-    return 2
 
 
 def crash_once(match: Match, chance: random.Random, longest: float) -> int:
@@ -266,17 +116,17 @@ def crash_once(match: Match, chance: random.Random, longest: float) -> int:
         else:
             match.log.unlink()  # it was killed before the match began
             record = match.play_again("--log", str(match.log), kill_after=later)
-    match.check(record)
+    check(match, record)
     return killed
 
 
 def resume(match: Match, kill_after: Optional[float]) -> Optional[str]:
     """Goes on with a match, which may have ended when the referee was killed: then its record comes at once."""
-    status, printed = match.run("referee", "--cut", str(match.game), text=match.log.read_bytes())
+    status, printed = run(match, "referee", "--cut", str(match.game), text=match.log.read_bytes())
     if status:
         raise Wrong(f"the log is refused: {printed!r}")
     if any(line.split(b" ", 1)[1].startswith(b"E") for line in printed.splitlines()):
-        status, printed = match.run("serve", str(match.game), "--port", str(free_port()), "--resume", str(match.log))
+        status, printed = run(match, "serve", str(match.game), "--port", str(free_port()), "--resume", str(match.log))
         if status:
             raise Wrong(f"an ended match isn't printed: {printed!r}")
         return printed.decode()
@@ -290,13 +140,13 @@ def cut_everywhere(match: Match) -> int:
         text = whole[:length]
         match.log.write_bytes(text)
         lines = [line.decode() for line in text.split(b"\n")[:-1]]
-        cut = match.run("referee", "--cut", str(match.game), text=text)
+        cut = run(match, "referee", "--cut", str(match.game), text=text)
         words = ["serve", str(match.game), "--port", str(free_port()), "--resume", str(match.log), "--wait", "0", "--quiet"]
-        gone_on = match.run(*words)
+        gone_on = run(match, *words)
         if not lines:
             if cut != (2, b"script 1\n") or gone_on != cut:
                 raise Wrong(f"cut at {length}: {cut}, {gone_on}")
-        elif cut[0] or gone_on != (3, b"") or match.run("referee", str(match.game), text=match.log.read_bytes()) != cut:
+        elif cut[0] or gone_on != (3, b"") or run(match, "referee", str(match.game), text=match.log.read_bytes()) != cut:
             raise Wrong(f"cut at {length}: {cut}, {gone_on}")
         elif match.log.read_text().splitlines() != lines:
             raise Wrong(f"cut at {length}: the log that goes on has other lines")
@@ -320,7 +170,7 @@ def crash(words: argparse.Namespace, folder: Path) -> tuple[str, int]:
         match.log.unlink(missing_ok=True)
         again = match.play_again("--log", str(match.log))
         assert again is not None
-        match.check(again)
+        check(match, again)
         longest = match.lasted
         if number == 0:
             print(f"{cut_everywhere(match)} cuts of a log were looked at", flush=True)
@@ -349,7 +199,7 @@ def main() -> int:
             print(f"wrong: {wrong}", file=sys.stderr)
             return 1
         finally:
-            dripping.end()
+            end(dripping.referee, [])
     print(f"a match of bytes without an end lasted its minute, at least {rounds} rounds, and went on from its log")
     print(f"{words.count} matches, killed {killed} times: each record is good, and its log tells the same match")
     return 0

@@ -12,17 +12,14 @@ import sys
 import tempfile
 from pathlib import Path
 
-CLIENT = Path(__file__).with_name("rbg_player.py")
+from served import CLIENT, Wrong, end, listen
+
+PATIENCE = 300  # seconds in which the matches have to end
 
 
-def start_hall(rbg, games, port, log):
-    """A hall that listens, with logs whose names begin like this."""
-    words = [rbg, "hall", *games, "--port", str(port), "--rounds", "4294967295", "--wait", "60", "--log", str(log)]
-    hall = subprocess.Popen(words, stdout=subprocess.PIPE, stderr=subprocess.PIPE, text=True)
-    told = hall.stderr.readline()
-    if told != f"listening on port {port}\n":
-        sys.exit(f"the hall doesn't listen: {told or hall.stdout.read()}")
-    return hall
+def start_hall(rbg, games, log):
+    """A hall that listens, with logs whose names begin like this, and its port."""
+    return listen([rbg, "hall", *games, "--rounds", "4294967295", "--wait", "60", "--log", str(log)])
 
 
 def player(rbg, port, match, seed):
@@ -73,23 +70,28 @@ def is_told(rbg, game, folder, number, record):
 def main():
     parser = argparse.ArgumentParser(description=__doc__.splitlines()[0])
     parser.add_argument("games", nargs="+", help="the descriptions, each of a game of two players")
-    parser.add_argument("--port", type=int, default=4711, help="the port on 127.0.0.1")
     parser.add_argument("--rbg", default="./rbg", metavar="PROGRAM", help="the program rbg")
     parser.add_argument("--seed", type=int, default=1, help="the seed of the order and of the moves")
     words = parser.parse_args()
     with tempfile.TemporaryDirectory() as folder:
-        return play(words, Path(folder))
+        try:
+            return play(words, Path(folder))
+        except Wrong as wrong:
+            sys.exit(f"wrong: {wrong}")
 
 
 def play(words, folder):
     """Plays the matches, with the logs in the folder, and prints what comes of each."""
-    hall = start_hall(words.rbg, words.games, words.port, folder / "log")
+    hall, port = start_hall(words.rbg, words.games, folder / "log")
     order = [match for match in range(1, len(words.games) + 1) for _ in range(2)]
     random.Random(words.seed).shuffle(order)
-    players = [player(words.rbg, words.port, match, seed) for seed, match in enumerate(order, words.seed)]
-    printed, told = hall.communicate()
-    for one in players:
-        one.wait()
+    players = [player(words.rbg, port, match, seed) for seed, match in enumerate(order, words.seed)]
+    try:
+        printed, told = hall.communicate(timeout=PATIENCE)
+    except subprocess.TimeoutExpired:
+        raise Wrong(f"the matches haven't ended after {PATIENCE} seconds") from None
+    finally:
+        end(hall, players)
     if hall.returncode:
         sys.exit(f"the hall ended with status {hall.returncode}: {printed}{told}")
     found = records(printed)
@@ -101,6 +103,8 @@ def play(words, folder):
         bad += not (good and told)
         end = record.splitlines()[-1] if record else "no record"
         print(f"match {number}, {Path(game).name}: {end}, {'good' if good else 'not good'}, {'as' if told else 'not as'} in its log")
+    if bad == 0:
+        print(f"{len(words.games)} matches, each record is good, and as in its log")
     return 1 if bad else 0
 
 

@@ -238,9 +238,10 @@ def main():
     parser.add_argument("--cases", help="the program rbg_cases")
     parser.add_argument("--first", type=int, default=5000, help="how many requests of a run are refused, from the first one on (5000)")
     parser.add_argument("--spread", type=int, default=100, help="how many of the later ones (100)")
+    parser.add_argument("--processes", type=int, default=os.cpu_count(), help="how many programs run at once")
     parser.add_argument("--only", default="", help="a part of the names of the runs that are tried")
     given = parser.parse_args()
-    with tempfile.TemporaryDirectory() as folder, concurrent.futures.ThreadPoolExecutor(os.cpu_count()) as pool:
+    with tempfile.TemporaryDirectory() as folder, concurrent.futures.ThreadPoolExecutor(given.processes) as pool:
         refuser = Refuser(os.path.abspath(given.allocator), folder)
         runs = words_runs(os.path.abspath(given.refusals)) if given.refusals else []
         runs += whole_programs(os.path.abspath(given.rbg), folder) if given.rbg else []
