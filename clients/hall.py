@@ -101,8 +101,8 @@ def play(words, folder):
         good = is_good(words.rbg, game, record)
         told = is_told(words.rbg, game, folder, number, record)
         bad += not (good and told)
-        end = record.splitlines()[-1] if record else "no record"
-        print(f"match {number}, {Path(game).name}: {end}, {'good' if good else 'not good'}, {'as' if told else 'not as'} in its log")
+        last = record.splitlines()[-1] if record else "no record"
+        print(f"match {number}, {Path(game).name}: {last}, {'good' if good else 'not good'}, {'as' if told else 'not as'} in its log")
     if bad == 0:
         print(f"{len(words.games)} matches, each record is good, and as in its log")
     return 1 if bad else 0

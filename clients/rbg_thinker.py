@@ -4,7 +4,7 @@
 >>> with Rules("crates/rbg_games/data/tictactoe.rbg") as rules:
 ...     for index in (0, 2, 0, 2):  # three in a row lack one stone
 ...         _ = rules.make(rules.moves()[index])
-...     _ = rules.make(Thinker(50, random.Random(1))(rules))
+...     _ = rules.make(Thinker(2000, random.Random(1))(rules))
 ...     print(rules.scores)
 [100, 0]
 """
