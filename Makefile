@@ -13,8 +13,10 @@ TESTED := $(filter-out rbg_test_search,$(sort $(foreach file,$(shell grep -rl --
 GAME := crates/rbg_games/data/tictactoe.rbg
 GAMES := tictactoe connect_four breakthrough hex reversi
 HALL := tictactoe connect_four breakthrough
-# The program that is run where a target needs ./rbg.
+data = $(1:%=crates/rbg_games/data/%.rbg)
+# The program that is run where a target needs ./rbg, and what stands before the commands of such a target.
 RBG := ./rbg
+needs = @test -x $(1) || { echo 'make $@ needs $(1): run make build first, or give RBG=path'; exit 1; }
 # How many matches `make crash` kills.
 MATCHES := 50
 # How many cases `make compare` makes by chance, and the seed of the first one.
@@ -34,10 +36,6 @@ SECONDS := 600
 # The requests for memory of the first match that `make try` refuses, one in each of ten runs.
 REFUSED := 1 2 5 10 20 50 100 150 200 300
 
-# What stands before a command that runs this program.
-needs = @test -x $(1) || { echo 'make $@ needs $(1): run make build first, or give RBG=path'; exit 1; }
-data = $(1:%=crates/rbg_games/data/%.rbg)
-
 .PHONY: help run demo games clients hall tournament crash page compare refusals doctests links try build bench test parts check fmt clean
 
 help:
@@ -47,7 +45,7 @@ help:
 	@echo 'make clients  lets two example clients play a match of each of five games over ./rbg serve, and checks the records (after make build)'
 	@echo 'make hall     lets example clients play three matches at once over ./rbg hall, and checks the records and logs (after make build)'
 	@echo 'make tournament lets three example players meet in three games, 36 matches, and prints the table (after make build)'
-	@echo 'make crash    kills ./rbg in the middle of MATCHES=50 matches, lets each go on, and compares its record (after make build)'
+	@echo 'make crash    kills ./rbg in the middle of 50 matches, lets each go on, and compares its record (after make build)'
 	@echo 'make page     plays a match of chess, hex, abalone and reversi, makes a page of each, and takes pictures by a browser if there is one (after make build)'
 	@echo 'make compare  compares ./rbg with the interpreter of tools/slow, on stored cases and N=10000 others of SEED=1 (after make build)'
 	@echo 'make refusals refuses each request for memory in turn, and checks each answer; this alone needs gcc (after make build)'
