@@ -55,6 +55,7 @@ class Match:
 
     def __init__(self):
         self.player, self.name, self.text = 0, "", b""
+        self.turn_ms = None  # the time for a turn
         self.moves = []  # the pairs of each move that was made, the keeper's too
         self.refused = []  # the reasons of the refusals
         self.end = None
@@ -74,7 +75,9 @@ class Match:
             self.refused.append(int(text))
         elif letter == b"E":
             self.end = message.decode()
-        elif letter != b"L":
+        elif letter == b"L":
+            self.turn_ms = int(text.split()[0])
+        else:
             raise ValueError("not a message: %r" % message)
         return False
 
@@ -120,7 +123,7 @@ class Follower:
         if self.has_said or self.rules.player != match.player:
             return None
         self.has_said = True
-        return self.choose(self.rules)
+        return self.choose(self.rules, match.turn_ms)
 
 
 class Recorded:
@@ -164,17 +167,17 @@ def main():
     parser = argparse.ArgumentParser(description=__doc__.splitlines()[0])
     parser.add_argument("port", type=int, help="the port on 127.0.0.1 on which the match is served")
     parser.add_argument("--random", type=int, metavar="SEED", help="choose by chance; the seed of --think")
-    parser.add_argument("--think", type=int, metavar="MS", help="choose by playouts for so long")
+    parser.add_argument("--think", type=int, metavar="MS", help="choose by playouts for so long, or for half of a turn")
     parser.add_argument("--rbg", default="./rbg", metavar="PROGRAM", help="the program rbg")
     parser.add_argument("--record", metavar="FILE", help="say the moves of a record")
     parser.add_argument("--match", type=int, metavar="K", help="join match K of a hall")
     words = parser.parse_args()
     chance = random.Random(words.random)
-    choose = lambda rules: rules.moves(1)[0]
+    choose = lambda rules, turn_ms: rules.moves(1)[0]
     if words.think is not None:
         choose = Thinker(words.think, chance)
     elif words.random is not None:
-        choose = lambda rules: chance.choice(rules.moves())
+        choose = lambda rules, turn_ms: chance.choice(rules.moves())
     chooser = Follower(choose, words.rbg)
     if words.record is not None:
         with open(words.record, encoding="ascii") as file:
