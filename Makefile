@@ -44,7 +44,8 @@ help:
 	@echo 'make games    checks each of the games that come with it, counts its first moves, compares both forms of its automaton and referees a match, with no proof'
 	@echo 'make clients  lets two example clients play a match of each of five games over ./rbg serve, and checks the records (after make build)'
 	@echo 'make hall     lets example clients play three matches at once over ./rbg hall, and checks the records and logs (after make build)'
-	@echo 'make tournament lets three example players meet in three games, 36 matches, and prints the table (after make build)'
+	@echo 'make tournament plays small tournaments of the three plans of clients/example, kills some, and lets programs cheat (after make build)'
+	@echo 'make slurm    sets up Slurm on this one machine, of Debian packages, and plays the example as an array (after make build, as root)'
 	@echo 'make crash    kills ./rbg in the middle of 50 matches, lets each go on, and compares its record (after make build)'
 	@echo 'make page     plays a match of chess, hex, abalone and reversi, makes a page of each, and takes pictures by a browser if there is one (after make build)'
 	@echo 'make compare  compares ./rbg with the interpreter of tools/slow, on stored cases and N=10000 others of SEED=1 (after make build)'
@@ -77,15 +78,12 @@ hall:
 	$(call needs,$(RBG))
 	@python3 clients/hall.py --rbg $(RBG) $(call data,$(HALL))
 
-# The example tournament: each line of its jobs is a command, so whatever runs commands side by side can play it.
+# Small tournaments of the three plans of clients/example, matches that are killed, and programs that cheat. WHAT chooses.
+WHAT :=
 tournament:
 	@test -x ./rbg || { echo 'make tournament needs ./rbg: run make build first'; exit 1; }
-	@cd clients && for file in ratings tournament tournament_match tournament_plan tournament_table; do python3 -m doctest $$file.py || exit 1; done
-	@folder=$$(mktemp -d)/example && python3 clients/tournament.py plan clients/example/plan.toml $$folder && \
-	{ if command -v parallel > /dev/null; then parallel -j 4 < $$folder/jobs.txt; \
-	  else tr '\n' '\0' < $$folder/jobs.txt | xargs -0 -P 4 -n 1 sh -c; fi; } && \
-	python3 clients/tournament.py table $$folder --html $$folder/table.html > $$folder/table.txt && cat $$folder/table.txt && \
-	echo "the files are in $$folder" && grep -q '^36 of 36 matches' $$folder/table.txt
+	@cd clients && for file in ratings.py tournament*.py example/steady.py; do python3 -m doctest $$file || exit 1; done
+	@python3 clients/tournament_trial.py $(WHAT)
 
 crash:
 	$(call needs,$(RBG))

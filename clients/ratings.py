@@ -23,6 +23,23 @@ def inverse(matrix: list[list[float]]) -> list[list[float]]:
     return [row[size:] for row in rows]
 
 
+def fitted(score: Sequence[Sequence[float]]) -> tuple[list[float], list[list[float]]]:
+    """The likeliest strengths, as `ratings` tells, before they are moved, and the inverse of the information."""
+    size = len(score)
+    strengths = [0.0] * size
+    errors: list[list[float]] = []
+    for _ in range(200):
+        slope, information = likelihood(score, strengths)
+        errors = inverse(information)
+        steps = [sum(error * value for error, value in zip(row, slope)) for row in errors]
+        # long steps would run past the top of a flat hill
+        steps = [max(-1.0, min(1.0, step)) for step in steps]
+        strengths = [strength + step for strength, step in zip(strengths, steps)]
+        if max(map(abs, steps), default=0.0) < 1e-9:
+            break
+    return strengths, errors
+
+
 def ratings(score: Sequence[Sequence[float]]) -> list[tuple[float, float]]:
     """The rating of each program, and half of its 95% interval, by the model of Bradley and Terry.
 
@@ -45,21 +62,29 @@ def ratings(score: Sequence[Sequence[float]]) -> list[tuple[float, float]]:
     [(0.0, 0.0)]
     """
     size = len(score)
-    strengths = [0.0] * size
-    for _ in range(200):
-        slope, information = likelihood(score, strengths)
-        errors = inverse(information)
-        steps = [sum(error * value for error, value in zip(row, slope)) for row in errors]
-        # long steps would run past the top of a flat hill
-        steps = [max(-1.0, min(1.0, step)) for step in steps]
-        strengths = [strength + step for strength, step in zip(strengths, steps)]
-        if max(map(abs, steps), default=0.0) < 1e-9:
-            break
+    strengths, errors = fitted(score)
     mean = sum(strengths) / max(size, 1)
     means = [sum(row) / size for row in errors]
     whole = sum(means) / max(size, 1)
     spreads = [max(0.0, errors[each][each] - 2 * means[each] + whole) for each in range(size)]
     return [(ELO * (one - mean), ELO * 1.96 * math.sqrt(spread)) for one, spread in zip(strengths, spreads)]
+
+
+def superiority(score: Sequence[Sequence[float]]) -> list[list[float]]:
+    """The likelihood of superiority: for each two programs the chance that the first one is the stronger one, by the
+    strengths of `ratings` and their errors, as normal numbers.
+
+    >>> [[round(chance, 3) for chance in row] for row in superiority([[0, 60], [40, 0]])]
+    [[0.5, 0.976], [0.024, 0.5]]
+    """
+    strengths, errors = fitted(score)
+    size = len(score)
+
+    def chance(one: int, other: int) -> float:
+        spread = errors[one][one] + errors[other][other] - 2 * errors[one][other]
+        return 0.5 if one == other else 0.5 + 0.5 * math.erf((strengths[one] - strengths[other]) / math.sqrt(2 * spread))
+
+    return [[chance(one, other) for other in range(size)] for one in range(size)]
 
 
 def groups(score: Sequence[Sequence[float]]) -> list[list[int]]:

@@ -1,87 +1,37 @@
 #!/usr/bin/env python3
-"""Tournaments: every program meets every other one in every game, and a table says how it went.
+"""Tournaments of playing programs: round robin, gauntlet and Swiss, with openings, a test when to stop, and a table.
 
-    tournament.py plan PLAN.toml [DIR]    writes DIR: the plan, copies of the games, and jobs.txt, a line for each match
-    tournament.py run DIR [--jobs N]      plays the matches that have no good record yet, N at once
-    tournament.py match DIR K             plays match K; this is what each line of jobs.txt does
-    tournament.py table DIR [--html FILE] checks every record, and prints the table
+    tournament.py plan PLAN.toml [DIR]      writes DIR: the plan, copies of the games, and jobs.txt, a line for each match
+    tournament.py add PLAN.toml DIR         adds the programs, games and rounds that PLAN.toml has more than DIR
+    tournament.py run DIR                   plays the matches that have no result yet: --jobs N, --again, --html FILE
+    tournament.py match DIR K               plays match K; this is what each line of jobs.txt does
+    tournament.py next DIR                  adds the next round of a Swiss tournament, if the last one is over
+    tournament.py table DIR                 prints the table, writes results.csv and results.json: --html FILE, --check
+    tournament.py merge DIR FROM..          takes over the results of copies of DIR in which other machines have played
+    tournament.py openings GAME N           prints N openings of a game: --plies K, --seed S
 
 docs/TOURNAMENTS.md describes the plan and the files. It needs nothing but Linux, Python 3.11 and the program rbg.
 """
 
 import argparse
-import shlex
 import signal
-import subprocess
 import sys
-import threading
-import time
-from concurrent.futures import ThreadPoolExecutor, as_completed
 from pathlib import Path
 from types import FrameType
 from typing import Optional
 
-from tournament_match import Fault, Plan, play_match
-from tournament_plan import make_plan
-from tournament_table import make_table, print_table, results_of, write_page
+from tournament_making import add_plan, add_round, make_plan, merge
+from tournament_match import play_match
+from tournament_openings import make_openings
+from tournament_page import write_page
+from tournament_plan import Fault, Files, Folder, Plan
+from tournament_processes import Stop, Stopped
+from tournament_result import Result
+from tournament_run import run
+from tournament_standings import table_of
+from tournament_table import table_text, write_results
 
 STOPS = (signal.SIGINT, signal.SIGTERM, signal.SIGHUP)  # what tells this program to stop
-
-
-class Jobs:
-    """Jobs that are done at once, each a process of its own."""
-
-    def __init__(self) -> None:
-        self.running: set[subprocess.Popen] = set()
-        self.stopped = threading.Event()
-
-    def do(self, line: str) -> bool:
-        """Does a job. Whether it went well."""
-        if self.stopped.is_set():
-            return False
-        process = subprocess.Popen(shlex.split(line), stdout=subprocess.DEVNULL)
-        self.running.add(process)
-        if self.stopped.is_set():
-            process.terminate()
-        status = process.wait()
-        self.running.discard(process)
-        return status == 0
-
-    def stop(self) -> None:
-        """Tells all jobs to stop, also those that begin now."""
-        self.stopped.set()
-        for process in list(self.running):
-            process.terminate()
-
-
-def run(folder: Path, jobs: Optional[int]) -> None:
-    """Plays all matches that have no good record, so many at once, and says how far it is."""
-    plan = Plan.load(folder)
-    lines = (folder / "jobs.txt").read_text().splitlines()
-    began = time.monotonic()
-    failed = 0
-    doing = Jobs()
-    with ThreadPoolExecutor(plan.jobs if jobs is None else jobs) as pool:
-        played = [pool.submit(doing.do, line) for line in lines]
-        try:
-            for done, job in enumerate(as_completed(played), 1):
-                failed += job.exception() is not None or not job.result()
-                left = (time.monotonic() - began) / done * (len(played) - done)
-                say(f"{done} of {len(played)} matches, {left:.0f} s left ")
-        except BaseException:
-            pool.shutdown(wait=False, cancel_futures=True)
-            doing.stop()
-            raise
-    if sys.stderr.isatty():
-        print(file=sys.stderr)
-    if failed:
-        raise Fault(f"{failed} of {len(played)} jobs failed")
-
-
-def say(progress: str) -> None:
-    """Says how far it is: on a terminal always in the same line."""
-    begin, end = ("\r", "") if sys.stderr.isatty() else ("", "\n")
-    print(begin + progress, end=end, file=sys.stderr, flush=True)
 
 
 def count(word: str) -> int:
@@ -99,42 +49,92 @@ def count(word: str) -> int:
 def words_of() -> argparse.Namespace:
     parser = argparse.ArgumentParser(description=__doc__.splitlines()[0])
     commands = parser.add_subparsers(dest="command", required=True)
-    plan = commands.add_parser("plan", help="writes the folder of a tournament, with jobs.txt")
+
+    def command(name: str, told: str, folder: bool = True) -> argparse.ArgumentParser:
+        made = commands.add_parser(name, help=told, description=told)
+        if folder:
+            made.add_argument("folder", type=Path, metavar="DIR")
+        return made
+
+    plan = command("plan", "writes the folder of a tournament, with jobs.txt", folder=False)
     plan.add_argument("plan", type=Path, metavar="PLAN.toml")
     plan.add_argument("folder", type=Path, metavar="DIR", nargs="?", help="PLAN without its ending, if not given")
-    playing = commands.add_parser("run", help="plays the matches that have no good record yet")
-    playing.add_argument("folder", type=Path, metavar="DIR")
+    adding = command("add", "adds the programs, games and rounds that a plan has more than a folder", folder=False)
+    adding.add_argument("plan", type=Path, metavar="PLAN.toml")
+    adding.add_argument("folder", type=Path, metavar="DIR")
+    playing = command("run", "plays the matches that have no result yet")
     playing.add_argument("--jobs", type=count, metavar="N", help="how many at once, if not the plan's number")
-    match = commands.add_parser("match", help="plays one match, unless it has a good record")
-    match.add_argument("folder", type=Path, metavar="DIR")
-    match.add_argument("number", type=int, metavar="K")
-    table = commands.add_parser("table", help="checks the records, and prints the table")
-    table.add_argument("folder", type=Path, metavar="DIR")
+    playing.add_argument("--again", action="store_true", help="plays those that failed or were lost by default, too")
+    playing.add_argument("--html", type=Path, metavar="FILE", help="writes the page now and then")
+    match = command("match", "plays one match, unless it has a result")
+    match.add_argument("number", type=count, metavar="K")
+    match.add_argument("--again", action="store_true", help="also if it failed or was lost by default")
+    command("next", "adds the next round of a Swiss tournament, if the last one is over")
+    table = command("table", "prints the table, and writes results.csv and results.json")
     table.add_argument("--html", type=Path, metavar="FILE", help="writes the table as a page, too")
+    table.add_argument("--check", action="store_true", help="looks at each record again, by rbg replay")
+    merging = command("merge", "takes over the results of copies of a folder")
+    merging.add_argument("sources", type=Path, metavar="FROM", nargs="+")
+    openings = command("openings", "prints openings of a game, moves by chance", folder=False)
+    openings.add_argument("game", type=Path, metavar="GAME")
+    openings.add_argument("count", type=count, metavar="N", help="how many")
+    openings.add_argument("--plies", type=count, default=4, metavar="K", help="how many moves each has (4)")
+    openings.add_argument("--seed", type=int, default=1, metavar="S")
+    openings.add_argument("--playouts", type=int, default=100, metavar="M", help="by which they are balanced (100)")
+    openings.add_argument("--balance", type=float, default=0.15, metavar="B", help="how far from half (0.15)")
+    openings.add_argument("--rbg", default="./rbg", metavar="PROGRAM", help="the program rbg (./rbg)")
     return parser.parse_args()
 
 
+def play_one(folder: Folder, number: int, again: bool) -> None:
+    """Plays a match. One that has a result is passed over before anything else is read."""
+    result = Result.load(Files(folder, number).result)
+    if result is None or (again and result.outcome is None):
+        plan, pairing = Plan.load(folder.path), folder.pairing(number)
+        result = play_match(folder, plan, number, pairing, Stop(), again)
+    print(f"match {number}: {result.told()}")
+
+
+def show_table(folder: Folder, page: Optional[Path], checks: bool) -> None:
+    plan = Plan.load(folder.path)
+    table = table_of(plan, folder, checks)
+    write_results(folder, table)
+    print(table_text(plan, table))
+    if page is not None:
+        write_page(plan, folder, table, page)
+
+
 def obey(words: argparse.Namespace) -> None:
-    if words.command == "plan":
-        folder = words.folder or words.plan.with_suffix("")
-        if folder == words.plan:
+    if words.command == "openings":
+        for line in make_openings(
+            words.rbg, words.game, words.count, words.plies, words.seed, words.playouts, words.balance
+        ):
+            print(line, flush=True)
+        return
+    if words.command == "plan" and words.folder is None:
+        words.folder = words.plan.with_suffix("")
+        if words.folder == words.plan:
             raise Fault(f"{words.plan} has no ending: name the folder too")
-        make_plan(words.plan, folder)
+    folder = Folder(words.folder)
+    if words.command == "plan":
+        print(f"{make_plan(words.plan, folder)} matches in {folder.jobs}")
+    elif words.command == "add":
+        print(f"{add_plan(words.plan, folder)} more matches in {folder.jobs}")
     elif words.command == "run":
-        run(words.folder, words.jobs)
+        run(folder, words.jobs, words.again, words.html)
     elif words.command == "match":
-        result = play_match(words.folder, words.number)
-        print(f"match {words.number}: {result.outcome or result.reason}")
+        play_one(folder, words.number, words.again)
+    elif words.command == "next":
+        print(f"{add_round(folder)} more matches in {folder.jobs}")
+    elif words.command == "table":
+        show_table(folder, words.html, words.check)
     else:
-        plan = Plan.load(words.folder)
-        table = make_table(plan, results_of(plan, words.folder))
-        print_table(plan, table)
-        if words.html is not None:
-            write_page(plan, words.folder, table, words.html)
+        taken, told = merge(folder, [Folder(source) for source in words.sources])
+        print("\n".join([*told, f"{taken} results taken over"]))
 
 
 def stop(number: int, _frame: Optional[FrameType]) -> None:
-    """Ends this program. No further signal disturbs it while it ends the programs of a match."""
+    """Ends this program. No further signal disturbs it while it ends the programs of its matches."""
     for each in STOPS:
         # a signal that is ignored would be ignored by what is started, too
         signal.signal(each, lambda *_: None)
@@ -148,6 +148,8 @@ def main() -> int:
             signal.signal(each, stop)
     try:
         obey(words_of())
+    except Stopped:
+        return 1
     except Fault as fault:
         print(fault, file=sys.stderr)
         return 1

@@ -1,132 +1,34 @@
-"""The table of a tournament: standings, pairs and ratings, as text and as a page."""
+"""The table of a tournament as text, and its results as CSV and JSON."""
 
-import html
+import csv
+import io
 import json
-import os
-import subprocess
-from concurrent.futures import ThreadPoolExecutor
-from dataclasses import dataclass, field
+from dataclasses import asdict
 from pathlib import Path
-from typing import Optional
-from urllib.parse import quote
 
-from ratings import groups, ratings
-from tournament_match import Files, Pairing, Plan, Result, outcome_of, write_whole
+from tournament_plan import Files, Folder, Plan, write_whole
+from tournament_standings import ENDS, Table, remarks
 
-ENDS = ("E1", "E2", "E3", "E4")
+HEADS = ["", "program", "rating", "95%", "better", "points", "won", "drawn", "lost", *ENDS, "absent"]
+GAME_HEADS = ["game", "matches", "drawn", "forfeits", "E4", "adjudged", "moves", "longest"]
+TIME_HEADS = ["program", "moves", "seconds", "ms a move", "longest ms"]
 
 
-def seat_scores(result: Result, heavy: str) -> Optional[list[int]]:
-    """What each seat reached; the greater number is the better one. None where the match counts for nobody.
-
-    >>> [seat_scores(Result(["a", "b", "c"], "g", end), "draw") for end in ("E0 7 9 7", "E2 1", "E4")]
-    [[7, 9, 7], [0, 1, 1], [1, 1, 1]]
+def percent(part: float, whole: float) -> str:
     """
-    end, *numbers = (result.outcome or "-").split()
-    if end == "E0":
-        return list(map(int, numbers))
-    lost = int(numbers[0]) if numbers else result.lost
-    if lost is None and not (end == "E4" and heavy == "draw"):
-        return None
-    return [0 if seat == lost else 1 for seat in range(1, len(result.seats) + 1)]
-
-
-@dataclass
-class Standing:
-    """A program's line of the table."""
-
-    name: str
-    wins: int = 0
-    draws: int = 0
-    losses: int = 0
-    points: float = 0.0
-    ends: dict[str, int] = field(default_factory=lambda: dict.fromkeys(ENDS, 0))
-    absent: int = 0
-    rating: float = 0.0
-    interval: float = 0.0
-
-
-@dataclass
-class Table:
-    """What came of a tournament so far. `score[a][b]` is what program a took from b."""
-
-    results: list[Result]
-    standings: list[Standing]
-    score: list[list[float]]
-
-
-def compare(own: int, other: int) -> float:
-    """1 for the better score, half for the same one."""
-    return 1.0 if own > other else 0.5 if own == other else 0.0
-
-
-def make_table(plan: Plan, results: list[Result]) -> Table:
-    """Counts the results. A program's points of a match are the mean of its comparisons with the other seats."""
-    place = {name: index for index, name in enumerate(plan.programs)}
-    standings = [Standing(name) for name in plan.programs]
-    score = [[0.0] * len(place) for _ in place]
-    for result in results:
-        end, *numbers = (result.outcome or "-").split()
-        for seat, name in enumerate(result.seats, 1):
-            if end == "E4" or (end in ENDS and numbers == [str(seat)]):
-                standings[place[name]].ends[end] += 1
-            standings[place[name]].absent += result.lost == seat
-        reached = seat_scores(result, plan.heavy)
-        # with one player there is nothing to compare
-        for seat, name in enumerate(result.seats if reached and len(reached) > 1 else ()):
-            others = [index for index in range(len(reached)) if index != seat]
-            taken = {result.seats[other]: compare(reached[seat], reached[other]) for other in others}
-            line = standings[place[name]]
-            line.points += sum(taken.values()) / len(taken)
-            line.wins += min(taken.values()) == 1
-            line.draws += min(taken.values()) == 0.5
-            line.losses += min(taken.values()) == 0
-            for other, value in taken.items():
-                score[place[name]][place[other]] += value
-    for line, (rating, interval) in zip(standings, ratings(score)):
-        line.rating, line.interval = rating, interval
-    return Table(results, standings, score)
-
-
-def results_of(plan: Plan, folder: Path) -> list[Result]:
-    """The results so far. What a good record says is the outcome, whatever else was written."""
-
-    def result_of(number: int, pairing: Pairing) -> Result:
-        files = Files(folder.resolve(), number, pairing)
-        outcome = outcome_of(plan, files.game, files.record)
-        if outcome is not None:
-            return Result(pairing.seats, pairing.game, outcome=outcome)
-        result = written_result(files.result, pairing)
-        result.reason = result.reason or "the record isn't good"
-        return result
-
-    with ThreadPoolExecutor(os.cpu_count()) as pool:
-        return list(pool.map(result_of, range(1, len(plan.matches) + 1), plan.matches))
-
-
-def written_result(file: Path, pairing: Pairing) -> Result:
-    """What was written of a match that has no good record."""
-    result = Result(pairing.seats, pairing.game)
-    try:
-        written = json.loads(file.read_text())
-        result.lost, result.reason = written["lost"], written["reason"]
-    except FileNotFoundError:
-        result.reason = "not played yet"
-    except (ValueError, TypeError, KeyError):
-        result.reason = "its result can't be read"
-    return result
-
-
-HEADS = ["", "program", "rating", "95%", "points", "won", "drawn", "lost", *ENDS, "absent"]
+    >>> percent(1, 8), percent(0, 0)
+    ('12.5%', '')
+    """
+    return f"{100 * part / whole:.1f}%" if whole else ""
 
 
 def standing_rows(table: Table) -> list[list[str]]:
-    """The lines of the standings, the best program first."""
-    best = sorted(table.standings, key=lambda line: (-line.rating, line.name))
+    """The lines of the standings, the best program first. `better` is the chance that it is stronger than the next."""
     return [
-        [str(rank), line.name, str(round(line.rating)), f"±{round(line.interval)}", f"{line.points:g}"]
+        [str(rank), line.name, str(round(line.rating)), f"±{round(line.interval)}"]
+        + ["" if line.better is None else percent(line.better, 1), f"{line.points:g}"]
         + [str(count) for count in (line.wins, line.draws, line.losses, *line.ends.values(), line.absent)]
-        for rank, line in enumerate(best, 1)
+        for rank, line in enumerate(table.best(), 1)
     ]
 
 
@@ -142,87 +44,114 @@ def pair_rows(table: Table) -> list[list[str]]:
     return pairs
 
 
-def remarks(table: Table) -> list[str]:
-    """What the ratings can't tell."""
-    told = []
-    for line, taken, given in zip(table.standings, table.score, zip(*table.score)):
-        if any(taken) != any(given):
-            side, bound = ("won", "better") if any(taken) else ("lost", "worse")
-            told.append(f"{line.name} has {side} all: it may be far {bound} than its interval says")
-    tied = [", ".join(table.standings[one].name for one in group) for group in groups(table.score)]
-    if len(tied) > 1:
-        told.append(f"no match ties these together, so their ratings can't be compared: {' | '.join(tied)}")
-    return told
+def game_rows(table: Table) -> list[list[str]]:
+    """What came of each game: at the end, what each seat took."""
+    most = max((len(game.seats) for game in table.games.values()), default=0)
+    rows = [GAME_HEADS + [f"seat {seat}" for seat in range(1, most + 1)]]
+    for name, game in table.games.items():
+        mean = f"{sum(game.moves) / len(game.moves):.1f}" if game.moves else ""
+        counts = [str(count) for count in (game.matches, game.draws, game.forfeits, game.heavy, game.adjudged)]
+        seats = [percent(seat.points, seat.matches) for seat in game.seats]
+        rows.append([name, *counts, mean, str(max(game.moves, default="")), *seats, *[""] * (most - len(seats))])
+    return rows
 
 
-def print_rows(rows: list[list[str]]) -> None:
-    """Prints rows in columns, the program's name to the left and all else to the right."""
+def share_rows(table: Table) -> list[list[str]]:
+    """What each program took in each game and in each seat."""
+    seats = range(1, max((len(game.seats) for game in table.games.values()), default=0) + 1)
+    rows = [["program", *table.games, *[f"seat {seat}" for seat in seats]]]
+    for line in table.best():
+        counts = [line.games.get(game) for game in table.games] + [line.seats.get(seat) for seat in seats]
+        rows.append([line.name, *[count.told() if count else "" for count in counts]])
+    return rows
+
+
+def time_rows(table: Table) -> list[list[str]]:
+    """How many moves each program made, and the time that it took for them."""
+    rows = []
+    for line in table.best():
+        moves, used = line.used.matches, line.used.points
+        mean = f"{used / moves:.1f}" if moves else ""
+        rows.append([line.name, str(moves), f"{used / 1000:.1f}", mean, str(line.most)])
+    return rows
+
+
+def text_of(rows: list[list[str]]) -> str:
+    """Rows in columns, names to the left and all else to the right.
+
+    >>> print(text_of([["program", "won"], ["a", "12"]]))
+    program  won
+    a         12
+    """
     widths = [max(len(cell) for cell in column) for column in zip(*rows)]
+    lines = []
     for row in rows:
         cells = [
-            cell.ljust(width) if head == "program" else cell.rjust(width)
+            cell.ljust(width) if head in ("program", "game") else cell.rjust(width)
             for cell, head, width in zip(row, rows[0], widths)
         ]
-        print("  ".join(cells).rstrip())
+        lines.append("  ".join(cells).rstrip())
+    return "\n".join(lines)
 
 
-def print_table(plan: Plan, table: Table) -> None:
-    print_rows([HEADS, *standing_rows(table)])
-    print()
-    print_rows([["program", *plan.programs], *pair_rows(table)])
-    print("\n".join(["", *remarks(table)]) if remarks(table) else "")
-    missing = [(number, result) for number, result in enumerate(table.results, 1) if result.outcome is None]
-    print(f"{len(table.results) - len(missing)} of {len(table.results)} matches have a good record")
-    for number, result in missing:
-        print(f"match {number}, {result.game}, {' - '.join(result.seats)}: {result.reason}")
+def summary(table: Table) -> str:
+    """How many matches have which state.
 
-
-STYLE = """body{font:16px sans-serif;margin:2em}table{border-collapse:collapse;margin:1em 0}
-td,th{border:1px solid #bbb;padding:.2em .6em;text-align:right}td.name,th.name{text-align:left}"""
-
-
-class Markup(str):
-    """A text that is markup already."""
-
-
-def html_table(rows: list[list[str]]) -> str:
-    """A table of a page. The first row is its head. All cells but those of markup are plain texts.
-
-    >>> print(html_table([["x"], ["<b>"], [Markup("<i>7</i>")]]), end="")
-    <table><tr><th class="name">x</th></tr><tr><td class="name">&lt;b&gt;</td></tr><tr><td><i>7</i></td></tr></table>
+    >>> summary(Table([], [None, None], [], [], {}, set()))
+    '0 of 2 matches played; 2 not played yet'
     """
-
-    def line(row: list[str], tag: str) -> str:
-        cells = [cell if isinstance(cell, Markup) else html.escape(cell) for cell in row]
-        right = [isinstance(cell, Markup) or cell[:1] in set("0123456789±-") for cell in row]
-        kinds = ["" if each else ' class="name"' for each in right]
-        return "<tr>" + "".join(f"<{tag}{kind}>{cell}</{tag}>" for cell, kind in zip(cells, kinds)) + "</tr>"
-
-    return "<table>" + line(rows[0], "th") + "".join(line(row, "td") for row in rows[1:]) + "</table>\n"
+    states = [result.state if result else "missing" for result in table.results]
+    count = {state: states.count(state) for state in ("adjudged", "default", "failed", "missing")}
+    words = {"adjudged": "of them adjudged", "default": "lost by default", "failed": "failed", "missing": "not played yet"}
+    more = "".join(f"; {count[state]} {words[state]}" for state in count if count[state])
+    return f"{states.count('played') + count['adjudged']} of {len(states)} matches played{more}"
 
 
-def make_page(plan: Plan, files: Files) -> Optional[Path]:
-    """The page of a match, where `rbg_author page` makes one."""
-    try:
-        with files.record.open("rb") as record:
-            made = subprocess.run([plan.author, "page", str(files.game)], stdin=record, capture_output=True)
-    except OSError:
-        return None
-    if made.returncode:
-        return None
-    files.page.write_bytes(made.stdout)
-    return files.page
+def table_text(plan: Plan, table: Table) -> str:
+    """The whole table."""
+    parts = [text_of([HEADS, *standing_rows(table)]), text_of([["program", *plan.programs], *pair_rows(table)])]
+    parts += [text_of(game_rows(table)), text_of(share_rows(table)), text_of([TIME_HEADS, *time_rows(table)])]
+    if remarks(table):
+        parts.append("\n".join(remarks(table)))
+    last = [summary(table)]
+    for number, result in enumerate(table.results, 1):
+        if result is not None and result.state in ("default", "failed"):
+            last.append(f"match {number}, {result.game}, {' - '.join(result.seats)}: {result.state}: {result.reason}")
+    return "\n\n".join([*parts, "\n".join(last)])
 
 
-def write_page(plan: Plan, folder: Path, table: Table, page: Path) -> None:
-    """The table as a page that needs nothing from elsewhere. Each match that has a page of its own is linked to it."""
-    rows = [["match", "game", "seats", "outcome"]]
-    for number, (pairing, result) in enumerate(zip(plan.matches, table.results), 1):
-        made = make_page(plan, Files(folder.resolve(), number, pairing)) if result.outcome else None
-        link = html.escape(quote(os.path.relpath(made, page.resolve().parent))) if made else ""
-        shown = Markup(f'<a href="{link}">{number}</a>') if made else str(number)
-        rows.append([shown, result.game, " - ".join(result.seats), result.outcome or result.reason or ""])
-    tables = [[HEADS, *standing_rows(table)], [["program", *plan.programs], *pair_rows(table)]]
-    head = f'<!DOCTYPE html>\n<html lang="en"><meta charset="utf-8"><title>Tournament</title><style>{STYLE}</style>\n'
-    notes = "".join(f"<p>{html.escape(remark)}</p>\n" for remark in remarks(table))
-    write_whole(page, head + "".join(map(html_table, tables)) + notes + html_table(rows) + "</html>\n")
+def rows_of_results(table: Table) -> list[list[object]]:
+    """The rows of results.csv: a head, and a row for each seat of each match that was played."""
+    head = "match game round opening seat program score state outcome adjudged reason moves used_ms most_ms exit".split()
+    rows: list[list[object]] = [[*head, "seconds", "repeated", "machine", "began"]]
+    for number, result in enumerate(table.results, 1):
+        for seat, name in enumerate(result.seats if result else (), 1):
+            times = result.times[seat - 1] if result.times else []
+            row: list[object] = [number, result.game, result.round, result.opening, seat, name]
+            row += [result.scores[seat - 1] if result.scores else "", result.state, result.outcome or ""]
+            row += [result.adjudged, result.reason or "", len(times), sum(times), max(times, default=0)]
+            row += [result.exits[seat - 1] if len(result.exits) >= seat else "", result.seconds]
+            rows.append([*row, int(number - 1 in table.repeated), result.machine, result.began])
+    return rows
+
+
+def write_results(folder: Folder, table: Table) -> tuple[Path, Path]:
+    """Writes results.csv and results.json."""
+    sheet = io.StringIO()
+    csv.writer(sheet, lineterminator="\n").writerows(rows_of_results(table))
+    files = folder.path / "results.csv", folder.path / "results.json"
+    write_whole(files[0], sheet.getvalue())
+    told = []
+    for number, (pairing, result) in enumerate(zip(table.pairings, table.results), 1):
+        match: dict[str, object] = {"match": number, **asdict(pairing), "state": "missing"}
+        if result is not None:
+            paths = Files(folder, number, len(result.seats))
+            match |= {**asdict(result), "state": result.state, "repeated": number - 1 in table.repeated}
+            match |= {"used": result.used(), "most": result.most()}
+            there = {"record": paths.record, "log": paths.log, "referee": paths.referee}
+            match["files"] = {key: f"matches/{path.name}" for key, path in there.items() if path.exists()}
+            match["files"] |= {f"seat {k}": f"matches/{path.name}" for k, path in enumerate(paths.seats, 1) if path.exists()}
+        told.append(match)
+    standings = [asdict(line) for line in table.best()]
+    write_whole(files[1], json.dumps({"standings": standings, "matches": told}, indent=1) + "\n")
+    return files

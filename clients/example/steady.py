@@ -1,0 +1,58 @@
+#!/usr/bin/env python3
+"""A player that always says the same move at the same place: a checksum of its seed and of the moves so far chooses it.
+
+    steady.py PORT --seed S [--rbg FILE] [--slow MS]
+
+So a match that was stopped and goes on ends as if it hadn't been stopped, and the programs of a tournament play the same
+matches each time, unlike those that begin their chance anew where they are started anew.
+"""
+
+import argparse
+import hashlib
+import sys
+import time
+from pathlib import Path
+
+sys.path.insert(0, str(Path(__file__).resolve().parent.parent))
+from rbg_player import Follower, Stream, play  # noqa: E402
+
+
+class Steady(Follower):
+    """Chooses by the moves that were made, the keeper's too."""
+
+    def __init__(self, seed, slow, program):
+        super().__init__(self.choose_by_moves, program)
+        self.seed, self.slow, self.made = seed, slow, []
+
+    def move(self, match):
+        self.made = match.moves
+        return super().move(match)
+
+    def choose_by_moves(self, rules):
+        time.sleep(self.slow)
+        return chosen(self.seed, self.made, rules.moves())
+
+
+def chosen(seed, made, moves):
+    """
+    >>> chosen(1, ["0 3"], ["1 3", "2 3", "3 3"]), chosen(2, ["0 4"], ["1 3", "2 3", "3 3"])
+    ('2 3', '1 3')
+    """
+    digest = hashlib.sha256(f"{seed}:{';'.join(made)}".encode()).digest()
+    return moves[int.from_bytes(digest[:8], "big") % len(moves)]
+
+
+def main():
+    parser = argparse.ArgumentParser(description=__doc__.splitlines()[0])
+    parser.add_argument("port", type=int)
+    parser.add_argument("--seed", type=int, default=1)
+    parser.add_argument("--rbg", default="./rbg")
+    parser.add_argument("--slow", type=float, default=0.0, metavar="MS", help="milliseconds to wait before each move")
+    words = parser.parse_args()
+    match = play(Stream(words.port), Steady(words.seed, words.slow / 1000, words.rbg))
+    print(match.end)
+    return 0 if match.end else 3
+
+
+if __name__ == "__main__":
+    sys.exit(main())

@@ -1,0 +1,143 @@
+"""The result of a match, as its file has it."""
+
+import json
+import socket
+import subprocess
+import time
+from contextlib import nullcontext
+from dataclasses import asdict, dataclass, field
+from pathlib import Path
+from typing import Optional
+
+from tournament_plan import Fault, Files, Folder, Pairing, Plan, write_whole
+from tournament_records import Record, checksum, judge
+
+
+@dataclass
+class Result:
+    """How a match went. What it has no record of, it has a reason for; `absent` are the seats that have lost by default."""
+
+    game: str
+    seats: list[str]
+    round: int = 1
+    opening: int = 0
+    outcome: Optional[str] = None  # as the record has it; `-` for a match that the plan has ended
+    scores: Optional[list[int]] = None  # what it counts; None for nobody
+    adjudged: str = ""  # what the plan decided, and not the referee
+    absent: list[int] = field(default_factory=list)
+    reason: Optional[str] = None
+    moves: int = 0  # the players' moves
+    times: list[list[int]] = field(default_factory=list)  # for each seat the milliseconds of each of its moves
+    exits: list[Optional[str]] = field(default_factory=list)  # how the program of each seat ended
+    faults: list[str] = field(default_factory=list)  # what else went wrong, and changed nothing
+    began: str = ""
+    seconds: float = 0
+    machine: str = field(default_factory=socket.gethostname)
+    record: str = ""  # the checksum of the record that was found good
+    course: str = ""  # the checksum of all but the times
+
+    @staticmethod
+    def of(pairing: Pairing) -> "Result":
+        now = time.strftime("%Y-%m-%dT%H:%M:%SZ", time.gmtime())
+        return Result(pairing.game, list(pairing.seats), pairing.round, pairing.opening, began=now)
+
+    @staticmethod
+    def load(file: Path) -> Optional["Result"]:
+        """What was written of a match, if anything was that can be read."""
+        try:
+            return Result(**json.loads(file.read_bytes()))
+        except (OSError, ValueError, TypeError):
+            return None
+
+    def save(self, file: Path) -> None:
+        write_whole(file, json.dumps(asdict(self)) + "\n")
+
+    @property
+    def state(self) -> str:
+        """`played`, `adjudged` by the plan, `default`, or `failed`, which counts for nobody.
+
+        >>> Result("g", ["a", "b"], absent=[1], reason="a doesn't start").state
+        'default'
+        """
+        if self.outcome is None:
+            return "default" if self.absent else "failed"
+        return "adjudged" if self.adjudged else "played"
+
+    def told(self) -> str:
+        """The outcome or the reason in words."""
+        if self.outcome is None:
+            return self.reason or ""
+        return f"adjudged: {self.adjudged}" if self.adjudged else self.outcome
+
+    def used(self) -> list[int]:
+        """The milliseconds that each seat took in all."""
+        return [sum(each) for each in self.times]
+
+    def most(self) -> list[int]:
+        """The most milliseconds that each seat took for a move."""
+        return [max(each, default=0) for each in self.times]
+
+    def note(self, plan: Plan, text: str, adjudged: str = "") -> None:
+        """Takes over what a good record says."""
+        record = Record.read(text)
+        turns = [plan.turn_of(name, self.game) for name in self.seats]
+        verdict = judge(record, turns, plan.moves, plan.late, plan.heavy)
+        self.outcome, self.scores = record.outcome, verdict.scores
+        self.adjudged = verdict.adjudged or adjudged
+        if adjudged and not verdict.adjudged and record.outcome == "-":
+            self.scores = [1] * len(self.seats) if plan.late == "draw" else None
+        self.absent, self.reason = [], None
+        self.moves, self.times = len(record.players_moves()), record.times(len(self.seats))
+        self.record, self.course = checksum(text.encode()), record.course()
+
+    def default(self, absent: list[int], reason: str) -> None:
+        """The match isn't played, by the fault of these seats. Where nobody has come, nobody has won."""
+        self.absent, self.reason = absent, reason
+        lost_all = len(absent) == len(self.seats)
+        self.scores = None if lost_all else [0 if seat in absent else 1 for seat in range(1, len(self.seats) + 1)]
+
+
+def rbg_of(plan: Plan, *words: object, text: Optional[Path] = None) -> str:
+    """What a command of rbg prints. Its standard input is this file, or nothing."""
+    try:
+        with text.open("rb") if text else nullcontext(subprocess.DEVNULL) as given:
+            command = [plan.rbg, *map(str, words)]
+            done = subprocess.run(command, stdin=given, capture_output=True, text=True, errors="replace")
+    except OSError as error:
+        raise Fault(f"{error.filename or plan.rbg}: {error.strerror}") from None
+    return done.stdout
+
+
+def good_record(plan: Plan, game: Path, record: Path) -> Optional[str]:
+    """The text of a record, if there is one and `rbg replay` calls it good."""
+    try:
+        text = record.read_text()
+    except (OSError, ValueError):
+        return None
+    return text if text and rbg_of(plan, "replay", game, record) == "good\n" else None
+
+
+def result_of(plan: Plan, folder: Folder, number: int, pairing: Pairing, checks: bool = False) -> Optional[Result]:
+    """The result of a match, if it has been played. What a record says that was found good is the outcome, whatever else
+    was written. A record that isn't the one that was found good before is looked at again, and each one with `checks`."""
+    files = Files(folder, number)
+    result = Result.load(files.result)
+    if result is not None and (result.game, result.seats) != (pairing.game, list(pairing.seats)):
+        result = None
+    try:
+        data = files.record.read_bytes()
+    except OSError:
+        data = b""
+    if result is not None and not checks and (checksum(data) if data else "") == result.record:
+        return result
+    text = good_record(plan, folder.game(pairing.game), files.record) if data else None
+    if text is None:
+        if result is not None and (data or result.outcome is not None):
+            result.outcome = result.scores = None
+            result.absent, result.reason = [], "the record isn't good" if data else "the record is lost"
+        return result
+    result = result or Result.of(pairing)
+    result.note(plan, text, result.adjudged)
+    if result.outcome == "-" and not result.adjudged:
+        result.outcome, result.reason = None, "the record has no end"
+    return result

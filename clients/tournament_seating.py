@@ -1,0 +1,147 @@
+"""The programs of a match take their seats: each one is started when the one before it has its own."""
+
+import os
+import shlex
+import signal
+from pathlib import Path
+from typing import Optional, Sequence, Union
+
+from tournament_plan import Pairing, Plan
+from tournament_processes import Output, Process, Processes, limited
+from tournament_seats import holders, wrong_seats
+
+
+class Intruder(Exception):
+    """A process that is of no program of the match has taken a seat."""
+
+
+def seats_news(told: str) -> list[tuple[int, str]]:
+    """The seats that were taken and left, in order, by what a referee has told. A line that isn't whole isn't heard.
+
+    >>> seats_news("listening on port 4000\\nseat 1 connected\\nseat 1 left\\nseat 1 is Ada\\nseat 1 conn")
+    [(1, 'connected'), (1, 'left')]
+    """
+    lines = [line.split(" ") for line in told.splitlines(keepends=True)]
+    return [(int(line[1]), line[2][:-1]) for line in lines if line[0] == "seat" and line[2:] in (["connected\n"], ["left\n"])]
+
+
+def command_of(plan: Plan, pairing: Pairing, seat: int, port: int, number: int) -> list[str]:
+    """The words with which the program of a seat is started.
+
+    >>> from tournament_plan import Game, Program
+    >>> program = Program("bot {port} --seed {match}{seat} --ms {turn} '{game} x'", wrapper="nice -n 5")
+    >>> plan = Plan("", "", {"a b": program}, {"g.rbg": Game(900, 2)})
+    >>> command_of(plan, Pairing("g.rbg", ("a b", "a b")), 2, 4000, 7)
+    ['nice', '-n', '5', 'bot', '4000', '--seed', '72', '--ms', '900', 'g x']
+    """
+    name = pairing.seats[seat - 1]
+    words = {"port": port, "seat": seat, "game": Path(pairing.game).stem, "match": number}
+    words["turn"] = plan.turn_of(name, pairing.game)
+    program = plan.programs[name]
+    command = shlex.split(program.wrapper) + shlex.split(program.command)
+    for key, value in words.items():
+        command = [word.replace("{%s}" % key, str(value)) for word in command]
+    return command
+
+
+class Referee:
+    """The referee of a match: its process, its port, and what it tells and prints."""
+
+    def __init__(self, process: Process, port: int, told: Output, printed: Output):
+        self.process, self.port, self.output, self.printed = process, port, told, printed
+
+    @property
+    def exit(self) -> Optional[str]:
+        return self.process.exit
+
+    def told(self) -> str:
+        return self.output.text.decode(errors="replace")
+
+    def has_told(self, line: str) -> bool:
+        return f"{line}\n" in self.told()
+
+    def fault(self) -> str:
+        """Why it ended: what it printed, and the last that it told."""
+        told = [line for line in self.told().splitlines() if line.startswith(("can't", "error"))]
+        return ": ".join([self.printed.text.decode(errors="replace").strip() or str(self.exit), *told[-1:]])
+
+
+class Seating:
+    """The programs of a match, and those of them that have lost it by default, with their reasons."""
+
+    def __init__(self, plan: Plan, pairing: Pairing, number: int, processes: Processes, outputs: Sequence[Output]):
+        self.plan, self.pairing, self.number = plan, pairing, number
+        self.processes, self.outputs = processes, outputs
+        self.programs: list[Optional[Process]] = []
+        self.absent: dict[int, str] = {}
+
+    def seat_all(self, referee: Referee) -> None:
+        """Starts the programs in the order of their seats. When one doesn't come, the others are started all the same: who
+        isn't there either wins nothing."""
+        for seat in range(1, len(self.pairing.seats) + 1):
+            wrong = self.seat_one(seat, referee)
+            if isinstance(wrong, str):
+                raise Intruder(wrong)
+            if wrong is not None:
+                self.absent = {wrong: "connected more than once"}
+                return
+            if referee.exit is not None:
+                return
+
+    def start(self, seat: int, port: int) -> Optional[Process]:
+        """Starts the program of a seat."""
+        program = self.plan.programs[self.pairing.seats[seat - 1]]
+        words = command_of(self.plan, self.pairing, seat, port, self.number)
+        limits = {"memory": program.memory, "processor": program.processor, "file": program.file}
+        said = self.outputs[seat - 1]
+        try:
+            return self.processes.start(
+                limited(words, limits), said, folder=program.folder, environment=program.environment
+            )
+        except OSError as error:
+            self.absent[seat] = f"doesn't start: {error.strerror}"
+            return None
+
+    def seat_one(self, seat: int, referee: Referee) -> Union[int, str, None]:
+        """Starts the program of a seat, and waits until it has its connection, or doesn't come. Returns what is wrong where
+        a connection is of a process that may not have it, as `wrong_seats` does."""
+        program = self.start(seat, referee.port)
+        self.programs.append(program)
+        wrong: Union[int, str, None] = None
+
+        def is_decided() -> bool:
+            nonlocal wrong
+            self.note_ended(seat, referee)
+            wrong, here = self.look(seat, referee)
+            return wrong is not None or here or seat in self.absent or referee.exit is not None
+
+        if not self.processes.wait(is_decided, self.plan.wait) and program is not None:
+            self.absent[seat] = f"didn't connect in {self.plan.wait:g} seconds"
+            os.killpg(program.pid, signal.SIGKILL)
+        return wrong
+
+    def note_ended(self, seat: int, referee: Referee) -> None:
+        """Notes the programs that have ended before the match, or left their seats."""
+        if referee.has_told("match begins"):
+            return
+        left = {each for each, news in seats_news(referee.told()) if news == "left" and each < seat}
+        for each, program in enumerate(self.programs, 1):
+            if program is None or each in self.absent:
+                continue
+            if program.exit is not None:
+                self.absent[each] = f"ended with {program.exit} before the match"
+            elif each in left and not self.absent:
+                self.absent[each] = "closed its connection before the match"
+
+    def look(self, seat: int, referee: Referee) -> tuple[Union[int, str, None], bool]:
+        """What is wrong with the connections, and whether the program of this seat has its own."""
+        if not self.absent and not any(each >= seat for each, _ in seats_news(referee.told())):
+            return None, False
+        programs = [program.pid if program else 0 for program in self.programs]
+        held = holders(referee.port, programs)
+        wrong = wrong_seats(held, programs, bool(self.plan.programs[self.pairing.seats[seat - 1]].wrapper))
+        present = sum(each not in self.absent for each in range(1, seat + 1))
+        here = wrong is None and len(held) >= present and seat not in self.absent
+        if wrong is None and not here and not self.absent and referee.has_told("match begins"):
+            wrong = f"seat {seat} was taken by a process that has left"
+        return wrong, here

@@ -1,0 +1,113 @@
+"""Whose seat it is: a seat belongs to the program that was started for it.
+
+The referee gives seats to connections, and doesn't know where they come from. The system does: each end of a connection
+on this machine is a socket, and each socket is held by processes.
+
+>>> with socket.create_server(("127.0.0.1", 0)) as server:
+...     port = server.getsockname()[1]
+...     with socket.create_connection(("127.0.0.1", port)), socket.create_connection(("127.0.0.1", port)):
+...         held = holders(port)
+...         print([process == os.getpid() for process, _ in held])
+...         print(wrong_seats(held, [os.getpid()]))
+...         print(wrong_seats(held[:1], [os.getpid()]))
+...         print(wrong_seats(held[:1], [1]) == f"process {os.getpid()}, which is of no program of this match, connected")
+[True, True]
+1
+None
+True
+"""
+
+import os
+import socket
+from contextlib import suppress
+from pathlib import Path
+from typing import Iterator, Optional, Sequence, Union
+
+OPEN = {"01", "04", "05", "08"}  # the states of a connection of which a process may still have this end
+
+
+def clients(table: str, port: int) -> Iterator[tuple[str, int]]:
+    """The sockets that are connected to this port of 127.0.0.1, and whose they are, by a table of the system.
+
+    >>> head = "  sl  local_address rem_address   st tx_queue rx_queue tr tm->when retrnsmt   uid  timeout inode\\n"
+    >>> line = "   1: 0100007F:A1B2 0100007F:0FA0 01 00000000:00000000 00:00000000 00000000  1000 0 7777 1 0\\n"
+    >>> list(clients(head + line, 4000)), list(clients(head + line, 4001))
+    ([('7777', 1000)], [])
+    """
+    wanted = f"0100007F:{port:04X}"
+    for line in table.splitlines():
+        if wanted in line:
+            words = line.split()
+            if words[2].endswith(wanted) and words[3] in OPEN and words[9] != "0":
+                yield words[9], int(words[7])
+
+
+def sockets_of(process: Union[int, str]) -> set[str]:
+    """The sockets that a process has, if it may be seen."""
+    found = set()
+    with suppress(OSError):
+        for name in os.listdir(f"/proc/{process}/fd"):
+            with suppress(OSError):
+                link = os.readlink(f"/proc/{process}/fd/{name}")
+                if link.startswith("socket:["):
+                    found.add(link[8:-1])
+    return found
+
+
+def family(process: int) -> Iterator[int]:
+    """A process, its session and those from which it comes."""
+    while process > 1:
+        yield process
+        try:
+            words = Path(f"/proc/{process}/stat").read_text().rpartition(")")[2].split()
+        except OSError:
+            return
+        yield int(words[3])
+        process = int(words[1])
+
+
+def holders(port: int, programs: Sequence[int] = ()) -> list[tuple[Optional[int], int]]:
+    """For each connection to a port of 127.0.0.1 a process that has it, if it may be seen, and the user whose it is. These
+    processes are looked at first, since mostly it is one of them."""
+    table = ""
+    for name in ("tcp", "tcp6"):
+        with suppress(OSError):
+            table += Path(f"/proc/net/{name}").read_text()
+    left = dict(clients(table, port))
+    found: list[tuple[Optional[int], int]] = []
+    for process in (*programs, *sorted(int(name) for name in os.listdir("/proc") if name.isdecimal())):
+        if not left:
+            break
+        for held in sockets_of(process) & set(left):
+            found.append((process, left.pop(held)))
+    return found + [(None, user) for user in left.values()]
+
+
+def wrong_seats(
+    held: Sequence[tuple[Optional[int], int]], programs: Sequence[int], wrapped: bool = False
+) -> Union[int, str, None]:
+    """What is wrong where these programs, seat 1 first, should have one connection each: the seat whose program has more
+    than one, or in words that a process is none of theirs. Where programs are wrapped, those of another user can't be seen,
+    and each one that has no other may have one such connection.
+
+    >>> wrong_seats([(None, 7), (None, 7)], [1, 1], wrapped=True)
+    >>> wrong_seats([(None, 7)], [1])
+    "a process that can't be seen, of user 7, connected"
+    """
+    seats = []
+    hidden = []
+    for process, user in held:
+        if process is None:
+            hidden.append(user)
+            continue
+        line = [seat for seat, program in enumerate(programs, 1) if program in family(process)]
+        if not line:
+            return f"process {process}, which is of no program of this match, connected"
+        seats.append(line[0])
+    for seat in seats:
+        if seats.count(seat) > 1:
+            return seat
+    others = [user for user in hidden if user != os.getuid()] if wrapped else []
+    if len(others) < len(hidden) or len(hidden) > len(programs) - len(seats):
+        return f"a process that can't be seen, of user {hidden[0]}, connected"
+    return None
