@@ -36,7 +36,7 @@ SECONDS := 600
 # The requests for memory of the first match that `make try` refuses, one in each of ten runs.
 REFUSED := 1 2 5 10 20 50 100 150 200 300
 
-.PHONY: help run demo games clients hall tournament crash page compare refusals doctests links try build bench test parts check fmt clean
+.PHONY: help run demo games clients hall tournament slurm crash page compare refusals doctests links try build bench test parts check fmt clean
 
 help:
 	@echo 'make run      referees the first match of README.md (crates/rbg_manager/stdin), with no proof'
@@ -84,6 +84,12 @@ tournament:
 	@test -x ./rbg || { echo 'make tournament needs ./rbg: run make build first'; exit 1; }
 	@cd clients && for file in ratings.py tournament*.py example/steady.py; do python3 -m doctest $$file || exit 1; done
 	@python3 clients/tournament_trial.py $(WHAT)
+
+# One machine as a Slurm of Debian's packages: slurmctld, slurmd, slurm-client and munge.
+slurm:
+	@test -x ./rbg || { echo 'make slurm needs ./rbg: run make build first'; exit 1; }
+	@python3 -m doctest clients/tournament_slurm.py clients/tournament_machines.py
+	@python3 clients/tournament_slurm.py && python3 clients/tournament_machines.py
 
 crash:
 	$(call needs,$(RBG))

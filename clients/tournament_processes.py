@@ -129,7 +129,8 @@ class Processes:
         folder: Optional[str] = None,
         environment: Mapping[str, str] = {},
     ) -> Process:
-        """Starts a program. What it prints is heard as `answer`, or else with its standard error."""
+        """Starts a program. What it prints is heard as `answer`, or else with its standard error. Each one has a group of
+        its own. One with an answer stays in the session: if it is stopped when this process is killed, it ends."""
         popen = subprocess.Popen(
             words,
             cwd=folder or None,
@@ -137,7 +138,8 @@ class Processes:
             stdin=subprocess.DEVNULL,
             stdout=subprocess.PIPE,
             stderr=subprocess.PIPE if answer else subprocess.STDOUT,
-            start_new_session=True,
+            start_new_session=answer is None,
+            process_group=None if answer is None else 0,
         )
         process = Process(popen)
         self.started.append(process)
@@ -186,21 +188,21 @@ class Processes:
                     if not self.hear_piece(key.fileobj, key.data):
                         break
 
-    def wait(self, test: Callable[[], bool], seconds: float, stops: bool = True) -> bool:
-        """Whether the test is met within this time. It is asked whenever something has happened."""
+    def wait(self, test: Callable[[], bool], seconds: float, stops: bool = True, step: float = 1.0) -> bool:
+        """Whether the test is met within this time. It is asked whenever something has happened, and after each step."""
         until = time.monotonic() + seconds
         while not test():
             left = until - time.monotonic()
             if left <= 0:
                 return False
-            self.hear(left if stops else min(left, 0.1), stops)
+            self.hear(min(left, step), stops)
         return True
 
     def end(self, seconds: float) -> None:
         """Lets the processes end by themselves for so long, and then ends them, with those that they have started."""
         with suppress(KeyError):
             self.selector.unregister(self.stop.waits)
-        self.wait(lambda: self.stop.is_set or all(each.exit for each in self.started), seconds, False)
+        self.wait(lambda: self.stop.is_set or all(each.exit for each in self.started), seconds, False, 0.1)
         for each in self.started:
             late = each.exit is None
             with suppress(ProcessLookupError, PermissionError):

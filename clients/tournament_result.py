@@ -10,7 +10,7 @@ from pathlib import Path
 from typing import Optional
 
 from tournament_plan import Fault, Files, Folder, Pairing, Plan, write_whole
-from tournament_records import Record, checksum, judge
+from tournament_records import Record, checksum, judge, without
 
 
 @dataclass
@@ -93,8 +93,8 @@ class Result:
     def default(self, absent: list[int], reason: str) -> None:
         """The match isn't played, by the fault of these seats. Where nobody has come, nobody has won."""
         self.absent, self.reason = absent, reason
-        lost_all = len(absent) == len(self.seats)
-        self.scores = None if lost_all else [0 if seat in absent else 1 for seat in range(1, len(self.seats) + 1)]
+        counts = 0 < len(absent) < len(self.seats)
+        self.scores = without(len(self.seats), absent) if counts else None
 
 
 def rbg_of(plan: Plan, *words: object, text: Optional[Path] = None) -> str:

@@ -8,7 +8,11 @@ from typing import Optional, Sequence, Union
 
 from tournament_plan import Pairing, Plan
 from tournament_processes import Output, Process, Processes, limited
-from tournament_seats import holders, wrong_seats
+from tournament_seats import connections, holders, seats_of, wrong_seats
+
+
+CLOSED = "closed its connection before the match"
+STEP = 0.004  # seconds between two looks at the connections
 
 
 class Intruder(Exception):
@@ -74,10 +78,14 @@ class Seating:
         self.processes, self.outputs = processes, outputs
         self.programs: list[Optional[Process]] = []
         self.absent: dict[int, str] = {}
+        self.seen: dict[str, int] = {}  # the connections that were looked at
 
     def seat_all(self, referee: Referee) -> None:
-        """Starts the programs in the order of their seats. When one doesn't come, the others are started all the same: who
-        isn't there either wins nothing."""
+        """Starts the programs in the order of their seats, each one when the one before it has connected. Meanwhile the
+        referee stands still, so that nothing is played before it is known whose the connections are; then it takes them in
+        the order in which they came. When one doesn't come, the others are started all the same: who isn't there either
+        wins nothing."""
+        os.kill(referee.process.pid, signal.SIGSTOP)
         for seat in range(1, len(self.pairing.seats) + 1):
             wrong = self.seat_one(seat, referee)
             if isinstance(wrong, str):
@@ -85,8 +93,12 @@ class Seating:
             if wrong is not None:
                 self.absent = {wrong: "connected more than once"}
                 return
-            if referee.exit is not None:
-                return
+        if not self.absent:
+            os.kill(referee.process.pid, signal.SIGCONT)
+            self.processes.wait(lambda: referee.exit is not None or referee.has_told("match begins"), self.plan.wait)
+            left = [seat for seat, news in seats_news(referee.told()) if news == "left"]
+            if left:
+                self.absent = {left[0]: CLOSED}
 
     def start(self, seat: int, port: int) -> Optional[Process]:
         """Starts the program of a seat."""
@@ -111,37 +123,33 @@ class Seating:
 
         def is_decided() -> bool:
             nonlocal wrong
-            self.note_ended(seat, referee)
             wrong, here = self.look(seat, referee)
             return wrong is not None or here or seat in self.absent or referee.exit is not None
 
-        if not self.processes.wait(is_decided, self.plan.wait) and program is not None:
+        if not self.processes.wait(is_decided, self.plan.wait, step=STEP) and program is not None:
             self.absent[seat] = f"didn't connect in {self.plan.wait:g} seconds"
             os.killpg(program.pid, signal.SIGKILL)
         return wrong
 
-    def note_ended(self, seat: int, referee: Referee) -> None:
-        """Notes the programs that have ended before the match, or left their seats."""
-        if referee.has_told("match begins"):
-            return
-        left = {each for each, news in seats_news(referee.told()) if news == "left" and each < seat}
-        for each, program in enumerate(self.programs, 1):
-            if program is None or each in self.absent:
-                continue
-            if program.exit is not None:
-                self.absent[each] = f"ended with {program.exit} before the match"
-            elif each in left and not self.absent:
-                self.absent[each] = "closed its connection before the match"
-
     def look(self, seat: int, referee: Referee) -> tuple[Union[int, str, None], bool]:
-        """What is wrong with the connections, and whether the program of this seat has its own."""
-        if not self.absent and not any(each >= seat for each, _ in seats_news(referee.told())):
+        """What is wrong with the connections, and whether the program of this seat has its own. Notes the programs that
+        have ended, or closed their connections."""
+        for each, process in enumerate(self.programs, 1):
+            if process is not None and process.exit is not None and each not in self.absent:
+                self.absent[each] = f"ended with {process.exit} before the match"
+        sockets = connections(referee.port)
+        if sockets == self.seen:
             return None, False
-        programs = [program.pid if program else 0 for program in self.programs]
-        held = holders(referee.port, programs)
-        wrong = wrong_seats(held, programs, bool(self.plan.programs[self.pairing.seats[seat - 1]].wrapper))
-        present = sum(each not in self.absent for each in range(1, seat + 1))
-        here = wrong is None and len(held) >= present and seat not in self.absent
-        if wrong is None and not here and not self.absent and referee.has_told("match begins"):
-            wrong = f"seat {seat} was taken by a process that has left"
+        programs = [process.pid if process else 0 for process in self.programs]
+        held = holders(sockets, programs)
+        wrapped = bool(self.plan.programs[self.pairing.seats[seat - 1]].wrapper)
+        wrong = wrong_seats(held, programs, wrapped)
+        hidden = sum(process is None for process, _ in held)
+        there = seats_of(held, programs)
+        for each in range(1, seat):
+            if each not in there and each not in self.absent and not hidden:
+                self.absent[each] = CLOSED
+        here = wrong is None and seat not in self.absent and (seat in there or len(held) - len(there) == hidden > 0)
+        if wrong is None:
+            self.seen = sockets
         return wrong, here

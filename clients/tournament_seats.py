@@ -6,7 +6,7 @@ on this machine is a socket, and each socket is held by processes.
 >>> with socket.create_server(("127.0.0.1", 0)) as server:
 ...     port = server.getsockname()[1]
 ...     with socket.create_connection(("127.0.0.1", port)), socket.create_connection(("127.0.0.1", port)):
-...         held = holders(port)
+...         held = holders(connections(port))
 ...         print([process == os.getpid() for process, _ in held])
 ...         print(wrong_seats(held, [os.getpid()]))
 ...         print(wrong_seats(held[:1], [os.getpid()]))
@@ -17,11 +17,12 @@ None
 True
 """
 
+import itertools
 import os
 import socket
 from contextlib import suppress
 from pathlib import Path
-from typing import Iterator, Optional, Sequence, Union
+from typing import Iterator, Mapping, Optional, Sequence, Union
 
 OPEN = {"01", "04", "05", "08"}  # the states of a connection of which a process may still have this end
 
@@ -66,21 +67,36 @@ def family(process: int) -> Iterator[int]:
         process = int(words[1])
 
 
-def holders(port: int, programs: Sequence[int] = ()) -> list[tuple[Optional[int], int]]:
-    """For each connection to a port of 127.0.0.1 a process that has it, if it may be seen, and the user whose it is. These
-    processes are looked at first, since mostly it is one of them."""
+def connections(port: int) -> dict[str, int]:
+    """The sockets that are connected to a port of 127.0.0.1, and the users whose they are."""
     table = ""
     for name in ("tcp", "tcp6"):
         with suppress(OSError):
             table += Path(f"/proc/net/{name}").read_text()
-    left = dict(clients(table, port))
+    return dict(clients(table, port))
+
+
+def holders(sockets: Mapping[str, int], programs: Sequence[int] = ()) -> list[tuple[Optional[int], int]]:
+    """For each of these sockets a process that has it, if it may be seen, and the user whose it is. These processes are
+    looked at first, since mostly it is one of them."""
+    left = dict(sockets)
     found: list[tuple[Optional[int], int]] = []
-    for process in (*programs, *sorted(int(name) for name in os.listdir("/proc") if name.isdecimal())):
+    for process in itertools.chain(programs, all_processes()):
         if not left:
             break
         for held in sockets_of(process) & set(left):
             found.append((process, left.pop(held)))
     return found + [(None, user) for user in left.values()]
+
+
+def all_processes() -> Iterator[int]:
+    yield from sorted(int(name) for name in os.listdir("/proc") if name.isdecimal())
+
+
+def seats_of(held: Sequence[tuple[Optional[int], int]], programs: Sequence[int]) -> list[int]:
+    """The seats whose programs have connections, seat 1 first."""
+    owners = [set(family(process)) if process else set() for process, _ in held]
+    return [seat for seat, program in enumerate(programs, 1) if any(program in each for each in owners)]
 
 
 def wrong_seats(

@@ -19,7 +19,7 @@ from typing import Iterable, Optional, Sequence
 
 from tournament_plan import Sprt
 
-NONE = 1e-3  # what an outcome counts that was never seen
+NONE = 0.1  # what an outcome counts that was never seen
 
 
 def score_of(elo: float) -> float:

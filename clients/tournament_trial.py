@@ -163,10 +163,10 @@ def only_match(folder: Path, name: str, programs: dict[str, str], more: str = ""
 
 def try_cheats(folder: Path) -> None:
     """Programs that take two seats, don't come, print a gigabyte, or want all memory."""
-    for match in only_match(folder, "twice", {"honest": steady(1), "twice": hostile("twice")}):
+    for match in only_match(folder, "twice", {"honest": steady(1), "twice": hostile("twice")}, "turn = 3000"):
         cheat = match["seats"].index("twice") + 1
         print(f"twice: {match['reason'] or match['outcome']}")
-        lost = match["absent"] == [cheat] or match["outcome"] == f"E2 {cheat}"
+        lost = match["absent"] == [cheat] or match["outcome"] in (f"E1 {cheat}", f"E2 {cheat}")
         expect(lost and match["scores"][cheat - 1] < match["scores"][2 - cheat], "who takes two seats loses")
     for match in only_match(folder, "absent", {"never": hostile("never"), "early": hostile("early")}, "wait = 1"):
         print(f"nobody comes: {match['reason']}")
