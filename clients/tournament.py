@@ -20,11 +20,12 @@ from pathlib import Path
 from types import FrameType
 from typing import Optional
 
+from tournament_charts import stacked
 from tournament_making import add_plan, add_round, make_plan, merge
 from tournament_match import play_match
 from tournament_openings import make_openings
-from tournament_page import write_page
-from tournament_plan import Fault, Files, Folder, Plan
+from tournament_page import charts, write_page
+from tournament_plan import Fault, Files, Folder, Plan, write_whole
 from tournament_processes import Stop, Stopped
 from tournament_result import Result
 from tournament_run import run
@@ -72,6 +73,7 @@ def words_of() -> argparse.Namespace:
     command("next", "adds the next round of a Swiss tournament, if the last one is over")
     table = command("table", "prints the table, and writes results.csv and results.json")
     table.add_argument("--html", type=Path, metavar="FILE", help="writes the table as a page, too")
+    table.add_argument("--svg", type=Path, metavar="FILE", help="writes the charts as a picture")
     table.add_argument("--check", action="store_true", help="looks at each record again, by rbg replay")
     merging = command("merge", "takes over the results of copies of a folder")
     merging.add_argument("sources", type=Path, metavar="FROM", nargs="+")
@@ -95,13 +97,15 @@ def play_one(folder: Folder, number: int, again: bool) -> None:
     print(f"match {number}: {result.told()}")
 
 
-def show_table(folder: Folder, page: Optional[Path], checks: bool) -> None:
+def show_table(folder: Folder, page: Optional[Path], picture: Optional[Path], checks: bool) -> None:
     plan = Plan.load(folder.path)
     table = table_of(plan, folder, checks)
     write_results(folder, table)
     print(table_text(plan, table))
     if page is not None:
         write_page(plan, folder, table, page)
+    if picture is not None:
+        write_whole(picture, stacked(charts(table)))
 
 
 def obey(words: argparse.Namespace) -> None:
@@ -127,7 +131,7 @@ def obey(words: argparse.Namespace) -> None:
     elif words.command == "next":
         print(f"{add_round(folder)} more matches in {folder.jobs}")
     elif words.command == "table":
-        show_table(folder, words.html, words.check)
+        show_table(folder, words.html, words.svg, words.check)
     else:
         taken, told = merge(folder, [Folder(source) for source in words.sources])
         print("\n".join([*told, f"{taken} results taken over"]))

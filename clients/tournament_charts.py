@@ -77,6 +77,20 @@ def grid(scale: Scale, top: float, bottom: float) -> list[str]:
     return parts
 
 
+def stacked(pictures: Sequence[str]) -> str:
+    """Pictures below each other, as a file of SVG.
+
+    >>> stacked([picture("a", 50, []), picture("b", 60, [])]).count('y="50.0"')
+    1
+    """
+    parts, height = [], 0.0
+    for each in pictures:
+        parts.append(each.replace("<svg ", f'<svg y="{height}" ', 1))
+        height += float(each.split('height="', 1)[1].split('"', 1)[0])
+    head = f'<svg xmlns="http://www.w3.org/2000/svg" viewBox="0 0 {WIDTH} {height}" width="{WIDTH}" height="{height}">\n'
+    return head + f'<rect width="{WIDTH}" height="{height}" fill="white"/>\n' + "".join(parts) + "</svg>\n"
+
+
 @dataclass
 class Bar:
     """A line of a chart of bars. `half` is half of its interval."""

@@ -82,20 +82,20 @@ def course_of_scores(table: Table) -> dict[str, list[tuple[float, float]]]:
     return course
 
 
-def charts(table: Table) -> str:
+def charts(table: Table) -> list[str]:
     """Ratings with their intervals, scores over time, time used, and how long the matches of each game were."""
     best = table.best()
     rated = [Bar(line.name, line.rating, line.interval, f"{line.rating:.0f} ±{line.interval:.0f}") for line in best]
-    drawn = bars("ratings, with 95% intervals", rated)
-    drawn += curves("part of the points, after so many matches", course_of_scores(table), 0, 1)
+    drawn = [bars("ratings, with 95% intervals", rated)]
+    drawn.append(curves("part of the points, after so many matches", course_of_scores(table), 0, 1))
     times = []
     for line in best:
         mean = line.used.points / max(1, line.used.matches)
         times.append(Bar(line.name, mean, told=f"{mean:.0f} ms, most {line.most}"))
-    drawn += bars("milliseconds a move", times)
+    drawn.append(bars("milliseconds a move", times))
     for index, (name, game) in enumerate(table.games.items()):
         if game.moves:
-            drawn += histogram(f"moves of a match of {name}", game.moves, index)
+            drawn.append(histogram(f"moves of a match of {name}", game.moves, index))
     return drawn
 
 
@@ -159,7 +159,7 @@ def write_page(plan: Plan, folder: Folder, table: Table, page: Path, pages: bool
     parts = [head, f"<h1>{title}</h1>\n<p>{html.escape(summary(table))}. Written on {written}.</p>\n"]
     parts += [html_table([HEADS, *standing_rows(table)])]
     parts += [f"<p>{html.escape(remark)}</p>\n" for remark in remarks(table)]
-    parts += [charts(table), html_table([["program", *plan.programs], *pair_rows(table)])]
+    parts += [*charts(table), html_table([["program", *plan.programs], *pair_rows(table)])]
     parts += [html_table(rows) for rows in (game_rows(table), share_rows(table), [TIME_HEADS, *time_rows(table)])]
     parts += ["<h2>Settings</h2>\n", html_table(settings_rows(plan)), html_table(game_settings(plan))]
     parts += [html_table(program_settings(plan)), "<h2>Matches</h2>\n"]

@@ -5,7 +5,7 @@ import socket
 import subprocess
 import time
 from contextlib import nullcontext
-from dataclasses import asdict, dataclass, field
+from dataclasses import dataclass, field
 from pathlib import Path
 from typing import Optional
 
@@ -50,7 +50,7 @@ class Result:
             return None
 
     def save(self, file: Path) -> None:
-        write_whole(file, json.dumps(asdict(self)) + "\n")
+        write_whole(file, json.dumps(vars(self)) + "\n")
 
     @property
     def state(self) -> str:

@@ -46,7 +46,7 @@ class Runner:
         self.results: dict[int, Result] = {}
         self.waiting: deque[int] = deque()
         self.lock = threading.Condition()
-        self.busy = self.played = self.failed = self.elsewhere = 0
+        self.busy = self.played = self.failed = self.lost = self.elsewhere = 0
         self.ended = False
         self.faults: list[str] = []
         self.began = time.monotonic()
@@ -87,7 +87,8 @@ class Runner:
                 self.busy -= 1
                 if result is not None:
                     self.played += 1
-                    self.failed += result.outcome is None
+                    self.failed += result.state == "failed"
+                    self.lost += result.state == "default"
                     self.results[number] = result
 
     def play(self, number: int) -> Optional[Result]:
@@ -139,7 +140,9 @@ class Runner:
                 seen = self.played
                 if self.table().test.verdict is not None:
                     self.waiting.clear()
-            if not self.waiting and not self.busy and add_round(self.folder) == 0:
+            with self.lock:
+                idle = not self.waiting and not self.busy
+            if idle and add_round(self.folder) == 0:
                 break
             if now - told >= max(LINE if sys.stderr.isatty() else PAGE, pause):
                 self.tell("")
@@ -174,7 +177,8 @@ def run(folder: Folder, jobs: Optional[int], again: bool, page: Optional[Path]) 
         print(table.test.told(), file=sys.stderr)
     for fault in runner.faults:
         print(fault, file=sys.stderr)
-    wrong = len(runner.faults) - runner.elsewhere
-    if runner.failed or wrong:
-        told = f"{runner.failed + wrong} of {runner.played + wrong} matches failed or were lost by default"
-        raise Fault(f"{told}: tournament.py table tells why, and run --again plays them again")
+    if runner.lost:
+        print(f"{runner.lost} matches were lost by default: tournament.py table tells why", file=sys.stderr)
+    failed = runner.failed + len(runner.faults) - runner.elsewhere
+    if failed:
+        raise Fault(f"{failed} matches failed: tournament.py table tells why, and run --again plays them again")

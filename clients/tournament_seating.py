@@ -64,6 +64,9 @@ class Referee:
     def has_told(self, line: str) -> bool:
         return f"{line}\n" in self.told()
 
+    def has_begun(self) -> bool:
+        return self.has_told("match begins") or self.has_told("match goes on")
+
     def fault(self) -> str:
         """Why it ended: what it printed, and the last that it told."""
         told = [line for line in self.told().splitlines() if line.startswith(("can't", "error"))]
@@ -95,7 +98,7 @@ class Seating:
                 return
         if not self.absent:
             os.kill(referee.process.pid, signal.SIGCONT)
-            self.processes.wait(lambda: referee.exit is not None or referee.has_told("match begins"), self.plan.wait)
+            self.processes.wait(lambda: referee.exit is not None or referee.has_begun(), self.plan.wait)
             left = [seat for seat, news in seats_news(referee.told()) if news == "left"]
             if left:
                 self.absent = {left[0]: CLOSED}

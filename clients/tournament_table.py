@@ -146,12 +146,14 @@ def write_results(folder: Folder, table: Table) -> tuple[Path, Path]:
         match: dict[str, object] = {"match": number, **asdict(pairing), "state": "missing"}
         if result is not None:
             paths = Files(folder, number, len(result.seats))
-            match |= {**asdict(result), "state": result.state, "repeated": number - 1 in table.repeated}
+            match |= {**vars(result), "state": result.state, "repeated": number - 1 in table.repeated}
             match |= {"used": result.used(), "most": result.most()}
             there = {"record": paths.record, "log": paths.log, "referee": paths.referee}
             match["files"] = {key: f"matches/{path.name}" for key, path in there.items() if path.exists()}
             match["files"] |= {f"seat {k}": f"matches/{path.name}" for k, path in enumerate(paths.seats, 1) if path.exists()}
         told.append(match)
     standings = [asdict(line) for line in table.best()]
-    write_whole(files[1], json.dumps({"standings": standings, "matches": told}, indent=1) + "\n")
+    # a line for each match
+    lines = ",\n".join(json.dumps(match) for match in told)
+    write_whole(files[1], f'{{"standings": {json.dumps(standings)},\n"matches": [\n{lines}\n]}}\n')
     return files
