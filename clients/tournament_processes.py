@@ -61,7 +61,13 @@ class Output:
         self.write(kept)
 
     def write(self, piece: bytes) -> None:
-        """A disk that is full is no fault of the match: what can't be kept is dropped, and told once."""
+        """A disk that is full is no fault of the match: what can't be kept is dropped, and told once.
+
+        >>> full = Output(Path("/dev/full"), 10)
+        >>> full.hear(b"x")
+        >>> full.fault
+        "can't write /dev/full: No space left on device"
+        """
         if self.file and piece and not self.fault:
             try:
                 self.opened = self.opened or self.file.open("ab", buffering=0)

@@ -10,7 +10,7 @@ from pathlib import Path
 from typing import Optional
 
 from tournament_plan import Fault, Files, Folder, Pairing, Plan, write_whole
-from tournament_records import Record, checksum, judge, without
+from tournament_records import Record, checksum, counted, judge, without
 
 
 @dataclass
@@ -78,14 +78,24 @@ class Result:
         return [max(each, default=0) for each in self.times]
 
     def note(self, plan: Plan, text: str, adjudged: str = "") -> None:
-        """Takes over what a good record says."""
+        """Takes over what a good record says. If the plan has ended the match, that is told.
+
+        >>> from tournament_plan import Game, Program
+        >>> plan = Plan("", "", dict.fromkeys("ab", Program("")), {"g": Game(1000, 2)}, late="draw")
+        >>> for end in ("5 -", "5 E0 1 2"):
+        ...     result = Result("g", ["a", "b"])
+        ...     result.note(plan, f"rbg 2\\nplayers a b\\nstart 9 0\\n5 1 0 3\\n{end}\\n", "3 minutes")
+        ...     print(result.state, result.scores, result.used(), result.told())
+        adjudged [1, 1] [5, 0] adjudged: 3 minutes
+        played [1, 2] [5, 0] E0 1 2
+        """
         record = Record.read(text)
         turns = [plan.turn_of(name, self.game) for name in self.seats]
         verdict = judge(record, turns, plan.moves, plan.late, plan.heavy)
         self.outcome, self.scores = record.outcome, verdict.scores
-        self.adjudged = verdict.adjudged or adjudged
+        self.adjudged = verdict.adjudged
         if adjudged and not verdict.adjudged and record.outcome == "-":
-            self.scores = [1] * len(self.seats) if plan.late == "draw" else None
+            self.adjudged, self.scores = adjudged, counted(len(self.seats), plan.late)
         self.absent, self.reason = [], None
         self.moves, self.times = len(record.players_moves()), record.times(len(self.seats))
         self.record, self.course = checksum(text.encode()), record.course()

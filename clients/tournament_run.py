@@ -20,7 +20,7 @@ LINE = 1.0  # seconds between two lines that are rewritten on a terminal
 PAGE = 5.0  # seconds between two pages, or two lines elsewhere
 
 
-def progress(done: int, count: int, played: int, seconds: float, best: list[tuple[str, float]]) -> str:
+def progress(done: int, count: int, played: int, seconds: float, best: list[tuple[str, float]], test: str = "") -> str:
     """How far it is.
 
     >>> progress(12, 36, 10, 5.0, [("first", 350.4), ("chance", -350.4)])
@@ -32,7 +32,7 @@ def progress(done: int, count: int, played: int, seconds: float, best: list[tupl
     if played:
         told += f", {60 * played / seconds:.0f} a minute, {seconds / played * (count - done):.0f} s left"
     head = ", ".join(f"{name} {rating:.0f}" for name, rating in best[:4])
-    return told + (f": {head}" if head else "")
+    return told + (f": {head}" if head else "") + (f"; {test}" if test else "")
 
 
 class Runner:
@@ -155,10 +155,12 @@ class Runner:
 
     def tell(self, end: str) -> None:
         """Tells how far it is: on a terminal always in the same line."""
-        best = [(line.name, line.rating) for line in self.table().best() if line.wins + line.draws + line.losses]
+        table = self.table()
+        best = [(line.name, line.rating) for line in table.best() if line.wins + line.draws + line.losses]
+        test = table.test.short() if table.test is not None else ""
         with self.lock:
             seconds = time.monotonic() - self.began
-            line = progress(len(self.results), len(self.pairings), self.played, seconds, best)
+            line = progress(len(self.results), len(self.pairings), self.played, seconds, best, test)
         if sys.stderr.isatty():
             print(f"\r{line[:150]}\x1b[K", end=end, file=sys.stderr, flush=True)
         else:

@@ -8,7 +8,7 @@ from typing import Optional, Sequence, Union
 
 from tournament_plan import Pairing, Plan
 from tournament_processes import Output, Process, Processes, limited
-from tournament_seats import connections, holders, seats_of, wrong_seats
+from tournament_seats import connections, holders, seats_of, waiting, wrong_seats
 
 
 CLOSED = "closed its connection before the match"
@@ -82,6 +82,7 @@ class Seating:
         self.programs: list[Optional[Process]] = []
         self.absent: dict[int, str] = {}
         self.seen: dict[str, int] = {}  # the connections that were looked at
+        self.queue: Optional[int] = 0  # and how many the referee hadn't accepted then
 
     def seat_all(self, referee: Referee) -> None:
         """Starts the programs in the order of their seats, each one when the one before it has connected. Meanwhile the
@@ -140,6 +141,9 @@ class Seating:
         for each, process in enumerate(self.programs, 1):
             if process is not None and process.exit is not None and each not in self.absent:
                 self.absent[each] = f"ended with {process.exit} before the match"
+        queue = waiting(referee.port)
+        if queue is not None and queue == self.queue:
+            return None, False
         sockets = connections(referee.port)
         if sockets == self.seen:
             return None, False
@@ -154,5 +158,5 @@ class Seating:
                 self.absent[each] = CLOSED
         here = wrong is None and seat not in self.absent and (seat in there or len(held) - len(there) == hidden > 0)
         if wrong is None:
-            self.seen = sockets
+            self.seen, self.queue = sockets, queue
         return wrong, here

@@ -109,6 +109,9 @@ class Test:
             low, high = self.bounds
             self.verdict = "elo0" if self.ratio <= low else "elo1" if self.ratio >= high else None
 
+    def short(self) -> str:
+        return f"SPRT {self.ratio:.2f} in {self.bounds[0]:.2f} .. {self.bounds[1]:.2f}"
+
     def told(self) -> str:
         """
         >>> Test(Sprt("a", 0, 100)).told()

@@ -44,6 +44,7 @@ def tool(*words: object, status: Optional[int] = 0, **options: object) -> str:
 def plan_of(folder: Path, games: str, programs: dict[str, str], more: str = "") -> Path:
     """Writes a plan of games that ship, with the commands of programs."""
     text = f'rbg = "{CLIENTS.parent}/rbg"\nauthor = "{CLIENTS.parent}/rbg_author"\n{more}\n'
+    text += "" if "wait" in more else "wait = 100\n"
     text += "games = [" + ", ".join(f'"{GAMES}/{game}.rbg"' for game in games.split()) + "]\n"
     for name, command in programs.items():
         text += f'[[programs]]\nname = "{name}"\ncommand = """{command}"""\nfolder = "{EXAMPLE}"\n'
