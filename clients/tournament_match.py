@@ -18,6 +18,7 @@ from tournament_seating import Intruder, Referee, Seating
 TRIES = 5  # how many ports are tried for a match
 RECORD = 1 << 26  # the bytes of a record, at most
 TOLD = 1 << 20  # the bytes of what a referee tells, at most
+LISTEN = 60  # seconds in which a referee has to listen
 LOOK = 0.3  # seconds between two looks at a log
 
 
@@ -90,7 +91,7 @@ class Play:
         except OSError as error:
             return self.give_up(f"{self.plan.rbg} doesn't start: {error.strerror}")
         listening = f"listening on port {port}"
-        processes.wait(lambda: referee.has_told(listening) or referee.exit is not None, self.plan.wait)
+        processes.wait(lambda: referee.has_told(listening) or referee.exit is not None, LISTEN)
         if referee.exit is None and referee.has_told(listening):
             seating.seat_all(referee)
         elif referee.exit != "status 0":

@@ -70,7 +70,8 @@ class Referee:
     def fault(self) -> str:
         """Why it ended: what it printed, and the last that it told."""
         told = [line for line in self.told().splitlines() if line.startswith(("can't", "error"))]
-        return ": ".join([self.printed.text.decode(errors="replace").strip() or str(self.exit), *told[-1:]])
+        printed = self.printed.text.decode(errors="replace").strip()
+        return ": ".join([printed or self.exit or "it does nothing", *told[-1:]])
 
 
 class Seating:
