@@ -148,7 +148,8 @@ def make_openings(
     rbg: str, game: Path, count: int, plies: int, seed: int, playouts: int = 100, balance: float = 0.15
 ) -> Iterator[str]:
     """Makes so many openings of a game: moves by chance that lead to different places, where by matches that are played
-    on by chance no player takes more or less from the others than half, and `balance` to each side."""
+    on by chance no player takes more or less from the others than half, and `balance` to each side. Without such matches
+    all places will do."""
     chance = random.Random(seed)
     seen: set[tuple] = set()
     found = 0
@@ -159,10 +160,10 @@ def make_openings(
             place = rules.player, *rules.board(), -1, *rules.values()
             if not rules.finished and place not in seen:
                 seen.add(place)
-                shares = shares_of(rules.playouts(number, playouts), players) if playouts else [0.5]
-                if max(abs(share - 0.5) for share in shares) <= balance:
+                shares = shares_of(rules.playouts(number, playouts), players) if playouts else []
+                if all(abs(share - 0.5) <= balance for share in shares):
                     found += 1
-                    yield ", ".join(made) + " // " + " ".join(f"{share:.2f}" for share in shares)
+                    yield ", ".join(made) + " //" * bool(shares) + "".join(f" {share:.2f}" for share in shares)
             if found == count:
                 return
             if made:
