@@ -9,6 +9,7 @@ of its own, at the same path. It needs the packages parallel, openssh-server and
 
 import os
 import shutil
+import signal
 import subprocess
 import sys
 import tempfile
@@ -104,4 +105,6 @@ def main() -> int:
 
 
 if __name__ == "__main__":
+    # so that what was started ends where this is told to stop
+    signal.signal(signal.SIGTERM, lambda number, _: sys.exit(128 + number))
     sys.exit(main())

@@ -10,6 +10,7 @@ program with files, keys and ports of their own, so no Slurm that is set up alre
 import os
 import secrets
 import shutil
+import signal
 import socket
 import subprocess
 import sys
@@ -122,4 +123,6 @@ def main() -> int:
 
 
 if __name__ == "__main__":
+    # so that what was started ends where this is told to stop
+    signal.signal(signal.SIGTERM, lambda number, _: sys.exit(128 + number))
     sys.exit(main())
