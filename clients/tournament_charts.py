@@ -28,7 +28,8 @@ def steps(low: float, high: float, most: int = 7) -> list[float]:
             unit = lead * 10.0**power
             if width / unit <= most:
                 numbers = range(math.ceil(low / unit - 1e-9), math.floor(high / unit + 1e-9) + 1)
-                return [round(number * unit, 9) if power < 0 and width > 1e-6 else round(number * unit) for number in numbers]
+                digits = 9 if power < 0 and width > 1e-6 else None
+                return [round(number * unit, digits) for number in numbers]
         power += 1
 
 
@@ -73,7 +74,8 @@ def grid(scale: Scale, top: float, bottom: float) -> list[str]:
     """The lines of round numbers, from left to right."""
     parts = []
     for value in steps(scale.low, scale.high):
-        parts += [stroke(scale.at(value), top, scale.at(value), bottom, "#ddd"), text(scale.at(value), bottom + 16, f"{value:g}", "middle")]
+        parts.append(stroke(scale.at(value), top, scale.at(value), bottom, "#ddd"))
+        parts.append(text(scale.at(value), bottom + 16, f"{value:g}", "middle"))
     return parts
 
 
@@ -121,7 +123,8 @@ def bars(title: str, rows: Sequence[Bar]) -> str:
             ends = scale.at(row.value - row.half), scale.at(row.value + row.half)
             parts.append(stroke(ends[0], middle, ends[1], middle, "#222", 1.5))
             parts += [stroke(end, middle - 5, end, middle + 5, "#222", 1.5) for end in ends]
-        parts += [text(LEFT - 8, middle + 5, row.name, "end"), text(WIDTH - RIGHT + 8, middle + 5, row.told or f"{row.value:g}")]
+        parts.append(text(LEFT - 8, middle + 5, row.name, "end"))
+        parts.append(text(WIDTH - RIGHT + 8, middle + 5, row.told or f"{row.value:g}"))
     return picture(title, bottom + BOTTOM, parts)
 
 
@@ -136,7 +139,8 @@ def curves(title: str, series: Mapping[str, Sequence[tuple[float, float]]], low:
     across, up = Scale(0, last, LEFT, WIDTH - RIGHT), Scale(low, high, bottom, TOP)
     parts = grid(across, TOP, bottom)
     for value in steps(low, high):
-        parts += [stroke(LEFT, up.at(value), WIDTH - RIGHT, up.at(value), "#ddd"), text(LEFT - 8, up.at(value) + 5, f"{value:g}", "end")]
+        parts.append(stroke(LEFT, up.at(value), WIDTH - RIGHT, up.at(value), "#ddd"))
+        parts.append(text(LEFT - 8, up.at(value) + 5, f"{value:g}", "end"))
     for index, (name, points) in enumerate(series.items()):
         if not points:
             continue
@@ -164,7 +168,8 @@ def histogram(title: str, values: Sequence[int], paint: int = 0) -> str:
     up = Scale(0, max(counts.values(), default=1), bottom, TOP)
     parts = grid(across, TOP, bottom)
     for value in (each for each in steps(up.low, up.high, 4) if each == int(each)):
-        parts += [stroke(LEFT, up.at(value), WIDTH - RIGHT, up.at(value), "#ddd"), text(LEFT - 8, up.at(value) + 5, f"{value:g}", "end")]
+        parts.append(stroke(LEFT, up.at(value), WIDTH - RIGHT, up.at(value), "#ddd"))
+        parts.append(text(LEFT - 8, up.at(value) + 5, f"{value:g}", "end"))
     for group, count in counts.items():
         left, right = across.at(low + wide * group), across.at(low + wide * (group + 1))
         size = f'width="{max(1.0, round(right - left - 1, 1))}" height="{round(bottom - up.at(count), 1)}"'

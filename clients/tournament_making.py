@@ -104,7 +104,8 @@ def add_plan(file: Path, folder: Folder) -> int:
 def taken_of(pairing: Pairing, result: Result) -> list[float]:
     """What each seat took of a match; half where it counts for nobody.
 
-    >>> taken_of(Pairing("g", ("a", "b")), Result("g", ["a", "b"], scores=[0, 1])), taken_of(Pairing("g", ("a", "b")), Result("g", []))
+    >>> pairing = Pairing("g", ("a", "b"))
+    >>> taken_of(pairing, Result("g", ["a", "b"], scores=[0, 1])), taken_of(pairing, Result("g", ["a", "b"]))
     ([0.0, 1.0], [0.5, 0.5])
     """
     if result.scores is None or len(result.scores) < 2:

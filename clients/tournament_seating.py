@@ -26,7 +26,8 @@ def seats_news(told: str) -> list[tuple[int, str]]:
     [(1, 'connected'), (1, 'left')]
     """
     lines = [line.split(" ") for line in told.splitlines(keepends=True)]
-    return [(int(line[1]), line[2][:-1]) for line in lines if line[0] == "seat" and line[2:] in (["connected\n"], ["left\n"])]
+    news = [line for line in lines if line[0] == "seat" and line[2:] in (["connected\n"], ["left\n"])]
+    return [(int(line[1]), line[2][:-1]) for line in news]
 
 
 def command_of(plan: Plan, pairing: Pairing, seat: int, port: int, number: int) -> list[str]:

@@ -73,7 +73,8 @@ def begin(folder: Path) -> list[subprocess.Popen]:
     (folder / "munge.key").chmod(0o400)
     munge = [f"--key-file={folder}/munge.key", f"--socket={folder}/munge.socket", f"--pid-file={folder}/munge.pid"]
     munge += [f"--log-file={folder}/munge.log", f"--seed-file={folder}/munge.seed", "--force", "--foreground"]
-    commands = (["munged", *munge], ["slurmctld", "-D", "-f", f"{folder}/slurm.conf"], ["slurmd", "-D", "-f", f"{folder}/slurm.conf"])
+    words = ["-D", "-f", f"{folder}/slurm.conf"]
+    commands = (["munged", *munge], ["slurmctld", *words], ["slurmd", *words])
     started = []
     for command in commands:
         said = (folder / f"{command[0]}.txt").open("wb")

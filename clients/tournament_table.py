@@ -149,8 +149,8 @@ def write_results(folder: Folder, table: Table) -> tuple[Path, Path]:
             match |= {**vars(result), "state": result.state, "repeated": number - 1 in table.repeated}
             match |= {"used": result.used(), "most": result.most()}
             there = {"record": paths.record, "log": paths.log, "referee": paths.referee}
+            there |= {f"seat {seat}": path for seat, path in enumerate(paths.seats, 1)}
             match["files"] = {key: f"matches/{path.name}" for key, path in there.items() if path.exists()}
-            match["files"] |= {f"seat {k}": f"matches/{path.name}" for k, path in enumerate(paths.seats, 1) if path.exists()}
         told.append(match)
     standings = [asdict(line) for line in table.best()]
     # a line for each match

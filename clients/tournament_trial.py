@@ -174,7 +174,8 @@ def try_cheats(folder: Path) -> None:
         expect(match["scores"] is None and match["absent"] == [1, 2], "a match that nobody began has no winner")
     for match in only_match(folder, "alone", {"honest": steady(1), "early": hostile("early")}, "wait = 5"):
         expect(match["absent"] == [match["seats"].index("early") + 1], "who comes wins against who doesn't")
-    loud = only_match(folder, "loud", {"honest": steady(1), "loud": hostile("loud")}, "turn = 2000\noutput = 5000\ngrace = 0")
+    more = "turn = 2000\noutput = 5000\ngrace = 0"
+    loud = only_match(folder, "loud", {"honest": steady(1), "loud": hostile("loud")}, more)
     sizes = [file.stat().st_size for file in (folder / "loud" / "matches").iterdir()]
     expect(max(sizes) < 20_000, "who prints a gigabyte fills no disk")
     expect(all(match["outcome"] in ("E1 1", "E1 2") for match in loud), "and loses by time")
@@ -211,7 +212,8 @@ def try_overhead(folder: Path) -> None:
     tool("plan", plan_of(folder, "tictactoe", {"a": play, "b": play}, "rounds = 5000"), folder / "more")
     for number in range(1, 10_001):
         for kind in ("json", "record"):
-            os.link(folder / "many" / "matches" / f"{(number - 1) % 500 + 1:04}.{kind}", folder / "more" / "matches" / f"{number:04}.{kind}")
+            old, new = f"{(number - 1) % 500 + 1:04}.{kind}", f"{number:04}.{kind}"
+            os.link(folder / "many" / "matches" / old, folder / "more" / "matches" / new)
     begun = time.monotonic()
     expect("10000 of 10000" in tool("table", folder / "more"), "the table has 10,000 matches")
     print(f"the table of 10,000 matches: {time.monotonic() - begun:.1f} s")
