@@ -66,3 +66,7 @@ def scores(place):
     if place[2] == LONGEST or white == black:
         return [50, 50]
     return [100, 0] if white > black else [0, 100]
+
+
+def from_board(names):
+    return (1, "".join(names), 0)

@@ -1,5 +1,5 @@
-"""The race of three hares. A place is the mover, the squares of the hares (0 at the start, 16 in the goal), their carrots, the
-order of arrival and the number of moves."""
+"""The race of three hares. A place is the mover, the squares of the hares (0 at the start, 16 in the goal), their
+carrots, the order of arrival and the number of moves."""
 
 GOAL = 16
 LONGEST = 300

@@ -64,3 +64,8 @@ def board(place):
 
 def scores(place):
     return [100 if has_arrived(place[1], index) else 0 for index in range(3)]
+
+
+def from_board(names):
+    holes = list(zip(CELLS, names))
+    return (1, tuple(frozenset(cell for cell, name in holes if name == peg) for peg in "rgb"), 0)

@@ -1,28 +1,32 @@
 #!/usr/bin/env python3
-"""Counts the sequences of moves of a game by a program of its own, and follows matches by chance in both.
+"""Counts the sequences of moves of a game by a program of its own, and follows matches in both.
 
-    python3 tools/counts/counting.py clobber 3       counts up to the depth
-    python3 tools/counts/counting.py --follow clobber 20    plays 20 matches by `./rbg ask`, and compares each place
-    python3 tools/counts/counting.py                 counts each game as deep as the stored run of rbg_games, and compares
+    python3 tools/counts/counting.py                      counts as deep as the stored run of rbg_games, and compares
+    python3 tools/counts/counting.py clobber 3            counts one game up to the depth
+    python3 tools/counts/counting.py --follow clobber 20  plays 20 matches by chance, and compares places
+    python3 tools/counts/counting.py --match clobber      follows the match that is stored with the game
 
 A game is a module beside this one. It plays by its own board and its own rules, and knows nothing of the language:
-`START` is a place, `moves(place)` the places to which the moves lead, one for each move, and none where play is finished,
-`player(place)` the number of the player to move, `board(place)` the names of the pieces in the order of the vertices, and
-`scores(place)` the scores where play is finished. Where two moves may lead to the same board, `values(place)` has what some
-variables hold, by name.
+`START` is a place, `moves(place)` the places to which the moves lead, one for each move, and none where play is
+finished, `player(place)` the number of the player to move, `board(place)` the names of the pieces in the order of the
+vertices, and `scores(place)` the scores where play is finished. Where two moves may lead to the same board,
+`values(place)` has what some variables hold, by name. `from_board(names)` is the place with the first player to move
+and these pieces, for the boards that are stored beside a game.
 """
 
 import functools
 import importlib
+import os
 import pathlib
 import random
+import re
 import sys
 
 TOP = pathlib.Path(__file__).resolve().parents[2]
 STORED = TOP / "crates/rbg_games"
 
 
-def count(game, depth):
+def count(game, start, depth):
     """For each depth how many sequences of so many moves there are, and after how many of them play is finished."""
 
     @functools.lru_cache(maxsize=1 << 18)
@@ -35,7 +39,7 @@ def count(game, depth):
                 total[index] = (total[index][0] + sequences, total[index][1] + ended)
         return tuple(total)
 
-    return [f"{level} {sequences} {ended}" for level, (sequences, ended) in enumerate(behind(game.START, depth), 1)]
+    return [f"{level} {sequences} {ended}" for level, (sequences, ended) in enumerate(behind(start, depth), 1)]
 
 
 def stored_counts():
@@ -52,57 +56,73 @@ def stored_counts():
     return {name: lines for name, lines in counts.items() if lines}
 
 
+def place_of(game, name):
+    """The place with which the counts of a file begin: a game's own, or that of a board."""
+    if name.endswith(".rbg"):
+        return game.START
+    rows = re.findall(r"\[([^\]]*)\]", (STORED / "data" / name).read_text())
+    return game.from_board([piece.strip() for row in rows for piece in row.split(",")])
+
+
 def compare():
     """Compares each count that is stored with that of the game's own program. True if they agree."""
     agree = True
     for name, lines in stored_counts().items():
-        game = name.removesuffix(".rbg").removesuffix(".board").replace(".", "_")
-        if (pathlib.Path(__file__).parent / f"{game}.py").exists():
-            same = count(importlib.import_module(game), len(lines)) == lines
-            print(name, "agrees" if same else "DIFFERS", *[line.split()[1] for line in lines])
+        module = name.split(".")[0]
+        if (pathlib.Path(__file__).parent / f"{module}.py").exists():
+            game = importlib.import_module(module)
+            same = count(game, place_of(game, name), len(lines)) == lines
+            print(name, "agrees" if same else "DIFFERS", *[line.split()[1] for line in lines], flush=True)
             agree = agree and same
     return agree
 
 
-def looks_like(game, place, rules):
-    """Whether a place has the board, the player to move and the values of the place in `rbg ask`."""
-    names = rules.names()
-    board = [names["pieces"][number] for number in rules.board()]
-    held = dict(zip(names["variables"], rules.values()))
-    values = game.values(place) if hasattr(game, "values") else {}
-    return (
-        board == list(game.board(place))
-        and (rules.finished or rules.player == game.player(place))
-        and all(held[name] == value for name, value in values.items())
-    )
+class Seen:
+    """What `./rbg ask` says of a place: the pieces, who is to move (0 where play is finished), and the variables."""
+
+    def __init__(self, rules):
+        names = rules.names()
+        self.board = [names["pieces"][number] for number in rules.board()]
+        self.player, self.scores = rules.player, rules.scores
+        self.values = dict(zip(names["variables"], rules.values()))
+
+    def fits(self, game, place):
+        """Whether a place of the game's own program has the same board, player to move and values."""
+        values = game.values(place) if hasattr(game, "values") else {}
+        return (
+            self.board == list(game.board(place))
+            and self.player in (0, game.player(place))
+            and all(self.values[name] == value for name, value in values.items())
+        )
 
 
-def follow_match(game, rules, chance):
-    """Plays a match by chance in both, and compares each place on the way. How many places there were."""
-    place, places = game.START, 1
-    assert looks_like(game, place, rules)
-    while not rules.finished:
+def follow_match(game, rules, choose):
+    """Plays a match in both, and compares each place on the way. How many places there were."""
+    place, places, seen = game.START, 1, Seen(rules)
+    assert seen.fits(game, place)
+    while seen.player:
         moves, following = rules.moves(), game.moves(place)
         assert len(moves) == len(following), (place, len(moves), len(following))
-        rules.make(chance.choice(moves))
-        fitting = [other for other in following if looks_like(game, other, rules)]
-        assert fitting, (place, rules.board())
-        place, places = fitting[0], places + 1
+        rules.make(choose(moves))
+        seen = Seen(rules)
+        place = next((other for other in following if seen.fits(game, other)), None)
+        assert place is not None, seen.board
+        places += 1
     assert not game.moves(place), place
-    assert rules.scores == list(game.scores(place)), (place, rules.scores)
+    assert seen.scores == list(game.scores(place)), (place, seen.scores)
     return places
 
 
-def follow(name, matches, chance):
-    """Plays matches by chance in `./rbg ask` and in the game's own program."""
+def follow(name, matches, choose):
+    """Plays matches in `./rbg ask` and in the game's own program."""
     sys.path.insert(0, str(TOP / "clients"))
     from rbg_rules import Rules
 
     game, places = importlib.import_module(name), 0
     for _ in range(matches):
-        with Rules(str(STORED / f"data/{name}.rbg"), str(TOP / "rbg")) as rules:
-            places += follow_match(game, rules, chance)
-    print(f"{name}: {matches} matches, {places} places, the same in both")
+        with Rules(str(STORED / f"data/{name}.rbg"), os.environ.get("RBG", str(TOP / "rbg"))) as rules:
+            places += follow_match(game, rules, choose)
+    print(f"{name}: {places} places are the same in both")
 
 
 def main():
@@ -110,9 +130,14 @@ def main():
     if not words:
         sys.exit(not compare())
     if words[0] == "--follow":
-        follow(words[1], int(words[2]), random.Random(1))
+        follow(words[1], int(words[2]), random.Random(1).choice)
+    elif words[0] == "--match":
+        lines = (STORED / f"data/{words[1]}.moves").read_text().splitlines()
+        stored = iter([line for line in lines if not line.startswith("//")])
+        follow(words[1], 1, lambda moves: next(stored))
     else:
-        print(*count(importlib.import_module(words[0]), int(words[1])), sep="\n")
+        game = importlib.import_module(words[0])
+        print(*count(game, game.START, int(words[1])), sep="\n")
 
 
 if __name__ == "__main__":

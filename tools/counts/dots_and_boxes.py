@@ -1,4 +1,5 @@
-"""Dots and boxes on three by three boxes. A place is the mover, the lines that are drawn, and the owners of the boxes."""
+"""Dots and boxes on three by three boxes. A place is the mover, the lines that are drawn, and the owners of the
+boxes."""
 
 SIDE = 3
 WIDTH = 2 * SIDE + 1  # dots, lines and boxes as squares of one board

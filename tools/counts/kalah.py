@@ -1,5 +1,5 @@
-"""Kalah with six pits a side and four seeds in each. A place is the mover and the seeds in a ring of fourteen: South's six
-pits and store, North's six pits and store."""
+"""Kalah with six pits a side and four seeds in each. A place is the mover and the seeds in a ring of fourteen: South's
+six pits and store, North's six pits and store."""
 
 STORES = (6, 13)
 OWN = (range(0, 6), range(7, 13))

@@ -1,5 +1,5 @@
-"""Konane on eight by eight squares. A place is the mover, the stones, and what the opening asks for: 0 for a first stone,
-a number of a square for a neighbour of it, None afterwards."""
+"""Konane on eight by eight squares. A place is the mover, the stones, and what the opening asks for: 0 for a first
+stone, a number of a square for a neighbour of it, None afterwards."""
 
 SIZE = 8
 STEPS = [(-1, 0), (1, 0), (0, -1), (0, 1)]

@@ -73,3 +73,7 @@ def scores(place):
     else:
         winner = last
     return [100, 0] if winner == 1 else [0, 100]
+
+
+def from_board(names):
+    return (1, "".join(names), 0)

@@ -1,14 +1,14 @@
-"""Nine men's morris. The points are numbered along the rows of the board as it is drawn; its sixteen lines are listed. A
-place is the mover, the points, the men in hand, and the moves in a row in which none was put or taken."""
+"""Nine men's morris. The points are numbered along the rows of the board as it is drawn; its sixteen lines are listed.
+A place is the mover, the points, the men in hand, and the moves in a row in which none was put or taken."""
 
 LINES = [
     (0, 1, 2), (3, 4, 5), (6, 7, 8), (9, 10, 11), (12, 13, 14), (15, 16, 17), (18, 19, 20), (21, 22, 23),
     (0, 9, 21), (3, 10, 18), (6, 11, 15), (1, 4, 7), (16, 19, 22), (8, 12, 17), (5, 13, 20), (2, 14, 23),
 ]  # fmt: skip
 BESIDE = {
-    point: {line[index + by] for line in LINES for index in range(3) for by in (-1, 1) if line[index] == point and 0 <= index + by < 3}
+    point: {other for line in LINES for pair in (line[:2], line[1:]) if point in pair for other in pair} - {point}
     for point in range(24)
-}  # fmt: skip
+}
 LONGEST = 100
 START = (1, "e" * 24, (9, 9), 0)
 

@@ -1,5 +1,5 @@
-"""Peg solitaire on the English board of 33 holes. The board is a string of seven by seven squares, 1 for a peg, 0 for an
-empty hole, and blanks where there is none. A place is the same and the number of pegs that were taken."""
+"""Peg solitaire on the English board of 33 holes. The board is a string of seven by seven squares, 1 for a peg, 0 for
+an empty hole, and blanks where there is none. A place is the same and the number of pegs that were taken."""
 
 CENTRE = 24
 START = "  111  " "  111  " "1111111" "1110111" "1111111" "  111  " "  111  "

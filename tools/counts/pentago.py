@@ -57,3 +57,7 @@ def scores(place):
     if white == black:
         return [50, 50]
     return [100, 0] if white else [0, 100]
+
+
+def from_board(names):
+    return (1, "".join(names))

@@ -1,5 +1,5 @@
-"""Tablut. The squares hold m, s, the king (k, also in his castle) or e. A place is the mover, the squares, whether the king
-has left his castle, the moves in a row in which nothing was taken, and whether the last move took the king."""
+"""Tablut. The squares hold m, s, the king (k, also in his castle) or e. A place is the mover, the squares, whether the
+king has left his castle, the moves in a row in which nothing was taken, and whether the last move took the king."""
 
 SIZE = 9
 CASTLE = 40
@@ -89,3 +89,8 @@ def scores(place):
     if quiet == LONGEST:
         return [50, 50]
     return [0, 100] if mover == 1 else [100, 0]
+
+
+def from_board(names):
+    squares = ["k" if name in ("k", "home") else "e" if name == "castle" else name for name in names]
+    return (1, "".join(squares), "castle" in names, 0, False)

@@ -1,5 +1,6 @@
 """Yavalath with the pie rule. A cell has the coordinates (row, column) of a slanted board, in which a line goes along
-(0, 1), (1, 0) or (1, -1). A place is the mover, the stones by cell in order, and how many moves were made, as far as 2."""
+(0, 1), (1, 0) or (1, -1). A place is the mover, the stones by cell in order, and how many moves were made, up to
+2."""
 
 RADIUS = 4
 CELLS = [

@@ -6,8 +6,8 @@ WHITE, BLACK, RED, BLUE, GREEN, YELLOW = "#fbfbf6", "#2b2b2b", "#cf3b2e", "#2f62
 
 
 class Look:
-    """A ground of squares (also chequered), hexagons, holes, or lines; and a pair of a shape and a colour for each piece. A
-    piece that isn't named isn't drawn, and one that is hidden has no ground either. `moves` of the match are made."""
+    """A ground of squares (also chequered), hexagons, holes, or lines; and a pair of a shape and a colour for each piece.
+    A piece that isn't named isn't drawn, and one that is hidden has no ground either. `moves` of the match are made."""
 
     def __init__(self, ground, shapes, moves=None, slanted=False, hidden=(), light="#ecd9b0", dark="#b98e57"):
         self.ground, self.shapes, self.moves, self.slanted, self.hidden = ground, shapes, moves, slanted, hidden
@@ -88,7 +88,9 @@ LOOKS = {
     "chinese_checkers": Look("holes", discs(r=RED, g=GREEN, b=BLUE), 70, hidden=("x",)),
     "clobber": Look("chequered", PLAIN, 10),
     "connect_four": Look("holes", discs(r=RED, y=YELLOW), light="#dfe8f5"),
-    "dots_and_boxes": Boxes("none", {"dot": ("dot", BLACK), "a": ("square", "#f2b8b0"), "b": ("square", "#b5cdf0")}, 22),
+    "dots_and_boxes": Boxes(
+        "none", {"dot": ("dot", BLACK), "a": ("square", "#f2b8b0"), "b": ("square", "#b5cdf0")}, 22
+    ),
     "english_draughts": Look(
         "chequered", {"m": ("disc", BLACK), "k": ("king", BLACK), "o": ("disc", WHITE), "q": ("king", WHITE)}, 30
     ),

@@ -1,6 +1,6 @@
 #!/usr/bin/env python3
-"""Draws a picture of each game in crates/rbg_games/data, into docs/games: an SVG file of a place of the match that is stored
-with the game. It needs ./rbg (make build), which says what stands on the board.
+"""Draws a picture of each game in crates/rbg_games/data, into docs/games: an SVG file of a place of the match that is
+stored with the game. It needs ./rbg (make build), which says what stands on the board.
 
     python3 tools/pictures/pictures.py           draws all of them
     python3 tools/pictures/pictures.py chess hex     draws these
@@ -53,9 +53,11 @@ def ground(board, look, pieces):
     if look.ground == "hexagons":
         return filled([hexagon(point) for point in points], look.light)
     if look.ground == "chequered":
-        cells = [(board.points[vertex], (row + place) % 2) for row, cells in enumerate(board.rows) for place, vertex in enumerate(cells)]
-        light, dark = ([square(point) for point, kind in cells if kind == wanted] for wanted in (0, 1))
-        return filled(light, look.light) + filled(dark, look.dark)
+        kinds = ([], [])
+        for row, vertices in enumerate(board.rows):
+            for place, vertex in enumerate(vertices):
+                kinds[(row + place) % 2].append(square(board.points[vertex]))
+        return filled(kinds[0], look.light) + filled(kinds[1], look.dark)
     if look.ground == "squares":
         return filled([square(point) for point in points], look.light)
     if look.ground == "lines":
@@ -90,7 +92,8 @@ def dot(point, radius, fill, line):
 
 def text(point, words, size, fill="#222"):
     x, y = point
-    return f'<text x="{number(x)}" y="{number(y + size * 0.35)}" font-size="{number(size)}" fill="{fill}">{words}</text>'
+    below = number(y + size * 0.35)
+    return f'<text x="{number(x)}" y="{below}" font-size="{number(size)}" fill="{fill}">{words}</text>'
 
 
 def drawn_piece(point, shape, fill):
