@@ -1,3 +1,4 @@
 -- Lines over connections.
+pub mod Moments
 pub mod Passing
 pub mod Laws
