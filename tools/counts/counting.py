@@ -30,16 +30,16 @@ def count(game, start, depth):
     """For each depth how many sequences of so many moves there are, and after how many of them play is finished."""
 
     @functools.lru_cache(maxsize=1 << 18)
-    def behind(place, left):
+    def counts_after(place, left):
         total = [(0, 0)] * left
         for following in game.moves(place):
             ends = not game.moves(following)
-            deeper = behind(following, left - 1) if left > 1 and not ends else ()
+            deeper = counts_after(following, left - 1) if left > 1 and not ends else ()
             for index, (sequences, ended) in enumerate([(1, int(ends)), *deeper]):
                 total[index] = (total[index][0] + sequences, total[index][1] + ended)
         return tuple(total)
 
-    return [f"{level} {sequences} {ended}" for level, (sequences, ended) in enumerate(behind(start, depth), 1)]
+    return [f"{level} {sequences} {ended}" for level, (sequences, ended) in enumerate(counts_after(start, depth), 1)]
 
 
 def stored_counts():
