@@ -12,6 +12,7 @@ import select
 import socket
 import sys
 import tempfile
+import time
 
 from rbg_rules import Refused, Rules
 from rbg_thinker import Thinker
@@ -55,7 +56,7 @@ class Match:
 
     def __init__(self):
         self.player, self.name, self.text = 0, "", b""
-        self.turn_ms = None  # the time for a turn
+        self.turn_ms, self.moved = None, 0.0  # the time for a turn, and when the last move was heard
         self.moves = []  # the pairs of each move that was made, the keeper's too
         self.refused = []  # the reasons of the refusals
         self.end = None
@@ -70,6 +71,7 @@ class Match:
             self.text = text
         elif letter == b"M":
             self.moves.append(text.decode())
+            self.moved = time.monotonic()
             return True
         elif letter == b"R":
             self.refused.append(int(text))
@@ -80,6 +82,10 @@ class Match:
         else:
             raise ValueError("not a message: %r" % message)
         return False
+
+    def left_ms(self):
+        """What is left of a turn that began with the last move, or None where the time for a turn isn't known."""
+        return None if self.turn_ms is None else self.turn_ms - 1000 * (time.monotonic() - self.moved)
 
 
 class Follower:
@@ -123,7 +129,7 @@ class Follower:
         if self.has_said or self.rules.player != match.player:
             return None
         self.has_said = True
-        return self.choose(self.rules, match.turn_ms)
+        return self.choose(self.rules, match.left_ms())
 
 
 class Recorded:
@@ -167,17 +173,17 @@ def main():
     parser = argparse.ArgumentParser(description=__doc__.splitlines()[0])
     parser.add_argument("port", type=int, help="the port on 127.0.0.1 on which the match is served")
     parser.add_argument("--random", type=int, metavar="SEED", help="choose by chance; the seed of --think")
-    parser.add_argument("--think", type=int, metavar="MS", help="choose by playouts for so long, or for half of a turn")
+    parser.add_argument("--think", type=int, metavar="MS", help="choose by playouts for so long, at most half a turn")
     parser.add_argument("--rbg", default="./rbg", metavar="PROGRAM", help="the program rbg")
     parser.add_argument("--record", metavar="FILE", help="say the moves of a record")
     parser.add_argument("--match", type=int, metavar="K", help="join match K of a hall")
     words = parser.parse_args()
     chance = random.Random(words.random)
-    choose = lambda rules, turn_ms: rules.moves(1)[0]
+    choose = lambda rules, left_ms: rules.moves(1)[0]
     if words.think is not None:
         choose = Thinker(words.think, chance)
     elif words.random is not None:
-        choose = lambda rules, turn_ms: chance.choice(rules.moves())
+        choose = lambda rules, left_ms: chance.choice(rules.moves())
     chooser = Follower(choose, words.rbg)
     if words.record is not None:
         with open(words.record, encoding="ascii") as file:

@@ -8,8 +8,8 @@
 ...     print(rules.scores)
 [100, 0]
 
-Where each of several moves ends play, and none of them wins, it takes any of them at once. The clock of these examples goes
-on by a millisecond whenever it is read:
+Where each of several moves ends play, and none of them wins, it takes any of them at once. The clock of these
+examples goes on by a millisecond whenever it is read:
 
 >>> import itertools, tempfile
 >>> thinker, clock = Thinker(5000, random.Random(1)), itertools.count(0, 0.001)
@@ -21,7 +21,7 @@ on by a millisecond whenever it is read:
 ...         print(thinker(rules) in rules.moves(), next(clock) < 0.01)
 True True
 
-It takes half of a turn where that is shorter than its own time:
+It takes half of what is left of a turn, 100 milliseconds here, where that is shorter than its own time:
 
 >>> thinker, clock = Thinker(5000, random.Random(1)), itertools.count(0, 0.001)
 >>> thinker.clock = clock.__next__
@@ -50,7 +50,7 @@ class Candidate:
 class Thinker:
     """Chooses a move within a time, counted from when it is asked.
 
-    It takes no more than half of the time for a turn, since messages and the referee's questions take some of it too.
+    It takes no more than half of what is left of a turn: messages and the referee's questions take some of it too.
 
     The time is divided into rounds. In each of them the moves that are left have the same number of playouts, and the
     better half of them is left for the next one, so most playouts go to moves that may be the best. Where there are too
@@ -66,9 +66,9 @@ class Thinker:
         self.clock = time.monotonic
         self.cost = self.seconds / 100  # what a playout takes, as the last ones did
 
-    def __call__(self, rules: Rules, turn_ms: Optional[int] = None) -> str:
+    def __call__(self, rules: Rules, left_ms: Optional[float] = None) -> str:
         start = self.clock()
-        seconds = self.seconds if turn_ms is None else min(self.seconds, turn_ms / 2000)
+        seconds = self.seconds if left_ms is None else min(self.seconds, left_ms / 2000)
         moves = rules.moves()
         self.chance.shuffle(moves)
         left = [Candidate(move) for move in moves[: max(4, int(seconds / self.cost / self.FEW))]]
