@@ -3,3 +3,4 @@ pub mod Common
 pub mod Apart
 pub mod Lacking
 pub mod Reading
+pub mod Stopping

@@ -1,3 +1,2 @@
 -- Lemmas, by topic.
-mod Following
 mod ListingLemmas

@@ -5,4 +5,3 @@ pub mod Boards
 pub mod Telling
 pub mod Pages
 pub mod Laws
-pub mod internal

@@ -2,7 +2,6 @@
 #![tactic(auto)]
 
 mod drawing;
-mod error;
 mod head;
 pub mod laws;
 mod making;
@@ -11,6 +10,4 @@ mod tail;
 mod telling;
 mod texts;
 
-pub use error::PageError;
 pub use making::page;
-pub use telling::{Telling, tell};

@@ -5,7 +5,6 @@
 mod entries;
 mod error;
 mod making;
-mod part;
 mod writing;
 
 pub use error::ScriptingError;
