@@ -5,16 +5,9 @@ use crate::report::Report;
 use rbg_console::{Files, Input, Status, read_record_input};
 use rbg_game::LoadedGame;
 use rbg_moves::PlayedGame;
-use rbg_page::page;
-use rbg_record::{Fault, Misfit};
+use rbg_page::{PageError, page};
 use std::alloc::{AllocError, Global};
 use std::io;
-
-/// A record that is too long has no line.
-pub(crate) const TOO_LONG: Misfit = Misfit {
-    line: 0,
-    fault: Fault::Form,
-};
 
 /// The page of the record that the input holds, of a match of the game that the file describes. Both are read before
 /// either is looked into.
@@ -53,7 +46,7 @@ fn page_record(
     record: Option<Vec<u8>>,
 ) -> Result<Report, AllocError> {
     let Some(record) = record else {
-        return refused(alloc, TOO_LONG);
+        return refused(alloc, PageError::Form { line: 0 });
     };
     let LoadedGame { game, layout } = loaded;
     let game = PlayedGame::new(alloc, game)?;
@@ -62,18 +55,17 @@ fn page_record(
             text,
             status: Status::Success,
         }),
-        Err(misfit) => refused(alloc, misfit),
+        Err(error) => refused(alloc, error),
     }
 }
 
 /// The line that says why there is no page, as `rbg replay` prints it.
-pub(crate) fn refused(alloc: Global, misfit: Misfit) -> Result<Report, AllocError> {
-    let line = misfit.line;
-    let line = match misfit.fault {
-        Fault::Form => format!(in alloc; "form {line}\n")?,
-        Fault::Bad => format!(in alloc; "bad {line}\n")?,
-        Fault::Over => format!(in alloc; "over {line}\n")?,
-        Fault::Memory => return Err(AllocError),
+pub(crate) fn refused(alloc: Global, error: PageError) -> Result<Report, AllocError> {
+    let line = match error {
+        PageError::Form { line } => format!(in alloc; "form {line}\n")?,
+        PageError::Bad { line } => format!(in alloc; "bad {line}\n")?,
+        PageError::Over { line } => format!(in alloc; "over {line}\n")?,
+        PageError::Memory => return Err(AllocError),
     };
     Ok(Report {
         text: line.into_bytes(),

@@ -2,12 +2,13 @@
 ghost use Rattle.rbg_game.specs.Loading.{Loads};
 ghost use Rattle.rbg_tokens.specs.Text.{HasTokens};
 
-use crate::page::{TOO_LONG, refused};
+use crate::page::refused;
 use crate::reading::{Read, read_text, refuse, unreadable};
 use crate::report::Report;
 use rbg_console::{Files, Input, Status, read_record};
 use rbg_game::{LoadError, LoadedGame, load_with_layout};
 use rbg_moves::PlayedGame;
+use rbg_page::PageError;
 use rbg_position::{PositionError, position};
 use rbg_rules::Game;
 use rbg_tokens::{Tokens, tokens};
@@ -71,7 +72,7 @@ fn position_after(
 {
     match bytes {
         Some(bytes) => position_bytes(alloc, text, tokens, loaded.game, bytes),
-        None => refused(alloc, TOO_LONG),
+        None => refused(alloc, PageError::Form { line: 0 }),
     }
 }
 
@@ -97,7 +98,7 @@ fn position_bytes(
 /// What is said where there is no description of the place.
 fn no_position(alloc: Global, game: &Game, error: PositionError) -> Result<Report, AllocError> {
     let line = match error {
-        PositionError::Record { misfit } => return refused(alloc, misfit),
+        PositionError::Record { error } => return refused(alloc, error),
         PositionError::Memory => return Err(AllocError),
         PositionError::Value {
             variable,

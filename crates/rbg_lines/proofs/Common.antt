@@ -1,11 +1,10 @@
 -- The definitions of this crate that most proofs cite, passed on from one place. Declares nothing.
-pub use Rattle.rbg_lines.specs.Entries.{EntryHasSpelling, SpellsEntry, SpellsIn, SpellsTimed, TimedHasSpelling, timed_text, unwritten_moment, with_moment}
+pub use Rattle.rbg_lines.specs.Entries.{EntryHasSpelling, SpellsEntry, SpellsTimed, TimedHasSpelling, timed_text}
 unfoldable pub use Rattle.rbg_lines.specs.Entries.{entry_text}
 pub use Rattle.rbg_lines.specs.Heading.{HaveNames, SpellsPlayers, SpellsStart, StartHasSpelling, players_text}
 unfoldable pub use Rattle.rbg_lines.specs.Heading.{start_text, version_text}
 pub use Rattle.rbg_lines.specs.Laws.{EntriesAreApart, HeadingsAreApart, LinesAreApart, SpellingsAreLines}
-pub use Rattle.rbg_lines.specs.Lines.{BeginsWith, GoesOn, HasFormFault, IsFirstLine, Left}
-pub use Rattle.rbg_lines.specs.Reading.{HasForm, Misreads, Says, TakesLine, next_after}
+pub use Rattle.rbg_lines.specs.Lines.{IsFirstLine}
 pub use Rattle.rbg_lines.specs.declared.entry.Entry.{Entry}
 pub use Rattle.rbg_lines.specs.declared.entry.Entry.TheVariants.{End, Move}
 pub use Rattle.rbg_lines.specs.declared.entry.Timed.{Timed}

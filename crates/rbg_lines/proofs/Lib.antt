@@ -3,4 +3,3 @@ pub mod Common
 pub mod Apart
 pub mod Lacking
 pub mod Reading
-pub mod Stopping

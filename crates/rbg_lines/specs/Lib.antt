@@ -1,6 +1,5 @@
--- The lines of a record. Each file builds on those above it.
+-- The lines of a record.
 pub mod Entries
 pub mod Heading
-pub mod Lines
-pub mod Reading
 pub mod Laws
+pub mod Lines

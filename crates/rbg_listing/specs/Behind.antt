@@ -1,11 +1,26 @@
 -- The moves with which play can go on behind a record.
-use Rattle.std.specs.Prelude.{◌≢◌, ℕ, Bool, List, [], ◌++◌, length, take, codes}
+use Rattle.std.specs.Prelude.{◌≡◌, ◌≢◌, ℕ, Bool, List, [], ◌∷◌, ◌++◌, length, take, codes}
 use Rattle.std.specs.List.{flat_map}
 use Rattle.rbg_moves.specs.Listing.{IsListed}
-use Rattle.rbg_record.specs.Reaching.{IsPlaceAfter}
+use Rattle.rbg_record.specs.Judged.{BeginsWith, IsJudged}
+use Rattle.rbg_record.specs.Lines.{Standing, entry_next, LeadTo}
+use Rattle.rbg_record.specs.Right.{IsRightRecord}
+use Rattle.rbg_record.specs.internal.Faults.{told_at}
 use Rattle.rbg_rules.specs.Meaning.{IsTooHard, AbstractPlace, Finished, list_moves, AbstractGame}
 use Rattle.rbg_listing.specs.Lines.{move_line, cut_text, numbers_text}
 use Rattle.rbg_listing.specs.Openings.{most_listed}
+use Rattle.rbg_listing.specs.declared.behind.Misfit.{Misfit}
+
+-- The bytes are those of a right record, and its moves lead to this place: all its lines but the last one, which tells
+-- how the match ended, lead there.
+pub record IsPlaceBehind (game : AbstractGame) (bytes : List ℕ) (place : AbstractPlace) : Type 0 where
+  pub right : IsRightRecord game bytes
+  pub texts : List (List ℕ)
+  pub last : List ℕ
+  pub begins : BeginsWith bytes (texts ++ last ∷ []) []
+  pub standing : Standing
+  pub leads : LeadTo game texts (entry_next standing)
+  pub here : standing.place ≡ place
 
 -- How play can go on at a place.
 --   finished: it can't, since no move is legal. These are the values of the players.
@@ -24,5 +39,10 @@ pub data GoesOnAt (game : AbstractGame) (place : AbstractPlace) : (text : List �
 -- the text says how play can go on at the place to which the moves of a record lead
 pub record IsMovesBehind (game : AbstractGame) (bytes text : List ℕ) : Type 0 where
   pub place : AbstractPlace
-  pub behind : IsPlaceAfter game bytes place
+  pub behind : IsPlaceBehind game bytes place
   pub goes_on : GoesOnAt game place text
+
+-- The line is the first one that is not right, not of the form, or asks a question above the limits, as the fault says.
+-- Where memory ran out nothing is said.
+abbrev pub IsMisfit : AbstractGame → (bytes : List ℕ) → Misfit → Type 0
+IsMisfit game bytes misfit = IsJudged game bytes (told_at misfit.fault misfit.line)

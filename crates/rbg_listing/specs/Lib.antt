@@ -3,3 +3,4 @@ pub mod Behind
 pub mod Lines
 pub mod Openings
 pub mod Runs
+pub mod internal

@@ -9,5 +9,5 @@ mod opened;
 mod place;
 mod run;
 
-pub use behind::moves_behind;
+pub use behind::{Misfit, moves_behind};
 pub use run::run_moves;

@@ -5,3 +5,4 @@ pub mod Boards
 pub mod Telling
 pub mod Pages
 pub mod Laws
+pub mod internal

@@ -2,9 +2,11 @@
 use Rattle.std.specs.Prelude.{◌≡◌, ℕ, List, [], ◌++◌, codes}
 use Rattle.rbg_rules.specs.Meaning.{AbstractGame, AbstractPlace}
 use Rattle.rbg_game.specs.declared.layout.Layout.{Layout}
-use Rattle.rbg_lines.specs.Lines.{BeginsWith}
 use Rattle.rbg_record.specs.Lines.{nothing_next}
 use Rattle.rbg_record.specs.Right.{IsRightRecord}
+use Rattle.rbg_record.specs.Judged.{BeginsWith, IsFormFault, IsBadLine, IsHeavyLine}
+use Rattle.rbg_page.specs.declared.error.PageError.{PageError}
+use Rattle.rbg_page.specs.declared.error.PageError.TheVariants.{Form, Bad, Over, Memory}
 use Rattle.rbg_page.specs.declared.head.TheConstants.{HEAD}
 use Rattle.rbg_page.specs.declared.tail.TheConstants.{TAIL}
 use Rattle.rbg_page.specs.Texts.{names_text, values_text}
@@ -55,3 +57,10 @@ pub record IsPage (game : AbstractGame) (layout : Layout) (bytes page : List ℕ
   pub told : Told
   pub tells : Tells game texts nothing_next told
   pub is : page ≡ page_text game layout told
+
+-- why there is no page: the record's first fault, as `check_record` tells it
+abbrev pub IsRefused : AbstractGame → (bytes : List ℕ) → PageError → Type 0
+IsRefused game bytes (Form line) = IsFormFault game bytes line
+IsRefused game bytes (Bad line) = IsBadLine game bytes line
+IsRefused game bytes (Over line) = IsHeavyLine game bytes line
+IsRefused game bytes Memory = Unit {0}

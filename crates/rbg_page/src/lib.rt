@@ -2,6 +2,7 @@
 #![tactic(auto)]
 
 mod drawing;
+mod error;
 mod head;
 pub mod laws;
 mod making;
@@ -10,4 +11,6 @@ mod tail;
 mod telling;
 mod texts;
 
+pub use error::PageError;
 pub use making::page;
+pub use telling::{Telling, tell};

@@ -1,10 +1,10 @@
 //! The page of a record.
 ghost use Rattle.std.specs.Prelude.{◌≡◌, ◌++◌, IfErr, IfOk, OnOk};
 ghost use Rattle.rbg_rules.specs.Meaning.{IsPlaceOf};
-ghost use Rattle.rbg_record.specs.Judged.{IsMisfit};
-ghost use Rattle.rbg_page.specs.Pages.{IsPage, lines_part, names_part, page_text, place_part, values_part};
+ghost use Rattle.rbg_page.specs.Pages.{IsPage, IsRefused, lines_part, names_part, page_text, place_part, values_part};
 
 use crate::drawing::put_drawing;
+use crate::error::PageError;
 use crate::head::HEAD;
 use crate::places::values_at;
 use crate::tail::TAIL;
@@ -13,7 +13,6 @@ use crate::texts::{put_pieces, put_players, put_values, put_variables};
 use rbg_base::{Memory, Pair};
 use rbg_game::Layout;
 use rbg_moves::{Place, PlayedGame};
-use rbg_record::Misfit;
 use rbg_rules::Game;
 use std::alloc::Global;
 
@@ -26,9 +25,9 @@ pub fn page(
     game: &PlayedGame,
     layout: &Layout,
     bytes: &[u8],
-) -> Result<Vec<u8>, Misfit>
+) -> Result<Vec<u8>, PageError>
     ensures page { IfOk result (λ page. IsPage game.now layout.now bytes.now page.items) }
-    ensures refused { IfErr result (IsMisfit game.now bytes.now) }
+    ensures refused { IfErr result (IsRefused game.now bytes.now) }
 {
     let telling = tell(alloc, game, bytes)?;
     let mut out = Vec::new(alloc);

@@ -15,7 +15,7 @@ use crate::error::PositionError;
 use crate::rewriting::rewritten;
 use rbg_game::{Game, LoadError, load};
 use rbg_moves::{Place, PlayedGame};
-use rbg_record::place_after;
+use rbg_page::tell;
 use rbg_same::is_game_with;
 use rbg_tokens::Tokens;
 use std::alloc::Global;
@@ -35,8 +35,8 @@ pub fn position(
     ensures described { IfOk result (λ new. IsPosition text.now game.now bytes.now new.items) }
     ensures refused { IfErr result (IsNoPosition text.now game.now bytes.now) }
 {
-    let place = place_after(game, bytes)?;
-    let new = describe(alloc, text, tokens, game, &place)?;
+    let telling = tell(alloc, game, bytes)?;
+    let new = describe(alloc, text, tokens, game, telling.last_place())?;
     Ok(new)
 }
 

@@ -9,10 +9,8 @@ use Rattle.rbg_lines.specs.declared.entry.Timed.{Timed}
 use Rattle.rbg_lines.specs.declared.heading.Version.{Version}
 use Rattle.rbg_lines.specs.declared.heading.Version.TheVariants.{One, Two}
 use Rattle.rbg_lines.specs.Heading.{version_text}
-use Rattle.rbg_lines.proofs.Common.{BeginsWith, SpellsIn, unwritten_moment}
 use Rattle.rbg_lines.proofs.Apart.{entries_apart, headings_apart, one_start}
-use Rattle.rbg_lines.proofs.Stopping.{last_line}
-use Rattle.rbg_record.proofs.Common.{Checked, Good, Bad, RecordError, Form, Over, Memory, IsRightRecord, Standing, Reached, version_next, nothing_next, entry_next, HasForm, EntryLeads, Leads, LeadTo, IsGoodByLines, IsFormFault, IsBadLine, IsJudged, OneJudgement, GoodByLines}
+use Rattle.rbg_record.proofs.Common.{Checked, Good, Bad, RecordError, Form, Over, Memory, IsRightRecord, Standing, Reached, version_next, nothing_next, entry_next, unwritten_moment, HasForm, SpellsIn, EntryLeads, Leads, LeadTo, BeginsWith, IsGoodByLines, IsFormFault, IsBadLine, IsJudged, OneJudgement, GoodByLines}
 use Rattle.rbg_match.specs.History.{start_place}
 use Rattle.rbg_record.specs.Lines as lines
 use Rattle.rbg_record.proofs.Leading.{all_first, all_last, right_is_good}
@@ -42,7 +40,7 @@ one_behind game numbered standing at (Move player pairs) to to' one other =
     one.2 ∙ (ap (λ (next : AbstractPlace). entry_next (record standing { last = at; place = next })) same ∙ sym other.2)
 one_behind game numbered standing at (Ends outcome) to to' one other = one ∙ sym other
 
-pub no_versions : (text : List ℕ) → text ≡ version_text One → text ≡ version_text Two → ⊥
+no_versions : (text : List ℕ) → text ≡ version_text One → text ≡ version_text Two → ⊥
 no_versions text one two = let same : One ≡ Two = headings_apart.versions One Two (sym one ∙ two) in cc
 
 one_lead : (game : AbstractGame) → IsNumbered game.rules → (from : Reached) (text : List ℕ) (to to' : Reached) → Leads game from text to → Leads game from text to' → to ≡ to'
@@ -89,6 +87,12 @@ one_stop : (game : AbstractGame) → IsNumbered game.rules → (bytes : List ℕ
 one_stop game numbered bytes m n end end' one other =
     let same = one_end (reading game numbered) version_next one.texts other.texts one.rest other.rest bytes one.to other.to end end' one.begins.whole other.begins.whole one.begins.parts other.begins.parts one.chain other.chain one.stops other.stops in
     (one.number ∙ (same.0 ∙ sym other.number), same.1)
+
+-- the last of some lines, as the first one of what follows the others
+pub last_line : (texts : List (List ℕ)) (text rest : List ℕ) → lines_of (texts ++ text ∷ []) ++ rest ≡ lines_of texts ++ (text ++ line_feed ∷ rest)
+last_line texts text rest =
+    ap (λ bytes. bytes ++ rest) (flat_map-append line_of texts (text ∷ []) ∙ ap (λ bytes. lines_of texts ++ bytes) (append-nil (line_of text)))
+    ∙ (append_assoc (lines_of texts) (line_of text) rest ∙ ap (λ bytes. lines_of texts ++ bytes) (append_assoc text (line_feed ∷ []) rest))
 
 stops_good : (game : AbstractGame) (bytes : List ℕ) (judged : IsGoodByLines game bytes) → StopsBehind game bytes (length judged.texts) good
 stops_good game bytes judged = record {

@@ -8,15 +8,10 @@ use Rattle.rbg_lines.specs.declared.entry.Entry.{Entry}
 use Rattle.rbg_lines.specs.declared.entry.Entry.TheVariants.{Move, End}
 use Rattle.rbg_lines.specs.declared.entry.Timed.{Timed}
 use Rattle.rbg_match.proofs.Common.{FitsOutcome, HasTurn, latest_moment}
-use Rattle.rbg_lines.specs.Entries.{SpellsIn}
-use Rattle.rbg_lines.specs.Reading.{Says}
-use Rattle.rbg_record.proofs.Common.{Fault, turn_config, FitsUnasked, Standing, Reached, nothing_next, entry_next, IsMomentFor, EntryLeads, Leads, play_at, RefusesEntry, Refuses, reached_of, EndsSo, SomeIsLegal, IsReachedIn, next_of}
+use Rattle.rbg_record.proofs.Common.{Fault, turn_config, FitsUnasked, Standing, Reached, nothing_next, entry_next, IsMomentFor, SpellsIn, EntryLeads, Leads, play_at, RefusesEntry, Refuses, reached_of, EndsSo, SomeIsLegal}
 use Rattle.rbg_record.specs.declared.fault.Fault.TheVariants.{Form, Bad, Over, Memory}
-use Rattle.rbg_lines.specs.declared.line.Content.TheVariants as contents
-use Rattle.rbg_record.specs.ByLine.{ReadsLine}
 use Rattle.rbg_record.specs.Lines as lines
 use Rattle.rbg_record.specs.declared.reached.Reached.{Reached as CodeReached}
-use Rattle.rbg_record.specs.declared.reached.Reached.TheVariants as code
 use Rattle.rbg_record.proofs.Deciding.{one_told}
 
 -- what holds of an entry that leads on
@@ -128,18 +123,3 @@ same_refusal game standing told entry result is refuses =
 pub line_leads : (game : AbstractGame) (standing : Standing) (text : List ℕ) (told : Timed) (result : Result CodeReached Fault) → SpellsIn standing.version text told → IfOk result (λ to. EntryLeads game standing told (reached_of to)) → IfOk result (λ to. Leads game (entry_next standing) text (reached_of to))
 line_leads game standing text told (Ok to) spells leads = lines.entry spells leads
 line_leads game standing text told (Err fault) spells leads = tt
-
--- a line that was read as this entry, where one comes next
-pub entry_read : (game : AbstractGame) (reached : CodeReached) (standing : Standing) (text : List ℕ) (told : Timed) (result : Result CodeReached Fault) → reached ≡ code.Entry standing → Says (next_of (reached_of reached)) text (contents.Entry told) → IfOk result (λ to. EntryLeads game standing told (reached_of to)) → IfOk result (λ to. IsReachedIn game (reached_of to)) → IfErr result (RefusesEntry game standing told) → ReadsLine game (reached_of reached) text result
-entry_read game reached standing text told result is says leads in_game refused =
-    let spells : SpellsIn standing.version text told = subst (λ (one : CodeReached). Says (next_of (reached_of one)) text (contents.Entry told)) is says in
-    subst (λ (one : CodeReached). ReadsLine game (reached_of one) text result) (sym is) (record {
-      leads = line_leads game standing text told result spells leads;
-      in_game = in_game;
-      refused = refused_line game standing text told result spells refused;
-    })
-
--- none is read as an entry elsewhere
-pub no_entry : {X : Type 0} (reached : CodeReached) (text : List ℕ) (told : Timed) → ((standing : Standing) → reached ≡ code.Entry standing → ⊥) → Says (next_of (reached_of reached)) text (contents.Entry told) → X
-no_entry (code.Entry standing) text told never says = absurd (never standing refl)
-no_entry _ text told never says = absurd says

@@ -4,7 +4,6 @@ pub mod Beginning
 pub mod Deciding
 pub mod EntryLemmas
 pub mod Fitting
-pub mod Following
 pub mod Leading
 pub mod MatchRight
 pub mod MatchSpelled
@@ -13,7 +12,6 @@ pub mod OneEnd
 pub mod OnePlain
 pub mod OneRecordLemmas
 pub mod PlayerNames
-pub mod Saying
 pub mod SoFarLemmas
 pub mod Telling
 pub mod WrittenLemmas

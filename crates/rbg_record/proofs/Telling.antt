@@ -12,8 +12,7 @@ use Rattle.rbg_wire.specs.Lines.{lines_of}
 use Rattle.rbg_match.specs.declared.made.Made.{Made}
 use Rattle.rbg_match.proofs.Common.{IsWithinLimits, LeadsTo, MadeInTurn, FitsOutcome, latest_moment}
 use Rattle.rbg_match.specs.History as history
-use Rattle.rbg_lines.specs.Entries.{SpellsIn}
-use Rattle.rbg_record.proofs.Common.{PlainMove, AbstractRecord, plain, timed, plain_entry, made_entry, texts_of, HasSpelling, turn_config, told_play, made_at, FitsPlace, IsRight, IsRightRecord, Standing, Reached, version_next, players_next, start_next, entry_next, nothing_next, EntryLeads, Leads, LeadTo, play_at, IsGoodByLines}
+use Rattle.rbg_record.proofs.Common.{PlainMove, AbstractRecord, plain, timed, plain_entry, made_entry, texts_of, HasSpelling, turn_config, told_play, made_at, FitsPlace, IsRight, IsRightRecord, Standing, Reached, version_next, players_next, start_next, entry_next, nothing_next, SpellsIn, EntryLeads, Leads, LeadTo, play_at, IsGoodByLines}
 use Rattle.rbg_record.specs.Lines as lines
 use Rattle.rbg_record.proofs.Fitting.{fits_place, fits_same}
 

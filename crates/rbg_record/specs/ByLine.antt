@@ -3,15 +3,12 @@ use Rattle.std.specs.Prelude.{◌≡◌, ℕ, ◌≤◌, List, Result, IfOk, IfE
 use Rattle.rbg_rules.specs.Meaning.{AbstractGame, IsPlaceOf}
 use Rattle.rbg_match.specs.Limits.{latest_moment}
 use Rattle.rbg_lines.specs.declared.entry.Timed.{Timed}
-use Rattle.rbg_lines.specs.declared.line.Line.{Line}
-use Rattle.rbg_lines.specs.Entries.{SpellsIn}
 use Rattle.rbg_record.specs.declared.fault.Fault.{Fault}
 use Rattle.rbg_record.specs.declared.fault.Fault.TheVariants.{Form, Bad, Over, Memory}
-use Rattle.rbg_record.specs.declared.fault.Misfit.{Misfit}
 use Rattle.rbg_record.specs.declared.reached.Reached.{Reached as CodeReached}
 use Rattle.rbg_record.specs.declared.reached.Reached.TheVariants as code
 use Rattle.rbg_record.specs.Judged.{FitsUnasked, AsksHeavy}
-use Rattle.rbg_record.specs.Lines.{Standing, Reached, version_next, players_next, start_next, entry_next, nothing_next, HasForm, EntryLeads, Leads}
+use Rattle.rbg_record.specs.Lines.{Standing, Reached, version_next, players_next, start_next, entry_next, nothing_next, HasForm, SpellsIn, EntryLeads, Leads}
 
 -- what the code's value says that the lines so far lead to
 abbrev pub reached_of : CodeReached → Reached
@@ -54,17 +51,9 @@ Refuses game reached text Bad = HasForm reached text × ((to : Reached) → ¬ L
 Refuses game reached text Over = IsHeavyText game reached text
 Refuses game reached text Memory = Unit {0}
 
--- what a call says that judges a line with this text: what it leads to, at a place of the game, or why it doesn't lead on
+-- what a call tells that reads one line: what the line leads to, at a place of the game, or why it doesn't lead on
 pub record ReadsLine (game : AbstractGame) (reached : Reached) (text : List ℕ) (result : Result CodeReached Fault) :
     Type 0 where
   pub leads : IfOk result (λ to. Leads game reached text (reached_of to))
   pub in_game : IfOk result (λ to. IsReachedIn game (reached_of to))
   pub refused : IfErr result (Refuses game reached text)
-
--- the same of a line that was read, whose number is the misfit's
-pub record JudgesLine (game : AbstractGame) (reached : Reached) (line : Line) (result : Result CodeReached Misfit) :
-    Type 0 where
-  pub leads : IfOk result (λ to. Leads game reached line.text.now (reached_of to))
-  pub in_game : IfOk result (λ to. IsReachedIn game (reached_of to))
-  pub refused : IfErr result (λ misfit.
-      (misfit.line ≡ line.number) × Refuses game reached line.text.now misfit.fault)

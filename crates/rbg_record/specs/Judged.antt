@@ -1,6 +1,7 @@
 -- What is told of a record: that it is right, or the first line that is not, and what is wrong with it.
-use Rattle.std.specs.Prelude.{◌≡◌, ◌≢◌, ℕ, ◌+◌, ◌≤◌, List, [], ◌∷◌, ◌++◌, length, Some, None, Result, Ok, Err}
+use Rattle.std.specs.Prelude.{◌≡◌, ◌≢◌, ℕ, ◌+◌, ◌≤◌, List, [], ◌∷◌, ◌++◌, length, All, Some, None, Result, Ok, Err}
 use Rattle.rbg_wire.specs.declared.outcome.Outcome.TheVariants.{Finished, Time, Refusals, Gone, Heavy}
+use Rattle.rbg_wire.specs.Bytes.{LacksByte}
 use Rattle.rbg_rules.specs.Meaning.{IsHeavyToFind, IsHeavyToTry, AbstractGame}
 use Rattle.rbg_match.specs.History.{IsInTurn}
 use Rattle.rbg_match.specs.Limits.{latest_moment}
@@ -8,14 +9,15 @@ use Rattle.rbg_match.specs.PlayingOn.{seats_of}
 use Rattle.rbg_lines.specs.declared.entry.Entry.{Entry}
 use Rattle.rbg_lines.specs.declared.entry.Entry.TheVariants.{Move, End}
 use Rattle.rbg_lines.specs.declared.entry.Timed.{Timed}
-use Rattle.rbg_lines.specs.Entries.{SpellsIn}
-use Rattle.rbg_lines.specs.Lines.{BeginsWith, HasFormFault}
+use Rattle.rbg_lines.specs.Lines.{IsFirstLine}
+use Rattle.rbg_wire.specs.Lines.{line_feed, lines_of}
 use Rattle.rbg_record.specs.Lines.{
   Standing,
   Reached,
   entry_next,
   nothing_next,
   HasForm,
+  SpellsIn,
   IsMomentFor,
   Leads,
   LeadTo,
@@ -25,14 +27,41 @@ use Rattle.rbg_record.specs.declared.checked.Checked.{Checked}
 use Rattle.rbg_record.specs.declared.checked.Checked.TheVariants.{Good, Bad}
 use Rattle.rbg_record.specs.declared.error.RecordError.{RecordError}
 use Rattle.rbg_record.specs.declared.error.RecordError.TheVariants.{Form, Over, Memory}
-use Rattle.rbg_record.specs.declared.fault.Misfit.{Misfit}
-use Rattle.rbg_record.specs.internal.Faults.{told_at}
+
+-- The bytes begin with lines of these texts, and the rest follows them.
+pub record BeginsWith (bytes : List ℕ) (texts : List (List ℕ)) (rest : List ℕ) : Type 0 where
+  pub whole : All (LacksByte line_feed) texts
+  pub parts : bytes ≡ lines_of texts ++ rest
+
+-- The rest of a record is of the form so far: the record is over and nothing is left, or the next line has a form that
+-- it may have.
+pub data GoesOn (over : Type 0) (HasForm : List ℕ → Type 0) (rest : List ℕ) : Type 0 where
+  nothing_left :
+      over →
+      rest ≡ [] →
+      GoesOn over HasForm rest
+  one_more : (text later : List ℕ) →
+      IsFirstLine rest text later →
+      HasForm text →
+      GoesOn over HasForm rest
 
 -- Each line is right behind those before it, and the record has ended with the last of them.
 pub record IsGoodByLines (game : AbstractGame) (bytes : List ℕ) : Type 0 where
   pub texts : List (List ℕ)
   pub begins : BeginsWith bytes texts []
   pub leads : LeadTo game texts nothing_next
+
+-- The lines before this one lead to a part of the record, and what follows them is not of the form that it may have
+-- there. Lines are numbered from 1. The line is missing where the record ends too early.
+pub record HasFormFault {Part : Type 0} (LeadThere : List (List ℕ) → Part → Type 0) (over : Part)
+    (HasForm : Part → List ℕ → Type 0) (bytes : List ℕ) (line : ℕ) : Type 0 where
+  pub texts : List (List ℕ)
+  pub rest : List ℕ
+  pub begins : BeginsWith bytes texts rest
+  pub number : line ≡ length texts + 1
+  pub part : Part
+  pub leads : LeadThere texts part
+  pub stops : ¬ GoesOn (part ≡ over) (HasForm part) rest
 
 -- The lines before this one are right, but what follows them is not of the form: it is the first fault of the record.
 abbrev pub IsFormFault : AbstractGame → (bytes : List ℕ) → (line : ℕ) → Type 0
@@ -107,8 +136,3 @@ IsJudged game bytes (Ok (Bad line)) = IsBadLine game bytes line
 IsJudged game bytes (Err (Form line)) = IsFormFault game bytes line
 IsJudged game bytes (Err (Over line)) = IsHeavyLine game bytes line
 IsJudged game bytes (Err Memory) = Unit {0}
-
--- The line is the first one that is not right, not of the form, or asks a question above the limits, as the fault says.
--- Where memory ran out nothing is said.
-abbrev pub IsMisfit : AbstractGame → List ℕ → Misfit → Type 0
-IsMisfit game bytes misfit = IsJudged game bytes (told_at misfit.fault misfit.line)

@@ -1,6 +1,7 @@
 -- The lines of a record in turn: of which form each may be, and what those so far lead to.
 use Rattle.std.specs.Prelude.{◌≡◌, ◌≢◌, ℕ, ◌≤◌, List, [], ◌∷◌, ◌++◌, Option, Some}
 use Rattle.rbg_wire.specs.declared.outcome.Outcome.{Outcome}
+use Rattle.rbg_wire.specs.declared.outcome.Outcome.TheVariants.{Time}
 use Rattle.rbg_rules.specs.Meaning.{AbstractGame, AbstractPlace, Legal}
 use Rattle.rbg_match.specs.Config.{IsWithinLimits}
 use Rattle.rbg_match.specs.History.{start_place, IsInTurn, FitsOutcome}
@@ -12,13 +13,25 @@ use Rattle.rbg_lines.specs.declared.entry.Timed.{Timed}
 use Rattle.rbg_lines.specs.declared.heading.Start.{Start}
 use Rattle.rbg_lines.specs.declared.heading.Version.{Version}
 use Rattle.rbg_lines.specs.declared.heading.Version.TheVariants.{One, Two}
-use Rattle.rbg_lines.specs.declared.next.Next.{Next}
-use Rattle.rbg_lines.specs.declared.next.Next.TheVariants as nexts
-use Rattle.rbg_lines.specs.Entries.{SpellsIn}
+use Rattle.rbg_lines.specs.Entries.{SpellsEntry, SpellsTimed}
 use Rattle.rbg_lines.specs.Heading.{version_text, SpellsPlayers, SpellsStart}
-use Rattle.rbg_lines.specs.Reading as reading
 use Rattle.rbg_record.specs.declared.reached.Standing.{Standing as CodeStanding}
 use Rattle.rbg_record.specs.Right.{told_play, turn_config}
+
+-- The moment that version 1 leaves out. All that happens does so at moment 0, but a time that is over ends at moment 1:
+-- there a turn lasts for one millisecond.
+abbrev pub unwritten_moment : Entry → ℕ
+unwritten_moment (End (Some (Time player))) = 1
+unwritten_moment _ = 0
+
+-- the entry with that moment
+abbrev pub with_moment : Entry → Timed
+with_moment entry = record { at = unwritten_moment entry; entry = entry }
+
+-- the text is that of this entry in a record of that version
+abbrev pub SpellsIn : Version → List ℕ → Timed → Type 0
+SpellsIn One text timed = SpellsEntry text timed.entry × (timed.at ≡ unwritten_moment timed.entry)
+SpellsIn Two text timed = SpellsTimed text timed
 
 -- Where the moves so far lead: the version of the record, the time for a turn, the moment of the last move (or of the
 -- beginning), and the place.
@@ -34,17 +47,13 @@ pub data Reached : Type 0 where
   entry_next : Standing → Reached
   nothing_next : Reached
 
--- what comes next there
-abbrev pub next_of : Reached → Next
-next_of version_next = nexts.Version
-next_of players_next = nexts.Players
-next_of start_next = nexts.Start
-next_of (entry_next standing) = nexts.Entry standing.version
-next_of nothing_next = nexts.Nothing
-
 -- the text is of the form that a line may have there
 abbrev pub HasForm : Reached → List ℕ → Type 0
-HasForm reached text = reading.HasForm (next_of reached) text
+HasForm version_next text = (version : Version) × (text ≡ version_text version)
+HasForm players_next text = (names : List (List ℕ)) × SpellsPlayers text names
+HasForm start_next text = (start : Start) × SpellsStart text start
+HasForm (entry_next standing) text = (timed : Timed) × SpellsIn standing.version text timed
+HasForm nothing_next text = ⊥
 
 -- A move of this player may have that moment: the keeper moves when its turn begins, and a player before its turn is
 -- due.

@@ -5,11 +5,12 @@ use Rattle.rbg_rules.specs.Meaning.{AbstractGame}
 use Rattle.rbg_lines.specs.declared.entry.Entry.{Entry}
 use Rattle.rbg_lines.specs.declared.entry.Entry.TheVariants.{Move, End}
 use Rattle.rbg_lines.specs.declared.heading.Version.TheVariants.{One}
-use Rattle.rbg_lines.specs.Entries.{SpellsEntry, unwritten_moment}
+use Rattle.rbg_lines.specs.Entries.{SpellsEntry}
 use Rattle.rbg_lines.specs.Heading.{version_text}
 use Rattle.rbg_record.specs.Records.{PlainRecord, TimedRecord, plain, timed, Spells}
 use Rattle.rbg_record.specs.Right.{made_at, IsRight}
-use Rattle.rbg_lines.specs.Lines.{HasFormFault}
+use Rattle.rbg_record.specs.Lines.{unwritten_moment}
+use Rattle.rbg_record.specs.Judged.{HasFormFault}
 
 -- Version 2 of a record of version 1: with the game's players, a turn of one millisecond, and the beginning and all
 -- that happens at moment 0, but for a time that is over, which ends at moment 1.

@@ -2,5 +2,5 @@
 pub mod Faults
 pub mod Reading
 pub mod Written
-pub mod Following
+pub mod SoFar
 pub mod Migrating

@@ -11,16 +11,14 @@ mod migrating;
 mod moments;
 mod players;
 mod reached;
-mod reaching;
 mod reading;
 mod writing;
 
 pub use checked::Checked;
 pub use checking::check_record;
 pub use error::RecordError;
-pub use fault::{Fault, Misfit};
+pub use fault::Fault;
 pub use migrating::migrate;
 pub use reached::{Reached, Standing};
-pub use reaching::place_after;
-pub use reading::judge_line;
+pub use reading::{read_in, read_line};
 pub use writing::{write_record, write_record_1};

@@ -4,7 +4,7 @@ ghost use Rattle.rbg_match.specs.Config.{IsWithinLimits};
 ghost use Rattle.rbg_match.specs.History.{IsInTurn};
 ghost use Rattle.rbg_match.specs.Limits.{latest_moment};
 ghost use Rattle.rbg_lines.specs.declared.entry.Entry.TheVariants.{End as EndEntry};
-ghost use Rattle.rbg_record.specs.Lines.{IsMomentFor};
+ghost use Rattle.rbg_record.specs.Lines.{IsMomentFor, unwritten_moment};
 ghost use Rattle.rbg_record.specs.Judged.{FitsUnasked, IsOnTurn};
 ghost use Rattle.rbg_record.specs.Right.{turn_config};
 
@@ -13,6 +13,18 @@ use rbg_lines::{Entry, Start, Timed};
 use rbg_match::{Config, LATEST_MOMENT};
 use rbg_moves::PlayedGame;
 use rbg_wire::Outcome;
+
+/// The moment of an entry that is written without one.
+pub(crate) fn unwritten(entry: &Entry) -> u64
+    ensures { result ≡ unwritten_moment entry.now }
+{
+    match entry {
+        Entry::End {
+            outcome: Some(Outcome::Time { .. }),
+        } => 1,
+        _ => 0,
+    }
+}
 
 /// Whether the time for a turn is within its limits, and the moment of the beginning is one that is counted.
 pub(crate) fn is_lawful(start: Start) -> bool

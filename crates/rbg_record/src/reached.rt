@@ -1,11 +1,11 @@
 //! What the lines of a record so far lead to.
-ghost use Rattle.std.specs.Prelude.{◌≡◌, IfOk};
-ghost use Rattle.rbg_record.specs.Lines.{next_of};
+ghost use Rattle.std.specs.Prelude.{◌≡◌, ◌↔◌, IfOk, IsTrue};
+ghost use Rattle.rbg_record.specs.Lines.{nothing_next};
 ghost use Rattle.rbg_record.specs.ByLine.{reached_of};
 ghost use Rattle.rbg_record.specs.Reaching.{place_in};
 
 use rbg_base::Memory;
-use rbg_lines::{Next, Version};
+use rbg_lines::Version;
 use rbg_moves::Place;
 
 /// Where the moves so far lead.
@@ -36,17 +36,11 @@ pub enum Reached {
 }
 
 impl Reached {
-    /// What comes next.
-    pub fn next(&self) -> Next
-        ensures { result ≡ next_of (reached_of self.now) }
+    /// Whether the end was read.
+    pub fn is_over(&self) -> bool
+        ensures { IsTrue result ↔ (reached_of self.now ≡ nothing_next) }
     {
-        match self {
-            Reached::Version => Next::Version,
-            Reached::Players => Next::Players,
-            Reached::Start => Next::Start,
-            Reached::Entry(standing) => Next::Entry(standing.version),
-            Reached::Nothing => Next::Nothing,
-        }
+        matches!(self, Reached::Nothing)
     }
 
     /// A copy of the place to which the last line leads, or else the one before it.

@@ -5,6 +5,7 @@
 mod entries;
 mod error;
 mod making;
+mod part;
 mod writing;
 
 pub use error::ScriptingError;

@@ -10,6 +10,5 @@ mod odd;
 mod playing;
 mod table;
 mod tree;
-mod undoing;
 mod words;
 mod world;

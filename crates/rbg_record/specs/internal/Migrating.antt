@@ -5,32 +5,26 @@ use Rattle.rbg_rules.specs.Meaning.{AbstractGame}
 use Rattle.rbg_lines.specs.declared.entry.Entry.{Entry}
 use Rattle.rbg_lines.specs.declared.entry.Entry.TheVariants.{Move, End}
 use Rattle.rbg_lines.specs.declared.heading.Version.TheVariants.{One, Two}
-use Rattle.rbg_lines.specs.declared.line.Content.{Content}
-use Rattle.rbg_lines.specs.declared.line.Content.TheVariants as contents
-use Rattle.rbg_lines.specs.declared.line.Line.{Line}
-use Rattle.rbg_lines.specs.declared.next.Next.{Next}
-use Rattle.rbg_lines.specs.declared.next.Next.TheVariants as nexts
-use Rattle.rbg_lines.specs.Entries.{entry_text, timed_text, with_moment, EntryHasSpelling, SpellsEntry}
+use Rattle.rbg_lines.specs.Entries.{entry_text, timed_text, EntryHasSpelling, SpellsEntry}
 use Rattle.rbg_lines.specs.Heading.{version_text, players_text, start_text}
-use Rattle.rbg_lines.specs.Reading.{Says}
 use Rattle.rbg_wire.specs.Lines.{line_of, lines_of}
-use Rattle.rbg_record.specs.declared.error.RecordError.{RecordError}
-use Rattle.rbg_record.specs.declared.error.RecordError.TheVariants as error
-use Rattle.rbg_record.specs.Migration.{HasPlainForm, PlainPart, before_version, among_moves, behind_end, IsPlainFault, IsPlainSoFar}
+use Rattle.rbg_record.specs.declared.migrating.Part.{Part}
+use Rattle.rbg_record.specs.declared.migrating.Part.TheVariants.{Version, Moves, Nothing}
+use Rattle.rbg_record.specs.Lines.{with_moment}
+use Rattle.rbg_record.specs.Migration.{PlainPart, before_version, among_moves, behind_end, IsPlainSoFar}
 use Rattle.rbg_record.specs.Records.{PlainMove, plain_entry}
+use Rattle.rbg_record.specs.internal.SoFar.{IsCutSoFar}
 
--- this may come next in a record of version 1
-abbrev pub IsPlainNext : Next → Type 0
-IsPlainNext nexts.Version = Unit {0}
-IsPlainNext (nexts.Entry One) = Unit {0}
-IsPlainNext nexts.Nothing = Unit {0}
-IsPlainNext _ = ⊥
+-- where the code's value says that one is
+abbrev pub part_of : Part → PlainPart
+part_of Version = before_version
+part_of Moves = among_moves
+part_of Nothing = behind_end
 
--- where one is in a record of version 1 when this comes next
-abbrev pub part_of : Next → PlainPart
-part_of nexts.Version = before_version
-part_of nexts.Nothing = behind_end
-part_of _ = among_moves
+-- where an entry leads
+abbrev pub part_behind : Entry → PlainPart
+part_behind (Move player pairs) = among_moves
+part_behind (End outcome) = behind_end
 
 -- the first texts of version 2
 abbrev pub head_texts : AbstractGame → List (List ℕ)
@@ -80,27 +74,10 @@ IsTold game before_version texts out = (texts ≡ []) × (out ≡ [])
 IsTold game among_moves texts out = TellsMoves game texts out
 IsTold game behind_end texts out = TellsAll game texts out
 
--- Lines of these texts are migrated: this comes next, and this was written of them.
-pub record AreMigrated (game : AbstractGame) (texts : List (List ℕ)) (so_far : Next × List ℕ) : Type 0 where
-  pub plain : IsPlainNext so_far.0
-  pub lead : IsPlainSoFar texts (part_of so_far.0)
-  pub told : IsTold game (part_of so_far.0) texts so_far.1
-
--- A line leads on where that comes next, and what it is in version 2 was written.
-pub record MigratesLine (game : AbstractGame) (next : Next) (text : List ℕ) (to : Next) (old new : List ℕ) : Type 0 where
-  pub migrates : Migrates game (part_of next) text (part_of to) old new
-  pub plain : IsPlainNext to
-
--- why a line of version 1 isn't migrated: it isn't of the form, whatever comes next, or memory ran out
-abbrev pub RefusesPlain : Line → RecordError → Type 0
-RefusesPlain line (error.Form number) =
-    (number ≡ line.number)
-    × ((next : Next) → IsPlainNext next → Says next line.text.now line.content → ¬ HasPlainForm (part_of next) line.text.now)
-RefusesPlain line (error.Over number) = ⊥
-RefusesPlain line error.Memory = Unit {0}
-
--- why a record isn't migrated
-abbrev pub IsPlainRefusal : (bytes : List ℕ) → RecordError → Type 0
-IsPlainRefusal bytes (error.Form line) = IsPlainFault bytes line
-IsPlainRefusal bytes (error.Over line) = ⊥
-IsPlainRefusal bytes error.Memory = Unit {0}
+-- The lines before the rest are migrated, and the next line has this number.
+pub record IsMigratedSoFar (game : AbstractGame) (bytes : List ℕ) (part : PlainPart)
+    (rest : List ℕ) (line : ℕ) (out : List ℕ) : Type 0 where
+  pub texts : List (List ℕ)
+  pub cut : IsCutSoFar bytes texts rest line
+  pub so_far : IsPlainSoFar texts part
+  pub told : IsTold game part texts out

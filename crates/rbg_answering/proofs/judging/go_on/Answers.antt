@@ -1,8 +1,7 @@
 -- The moves that are listed are the answer, or the fault of the record.
 use Rattle.std.proofs.Common.{subst}
 use Rattle.std.proofs.lemmas.Result.{IfOk-weaker}
-use Rattle.rbg_listing.specs.Behind.{IsMovesBehind}
-use Rattle.rbg_record.specs.Judged.{IsMisfit}
+use Rattle.rbg_listing.specs.Behind.{IsMisfit, IsMovesBehind}
 use Rattle.rbg_answering.specs.Answers.IsGamesAnswer.{goes_on}
 use Rattle.rbg_answering.proofs.JudgingLemmas.{misfit_answer}
 use Rattle.rbg_answering.proofs.judging.go_on.Goals as goal

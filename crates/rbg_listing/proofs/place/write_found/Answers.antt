@@ -2,7 +2,7 @@
 use Rattle.rbg_base.proofs.Common.{◌≡◌, ◌∙◌, ◌++◌, ap, subst, on_ok_weaker, flat_map, ◌==◌}
 use Rattle.rbg_listing.specs.Lines.{move_line, cut_text}
 use Rattle.rbg_listing.specs.Behind.GoesOnAt.{finished, listed}
-use Rattle.rbg_listing.proofs.ListingLemmas.{nothing_left, something_left}
+use Rattle.rbg_listing.proofs.Following.{nothing_left, something_left}
 use Rattle.rbg_listing.proofs.ListingLemmas.{none_legal}
 use Rattle.rbg_listing.proofs.place.write_found.Goals as goal
 

@@ -1,10 +1,9 @@
 use Rattle.std.proofs.Common.{length}
-use Rattle.rbg_record.proofs.Common.{IsReachedIn, reached_of}
-use Rattle.rbg_record.proofs.SoFarLemmas.{IsJudgedSoFar}
+use Rattle.rbg_record.proofs.Common.{reached_of, IsReadSoFar}
 use Rattle.rbg_record.proofs.checking.judge_lines.Given as goal
 
-abbrev pub invariant-loop-line : goal.invariant-loop-line
-invariant-loop-line l = IsJudgedSoFar l.game l.bytes (reached_of l.reached) l.reader × IsReachedIn l.game (reached_of l.reached)
+abbrev pub invariant-loop-text : goal.invariant-loop-text
+invariant-loop-text l = IsReadSoFar l.game l.bytes (reached_of l.reached) l.rest l.line
 
-abbrev pub decreases-loop-line : goal.decreases-loop-line
-decreases-loop-line l = length l.reader.rest
+abbrev pub decreases-loop-text : goal.decreases-loop-text
+decreases-loop-text l = length l.rest

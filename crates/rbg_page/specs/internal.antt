@@ -1,0 +1,2 @@
+-- What only this crate's own proofs use.
+pub mod Reading
