@@ -19,7 +19,6 @@ import time
 
 sys.dont_write_bytecode = True
 import texts  # noqa: E402
-from wire import wire as wires  # noqa: E402
 
 HERE = pathlib.Path(__file__).resolve().parent
 ROOT = HERE.parents[1]
@@ -278,14 +277,9 @@ def changes(run, programs):
         row(label, round(applied), round(undone) if undone > 1 else "no change")
 
 
-def wire(run, programs):
-    """This section's figures are times of one run: compare them with each other, and with no other run's."""
-    wires.wire(run, programs, head, row)
-
-
 SECTIONS = {
     "texts": heavy_texts, "loading": loading, "search": search, "limit": limit,
-    "matches": matches, "streams": streams, "halls": halls, "wire": wire, "forms": forms, "changes": changes,
+    "matches": matches, "streams": streams, "halls": halls, "forms": forms, "changes": changes,
 }  # fmt: skip
 
 

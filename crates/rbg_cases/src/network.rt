@@ -1,7 +1,7 @@
 //! A network in memory. A stream never waits.
 
 use crate::cases::{Stream, Text, bytes_named};
-use rbg_program::{Clock, Log, LogFailure, Network, News, Pause};
+use rbg_program::{Clock, Log, LogFailure, Network, News};
 use std::alloc::{AllocError, Global};
 use std::cell::RefCell;
 use std::io::{self, ErrorKind, Read, Write};
@@ -168,10 +168,6 @@ impl<'a> Network for MemoryNetwork<'a> {
         }
     }
 
-    fn is_closed(&mut self, stream: &MemoryStream) -> bool {
-        stream.has_ended()
-    }
-
     fn connect(&mut self, _port: u16) -> io::Result<MemoryStream> {
         if !self.listens {
             return self.next_stream();
@@ -229,27 +225,11 @@ impl Read for MemoryStream {
             bytes.drain(..count);
             return Ok(count);
         }
-        if self.may_go_on() {
+        if self.stays_open || Rc::strong_count(&self.incoming) > 1 {
             Err(io::Error::from(ErrorKind::WouldBlock))
         } else {
             Ok(0)
         }
-    }
-}
-
-impl MemoryStream {
-    /// Whether more may come than is there.
-    fn may_go_on(&self) -> bool {
-        self.stays_open || Rc::strong_count(&self.incoming) > 1
-    }
-
-    /// Whether nothing is there any more, and nothing more comes.
-    fn has_ended(&self) -> bool {
-        let is_empty = match self.incoming.try_borrow() {
-            Ok(bytes) => bytes.is_empty(),
-            Err(_) => false,
-        };
-        is_empty && !self.may_go_on()
     }
 }
 
@@ -316,6 +296,4 @@ impl Clock for CaseClock<'_> {
         }
         self.last
     }
-
-    fn wait(&mut self, _pause: Pause) {}
 }

@@ -67,13 +67,6 @@ const ROUNDS: Argument = Argument {
     help: "The most rounds in which the connections are read, 0 to 4294967295 [default: 100000]",
 };
 
-const MINUTES: Argument = Argument {
-    name: "minutes",
-    kind: Kind::Named("MINUTES", None),
-    value: Value::Number(1, u32::MAX),
-    help: "How long the match may take, 1 to 4294967295, in place of a bound on rounds",
-};
-
 const CHECK: CommandWords = CommandWords {
     name: "check",
     about: "Prints how many of each thing the game has, or why the description is refused",
@@ -188,7 +181,12 @@ const SERVE: CommandWords = CommandWords {
             help: "The log of a match that was stopped and is to go on, with the log's time for a turn and refusals",
         },
         SYNC,
-        MINUTES,
+        Argument {
+            name: "minutes",
+            kind: Kind::Named("MINUTES", None),
+            value: Value::Number(1, u32::MAX),
+            help: "How long the match may take, 1 to 4294967295, in place of a bound on rounds",
+        },
         Argument {
             name: "names",
             kind: Kind::Named("NAMES", None),
@@ -215,7 +213,6 @@ const PLAY: CommandWords = CommandWords {
             value: Value::Number(1, u32::MAX),
             help: "The match to join, where a hall has several, 1 to 4294967295",
         },
-        MINUTES,
         ROUNDS,
     ],
 };

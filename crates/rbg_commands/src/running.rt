@@ -62,7 +62,11 @@ fn obey<F: Files, N: Network, R: Read, W: Write>(
             port,
             serving,
         } => serve_file(alloc, files, file, network, port, &serving),
-        Task::Play { port, table, bound } => play(alloc, network, port, table, bound),
+        Task::Play {
+            port,
+            table,
+            rounds,
+        } => play(alloc, network, port, table, rounds),
     };
     report(output, &outcome)
 }

@@ -7,7 +7,7 @@ ghost use Rattle.rbg_keeping.specs.Played.{IsPlayedMatch};
 use crate::fault::Fault;
 use crate::inputs::read_description;
 use crate::printed::outcome_line;
-use crate::task::{Bound, Service};
+use crate::task::Service;
 use rbg_client::{Client, connect_players, tell_who_gave_up};
 use rbg_console::Files;
 use rbg_game::load;
@@ -16,10 +16,8 @@ use rbg_match::Match;
 use rbg_network::{ClientError, Hosting, Network, News};
 use rbg_player::Heard;
 use rbg_record::{write_record, write_record_1};
-use rbg_serving::{Clock, Pause};
 use rbg_wire::Outcome;
 use std::alloc::Global;
-use std::io::{Read, Write};
 
 /// Referees a match of the file's game between the first players that connect to the port, and gives its record.
 pub fn serve_file<F: Files, N: Network>(
@@ -110,14 +108,14 @@ pub fn play<N: Network>(
     network: &mut N,
     port: u16,
     table: Option<u64>,
-    bound: Bound,
+    rounds: u64,
 ) -> Result<Vec<u8>, Fault> {
     let stream = network.connect(port)?;
     let mut client = match table {
         Some(table) => Client::join(alloc, stream, table)?,
         None => Client::new(alloc, stream),
     };
-    play_on(alloc, network, &mut client, port, bound)
+    play_on(alloc, network, &mut client, port, rounds)
 }
 
 /// Plays on a connection, and gives the match's last message.
@@ -126,9 +124,9 @@ fn play_on<N: Network>(
     network: &mut N,
     client: &mut Client<N::Stream>,
     port: u16,
-    bound: Bound,
+    rounds: u64,
 ) -> Result<Vec<u8>, Fault> {
-    let outcome = play_rounds(network, client, port, bound)?;
+    let outcome = play_rounds(network, client, port, rounds)?;
     Ok(outcome_line(alloc, &outcome)?)
 }
 
@@ -137,15 +135,10 @@ fn play_rounds<N: Network>(
     network: &mut N,
     client: &mut Client<N::Stream>,
     port: u16,
-    bound: Bound,
+    rounds: u64,
 ) -> Result<Outcome, Fault> {
     let mut told = false;
-    let mut clock = network.start_clock()?;
-    for _ in 0..bound.most_rounds() {
-        if bound.is_over(&mut clock) {
-            break;
-        }
-        wait_for(client, &mut clock);
+    for _ in 0..rounds {
         let heard = match client.patient_turn() {
             Ok(heard) => heard,
             Err(error) => return Err(lost(network, port, error)),
@@ -156,19 +149,6 @@ fn play_rounds<N: Network>(
         }
     }
     Err(Fault::Rounds)
-}
-
-/// For how many milliseconds nothing may come before a player says its move.
-const QUIET_MS: u64 = 5;
-
-/// Waits until something comes. Where the player has something to say, it is said once nothing has come for a while.
-fn wait_for<S: Read + Write + Drop, C: Clock>(client: &Client<S>, clock: &mut C) {
-    let due = if client.has_unsent() {
-        Some(clock.now().saturating_add(QUIET_MS))
-    } else {
-        None
-    };
-    clock.wait(Pause::Playing { due });
 }
 
 /// The fault of a client. Where its connection failed, or ended before the match, this is told.

@@ -5,7 +5,7 @@ ghost use Rattle.rbg_match.specs.PlayingOn.{seats_of};
 ghost use Rattle.rbg_keeping.specs.Played.{IsPlayedMatch};
 
 use crate::bounded::play_on;
-use crate::joining::{accept_players, tell_names, tell_stalled};
+use crate::joining::{accept_players, tell_names};
 use crate::{Keeping, Serving, ServingFault};
 use rbg_game::{Game, load};
 use rbg_log::{Log, LoggedMatch};
@@ -30,7 +30,7 @@ pub(crate) fn serve_text<N: Network>(
     let mut lines = accept_players(alloc, network, port, game.players(), serving)?;
     tell_names(network, serving);
     serving.hosting.tell(network, &News::Begins);
-    let played = serve_lines(
+    serve_lines(
         alloc,
         game,
         text,
@@ -38,9 +38,7 @@ pub(crate) fn serve_text<N: Network>(
         serving,
         log,
         lines.as_mut_slice(),
-    );
-    tell_stalled(network, serving, lines.as_slice());
-    played
+    )
 }
 
 /// The new log of a match, if one is wanted.

@@ -40,17 +40,3 @@ pub(crate) fn tell_names<N: Network>(network: &mut N, serving: &Serving<'_>) {
         }
     }
 }
-
-/// Tells which seats took nothing of what was left for them after the end.
-pub(crate) fn tell_stalled<N: Network>(
-    network: &mut N,
-    serving: &Serving<'_>,
-    lines: &[StreamLine<N::Stream>],
-) {
-    for (index, line) in lines.iter().enumerate() {
-        if line.has_stalled() {
-            let seat = index.saturating_add(1);
-            serving.hosting.tell(network, &News::TookNothing { seat });
-        }
-    }
-}

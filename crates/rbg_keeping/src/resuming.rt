@@ -7,7 +7,7 @@ ghost use Rattle.rbg_script.specs.Scripts.{script_of};
 
 use crate::again::resume_match;
 use crate::bounded::play_on;
-use crate::joining::{accept_players, tell_names, tell_stalled};
+use crate::joining::{accept_players, tell_names};
 use crate::{Serving, ServingFault};
 use rbg_console::{Files, Input, MAX_INPUT};
 use rbg_game::load;
@@ -121,7 +121,7 @@ fn go_on<N: Network, W: Log>(
     serving.hosting.tell(network, &News::GoesOn);
     let mut outbox = outbox;
     let mut clock = LaterClock::new(network.start_clock()?, moment);
-    let played = play_on(
+    play_on(
         alloc,
         logged,
         serving,
@@ -129,7 +129,5 @@ fn go_on<N: Network, W: Log>(
         lines.as_mut_slice(),
         &mut outbox,
         &mut clock,
-    );
-    tell_stalled(network, serving, lines.as_slice());
-    played
+    )
 }

@@ -1,4 +1,3 @@
 -- Lines over connections.
-pub mod Moments
 pub mod Passing
 pub mod Laws

@@ -5,24 +5,17 @@
 mod client_error;
 mod gathering;
 pub mod laws;
-mod moments;
 mod network;
 mod news;
 mod passing;
-mod readiness;
 mod stream_line;
-mod system_clock;
 mod system_log;
 mod system_network;
-mod system_stream;
-mod watch;
 
 pub use client_error::ClientError;
 pub use gathering::{GatherError, Hosting, gather};
 pub use network::{Network, is_nothing_yet};
 pub use news::News;
 pub use stream_line::StreamLine;
-pub use system_clock::SystemClock;
 pub use system_log::SystemLog;
-pub use system_network::{SystemListener, SystemNetwork};
-pub use system_stream::SystemStream;
+pub use system_network::{SystemClock, SystemNetwork};

@@ -10,8 +10,8 @@ use std::io::{self, ErrorKind, Read, Write};
 /// Connections on this machine, the clock by which matches over them are played, the files in which they are logged, and
 /// the ear of whoever runs the program.
 ///
-/// Only a clock waits. A stream and an `accept` don't: where nothing has come, or nothing can be sent, they answer with an
-/// error of one of the kinds that `is_nothing_yet` names.
+/// A stream and an `accept` wait a few milliseconds at most: where nothing has come or nothing can be sent by then, they
+/// answer with an error of one of the kinds that `is_nothing_yet` names.
 pub trait Network {
     type Stream: Read + Write + Drop;
 
@@ -30,13 +30,10 @@ pub trait Network {
     /// The next connection to a listener.
     fn accept(&mut self, listener: &mut Self::Listener) -> io::Result<Self::Stream>;
 
-    /// Whether the other end of a stream that was accepted has closed it, as far as that is known.
-    fn is_closed(&mut self, stream: &Self::Stream) -> bool;
-
     /// Connects to a port.
     fn connect(&mut self, port: u16) -> io::Result<Self::Stream>;
 
-    /// A clock that begins with 0 now, and waits for all connections and listeners.
+    /// A clock that begins with 0 now.
     fn start_clock(&mut self) -> io::Result<Self::Clock>
         ensures unasked { IfOk result (λ clock. Self.Clock.told clock []) };
 
@@ -57,5 +54,8 @@ pub trait Network {
 
 /// Whether a stream or a listener only says that it has nothing now, or takes nothing now.
 pub fn is_nothing_yet(error: &io::Error) -> bool {
-    matches!(error.kind(), ErrorKind::WouldBlock | ErrorKind::Interrupted)
+    matches!(
+        error.kind(),
+        ErrorKind::WouldBlock | ErrorKind::TimedOut | ErrorKind::Interrupted
+    )
 }

@@ -25,10 +25,6 @@ pub enum News<'a> {
     GoesOn,
     /// The match has ended.
     Ended { outcome: Outcome },
-    /// The match has ended, and the connection of this seat took nothing of what was left for it.
-    TookNothing { seat: usize },
-    /// The matches of a hall have ended, and this connection took nothing of what was left for it.
-    ConnectionTookNothing { connection: usize },
     /// The match did not end in this many rounds.
     Unfinished { rounds: u64 },
     /// The match did not end within this many minutes.
@@ -59,15 +55,6 @@ impl fmt::Display for News<'_> {
             News::Begins => f.write_str("match begins"),
             News::GoesOn => f.write_str("match goes on"),
             News::Ended { outcome } => write_end(f, outcome),
-            News::TookNothing { seat } => {
-                write_number(f, "seat ", *seat as u64, " took nothing for 10 seconds")
-            }
-            News::ConnectionTookNothing { connection } => write_number(
-                f,
-                "connection ",
-                *connection as u64,
-                " took nothing for 10 seconds",
-            ),
             News::Unfinished { rounds } => {
                 write_count(f, *rounds, "match not ended within", "round")
             }

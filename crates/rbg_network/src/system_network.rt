@@ -1,91 +1,35 @@
-//! The network of the system. What fails is reported on standard error, and so is the news.
+//! The connections and the clock of the system. What fails is said on standard error, and so is what is told.
 
 use crate::network::{Network, is_nothing_yet};
-use crate::readiness::Readiness;
 use crate::system_log::say_log_failure;
-use crate::watch::{Mark, Watch};
-use crate::{News, SystemClock, SystemLog, SystemStream};
-use mio::net::{TcpListener, TcpStream};
+use crate::{News, SystemLog};
+use rbg_serving::Clock;
 use std::alloc::AllocError;
 use std::fs::{self, File};
-use std::io::{self, ErrorKind};
-use std::net::{self, Ipv4Addr, SocketAddr};
-use std::rc::Rc;
+use std::net::{Ipv4Addr, TcpListener, TcpStream};
+use std::time::{Duration, Instant};
+use std::{io, thread};
 
-/// A listener of the system, which doesn't wait.
-#[derive(Drop)]
-pub struct SystemListener {
-    listener: TcpListener,
-    mark: Mark,
-}
+/// How many milliseconds a stream or a listener waits before it says that it has nothing now.
+const PATIENCE_MS: u64 = 5;
 
 /// The ports of 127.0.0.1.
 #[derive(Drop)]
 pub struct SystemNetwork<'a> {
     rt: &'a HostRuntime,
-    /// What waits for the sockets, once there is one.
-    watch: Option<Rc<Watch<'a>>>,
 }
 
 impl<'a> SystemNetwork<'a> {
     /// The connections that this runtime can make.
     pub fn new(rt: &'a HostRuntime) -> SystemNetwork<'a> {
-        SystemNetwork { rt, watch: None }
+        SystemNetwork { rt }
     }
 
-    /// What waits for the sockets.
-    fn watch(&mut self) -> io::Result<Rc<Watch<'a>>> {
-        if let Some(watch) = &self.watch {
-            return Ok(watch.clone()?);
-        }
-        let watch = Rc::new(self.rt.alloc(), Watch::new(self.rt)?)?;
-        self.watch = Some(watch.clone()?);
-        Ok(watch)
-    }
-
-    fn bind(&mut self, port: u16) -> io::Result<SystemListener> {
-        let mut listener = TcpListener::bind(self.rt, port_here(port))?;
-        let mark = self.watch()?.register(&mut listener, Readiness::new())?;
-        Ok(SystemListener { listener, mark })
-    }
-
-    /// A connection that was made to a port of this machine.
-    fn connect_to(&mut self, port: u16) -> io::Result<SystemStream> {
-        let stream = net::TcpStream::connect(self.rt, port_here(port))?;
-        stream.set_nonblocking(true)?;
-        let watch = self.watch()?;
-        SystemStream::new(&watch, TcpStream::from_std(stream), Readiness::new())
-    }
-
-    /// The next connection, if there is one.
-    fn accept_next(&mut self, listener: &SystemListener) -> io::Result<SystemStream> {
-        let readiness = listener.mark.get();
-        if !readiness.may_give() {
-            return Err(io::Error::from(ErrorKind::WouldBlock));
-        }
-        match listener.listener.accept() {
-            Ok((stream, _)) => {
-                let watch = self.watch()?;
-                let accepted = SystemStream::new(&watch, stream, Readiness::of_player());
-                if let Err(error) = &accepted {
-                    let _said = eprintln!(self.rt; "can't watch a connection: {error}");
-                }
-                accepted
-            }
-            Err(error) if error.kind() == ErrorKind::WouldBlock => {
-                listener.mark.set(readiness.gave_nothing());
-                Err(error)
-            }
-            // (it is asked again)
-            Err(error) if is_nothing_yet(&error) => {
-                listener.mark.set(readiness.gave(true));
-                Err(error)
-            }
-            Err(error) => {
-                let _said = eprintln!(self.rt; "can't accept a connection: {error}");
-                Err(error)
-            }
-        }
+    /// A listener that doesn't wait.
+    fn bind(&self, port: u16) -> io::Result<TcpListener> {
+        let listener = TcpListener::bind(self.rt, (Ipv4Addr::LOCALHOST, port))?;
+        listener.set_nonblocking(true)?;
+        Ok(listener)
     }
 
     /// The log of this name in a file, if that could be opened.
@@ -107,11 +51,21 @@ impl<'a> SystemNetwork<'a> {
             }
         }
     }
-}
 
-/// A port of 127.0.0.1.
-fn port_here(port: u16) -> SocketAddr {
-    SocketAddr::from((Ipv4Addr::LOCALHOST, port))
+    /// The next connection. Where there is none yet, a few milliseconds pass.
+    fn accept_next(&self, listener: &TcpListener) -> io::Result<TcpStream> {
+        match listener.accept() {
+            Ok((stream, _)) => impatient(stream),
+            Err(error) => {
+                if is_nothing_yet(&error) {
+                    thread::sleep(self.rt, Duration::from_millis(PATIENCE_MS));
+                } else {
+                    let _said = eprintln!(self.rt; "can't accept a connection: {error}");
+                }
+                Err(error)
+            }
+        }
+    }
 }
 
 /// The name of the file that is to replace a log, and lies beside it.
@@ -125,15 +79,15 @@ fn say_failure(rt: &HostRuntime, what: &str, port: u16, error: &io::Error) {
 }
 
 impl<'a> Network for SystemNetwork<'a> {
-    type Stream = SystemStream;
+    type Stream = TcpStream;
 
-    type Listener = SystemListener;
+    type Listener = TcpListener;
 
     type Clock = SystemClock<'a>;
 
     type Log = SystemLog<'a>;
 
-    fn listen(&mut self, port: u16) -> io::Result<SystemListener> {
+    fn listen(&mut self, port: u16) -> io::Result<TcpListener> {
         let listener = self.bind(port);
         if let Err(error) = &listener {
             say_failure(self.rt, "listen on", port, error);
@@ -141,28 +95,30 @@ impl<'a> Network for SystemNetwork<'a> {
         listener
     }
 
-    fn port_of(&mut self, listener: &SystemListener) -> io::Result<u16> {
-        Ok(listener.listener.local_addr()?.port())
+    fn port_of(&mut self, listener: &TcpListener) -> io::Result<u16> {
+        Ok(listener.local_addr()?.port())
     }
 
-    fn accept(&mut self, listener: &mut SystemListener) -> io::Result<SystemStream> {
+    fn accept(&mut self, listener: &mut TcpListener) -> io::Result<TcpStream> {
         self.accept_next(listener)
     }
 
-    fn is_closed(&mut self, stream: &SystemStream) -> bool {
-        stream.is_closed()
-    }
-
-    fn connect(&mut self, port: u16) -> io::Result<SystemStream> {
-        let stream = self.connect_to(port);
-        if let Err(error) = &stream {
-            say_failure(self.rt, "connect to", port, error);
+    fn connect(&mut self, port: u16) -> io::Result<TcpStream> {
+        match TcpStream::connect(self.rt, (Ipv4Addr::LOCALHOST, port)) {
+            Ok(stream) => impatient(stream),
+            Err(error) => {
+                say_failure(self.rt, "connect to", port, &error);
+                Err(error)
+            }
         }
-        stream
     }
 
     fn start_clock(&mut self) -> io::Result<SystemClock<'a>> {
-        Ok(SystemClock::new(self.watch()?))
+        Ok(SystemClock {
+            rt: self.rt,
+            start: Instant::now(self.rt)?,
+            last: 0,
+        })
     }
 
     fn create_log(&mut self, name: &str, sync: bool) -> io::Result<SystemLog<'a>> {
@@ -187,5 +143,33 @@ impl<'a> Network for SystemNetwork<'a> {
 
     fn tell(&mut self, news: &News<'_>) {
         let _told = eprintln!(self.rt; "{news}");
+    }
+}
+
+/// A stream that does not wait long, and sends small messages at once.
+fn impatient(stream: TcpStream) -> io::Result<TcpStream> {
+    let patience = Duration::from_millis(PATIENCE_MS);
+    stream.set_read_timeout(Some(patience))?;
+    stream.set_write_timeout(Some(patience))?;
+    stream.set_nodelay(true)?;
+    Ok(stream)
+}
+
+/// The milliseconds since a start. Where the system's clock fails, the last moment again.
+#[derive(Drop)]
+pub struct SystemClock<'a> {
+    rt: &'a HostRuntime,
+    start: Instant,
+    last: u64,
+}
+
+impl Clock for SystemClock<'_> {
+    ghost told = { λ _ _. Unit {0} };
+
+    fn now(&mut self) -> u64 {
+        if let Ok(passed) = self.start.elapsed(self.rt) {
+            self.last = u64::try_from(passed.as_millis()).unwrap_or(u64::MAX);
+        }
+        self.last
     }
 }
