@@ -9,7 +9,7 @@ CRATES := $(wildcard crates/*)
 # is rbg_test_search, whose 2,000 games take too long where each step is checked.
 STORED := $(filter-out $(patsubst crates/%/args,%,$(wildcard crates/*/args)) rbg_games,$(patsubst crates/%/stdin,%,$(wildcard crates/*/stdin)))
 TESTED := $(filter-out rbg_test_search,$(sort $(foreach file,$(shell grep -rl --include='*.rt' '^ *#\[test\]' crates),$(word 2,$(subst /, ,$(file))))))
-# The game of `make demo`, and the games of `make clients`, and of `make hall` and `make crash`, each of two players.
+# The game of `make demo` and `make play`, and the games of `make clients`, and of `make hall` and `make crash`, each of two players.
 GAME := crates/rbg_games/data/tictactoe.rbg
 GAMES := tictactoe connect_four breakthrough hex reversi
 HALL := tictactoe connect_four breakthrough
@@ -17,8 +17,9 @@ data = $(1:%=crates/rbg_games/data/%.rbg)
 # The program that is run where a target needs ./rbg, and what stands before the commands of such a target.
 RBG := ./rbg
 needs = @test -x $(1) || { echo 'make $@ needs $(1): run make build first, or give RBG=path'; exit 1; }
-# How many matches `make crash` kills.
+# How many matches and halls `make crash` kills.
 MATCHES := 50
+HALLS := 20
 # How many cases `make compare` makes by chance, and the seed of the first one.
 N := 10000
 SEED := 1
@@ -31,32 +32,40 @@ BUILT :=
 JOBS :=
 # How many crates `make build` proves at once, if not one for each processor and 3 GB of memory.
 LANES :=
+# Where `make install` puts the programs, below DESTDIR where that is given.
+PREFIX := /usr/local
+DESTDIR :=
 # How long a test may take without the proof: its build checks each step.
 SECONDS := 600
 # The requests for memory of the first match that `make try` refuses, one in each of ten runs.
 REFUSED := 1 2 5 10 20 50 100 150 200 300
 
-.PHONY: help run demo games clients hall tournament slurm crash page compare refusals doctests links try build bench test parts check fmt clean
+.PHONY: help run demo games play clients hall tournament slurm crash storm page editor compare refusals doctests links docs install try build bench test parts check fmt clean
 
 help:
 	@echo 'make run      referees the first match of README.md (crates/rbg_manager/stdin), with no proof'
 	@echo 'make demo     referees a match between two players over connections, and prints its record, with no proof'
+	@echo 'make play     serves a page on which GAME is played by hand in a browser, and prints its link (after make build)'
 	@echo 'make games    checks each of the games that come with it, counts its first moves, compares both forms of its automaton and referees a match, with no proof'
 	@echo 'make clients  lets two example clients play a match of each of five games over ./rbg serve, and checks the records (after make build)'
 	@echo 'make hall     lets example clients play three matches at once over ./rbg hall, and checks the records and logs (after make build)'
-	@echo 'make tournament plays small tournaments of the three plans of clients/example, kills some, and lets programs cheat (after make build)'
+	@echo 'make tournament plays small tournaments of the three plans of clients/example, kills some, and lets programs cheat (after make build); WHAT=overhead tells times'
 	@echo 'make slurm    sets up Slurm on this one machine, of Debian packages, and plays the example as an array (after make build, as root)'
-	@echo 'make crash    kills ./rbg in the middle of 50 matches, lets each go on, and compares its record (after make build)'
+	@echo 'make crash    kills ./rbg in the middle of 50 matches and 20 halls, lets each go on, and compares its record (after make build)'
+	@echo 'make storm    tries ./rbg from outside: clocks, logs, disks, floods, and 1000 matches and 100 halls through a proxy that disturbs; SHORT=yes, and WHAT names parts (after make build, with gcc)'
 	@echo 'make page     plays a match of chess, hex, abalone and reversi, makes a page of each, and takes pictures by a browser if there is one (after make build)'
+	@echo 'make editor   talks with ./rbg_author lsp as editors do, with EDITS=10000 edits of the games by chance (after make build)'
 	@echo 'make compare  compares ./rbg with the interpreter of tools/slow, on stored cases and N=10000 others of SEED=1 (after make build)'
-	@echo 'make refusals refuses each request for memory in turn, and checks each answer; this alone needs gcc (after make build)'
+	@echo 'make refusals refuses each request for memory in turn, and checks each answer (after make build, with gcc)'
 	@echo 'make doctests runs the examples in the comments of the clients and tools (after make build)'
-	@echo 'make links    looks whether what the pages link is there'
+	@echo 'make links    looks whether what the pages link is there, and whether what make docs makes is up to date'
+	@echo 'make docs     makes the page of all commands, the manual pages and the completions, from the sources'
+	@echo 'make install  copies ./rbg, ./rbg_author, their manual pages and completions below PREFIX=/usr/local (after make build)'
 	@echo 'make try      runs the stored runs, ten with a request for memory refused, and the tests, with no proof; make -j4 try runs four at once'
 	@echo 'make build    proves the programs and what they stand on, LANES crates at once, and leaves them as ./rbg and ./rbg_author'
-	@echo 'make bench    prints the tables of docs/COSTS.md, by valgrind (after make build); SECTIONS="texts search" prints some'
+	@echo 'make bench    takes the figures of docs/COSTS.md by valgrind, and writes tools/bench/RESULTS.md (after make build); SECTIONS="texts search" takes some'
 	@echo 'make test     the gate: every proof from nothing, the must-fail edits, each test and program, and then make parts'
-	@echo 'make parts    refusals, compare, crash, tournament, clients and hall with smaller numbers, doctests and links, with the programs as the gate built them'
+	@echo 'make parts    refusals, compare, crash, storm, tournament, clients and hall with smaller numbers, doctests and links, with the programs as the gate built them'
 	@echo 'make check    proves what changed since the last check, lowest crates first'
 	@echo 'make fmt      lays out the sources and the proofs'
 	@echo 'make clean    removes what was built'
@@ -78,11 +87,11 @@ hall:
 	$(call needs,$(RBG))
 	@python3 clients/hall.py --rbg $(RBG) $(call data,$(HALL))
 
-# Small tournaments of the three plans of clients/example, matches that are killed, and programs that cheat. WHAT chooses.
+# Small tournaments of the three plans of clients/example, runs that are killed, and programs that cheat. WHAT chooses some.
 WHAT :=
 tournament:
 	@test -x ./rbg || { echo 'make tournament needs ./rbg: run make build first'; exit 1; }
-	@cd clients && for file in ratings.py tournament*.py example/steady.py; do python3 -m doctest $$file || exit 1; done
+	@cd clients && python3 -m doctest ratings.py tournament*.py example/steady.py
 	@python3 clients/tournament_trial.py $(WHAT)
 
 # One machine as a Slurm of Debian's packages: slurmctld, slurmd, slurm-client and munge.
@@ -93,11 +102,29 @@ slurm:
 
 crash:
 	$(call needs,$(RBG))
-	@python3 clients/crash.py --rbg $(RBG) --count $(MATCHES) $(call data,$(HALL))
+	@python3 clients/crash.py --rbg $(RBG) --count $(MATCHES) --halls $(HALLS) $(call data,$(HALL))
+
+# Trials from outside. WHAT chooses parts or trials, as clients/storm.py names them.
+SHORT :=
+storm:
+	$(call needs,$(RBG))
+	@python3 clients/storm.py crates/rbg_games/data --rbg $(RBG) $(if $(SHORT),--short) $(if $(WHAT),--only $(WHAT)) $(JOBS:%=--jobs %)
 
 page:
 	@test -x ./rbg && test -x ./rbg_author || { echo 'make page needs ./rbg and ./rbg_author: run make build first'; exit 1; }
 	@python3 tools/page/page.py
+	@if python3 -c 'import sys; sys.path.insert(0, "tools/page"); import browser; sys.exit(not browser.is_there())'; then python3 tools/page/wrong.py && python3 tools/page/playing.py; else echo 'no game is played by clicks: there is no chromium with its driver'; fi
+
+play:
+	@test -x ./rbg_author || { echo 'make play needs ./rbg_author: run make build first'; exit 1; }
+	@./rbg_author play $(GAME)
+
+# How many edits of the games that ship `make editor` makes by chance, and the program that it talks with.
+EDITS := 10000
+AUTHOR_PROGRAM := ./rbg_author
+editor:
+	$(call needs,$(AUTHOR_PROGRAM))
+	@python3 tools/editor/editor.py --program $(AUTHOR_PROGRAM) --count $(EDITS)
 
 compare:
 	$(call needs,$(RBG))
@@ -119,6 +146,16 @@ doctests:
 
 links:
 	@tools/links
+	@tools/docs/docs.py --check
+
+docs:
+	@tools/docs/docs.py
+
+install:
+	$(call needs,./rbg)
+	install -d $(DESTDIR)$(PREFIX)/bin
+	install ./rbg ./rbg_author $(DESTDIR)$(PREFIX)/bin
+	cd share && find * -type f -exec install -D -m 644 {} $(DESTDIR)$(PREFIX)/share/{} \;
 
 try: $(STORED:%=try-run-%) $(REFUSED:%=try-memory-%) $(TESTED:%=try-test-%)
 
@@ -144,7 +181,7 @@ build:
 	cp $(AUTHOR)/out/rbg_author_main rbg_author
 
 bench:
-	@python3 tools/bench/bench.py $(SECTIONS)
+	@python3 tools/bench/bench.py --write $(SECTIONS)
 
 test:
 	@tools/gate --rt '$(RT)'

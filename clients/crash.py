@@ -1,12 +1,14 @@
 #!/usr/bin/env python3
 """Kills `rbg serve` in the middle of matches, lets them go on from their logs, and compares their records.
 
-    crash.py GAME.. [--rbg FILE] [--count N] [--seed N]
+    crash.py GAME.. [--rbg FILE] [--count N] [--halls N] [--seed N]
 
 Each match is played once to its end, by example clients that choose by chance. Then clients that say the moves of its
 record play it again, with a log, and `rbg` is killed at a random moment, and once more after the match went on. In the
 end the record has to be good and to have the moves and the outcome of the first match, and `rbg referee GAME < LOG` has
 to tell the same. A log that is cut at any of its bytes has to be refereed up to the cut, and to go on from there.
+
+So are halls, of which each match has to go on to its end. And two processes that would go on from one log: one of them does.
 
 Meanwhile the players of one more match send bytes without an end and no message: it has to last its minute, however many
 rounds have passed, and then goes on from its log. And what can't be opened or written has to be named on standard error.
@@ -25,8 +27,12 @@ import time
 from pathlib import Path
 from typing import Optional
 
+from crash_hall import crash_halls, race
 from faults import check_failures, check_faults
 from served import PATIENCE, Match, Wrong, end, free_port, is_good, listen
+from storm_open import OPEN
+from storm_players import Stored
+from storm_referee import Trial
 
 ROUNDS = 600  # the rounds of the match that is to last a minute; they are over in 3 to 17 seconds
 PAUSE = 0.02  # seconds between two bytes, so that in a minute they are no message that is too long
@@ -183,17 +189,31 @@ def crash(words: argparse.Namespace, folder: Path) -> tuple[str, int]:
     return first, killed
 
 
+def crash_more(words: argparse.Namespace, folder: Path) -> None:
+    """Kills halls, and lets two processes go on from one log; says how it went."""
+    trial = Trial(words.rbg, words.games[0].parent, folder, memory=16)
+    print(crash_halls(trial, words.games, words.halls, words.seed), flush=True)
+    try:
+        print(f"two processes would go on from one log: {race(trial, Stored(words.rbg, words.games[-1]))}", flush=True)
+    except Wrong as wrong:
+        if "two_resumers" not in OPEN:
+            raise
+        print(f"two processes would go on from one log, which is known to be open: {wrong}", flush=True)
+
+
 def main() -> int:
     parser = argparse.ArgumentParser(description=__doc__.splitlines()[0])
     parser.add_argument("games", type=Path, nargs="+", metavar="GAME")
     parser.add_argument("--rbg", default="./rbg", help="the program")
     parser.add_argument("--count", type=int, default=50, help="how many matches are killed")
+    parser.add_argument("--halls", type=int, default=10, help="how many halls are killed")
     parser.add_argument("--seed", type=int, default=1)
     words = parser.parse_args()
     with tempfile.TemporaryDirectory() as folder:
         dripping = Dripping(words.rbg, words.games[0], Path(folder) / "dripping")
         try:
             first, killed = crash(words, Path(folder))
+            crash_more(words, Path(folder))
             rounds = dripping.check(first)
         except Wrong as wrong:
             print(f"wrong: {wrong}", file=sys.stderr)

@@ -2,7 +2,7 @@
 """Plays a match of each of some games at once in one hall, with the example client, and checks each record and log.
 
 The players connect in an order of chance, so none of them knows its seat before it is told. The record of a log's match has
-to be the one that the hall prints.
+to be the one that the hall prints, and so has the file of `--records`.
 """
 
 import argparse
@@ -17,9 +17,16 @@ from served import CLIENT, Wrong, end, listen
 PATIENCE = 300  # seconds in which the matches have to end
 
 
-def start_hall(rbg, games, log):
-    """A hall that listens, with logs whose names begin like this, and its port."""
-    return listen([rbg, "hall", *games, "--rounds", "4294967295", "--wait", "60", "--log", str(log)])
+def keeps_records(rbg):
+    """Whether this hall keeps records in a folder."""
+    return "--records" in subprocess.run([rbg, "help", "hall"], stdout=subprocess.PIPE, text=True).stdout
+
+
+def start_hall(rbg, games, folder):
+    """A hall that listens, with logs and records in the folder, and its port."""
+    kept = ["--records", str(folder)] if keeps_records(rbg) else []
+    words = ["--rounds", "4294967295", "--wait", "60", "--log", str(folder / "log"), *kept]
+    return listen([rbg, "hall", *games, *words])
 
 
 def player(rbg, port, match, seed):
@@ -61,8 +68,11 @@ def record_of_log(rbg, game, log, record):
 
 
 def is_told(rbg, game, folder, number, record):
-    """Whether the log of the match of this number tells the match of the record."""
+    """Whether the log of the match of this number tells the match of the record, and so does the record that is kept."""
     if not record:
+        return False
+    kept = folder / f"{number}.record"
+    if keeps_records(rbg) and kept.read_text() != record:
         return False
     return record_of_log(rbg, game, folder / f"log.{number}", folder / f"record.{number}") == record
 
@@ -82,7 +92,7 @@ def main():
 
 def play(words, folder):
     """Plays the matches, with the logs in the folder, and prints what comes of each."""
-    hall, port = start_hall(words.rbg, words.games, folder / "log")
+    hall, port = start_hall(words.rbg, words.games, folder)
     order = [match for match in range(1, len(words.games) + 1) for _ in range(2)]
     random.Random(words.seed).shuffle(order)
     players = [player(words.rbg, port, match, seed) for seed, match in enumerate(order, words.seed)]

@@ -14,9 +14,8 @@ import sys
 import tempfile
 import time
 
-from rbg_rules import Refused, Rules
+from rbg_rules import Rules
 from rbg_thinker import Thinker
-from rbg_turns import Turns
 
 
 QUIET = 0.005  # seconds in which nothing comes before a move is said
@@ -89,15 +88,10 @@ class Match:
 
 
 class Follower:
-    """Follows a match by the rules, and chooses a move where this player is to move.
-
-    The referee tells the keeper's moves too, which the rules have made already: they are passed over. Where the turns
-    don't tell which these are, they are taken to be the moves that aren't legal for the player who is then to move.
-    """
+    """Follows a match by the rules, and chooses a move where this player is to move and has said nothing since it was."""
 
     def __init__(self, choose, program):
-        self.choose, self.program = choose, program
-        self.rules = self.turns = None
+        self.choose, self.program, self.rules = choose, program, None
         self.followed, self.has_said = 0, False
 
     def begin(self, text):
@@ -105,26 +99,14 @@ class Follower:
             file.write(text)
             file.flush()
             self.rules = Rules(file.name, self.program)
-        self.turns = Turns(text, self.program)
-
-    def follow(self, pairs, player):
-        if self.turns.hear(pairs) == 0:
-            return
-        own = self.rules.player == player
-        try:
-            self.rules.make(pairs)
-        except Refused as refused:
-            if refused.args[0] != "illegal":
-                raise
-        else:
-            self.has_said = self.has_said and not own
 
     def move(self, match):
         """The pairs to say now, or None where it isn't this player's turn."""
         if self.rules is None:
             self.begin(match.text)
         for pairs in match.moves[self.followed :]:
-            self.follow(pairs, match.player)
+            self.rules.hear(pairs)
+            self.has_said = False
         self.followed = len(match.moves)
         if self.has_said or self.rules.player != match.player:
             return None

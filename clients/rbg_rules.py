@@ -56,7 +56,7 @@ class Rules:
         return text.split() or [""]
 
     def stand(self, question: str) -> int:
-        """The player to move, or 0 where play is finished. `scores` are the scores then."""
+        """The player to move, or 0 where that is the keeper or play is finished. `scores` are the scores then."""
         word, *numbers = self.ask(question)
         if word not in ("player", "finished"):
             raise Refused(word)
@@ -67,6 +67,10 @@ class Rules:
     def make(self, move: str) -> int:
         """Makes a move, and the keeper's moves behind it."""
         return self.stand("make " + move)
+
+    def hear(self, move: str) -> int:
+        """Follows a move as a referee passes it on, the keeper's too, after all that were heard before."""
+        return self.stand("heard " + move)
 
     def back(self, moves: int = 1) -> int:
         """Undoes moves."""

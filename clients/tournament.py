@@ -21,11 +21,12 @@ from types import FrameType
 from typing import Optional
 
 from tournament_charts import stacked
+from tournament_files import Fault, write_whole
 from tournament_making import add_plan, add_round, make_plan, merge
 from tournament_match import play_match
 from tournament_openings import make_openings
 from tournament_page import charts, write_page
-from tournament_plan import Fault, Files, Folder, Plan, write_whole
+from tournament_plan import Files, Folder, Plan
 from tournament_processes import Stop, Stopped
 from tournament_result import Result
 from tournament_run import run

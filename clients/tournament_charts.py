@@ -118,7 +118,8 @@ def bars(title: str, rows: Sequence[Bar]) -> str:
         middle = TOP + 26 * index + 13
         left, right = sorted((scale.at(0), scale.at(row.value)))
         width = max(1.0, round(right - left, 1))
-        parts.append(f'<rect x="{left}" y="{middle - 8}" width="{width}" height="16" fill="{colour(index)}" opacity="0.75"/>')
+        size = f'width="{width}" height="16"'
+        parts.append(f'<rect x="{left}" y="{middle - 8}" {size} fill="{colour(index)}" opacity="0.75"/>')
         if row.half:
             ends = scale.at(row.value - row.half), scale.at(row.value + row.half)
             parts.append(stroke(ends[0], middle, ends[1], middle, "#222", 1.5))
@@ -147,7 +148,8 @@ def curves(title: str, series: Mapping[str, Sequence[tuple[float, float]]], low:
         some = [*points[:: len(points) // 300 + 1], points[-1]]
         drawn = " ".join(f"{across.at(x)},{up.at(y)}" for x, y in some)
         parts.append(f'<polyline points="{drawn}" fill="none" stroke="{colour(index)}" stroke-width="1.8"/>')
-        parts.append(f'<rect x="{WIDTH - RIGHT + 10}" y="{TOP + 20 * index}" width="12" height="12" fill="{colour(index)}"/>')
+        place = f'x="{WIDTH - RIGHT + 10}" y="{TOP + 20 * index}"'
+        parts.append(f'<rect {place} width="12" height="12" fill="{colour(index)}"/>')
         parts.append(text(WIDTH - RIGHT + 28, TOP + 11 + 20 * index, name))
     return picture(title, max(bottom + BOTTOM, TOP + 20 * len(series)), parts)
 

@@ -7,7 +7,6 @@ The machines are network namespaces of this one, each with an ssh server, an add
 of its own, at the same path. It needs the packages parallel, openssh-server and iproute2, and to be root.
 """
 
-import os
 import shutil
 import signal
 import subprocess
@@ -16,8 +15,8 @@ import tempfile
 import time
 from pathlib import Path
 
-CLIENTS = Path(__file__).resolve().parent
-TOOL = [sys.executable, str(CLIENTS / "tournament.py")]
+from tournament_trying import TOOL, is_whole, may_run, plan_given
+
 NEEDED = ("ip", "sshd", "ssh", "ssh-keygen", "parallel", "unshare")
 MACHINES = (1, 2)
 
@@ -79,11 +78,9 @@ def play(folder: Path, tournament: Path) -> str:
 
 
 def main() -> int:
-    missing = [name for name in NEEDED if shutil.which(name) is None]
-    if missing or os.getuid():
-        print(f"to be installed: {' '.join(missing) or 'nothing'}; to be run by root", file=sys.stderr)
+    if not may_run(NEEDED):
         return 1
-    plan = sys.argv[1] if len(sys.argv) > 1 else str(CLIENTS / "example" / "round_robin.toml")
+    plan = plan_given()
     folder = Path(tempfile.mkdtemp())
     Path("/run/sshd").mkdir(exist_ok=True)
     subprocess.run([*TOOL, "plan", plan, str(folder / "tournament")], check=True)
@@ -101,7 +98,7 @@ def main() -> int:
         for machine in MACHINES:
             subprocess.run(["ip", "netns", "delete", f"tournament{machine}"], stderr=subprocess.DEVNULL)
     print(table, f"the files are in {folder}", sep="")
-    return 0 if "not played yet" not in table and "matches played" in table else 1
+    return 0 if is_whole(table) else 1
 
 
 if __name__ == "__main__":

@@ -2,20 +2,21 @@
 
 import contextlib
 import json
-import os
 import shutil
 from contextlib import contextmanager
 from dataclasses import asdict, fields
 from pathlib import Path
 from typing import Iterator, Optional, Sequence
 
-from tournament_plan import Fault, Files, Folder, Pairing, Plan, alone, write_whole
+from tournament_files import Fault, alone, part_of, write_whole
+from tournament_plan import Files, Folder, Pairing, Plan
 from tournament_reading import Reading, copy_games, read_plan
 from tournament_records import shares
 from tournament_result import Result, result_of
 from tournament_schedules import missing, next_round, whole_schedule
 
 MAY_CHANGE = {"programs", "games", "rounds", "jobs", "wait", "grace", "minutes", "rbg", "author"}
+PATIENCE = 30.0  # seconds to wait for who changes the schedule
 
 
 def save_plan(plan: Plan, folder: Folder) -> None:
@@ -25,7 +26,7 @@ def save_plan(plan: Plan, folder: Folder) -> None:
 @contextmanager
 def changing(folder: Folder) -> Iterator[None]:
     """Sees to it that nobody else changes the schedule meanwhile."""
-    with alone(folder.path / "schedule.lock", f"the schedule of {folder.path} is being changed already"):
+    with alone(folder.path / "schedule.lock", f"the schedule of {folder.path} is being changed already", PATIENCE):
         yield
 
 
@@ -37,6 +38,8 @@ def make_plan(file: Path, folder: Folder) -> int:
     copy_games(reading, openings, folder)
     with changing(folder):
         plan = reading.plan
+        # a schedule without a plan is of one that was stopped while it was made
+        folder.schedule.unlink(missing_ok=True)
         count = folder.add(next_round(plan, []) if plan.schedule == "swiss" else whole_schedule(plan))
         save_plan(plan, folder)
     return count
@@ -51,11 +54,11 @@ def check_change(old: Plan, new: Plan) -> None:
     >>> check_change(old, new)
     >>> check_change(new, old)
     Traceback (most recent call last):
-    tournament_plan.Fault: b of programs isn't in the new plan, or isn't what it was
+    tournament_files.Fault: b of programs isn't in the new plan, or isn't what it was
     >>> new.heavy = "void"
     >>> check_change(old, new)
     Traceback (most recent call last):
-    tournament_plan.Fault: heavy was 'draw', and can't change
+    tournament_files.Fault: heavy was 'draw', and can't change
     """
     for field in fields(Plan):
         before, after = getattr(old, field.name), getattr(new, field.name)
@@ -144,34 +147,45 @@ def copy_match(source: Folder, folder: Folder, number: int) -> None:
     result = Files(source, number).result
     files = [file for file in source.matches.glob(f"{number:04}.*") if file.suffix not in (".lock", ".json")]
     for file in [*files, result]:
-        part = folder.matches / f".{file.name}.{os.getpid()}.part"
+        copy = folder.matches / file.name
+        part = part_of(copy)
         try:
             shutil.copy2(file, part)
-            os.replace(part, folder.matches / file.name)
+            part.replace(copy)
         except OSError as error:
             with contextlib.suppress(OSError):
                 part.unlink(missing_ok=True)
             raise Fault(f"can't copy {file}: {error.strerror}") from None
 
 
+def merge_schedule(folder: Folder, source: Folder) -> list[Pairing]:
+    """Takes over the matches of a copy's schedule that there are more, as the next round of a Swiss tournament. Returns the
+    copy's schedule."""
+    plan, pairings, theirs = Plan.load(folder.path), list(folder.pairings()), list(source.pairings())
+    common = min(len(theirs), len(pairings))
+    if theirs[:common] != pairings[:common]:
+        raise Fault(f"the schedule of {source.path} isn't that of {folder.path}")
+    for name in plan.games:
+        if source.game(name).read_bytes() != folder.game(name).read_bytes():
+            raise Fault(f"{source.game(name)} isn't {folder.game(name)}")
+    for pairing in theirs[common:]:
+        unknown = [name for name in pairing.seats if name not in plan.programs]
+        unknown += [name for name in (pairing.game,) if name not in plan.games]
+        if unknown:
+            raise Fault(f"{unknown[0]} of {source.path} isn't in {folder.path}: tournament.py add puts it there first")
+    if len(theirs) > common:
+        folder.add(theirs[common:])
+    return theirs
+
+
 def merge(folder: Folder, sources: Sequence[Folder]) -> tuple[int, list[str]]:
     """Takes over the results of copies of a tournament's folder, in which other machines have played. Returns how many it
     took, and the matches that both have played."""
     taken, told = 0, []
-    plan = Plan.load(folder.path)
-    pairings = list(folder.pairings())
     for source in sources:
-        theirs = list(source.pairings())
-        common = min(len(theirs), len(pairings))
-        if theirs[:common] != pairings[:common]:
-            raise Fault(f"the schedule of {source.path} isn't that of {folder.path}")
-        for name in plan.games:
-            if source.game(name).read_bytes() != folder.game(name).read_bytes():
-                raise Fault(f"{source.game(name)} isn't {folder.game(name)}")
-        if len(theirs) > len(pairings):
-            folder.add(theirs[common:])
-            pairings = theirs
-        for number, pairing in enumerate(theirs, 1):
+        with changing(folder):
+            theirs = merge_schedule(folder, source)
+        for number in range(1, len(theirs) + 1):
             other = Result.load(Files(source, number).result)
             mine = Result.load(Files(folder, number).result)
             if better(mine, other):

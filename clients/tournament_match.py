@@ -1,15 +1,15 @@
 """One match of a tournament: a referee, and a program for each seat."""
 
 import math
-import os
-import socket
 import subprocess
 import time
 from pathlib import Path
 from typing import Optional
 
+from served import free_port
+from tournament_files import Fault, alone, part_of, write_whole
 from tournament_openings import opening_script
-from tournament_plan import Fault, Files, Folder, Pairing, Plan, alone, write_whole
+from tournament_plan import Files, Folder, Pairing, Plan
 from tournament_processes import Output, Processes, Stop
 from tournament_records import moves_said
 from tournament_result import Result, good_record, result_of
@@ -22,22 +22,24 @@ LISTEN = 60  # seconds in which a referee has to listen
 LOOK = 0.3  # seconds between two looks at a log
 
 
-def free_port() -> int:
-    """A port on which nothing listens now."""
-    with socket.socket() as tried:
-        tried.bind(("127.0.0.1", 0))
-        return tried.getsockname()[1]
-
-
 def has_begun(log: Path) -> bool:
-    """Whether the log of a match has its first line. One without it tells nothing, and is taken away."""
+    """Whether the log of a match has its first line."""
     if not log.exists():
         return False
     with log.open("rb") as opened:
-        begun = opened.readline(100).endswith(b"\n")
-    if not begun:
-        log.unlink()
-    return begun
+        return opened.readline(100).endswith(b"\n")
+
+
+def drop_empty(log: Path) -> None:
+    """Takes away a log that has no first line: no match goes on from it, and a match without one begins a new file."""
+    if not has_begun(log):
+        drop(log)
+
+
+def drop(log: Path) -> None:
+    """Takes away a log, and what may lie beside it and says whose it is."""
+    for file in (log, log.with_name(f"{log.name}.game")):
+        file.unlink(missing_ok=True)
 
 
 class Play:
@@ -80,7 +82,7 @@ class Play:
                 processes.end(0.0)
                 self.result.exits = [program.exit if program else None for program in seating.programs]
                 self.result.faults = [output.fault for output in (told, *outputs) if output.fault]
-                has_begun(self.files.log)
+                drop_empty(self.files.log)
 
     def attend(self, processes: Processes, seating: Seating, told: Output) -> bool:
         """Starts the referee and the programs, and sees the match through."""
@@ -108,14 +110,15 @@ class Play:
     def restore(self) -> None:
         """Takes back what was logged of a match that not all of its programs began."""
         if self.before is None:
-            self.files.log.unlink(missing_ok=True)
+            drop(self.files.log)
         else:
             write_whole(self.files.log, self.before)
 
     def prepare(self) -> None:
         """A match with an opening goes on from a log that has it."""
+        drop_empty(self.files.log)
         self.before = self.files.log.read_text(errors="replace") if has_begun(self.files.log) else None
-        if self.pairing.opening and not has_begun(self.files.log):
+        if self.pairing.opening and self.before is None:
             openings = self.folder.openings(self.pairing.game)
             script = opening_script(openings, self.pairing.opening, self.turn, self.plan.refusals)
             write_whole(self.files.log, script)
@@ -124,6 +127,8 @@ class Play:
         """The referee's command. A match that has a log goes on."""
         words = [self.plan.rbg, "serve", str(self.game), "--port", str(port)]
         words += [f"--names={','.join(self.pairing.seats)}", "--minutes", str(max(1, math.ceil(self.plan.minutes)))]
+        # it gives up where nobody is left who starts the programs
+        words += ["--wait", str(math.ceil(self.plan.wait) * (len(self.pairing.seats) + 1) + LISTEN)]
         if has_begun(self.files.log):
             return [*words, "--resume", str(self.files.log)]
         limits = ["--turn", str(self.turn), "--refusals", str(self.plan.refusals)]
@@ -163,7 +168,7 @@ class Play:
 
     def keep_log(self, adjudged: str) -> bool:
         """Keeps the record of the log, if by it the match has ended, or the plan ends it."""
-        part = self.files.record.with_name(f".{self.files.record.name}.{socket.gethostname()}.{os.getpid()}.part")
+        part = part_of(self.files.record)
         part.unlink(missing_ok=True)
         script = self.files.log.read_bytes()
         words = [self.plan.rbg, "referee", str(self.game), "--record", str(part)]

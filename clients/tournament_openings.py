@@ -10,7 +10,7 @@ from pathlib import Path
 from typing import Iterator, Optional, Sequence
 
 from rbg_rules import Refused, Rules
-from tournament_plan import Fault
+from tournament_files import Fault
 
 Opening = list[tuple[int, str]]  # the player and the pairs of each move
 

@@ -2,23 +2,27 @@
 
 import html
 import os
+import re
 import subprocess
 import time
 from concurrent.futures import ThreadPoolExecutor
 from pathlib import Path
-from typing import Optional
+from typing import Optional, Sequence
 from urllib.parse import quote
 
 from tournament_charts import Bar, bars, curves, histogram
-from tournament_plan import Files, Folder, Plan, write_whole
+from tournament_files import part_of, write_whole
+from tournament_plan import Files, Folder, Plan
 from tournament_records import shares
 from tournament_result import Result
 from tournament_standings import Table, remarks
-from tournament_table import HEADS, TIME_HEADS, game_rows, pair_rows, share_rows, standing_rows, summary, time_rows
+from tournament_table import HEADS, TIME_HEADS
+from tournament_table import files_of, game_rows, pair_rows, share_rows, standing_rows, summary, time_rows
 
 STYLE = """body{font:16px sans-serif;margin:2em;max-width:72em}table{border-collapse:collapse;margin:1em 0}
 td,th{border:1px solid #bbb;padding:.2em .6em;text-align:right}td.name,th.name{text-align:left}
 tr:nth-child(even){background:#f4f4f4}th{background:#e8eef4}svg{max-width:100%;height:auto}"""
+NUMBER = re.compile(r"[±-]?[0-9.]+%?( of [0-9.]+)?")  # a cell that stands to the right
 REFRESH = 5  # seconds after which a browser asks again, while matches are to be played
 
 
@@ -35,7 +39,7 @@ def html_table(rows: list[list[str]]) -> str:
 
     def line(row: list[str], tag: str) -> str:
         cells = [cell if isinstance(cell, Markup) else html.escape(cell) for cell in row]
-        right = [isinstance(cell, Markup) or cell[:1] in set("0123456789±-") for cell in row]
+        right = [isinstance(cell, Markup) or NUMBER.fullmatch(cell) for cell in row]
         kinds = ["" if each else ' class="name"' for each in right]
         return "<tr>" + "".join(f"<{tag}{kind}>{cell}</{tag}>" for cell, kind in zip(cells, kinds)) + "</tr>"
 
@@ -110,12 +114,13 @@ def make_page(plan: Plan, folder: Folder, number: int, result: Optional[Result])
         with files.record.open("rb") as record:
             game = str(folder.game(result.game))
             made = subprocess.run([plan.author, "page", game], stdin=record, capture_output=True)
+        if made.returncode:
+            return None
+        part = part_of(files.page)
+        part.write_bytes(made.stdout)
+        return part.replace(files.page)
     except OSError:
         return None
-    if made.returncode:
-        return None
-    files.page.write_bytes(made.stdout)
-    return files.page
 
 
 def link(file: Path, page: Path, said: str) -> str:
@@ -127,20 +132,21 @@ def link(file: Path, page: Path, said: str) -> str:
     return f'<a href="{html.escape(quote(os.path.relpath(file, page.resolve().parent)))}">{html.escape(said)}</a>'
 
 
-def match_rows(plan: Plan, folder: Folder, table: Table, page: Path, pages: bool) -> list[list[str]]:
-    """A row for each match, with links to its files."""
-    numbers = range(1, len(table.results) + 1)
+def make_pages(plan: Plan, folder: Folder, table: Table) -> list[Optional[Path]]:
+    """The pages of the matches."""
     with ThreadPoolExecutor(os.cpu_count()) as pool:
-        made = list(pool.map(lambda k, result: make_page(plan, folder, k, result) if pages else None, numbers, table.results))
-    names = set(os.listdir(folder.matches))
+        numbers = range(1, len(table.results) + 1)
+        return list(pool.map(lambda number, result: make_page(plan, folder, number, result), numbers, table.results))
+
+
+def match_rows(folder: Folder, table: Table, page: Path, shown: Sequence[Optional[Path]]) -> list[list[str]]:
+    """A row for each match, with links to its page and its files."""
     rows = [["match", "game", "round", "opening", "seats", "result", "moves", "files"]]
-    for number, (pairing, result) in enumerate(zip(table.pairings, table.results), 1):
-        files = Files(folder, number, len(pairing.seats))
-        wanted = {"record": files.record, "log": files.log, "referee": files.referee}
-        wanted |= {f"seat {seat}": file for seat, file in enumerate(files.seats, 1)}
-        links = Markup(", ".join(link(file, page, key) for key, file in wanted.items() if file.name in names))
-        shown = made[number - 1]
-        row = [Markup(link(shown, page, str(number))) if shown else str(number), pairing.game, str(pairing.round)]
+    for number, (pairing, result, files, own) in enumerate(
+        zip(table.pairings, table.results, files_of(folder, table), shown), 1
+    ):
+        links = Markup(", ".join(link(folder.path / file, page, key) for key, file in files.items()))
+        row = [Markup(link(own, page, str(number))) if own else str(number), pairing.game, str(pairing.round)]
         told = result.told() if result else "not played yet"
         told += " (the same as one before)" if number - 1 in table.repeated else ""
         row += [str(pairing.opening or ""), " - ".join(pairing.seats), told, str(result.moves or "") if result else ""]
@@ -161,7 +167,10 @@ def write_page(plan: Plan, folder: Folder, table: Table, page: Path, pages: bool
     parts += [f"<p>{html.escape(remark)}</p>\n" for remark in remarks(table)]
     parts += [*charts(table), html_table([["program", *plan.programs], *pair_rows(table)])]
     parts += [html_table(rows) for rows in (game_rows(table), share_rows(table), [TIME_HEADS, *time_rows(table)])]
-    parts += ["<h2>Settings</h2>\n", html_table(settings_rows(plan)), html_table(game_settings(plan))]
+    machines = sorted({result.machine for result in table.results if result})
+    settings = [*settings_rows(plan), ["machines", ", ".join(machines)]]
+    parts += ["<h2>Settings</h2>\n", html_table(settings), html_table(game_settings(plan))]
     parts += [html_table(program_settings(plan)), "<h2>Matches</h2>\n"]
-    parts += [html_table(match_rows(plan, folder, table, page, pages)), "</html>\n"]
+    shown = make_pages(plan, folder, table) if pages else [None] * len(table.results)
+    parts += [html_table(match_rows(folder, table, page, shown)), "</html>\n"]
     write_whole(page, "".join(parts))

@@ -1,21 +1,13 @@
 """A tournament: its plan, the schedule of its matches, and the files of its folder."""
 
-import contextlib
-import errno
-import fcntl
 import json
-import os
 import shlex
-import socket
 import sys
-from contextlib import contextmanager
 from dataclasses import asdict, dataclass, field
 from pathlib import Path
 from typing import Iterable, Iterator, Optional
 
-
-class Fault(Exception):
-    """What the organiser has to mend, in words."""
+from tournament_files import Fault, write_whole
 
 
 @dataclass(frozen=True)
@@ -122,23 +114,6 @@ class Plan:
         return self.games[game].turn if own is None else own
 
 
-def write_whole(file: Path, text: str) -> None:
-    """Writes a file by a rename, so that it is never seen in part. A fault names it.
-
-    >>> write_whole(Path("/proc/self/no"), "x")
-    Traceback (most recent call last):
-    tournament_plan.Fault: can't write /proc/self/no: No such file or directory
-    """
-    part = file.with_name(f".{file.name}.{socket.gethostname()}.{os.getpid()}.part")
-    try:
-        part.write_text(text)
-        os.replace(part, file)
-    except OSError as error:
-        with contextlib.suppress(OSError):
-            part.unlink(missing_ok=True)
-        raise Fault(f"can't write {file}: {error.strerror}") from None
-
-
 class Folder:
     """The folder of a tournament."""
 
@@ -172,7 +147,7 @@ class Folder:
         raise Fault(f"there is no match {number}")
 
     def add(self, pairings: Iterable[Pairing]) -> int:
-        """Puts matches behind those of the schedule. Returns how many these are."""
+        """Puts matches after those of the schedule. Returns how many these are."""
         old = self.schedule.read_text() if self.schedule.exists() else ""
         first = old.count("\n") + 1
         lines = [json.dumps(asdict(pairing)) + "\n" for pairing in pairings]
@@ -188,34 +163,36 @@ class Files:
     """The files of match K."""
 
     def __init__(self, folder: Folder, number: int, seats: int = 0):
-        stem = folder.matches / f"{number:04}"
-        self.record = stem.with_suffix(".record")
-        self.log = stem.with_suffix(".log")
-        self.result = stem.with_suffix(".json")
-        self.page = stem.with_suffix(".html")
-        self.lock = stem.with_suffix(".lock")
-        self.referee = stem.with_suffix(".referee.txt")
-        self.seats = [stem.with_suffix(f".seat{seat}.txt") for seat in range(1, seats + 1)]
+        self.folder, self.stem = folder.matches, f"{number:04}"
+        self.names = {"record": f"{self.stem}.record", "log": f"{self.stem}.log", "referee": f"{self.stem}.referee.txt"}
+        self.names |= {f"seat {seat}": f"{self.stem}.seat{seat}.txt" for seat in range(1, seats + 1)}
 
+    @property
+    def record(self) -> Path:
+        return self.folder / self.names["record"]
 
-@contextmanager
-def alone(lock: Path, busy: str) -> Iterator[None]:
-    """Sees to it that no other process does the same meanwhile, on no machine that has the folder. The lock ends with
-    this process, however that ends, and its file with what is done. A file system that has no locks gives none."""
-    try:
-        opened = lock.open("ab")
-    except OSError as error:
-        raise Fault(f"can't write {lock}: {error.strerror}") from None
-    with opened:
-        try:
-            fcntl.flock(opened, fcntl.LOCK_EX | fcntl.LOCK_NB)
-        except OSError as error:
-            if error.errno in (errno.EACCES, errno.EAGAIN):
-                raise Fault(busy) from None
-        # who had the lock before may have taken its file away meanwhile, and another one may have a new file
-        if not lock.exists() or os.fstat(opened.fileno()).st_ino != lock.stat().st_ino:
-            raise Fault(busy)
-        try:
-            yield
-        finally:
-            lock.unlink(missing_ok=True)
+    @property
+    def log(self) -> Path:
+        return self.folder / self.names["log"]
+
+    @property
+    def referee(self) -> Path:
+        """What the referee has told."""
+        return self.folder / self.names["referee"]
+
+    @property
+    def seats(self) -> list[Path]:
+        """What the program of each seat printed."""
+        return [self.folder / name for key, name in self.names.items() if key.startswith("seat ")]
+
+    @property
+    def result(self) -> Path:
+        return self.folder / f"{self.stem}.json"
+
+    @property
+    def page(self) -> Path:
+        return self.folder / f"{self.stem}.html"
+
+    @property
+    def lock(self) -> Path:
+        return self.folder / f"{self.stem}.lock"

@@ -22,6 +22,8 @@ from contextlib import suppress
 from pathlib import Path
 from typing import BinaryIO, Callable, Mapping, Optional, Sequence
 
+from tournament_guard import Guard
+
 LIMITS = {"memory": ("-v", 1024), "processor": ("-t", 1), "file": ("-f", 2048)}  # of the shell, and in which units
 PIECE = 65536
 
@@ -31,11 +33,12 @@ class Stopped(Exception):
 
 
 class Stop:
-    """Whether this program was told to stop: all that wait are woken."""
+    """Whether this program was told to stop: all that wait are woken. And the guard that ends their processes."""
 
     def __init__(self) -> None:
         self.waits, self.wakes = os.pipe()
         self.is_set = False
+        self.guard = Guard()
 
     def set(self) -> None:
         self.is_set = True
@@ -135,17 +138,15 @@ class Processes:
         folder: Optional[str] = None,
         environment: Mapping[str, str] = {},
     ) -> Process:
-        """Starts a program. What it prints is heard as `answer`, or else with its standard error. Each one has a group of
-        its own. One with an answer stays in the session: if it is stopped when this process is killed, it ends."""
+        """Starts a program in a session of its own. What it prints is heard as `answer`, or else with its standard error."""
         popen = subprocess.Popen(
             words,
             cwd=folder or None,
-            env={**os.environ, **environment} if environment else None,
+            env={**os.environ, **environment, **self.stop.guard.variables()},
             stdin=subprocess.DEVNULL,
             stdout=subprocess.PIPE,
             stderr=subprocess.PIPE if answer else subprocess.STDOUT,
-            start_new_session=answer is None,
-            process_group=None if answer is None else 0,
+            start_new_session=True,
         )
         process = Process(popen)
         self.started.append(process)

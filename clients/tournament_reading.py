@@ -8,8 +8,9 @@ from dataclasses import fields
 from pathlib import Path
 from typing import Any, Optional
 
+from tournament_files import Fault, write_whole
 from tournament_openings import read_openings
-from tournament_plan import Fault, Folder, Game, Plan, Program, Sprt
+from tournament_plan import Folder, Game, Plan, Program, Sprt
 
 # what each number of a plan may be, from and to
 LIMITS = {
@@ -51,13 +52,13 @@ def check(words: dict[str, Any], keys: set[str], of: str) -> None:
 
     >>> check({"turn": 0}, {"turn"}, "a plan")
     Traceback (most recent call last):
-    tournament_plan.Fault: turn is a number from 1 to 3600000
+    tournament_files.Fault: turn is a number from 1 to 3600000
     >>> check({"late": "lost"}, {"late"}, "a plan")
     Traceback (most recent call last):
-    tournament_plan.Fault: late is "draw" or "void"
+    tournament_files.Fault: late is "draw" or "void"
     >>> check({"tern": 5}, {"turn"}, "a plan")
     Traceback (most recent call last):
-    tournament_plan.Fault: tern is no key of a plan
+    tournament_files.Fault: tern is no key of a plan
     """
     for key, value in words.items():
         if key not in keys:
@@ -84,10 +85,10 @@ def program_of(words: object, common: dict[str, Any], base: Path) -> tuple[str, 
     9
     >>> program_of({"name": "a,b", "command": "bot {port}"}, {}, Path("/t"))
     Traceback (most recent call last):
-    tournament_plan.Fault: 'a,b': a name is a line without a comma
+    tournament_files.Fault: 'a,b': a name is a line without a comma
     >>> program_of({"name": "a", "command": "bot"}, {}, Path("/t"))
     Traceback (most recent call last):
-    tournament_plan.Fault: the command of a has no {port}
+    tournament_files.Fault: the command of a has no {port}
     """
     if not isinstance(words, dict) or not {"name", "command"} <= set(words):
         raise Fault("each of programs has a name and a command")
@@ -219,6 +220,6 @@ def copy_games(reading: Reading, openings: dict[str, list[str]], folder: Folder)
             if not folder.game(name).exists():
                 shutil.copy(file, folder.game(name))
             if name in openings:
-                folder.openings(name).write_text("".join(f"{line}\n" for line in openings[name]))
+                write_whole(folder.openings(name), "".join(f"{line}\n" for line in openings[name]))
     except OSError as error:
         raise Fault(f"can't write {error.filename or folder.path}: {error.strerror}") from None

@@ -5,7 +5,7 @@ from dataclasses import dataclass, field
 from pathlib import Path
 from typing import Iterable, Optional, Sequence
 
-from tournament_plan import Fault
+from tournament_files import Fault
 
 
 @dataclass

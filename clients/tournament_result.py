@@ -9,7 +9,8 @@ from dataclasses import dataclass, field
 from pathlib import Path
 from typing import Optional
 
-from tournament_plan import Fault, Files, Folder, Pairing, Plan, write_whole
+from tournament_files import Fault, write_whole
+from tournament_plan import Files, Folder, Pairing, Plan
 from tournament_records import Record, checksum, counted, judge, without
 
 

@@ -146,19 +146,28 @@ class Seating:
         queue = waiting(referee.port)
         if queue is not None and queue == self.queue:
             return None, False
-        sockets = connections(referee.port)
+        wrong, here = self.look_at_connections(seat, referee.port, queue)
+        if isinstance(wrong, str):
+            # a program may have closed its connection while it was looked at
+            wrong, here = self.look_at_connections(seat, referee.port, queue)
+        if wrong is None:
+            self.queue = queue
+        return wrong, here
+
+    def look_at_connections(self, seat: int, port: int, queue: Optional[int]) -> tuple[Union[int, str, None], bool]:
+        """What is wrong with the connections, of which so many were made, and whether the program of this seat has one."""
+        sockets = connections(port, queue)
         if sockets == self.seen:
             return None, False
-        programs = [process.pid if process else 0 for process in self.programs]
+        programs = [process.pid if process else -1 for process in self.programs]
         held = holders(sockets, programs)
-        wrapped = bool(self.plan.programs[self.pairing.seats[seat - 1]].wrapper)
-        wrong = wrong_seats(held, programs, wrapped)
+        wrong = wrong_seats(held, programs, bool(self.plan.programs[self.pairing.seats[seat - 1]].wrapper))
+        if wrong is not None:
+            return wrong, False
+        self.seen = sockets
         hidden = sum(process is None for process, _ in held)
         there = seats_of(held, programs)
         for each in range(1, seat):
             if each not in there and each not in self.absent and not hidden:
                 self.absent[each] = CLOSED
-        here = wrong is None and seat not in self.absent and (seat in there or len(held) - len(there) == hidden > 0)
-        if wrong is None:
-            self.seen, self.queue = sockets, queue
-        return wrong, here
+        return None, seat not in self.absent and (seat in there or len(held) - len(there) == hidden > 0)

@@ -9,7 +9,6 @@ program with files, keys and ports of their own, so no Slurm that is set up alre
 
 import os
 import secrets
-import shutil
 import signal
 import socket
 import subprocess
@@ -18,8 +17,10 @@ import tempfile
 import time
 from pathlib import Path
 
-CLIENTS = Path(__file__).resolve().parent
+from tournament_trying import TOOL, is_whole, may_run, plan_given
+
 NEEDED = ("munged", "slurmctld", "slurmd", "sbatch", "squeue", "sinfo")
+PATIENCE = 300.0  # seconds in which another match has to end
 
 
 def settings(folder: Path, host: str, processors: int, ports: tuple[int, int]) -> str:
@@ -89,25 +90,35 @@ def said(*words: str) -> str:
 
 def play(folder: Path, plan: str) -> str:
     """Plays a plan as an array of jobs, and returns its table."""
-    tool = [sys.executable, str(CLIENTS / "tournament.py")]
     tournament = str(folder / "tournament")
-    subprocess.run([*tool, "plan", plan, tournament], check=True)
+    subprocess.run([*TOOL, "plan", plan, tournament], check=True)
     count = Path(tournament, "jobs.txt").read_text().count("\n")
     line = f'eval "$(sed -n ${{SLURM_ARRAY_TASK_ID}}p {tournament}/jobs.txt)"'
     words = ["sbatch", f"--array=1-{count}", "--ntasks=1", f"--output={folder}/job-%a.txt", f"--wrap={line}"]
     print(" ".join(words[:2]), "..:", said(*words).strip(), flush=True)
-    until = time.monotonic() + 600
+    done, until = -1, 0.0
+    while said("squeue", "--noheader").strip():
+        now = len(list(Path(tournament, "matches").glob("*.json")))
+        if now != done:
+            done, until = now, time.monotonic() + PATIENCE
+        elif time.monotonic() > until:
+            break
+        time.sleep(1)
+    return said(*TOOL, "table", tournament)
+
+
+def end_jobs() -> None:
+    """Ends the jobs that are left, where matches don't end."""
+    said("scancel", "--partition=all")
+    until = time.monotonic() + 30
     while said("squeue", "--noheader").strip() and time.monotonic() < until:
         time.sleep(1)
-    return said(*tool, "table", tournament)
 
 
 def main() -> int:
-    missing = [name for name in NEEDED if shutil.which(name) is None]
-    if missing or os.getuid():
-        print(f"to be installed: {' '.join(missing) or 'nothing'}; to be run by root", file=sys.stderr)
+    if not may_run(NEEDED):
         return 1
-    plan = sys.argv[1] if len(sys.argv) > 1 else str(CLIENTS / "example" / "round_robin.toml")
+    plan = plan_given()
     folder = Path(tempfile.mkdtemp())
     folder.chmod(0o755)
     os.environ["SLURM_CONF"] = str(folder / "slurm.conf")
@@ -116,11 +127,12 @@ def main() -> int:
         print(said("sinfo"), end="")
         table = play(folder, plan)
     finally:
+        end_jobs()
         for process in reversed(started):
             process.terminate()
             process.wait()
     print(table, f"the files are in {folder}", sep="")
-    return 0 if "not played yet" not in table and "matches played" in table else 1
+    return 0 if is_whole(table) else 1
 
 
 if __name__ == "__main__":

@@ -1,8 +1,9 @@
 """What came of a tournament so far: standings, pairs, games, seats and the test."""
 
+import os
 from concurrent.futures import ThreadPoolExecutor
 from dataclasses import dataclass, field
-from typing import Iterable, Optional, Sequence
+from typing import Optional, Sequence
 
 from ratings import groups, ratings, superiority
 from tournament_plan import Folder, Pairing, Plan
@@ -192,10 +193,15 @@ def make_table(plan: Plan, pairings: list[Pairing], results: list[Optional[Resul
 def table_of(plan: Plan, folder: Folder, checks: bool = False) -> Table:
     """The table of a tournament's folder. With `checks` each record is looked at again."""
     pairings = list(folder.pairings())
-    numbers: Iterable[int] = range(1, len(pairings) + 1)
-    with ThreadPoolExecutor(8 if checks else 1) as pool:
-        results = list(pool.map(lambda number, pairing: result_of(plan, folder, number, pairing, checks), numbers, pairings))
-    return make_table(plan, pairings, results)
+
+    def look(number: int) -> Optional[Result]:
+        return result_of(plan, folder, number, pairings[number - 1], checks)
+
+    numbers = range(1, len(pairings) + 1)
+    if checks:
+        with ThreadPoolExecutor(os.cpu_count()) as pool:
+            return make_table(plan, pairings, list(pool.map(look, numbers)))
+    return make_table(plan, pairings, list(map(look, numbers)))
 
 
 def remarks(table: Table) -> list[str]:

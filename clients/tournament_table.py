@@ -3,10 +3,11 @@
 import csv
 import io
 import json
+import os
 from dataclasses import asdict
-from pathlib import Path
 
-from tournament_plan import Files, Folder, Plan, write_whole
+from tournament_files import write_whole
+from tournament_plan import Files, Folder, Plan
 from tournament_standings import ENDS, Table, remarks
 
 HEADS = ["", "program", "rating", "95%", "better", "points", "won", "drawn", "lost", *ENDS, "absent"]
@@ -120,10 +121,23 @@ def table_text(plan: Plan, table: Table) -> str:
     return "\n\n".join([*parts, "\n".join(last)])
 
 
-def rows_of_results(table: Table) -> list[list[object]]:
+CSV_HEAD = "match game round opening seat program score state outcome adjudged reason moves used_ms most_ms exit seconds"
+CSV_HEAD += " repeated record log faults machine began"
+
+
+def files_of(folder: Folder, table: Table) -> list[dict[str, str]]:
+    """Of each match the files that are there, by what they have. Their paths start from the tournament's folder."""
+    there = set(os.listdir(folder.matches))
+    found = []
+    for number, pairing in enumerate(table.pairings, 1):
+        names = Files(folder, number, len(pairing.seats)).names
+        found.append({key: f"matches/{name}" for key, name in names.items() if name in there})
+    return found
+
+
+def rows_of_results(table: Table, files: list[dict[str, str]]) -> list[list[object]]:
     """The rows of results.csv: a head, and a row for each seat of each match that was played."""
-    head = "match game round opening seat program score state outcome adjudged reason moves used_ms most_ms exit".split()
-    rows: list[list[object]] = [[*head, "seconds", "repeated", "machine", "began"]]
+    rows: list[list[object]] = [list(CSV_HEAD.split())]
     for number, result in enumerate(table.results, 1):
         for seat, name in enumerate(result.seats if result else (), 1):
             times = result.times[seat - 1] if result.times else []
@@ -131,29 +145,25 @@ def rows_of_results(table: Table) -> list[list[object]]:
             row += [result.scores[seat - 1] if result.scores else "", result.state, result.outcome or ""]
             row += [result.adjudged, result.reason or "", len(times), sum(times), max(times, default=0)]
             row += [result.exits[seat - 1] if len(result.exits) >= seat else "", result.seconds]
-            rows.append([*row, int(number - 1 in table.repeated), result.machine, result.began])
+            row += [int(number - 1 in table.repeated), *[files[number - 1].get(key, "") for key in ("record", "log")]]
+            rows.append([*row, "; ".join(result.faults), result.machine, result.began])
     return rows
 
 
-def write_results(folder: Folder, table: Table) -> tuple[Path, Path]:
+def write_results(folder: Folder, table: Table) -> None:
     """Writes results.csv and results.json."""
     sheet = io.StringIO()
-    csv.writer(sheet, lineterminator="\n").writerows(rows_of_results(table))
-    files = folder.path / "results.csv", folder.path / "results.json"
-    write_whole(files[0], sheet.getvalue())
-    told = []
+    files = files_of(folder, table)
+    csv.writer(sheet, lineterminator="\n").writerows(rows_of_results(table, files))
+    write_whole(folder.path / "results.csv", sheet.getvalue())
+    lines = []
     for number, (pairing, result) in enumerate(zip(table.pairings, table.results), 1):
-        match: dict[str, object] = {"match": number, **asdict(pairing), "state": "missing"}
+        match: dict[str, object] = {"match": number, **vars(pairing), "state": "missing"}
         if result is not None:
-            paths = Files(folder, number, len(result.seats))
             match |= {**vars(result), "state": result.state, "repeated": number - 1 in table.repeated}
-            match |= {"used": result.used(), "most": result.most()}
-            there = {"record": paths.record, "log": paths.log, "referee": paths.referee}
-            there |= {f"seat {seat}": path for seat, path in enumerate(paths.seats, 1)}
-            match["files"] = {key: f"matches/{path.name}" for key, path in there.items() if path.exists()}
-        told.append(match)
-    standings = [asdict(line) for line in table.best()]
+            match |= {"used": result.used(), "most": result.most(), "files": files[number - 1]}
+        lines.append(json.dumps(match))
+    standings = json.dumps([asdict(line) for line in table.best()])
     # a line for each match
-    lines = ",\n".join(json.dumps(match) for match in told)
-    write_whole(files[1], f'{{"standings": {json.dumps(standings)},\n"matches": [\n{lines}\n]}}\n')
-    return files
+    matches = ",\n".join(lines)
+    write_whole(folder.path / "results.json", f'{{"standings": {standings},\n"matches": [\n{matches}\n]}}\n')

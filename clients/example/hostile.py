@@ -6,6 +6,7 @@
     hostile.py PORT early      ends at once
     hostile.py PORT loud       prints a gigabyte, and then stays silent
     hostile.py PORT greedy     asks for more and more memory before it connects
+    hostile.py PORT busy       connects, and then computes without an end
 """
 
 import socket
@@ -26,6 +27,8 @@ def main():
     lines = [socket.create_connection(("127.0.0.1", port))]
     if what == "twice":
         lines += another(port)
+    while what == "busy":
+        pass
     if what == "loud":
         for _ in range(1000):
             sys.stdout.write("x" * (1 << 20))

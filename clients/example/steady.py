@@ -28,7 +28,7 @@ class Steady(Follower):
         self.made = match.moves
         return super().move(match)
 
-    def choose_by_moves(self, rules):
+    def choose_by_moves(self, rules, left_ms):
         time.sleep(self.slow)
         return chosen(self.seed, self.made, rules.moves())
 

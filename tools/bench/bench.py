@@ -1,6 +1,8 @@
 #!/usr/bin/env python3
 """Takes the figures of docs/COSTS.md and prints them as tables: make bench, or tools/bench/bench.py SECTION ..
 
+With --write each section that was taken is written to RESULTS.md, in place of the one that is there.
+
 Instructions are counted by valgrind's callgrind, and are repeatable. Seconds are processor seconds of one run without
 it, and memory is the greatest of that run; both are only printed. The programs are ./rbg and ./rbg_author, which
 `make build` leaves. Only the sections `forms` and `changes` build a program of their own, in a copy of the repository,
@@ -8,6 +10,8 @@ and so prove what is not proved there yet; --bench names that program where it i
 """
 
 import argparse
+import contextlib
+import io
 import os
 import pathlib
 import re
@@ -19,9 +23,11 @@ import time
 
 sys.dont_write_bytecode = True
 import texts  # noqa: E402
+from wire import wire as wires  # noqa: E402
 
 HERE = pathlib.Path(__file__).resolve().parent
 ROOT = HERE.parents[1]
+RESULTS = HERE / "RESULTS.md"
 
 
 class Run:
@@ -277,10 +283,49 @@ def changes(run, programs):
         row(label, round(applied), round(undone) if undone > 1 else "no change")
 
 
+def wire(run, programs):
+    """This section's figures are times of one run: compare them with each other, and with no other run's."""
+    wires.wire(run, programs, head, row)
+
+
 SECTIONS = {
     "texts": heavy_texts, "loading": loading, "search": search, "limit": limit,
-    "matches": matches, "streams": streams, "halls": halls, "forms": forms, "changes": changes,
+    "matches": matches, "streams": streams, "halls": halls, "wire": wire, "forms": forms, "changes": changes,
 }  # fmt: skip
+
+
+class Both:
+    """Writes to two texts at once."""
+
+    def __init__(self, one, other):
+        self.one, self.other = one, other
+
+    def write(self, text):
+        self.one.write(text)
+        return self.other.write(text)
+
+    def flush(self):
+        self.one.flush()
+
+
+def replaced(page, name, text):
+    r"""The page with this text as the section of this name, which comes last if there was none.
+
+    >>> replaced("# Page\n\n## one\n\nold\n\n## two\n\nstays\n", "one", "new\n")
+    '# Page\n\n## one\n\nnew\n\n## two\n\nstays\n'
+    >>> replaced("# Page\n", "one", "new\n")
+    '# Page\n\n## one\n\nnew\n'
+    """
+    first, *sections = page.rstrip("\n").split("\n\n## ")
+    texts = dict(it.split("\n", 1) for it in sections)
+    texts[name] = "\n" + text.strip("\n")
+    return "\n\n## ".join([first, *(f"{it}\n{told}" for it, told in texts.items())]) + "\n"
+
+
+def processor():
+    """The name of this machine's processor, as the system gives it."""
+    lines = pathlib.Path("/proc/cpuinfo").read_text().splitlines()
+    return next((it.partition(":")[2].strip() for it in lines if it.startswith("model name")), "an unknown processor")
 
 
 def main():
@@ -289,6 +334,7 @@ def main():
     parser.add_argument("--rbg", default=str(ROOT / "rbg"), help="the program rbg")
     parser.add_argument("--author", default=str(ROOT / "rbg_author"), help="the program rbg_author")
     parser.add_argument("--bench", help="the program of tools/bench/forms, where it is built already")
+    parser.add_argument("--write", action="store_true", help="write the sections to RESULTS.md, too")
     programs = parser.parse_args()
     for name in programs.sections:
         if name not in SECTIONS:
@@ -298,8 +344,12 @@ def main():
             sys.exit(f"{program} is missing: make build makes it")
     for name in programs.sections or SECTIONS:
         start = time.monotonic()
-        with tempfile.TemporaryDirectory(prefix="rbg-bench-") as room:
+        told = io.StringIO()
+        with tempfile.TemporaryDirectory(prefix="rbg-bench-") as room, contextlib.redirect_stdout(Both(sys.stdout, told)):
             SECTIONS[name](Run(pathlib.Path(room)), programs)
+        if programs.write:
+            taken = f"Taken on {time.strftime('%-d %B %Y')}, on {processor()}.\n"
+            RESULTS.write_text(replaced(RESULTS.read_text(), name, taken + told.getvalue()))
         print(f"\n({name} took {time.monotonic() - start:.0f} seconds)", flush=True)
 
 

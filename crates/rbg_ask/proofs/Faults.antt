@@ -1,18 +1,18 @@
 -- Why a move isn't made, and why it isn't told how play stands.
-use Rattle.std.proofs.Common.{◌≡◌, ℕ, ◌⊎◌, List, Result, Err, Option, inl, inr, sym, subst, refl, length, take}
-use Rattle.rbg_rules.specs.Meaning.{AbstractGame, AbstractPlace, Legal, IsLegal, Finished, list_moves, IsHeavyToFind, IsHeavyToTry, IsTooHard}
+use Rattle.std.proofs.Common.{◌≡◌, ℕ, ◌⊎◌, List, Result, Err, inl, inr, sym, subst, refl, length, take}
+use Rattle.rbg_rules.specs.Meaning.{AbstractGame, AbstractPlace, Legal, IsLegal, Finished, IsHeavyToFind, IsHeavyToTry}
 use Rattle.rbg_moves.specs.Settling.{IsEndless, MeetsHeavy}
 use Rattle.rbg_search.specs.declared.over.Over.{Over}
 use Rattle.rbg_search.specs.declared.over.Over.TheVariants.{Deep, Wide, Memory}
 use Rattle.rbg_moves.specs.declared.unsettled.Unsettled.{Unsettled}
 use Rattle.rbg_moves.specs.declared.unsettled.Unsettled.TheVariants as unsettled
-use Rattle.rbg_ask.specs.declared.question.Question.TheVariants.{Make, Moves, Place}
+use Rattle.rbg_ask.specs.declared.question.Question.TheVariants.{Heard, Make, Place}
 use Rattle.rbg_ask.specs.declared.refusal.Refusal.{Refusal}
 use Rattle.rbg_ask.specs.Sessions.{AbstractSession, Leads}
 use Rattle.rbg_ask.specs.Answers.{to_move, finished}
 use Rattle.rbg_ask.specs.Answering.{IsRefused, StandsAt, goes_on, is_over}
 use Rattle.rbg_ask.specs.Answering as faults
-use Rattle.rbg_ask.specs.internal.Places.{IsUnmade, IsUntold, heavy, memory, illegal, heavy_to_try, heavy_to_settle, endless, no_memory}
+use Rattle.rbg_ask.specs.internal.Places.{IsUnmade, IsUntold, IsUnfollowed, heavy, memory, illegal, heavy_to_try, heavy_to_settle, endless, no_memory, not_legal, hard_to_try, lost}
 use Rattle.rbg_ask.specs.internal.Refusing.{refusal_of_over, refusal_of_unsettled}
 
 -- a question that was given up
@@ -25,11 +25,6 @@ pub find_untold : (T : Type 0) (game : AbstractGame) (place : AbstractPlace) (ov
 find_untold T game place Deep hard = heavy (hard (inl refl))
 find_untold T game place Wide hard = heavy (hard (inr refl))
 find_untold T game place Memory hard = memory
-
-pub list_refused : (T : Type 0) (session : AbstractSession) (max : Option ℕ) (over : Over) → (◌≡◌ {A = Result T Over} (Err over) (Err Deep) ⊎ ◌≡◌ {A = Result T Over} (Err over) (Err Wide) → IsTooHard session.game list_moves session.place) → IsRefused session (Moves max) (refusal_of_over over)
-list_refused T session max Deep hard = faults.heavy_to_list (hard (inl refl))
-list_refused T session max Wide hard = faults.heavy_to_list (hard (inr refl))
-list_refused T session max Memory hard = faults.no_memory
 
 -- the keeper's moves behind a legal move
 pub settle_unmade : (T : Type 0) (game : AbstractGame) (place middle : AbstractPlace) (pairs : List (ℕ × ℕ)) (why : Unsettled) → Legal game place pairs middle → (◌≡◌ {A = Result T Unsettled} (Err why) (Err unsettled.Heavy) → MeetsHeavy game middle) → (◌≡◌ {A = Result T Unsettled} (Err why) (Err unsettled.Endless) → IsEndless game middle) → IsUnmade game place pairs (refusal_of_unsettled why)
@@ -48,6 +43,21 @@ make_refused session pairs _ no_memory = faults.no_memory
 pub untold_behind : (session : AbstractSession) (pairs : List (ℕ × ℕ)) (to : AbstractPlace) (refusal : Refusal) → Leads session.game session.place pairs to → IsUntold session.game to refusal → IsRefused session (Make pairs) refusal
 untold_behind session pairs to _ leads (heavy hard) = faults.heavy_behind leads hard
 untold_behind session pairs to _ leads memory = faults.no_memory
+
+-- the refusal of a move that was heard
+pub try_unfollowed : (T : Type 0) (game : AbstractGame) (place : AbstractPlace) (pairs : List (ℕ × ℕ)) (over : Over) → (◌≡◌ {A = Result T Over} (Err over) (Err Deep) ⊎ ◌≡◌ {A = Result T Over} (Err over) (Err Wide) → IsHeavyToTry game place pairs) → IsUnfollowed game place pairs (refusal_of_over over)
+try_unfollowed T game place pairs Deep hard = hard_to_try (hard (inl refl))
+try_unfollowed T game place pairs Wide hard = hard_to_try (hard (inr refl))
+try_unfollowed T game place pairs Memory hard = lost
+
+pub heard_refused : (session : AbstractSession) (pairs : List (ℕ × ℕ)) (refusal : Refusal) → IsUnfollowed session.game session.heard pairs refusal → IsRefused session (Heard pairs) refusal
+heard_refused session pairs _ (not_legal none) = faults.not_heard none
+heard_refused session pairs _ (hard_to_try hard) = faults.heavy_to_hear hard
+heard_refused session pairs _ lost = faults.no_memory
+
+pub untold_where_heard : (session : AbstractSession) (pairs : List (ℕ × ℕ)) (to : AbstractPlace) (refusal : Refusal) → Legal session.game session.heard pairs to → IsUntold session.game to refusal → IsRefused session (Heard pairs) refusal
+untold_where_heard session pairs to _ legal (heavy hard) = faults.heavy_where_heard legal hard
+untold_where_heard session pairs to _ legal memory = faults.no_memory
 
 pub place_refused : (session : AbstractSession) (refusal : Refusal) → IsUntold session.game session.place refusal → IsRefused session Place refusal
 place_refused session _ (heavy hard) = faults.heavy_to_find hard

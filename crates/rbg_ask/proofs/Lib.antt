@@ -3,6 +3,9 @@ mod Reading
 mod Answering
 mod Naming
 mod Places
+mod Sorted
+mod Mixing
+mod Counted
 pub mod Faults
 mod OutOfMemory
 mod Matches

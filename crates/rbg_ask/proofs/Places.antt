@@ -4,9 +4,9 @@ use Rattle.std.proofs.lemmas.List.{take-append-drop, length-drop}
 use Rattle.rbg_base.proofs.CallerLemmas.{slice_get-append_right}
 use Rattle.rbg_rules.specs.Meaning.{AbstractGame, AbstractPlace, Legal, Finished, IsPlaceOf}
 use Rattle.rbg_moves.specs.Settling.{Settles}
-use Rattle.rbg_ask.specs.Sessions.{HasLedTo, at_start, by_move, Leads, beginning_of, AbstractSession}
+use Rattle.rbg_ask.specs.Sessions.{AreHeard, no_move, one_more, HasLedTo, at_start, at_heard, by_move, Leads, beginning_of, AbstractSession}
 use Rattle.rbg_ask.specs.Answering.{GoesBack}
-use Rattle.rbg_ask.specs.internal.Places.{AreReached}
+use Rattle.rbg_ask.specs.internal.Places.{AreReached, IsHeardPlace}
 
 no_end : {X : Type 0} (xs : List X) (x : X) (ys : List X) → [] ≡ xs ++ x ∷ ys → ⊥
 no_end [] x ys same = let apart : [] ≡ x ∷ ys = same in cc
@@ -39,6 +39,7 @@ pub record WasMade (game : AbstractGame) (place : AbstractPlace) : Type 0 where
 -- Play has led to each of the places before, and a move was made there.
 pub led_before : (game : AbstractGame) (all : List AbstractPlace) (to : AbstractPlace) → HasLedTo game all to → (front : List AbstractPlace) (place : AbstractPlace) (later : List AbstractPlace) → all ≡ front ++ place ∷ later → HasLedTo game front place × WasMade game place
 led_before game _ to (at_start settles) front place later same = absurd (no_end front place later same)
+led_before game _ to (at_heard heard) front place later same = absurd (no_end front place later same)
 led_before game _ to (by_move {before} {from} {pairs} led leads) front place later same =
     elim (last_or_before before from front place later same) [
       | inl last ↦ (subst (λ (p : AbstractPlace). HasLedTo game front p) last.1 (subst (λ ps. HasLedTo game ps from) last.0 led), subst (WasMade game) last.1 (record { pairs = pairs; to = leads.middle; legal = leads.legal }))
@@ -93,7 +94,7 @@ reached_first game first place start settles fits = record {
 }
 
 -- the session that goes back to a place
-pub goes_back_to : (session : AbstractSession) (index : ℕ) (front : List AbstractPlace) (place : AbstractPlace) → index < length session.before → session.before ≡ front ++ place ∷ drop (index + 1) session.before → GoesBack session (length session.before - index) (record { game = session.game; before = front; place = place })
+pub goes_back_to : (session : AbstractSession) (index : ℕ) (front : List AbstractPlace) (place : AbstractPlace) → index < length session.before → session.before ≡ front ++ place ∷ drop (index + 1) session.before → GoesBack session (length session.before - index) (record { game = session.game; heard = session.heard; before = front; place = place })
 goes_back_to session index front place within same = record {
   game = refl;
   later = drop (index + 1) session.before;
@@ -107,3 +108,19 @@ reached_made game before place to pairs items kept value now reached leads fits 
     let all : items ≡ before ++ place ∷ [] = is ∙ (λ i. same_before i ++ same_place i ∷ []) in
     subst (λ (p : AbstractPlace). AreReached game items p) (sym same_to)
     (subst (λ ps. AreReached game ps to) (sym all) (reached_next game before place to pairs reached leads fits))
+
+-- where the rules begin, no move was heard
+pub heard_first : (game : AbstractGame) (first : AbstractPlace) → first ≡ beginning_of game → IsPlaceOf game first → IsHeardPlace game first
+heard_first game first start fits = record { fits = fits; heard = subst (λ (p : AbstractPlace). AreHeard game p) (sym start) no_move }
+
+-- the place to which one more move leads that was heard
+pub heard_next : (game : AbstractGame) (from to : AbstractPlace) (pairs : List (ℕ × ℕ)) → IsHeardPlace game from → Legal game from pairs to → AreHeard game to
+heard_next game from to pairs from_there legal = one_more from_there.heard legal
+
+-- the places of a session that stands where the moves lead that were heard
+pub reached_heard : (game : AbstractGame) (items : List AbstractPlace) (place now heard kept : AbstractPlace) → items ≡ [] → place ≡ heard → now ≡ place → kept ≡ heard → IsPlaceOf game heard → AreHeard game heard → AreReached game items now × IsHeardPlace game kept
+reached_heard game items place now heard kept none same is same_kept fits heard_there = (
+  subst (λ (p : AbstractPlace). AreReached game items p) (sym (is ∙ same))
+      (subst (λ ps. AreReached game ps heard) (sym none) (record { earlier = All-nil (IsPlaceOf game); here = fits; led = at_heard heard_there })),
+  subst (λ (p : AbstractPlace). IsHeardPlace game p) (sym same_kept) (record { fits = fits; heard = heard_there }),
+)

@@ -6,40 +6,46 @@ use Rattle.rbg_wire.proofs.Common.{ArePairs, pairs_text, SpellsPairs, LacksByte}
 use Rattle.rbg_wire.proofs.ByteLemmas.{same_end}
 use Rattle.rbg_wire.proofs.FieldLemmas.{cut_fields, no_fields}
 use Rattle.rbg_ask.specs.declared.question.Question.{Question}
-use Rattle.rbg_ask.specs.declared.question.Question.TheVariants.{Moves, Make, Back, Place, Values, Board, Names, Random, Quit}
+use Rattle.rbg_ask.specs.declared.question.Question.TheVariants.{Moves, Make, Back, Heard, Place, State, Key, Values, Board, Names, Random, Quit}
 use Rattle.rbg_ask.specs.Limits.{IsCount, IsSeed}
 use Rattle.rbg_ask.specs.Questions.{SpellsQuestion, question_text}
 use Rattle.rbg_ask.specs.internal.Reading.{IsPlain, SpellsChance}
 
 -- no question of one word but these
-pub no_plain : (text : List ℕ) → (text ≡ codes "moves" → ⊥) → (text ≡ codes "back" → ⊥) → (text ≡ codes "place" → ⊥) → (text ≡ codes "values" → ⊥) → (text ≡ codes "board" → ⊥) → (text ≡ codes "names" → ⊥) → (text ≡ codes "quit" → ⊥) → (question : Question) → IsPlain question → SpellsQuestion text question → ⊥
+pub no_plain : (text : List ℕ) → (text ≡ codes "moves" → ⊥) → (text ≡ codes "back" → ⊥) → (text ≡ codes "place" → ⊥) → (text ≡ codes "state" → ⊥) → (text ≡ codes "key" → ⊥) → (text ≡ codes "values" → ⊥) → (text ≡ codes "board" → ⊥) → (text ≡ codes "names" → ⊥) → (text ≡ codes "quit" → ⊥) → (question : Question) → IsPlain question → SpellsQuestion text question → ⊥
 unfolding question_text
-no_plain text moves back place values board names quit (Moves None) plain h = moves h.is
-no_plain text moves back place values board names quit (Back None) plain h = back h.is
-no_plain text moves back place values board names quit Place plain h = place h.is
-no_plain text moves back place values board names quit Values plain h = values h.is
-no_plain text moves back place values board names quit Board plain h = board h.is
-no_plain text moves back place values board names quit Names plain h = names h.is
-no_plain text moves back place values board names quit Quit plain h = quit h.is
-no_plain text moves back place values board names quit (Moves (Some max)) plain h = absurd plain
-no_plain text moves back place values board names quit (Back (Some many)) plain h = absurd plain
-no_plain text moves back place values board names quit (Make pairs) plain h = absurd plain
-no_plain text moves back place values board names quit (Random seed count) plain h = absurd plain
+no_plain text moves back place state key values board names quit (Moves None) plain h = moves h.is
+no_plain text moves back place state key values board names quit (Back None) plain h = back h.is
+no_plain text moves back place state key values board names quit Place plain h = place h.is
+no_plain text moves back place state key values board names quit State plain h = state h.is
+no_plain text moves back place state key values board names quit Key plain h = key h.is
+no_plain text moves back place state key values board names quit Values plain h = values h.is
+no_plain text moves back place state key values board names quit Board plain h = board h.is
+no_plain text moves back place state key values board names quit Names plain h = names h.is
+no_plain text moves back place state key values board names quit Quit plain h = quit h.is
+no_plain text moves back place state key values board names quit (Moves (Some max)) plain h = absurd plain
+no_plain text moves back place state key values board names quit (Back (Some many)) plain h = absurd plain
+no_plain text moves back place state key values board names quit (Make pairs) plain h = absurd plain
+no_plain text moves back place state key values board names quit (Heard pairs) plain h = absurd plain
+no_plain text moves back place state key values board names quit (Random seed count) plain h = absurd plain
 
 -- no question where it is none of one word, and none of a word with a number or with pairs
-pub no_question : (text : List ℕ) → ((question : Question) → IsPlain question → SpellsQuestion text question → ⊥) → ((count : ℕ) → IsCount count → text ≡ codes "moves " ++ decimal count → ⊥) → ((count : ℕ) → IsCount count → text ≡ codes "back " ++ decimal count → ⊥) → ((pairs : List (ℕ × ℕ)) → ArePairs pairs → length pairs ≤ 200 → text ≡ codes "make " ++ pairs_text pairs → ⊥) → ((seed count : ℕ) → SpellsChance text seed count → ⊥) → (question : Question) → SpellsQuestion text question → ⊥
+pub no_question : (text : List ℕ) → ((question : Question) → IsPlain question → SpellsQuestion text question → ⊥) → ((count : ℕ) → IsCount count → text ≡ codes "moves " ++ decimal count → ⊥) → ((count : ℕ) → IsCount count → text ≡ codes "back " ++ decimal count → ⊥) → ((pairs : List (ℕ × ℕ)) → ArePairs pairs → length pairs ≤ 200 → text ≡ codes "heard " ++ pairs_text pairs → ⊥) → ((pairs : List (ℕ × ℕ)) → ArePairs pairs → length pairs ≤ 200 → text ≡ codes "make " ++ pairs_text pairs → ⊥) → ((seed count : ℕ) → SpellsChance text seed count → ⊥) → (question : Question) → SpellsQuestion text question → ⊥
 unfolding question_text
-no_question text plain moves back make chance (Moves None) h = plain (Moves None) tt h
-no_question text plain moves back make chance (Back None) h = plain (Back None) tt h
-no_question text plain moves back make chance Place h = plain Place tt h
-no_question text plain moves back make chance Values h = plain Values tt h
-no_question text plain moves back make chance Board h = plain Board tt h
-no_question text plain moves back make chance Names h = plain Names tt h
-no_question text plain moves back make chance Quit h = plain Quit tt h
-no_question text plain moves back make chance (Moves (Some max)) h = moves max h.has h.is
-no_question text plain moves back make chance (Back (Some many)) h = back many h.has h.is
-no_question text plain moves back make chance (Make pairs) h = make pairs h.has.0 h.has.1 h.is
-no_question text plain moves back make chance (Random seed count) h = chance seed count (record { seeded = h.has.0; counted = h.has.1; is = h.is })
+no_question text plain moves back heard make chance (Moves None) h = plain (Moves None) tt h
+no_question text plain moves back heard make chance (Back None) h = plain (Back None) tt h
+no_question text plain moves back heard make chance Place h = plain Place tt h
+no_question text plain moves back heard make chance State h = plain State tt h
+no_question text plain moves back heard make chance Key h = plain Key tt h
+no_question text plain moves back heard make chance Values h = plain Values tt h
+no_question text plain moves back heard make chance Board h = plain Board tt h
+no_question text plain moves back heard make chance Names h = plain Names tt h
+no_question text plain moves back heard make chance Quit h = plain Quit tt h
+no_question text plain moves back heard make chance (Moves (Some max)) h = moves max h.has h.is
+no_question text plain moves back heard make chance (Back (Some many)) h = back many h.has h.is
+no_question text plain moves back heard make chance (Heard pairs) h = heard pairs h.has.0 h.has.1 h.is
+no_question text plain moves back heard make chance (Make pairs) h = make pairs h.has.0 h.has.1 h.is
+no_question text plain moves back heard make chance (Random seed count) h = chance seed count (record { seeded = h.has.0; counted = h.has.1; is = h.is })
 
 pub spells_moves : (text : List ℕ) (count : ℕ) → IsCount count → text ≡ codes "moves " ++ decimal count → SpellsQuestion text (Moves (Some count))
 unfolding question_text
@@ -52,6 +58,10 @@ spells_back text count has is = record { has = has; is = is }
 pub spells_make : (text : List ℕ) (pairs : List (ℕ × ℕ)) → ArePairs pairs → length pairs ≤ 200 → text ≡ codes "make " ++ pairs_text pairs → SpellsQuestion text (Make pairs)
 unfolding question_text
 spells_make text pairs are few is = record { has = (are, few); is = is }
+
+pub spells_heard : (text : List ℕ) (pairs : List (ℕ × ℕ)) → ArePairs pairs → length pairs ≤ 200 → text ≡ codes "heard " ++ pairs_text pairs → SpellsQuestion text (Heard pairs)
+unfolding question_text
+spells_heard text pairs are few is = record { has = (are, few); is = is }
 
 pub spells_random : (text : List ℕ) (seed count : ℕ) → SpellsChance text seed count → SpellsQuestion text (Random seed count)
 unfolding question_text

@@ -1,15 +1,16 @@
 -- What a session answers to a question, and why it refuses one.
-use Rattle.std.specs.Prelude.{◌≡◌, ℕ, ◌+◌, ◌<◌, ◌≤◌, List, [], ◌∷◌, ◌++◌, length, take, Bool, false, Option, Some, None}
-use Rattle.rbg_rules.specs.Meaning.{AbstractGame, AbstractPlace, Legal, Finished, list_moves, IsHeavyToFind, IsHeavyToTry, IsTooHard}
+use Rattle.std.specs.Prelude.{◌≡◌, ◌≢◌, ℕ, ◌+◌, ◌<◌, ◌≤◌, List, [], ◌∷◌, ◌++◌, length, take, All, AllPairs, Contains, Bool, false, Option, Some, None}
+use Rattle.rbg_rules.specs.Meaning.{AbstractGame, AbstractPlace, IsLegal, Legal, Finished, list_moves, IsHeavyToFind, IsHeavyToTry, IsTooHard}
 use Rattle.rbg_moves.specs.Listing.{IsListed}
 use Rattle.rbg_moves.specs.Settling.{IsEndless, MeetsHeavy}
 use Rattle.rbg_ask.specs.declared.question.Question.{Question}
-use Rattle.rbg_ask.specs.declared.question.Question.TheVariants.{Moves, Make, Back, Place, Values, Board, Names, Random, Quit}
+use Rattle.rbg_ask.specs.declared.question.Question.TheVariants.{Moves, Make, Back, Heard, Place, State, Key, Values, Board, Names, Random, Quit}
 use Rattle.rbg_ask.specs.declared.refusal.Refusal.{Refusal}
 use Rattle.rbg_ask.specs.declared.refusal.Refusal.TheVariants.{Long, Form, Illegal, Start, Over, Keeper, Memory}
 use Rattle.rbg_ask.specs.Limits.{longest_line}
 use Rattle.rbg_ask.specs.Questions.{SpellsQuestion}
-use Rattle.rbg_ask.specs.Answers.{Answer, moves, to_move, finished, values, board, names, by_chance, farewell, answer_text, refusal_text}
+use Rattle.rbg_ask.specs.Keys.{key_of}
+use Rattle.rbg_ask.specs.Answers.{Answer, moves, to_move, finished, state, key, values, board, names, by_chance, farewell, answer_text, refusal_text}
 use Rattle.rbg_ask.specs.Sessions.{AbstractSession, Leads}
 use Rattle.rbg_ask.specs.Chance.{Counted, AreTallied, IsUnplayed}
 
@@ -19,6 +20,18 @@ use Rattle.rbg_ask.specs.Chance.{Counted, AreTallied, IsUnplayed}
 pub data StandsAt (game : AbstractGame) (place : AbstractPlace) : Answer → Type 0 where
   goes_on : ¬ Finished game place → StandsAt game place (to_move place.state.player)
   is_over : Finished game place → StandsAt game place (finished (take (length game.players) place.state.values))
+
+-- The place has so many legal moves.
+pub record HasMoves (game : AbstractGame) (place : AbstractPlace) (count : ℕ) : Type 0 where
+  pub all : List (List (ℕ × ℕ))
+  pub legal : All (IsLegal game place) all
+  pub different : AllPairs (λ a b. a ≢ b) all
+  pub whole : (pairs : List (ℕ × ℕ)) → IsLegal game place pairs → Contains all pairs
+  pub many : count ≡ length all
+
+-- the session where a move that was heard leads to that place
+abbrev pub heard_to : AbstractSession → AbstractPlace → AbstractSession
+heard_to session to = record session { heard = to; before = []; place = to }
 
 -- the session after a move to that place
 abbrev pub moved_to : AbstractSession → AbstractPlace → AbstractSession
@@ -41,7 +54,11 @@ undone (Some many) = many
 --   lists_all: all of them.
 --   makes: a legal move is made, and the keeper's moves behind it; how play stands there.
 --   undoes: so many moves are undone; how play stands there.
+--   hears: a legal move is heard, and play stands where it leads; how play stands there.
 --   tells: how play stands.
+--   tells_state: how many legal moves there are, the key, how play stands, what stands on the vertices and what the
+--   variables hold.
+--   tells_key: the key of the place.
 --   tells_values, tells_board: what the variables hold, and what stands on the vertices.
 --   tells_names: the names of the game's players, pieces and variables.
 --   plays: so many matches were played by chance, and how many of them ended in which way.
@@ -61,6 +78,16 @@ pub data Answers (old : AbstractSession) : Question → (new : AbstractSession) 
       GoesBack old (undone many) new →
       StandsAt new.game new.place answer →
       Answers old (Back many) new answer
+  hears : {pairs : List (ℕ × ℕ)} {to : AbstractPlace} {answer : Answer} →
+      Legal old.game old.heard pairs to →
+      StandsAt old.game to answer →
+      Answers old (Heard pairs) (heard_to old to) answer
+  tells_state : {count : ℕ} {standing : Answer} →
+      HasMoves old.game old.place count →
+      StandsAt old.game old.place standing →
+      Answers old State old (state count (key_of old.place) standing old.place.state.pieces old.place.state.values)
+  tells_key :
+      Answers old Key old (key (key_of old.place))
   tells : {answer : Answer} →
       StandsAt old.game old.place answer →
       Answers old Place old answer
@@ -83,7 +110,10 @@ pub data Answers (old : AbstractSession) : Question → (new : AbstractSession) 
 --   endless: the keeper is to move after 1,000 of its moves behind it.
 --   heavy_behind: the question whether play is finished where the move leads is above the limits.
 --   too_far: fewer moves were made than are to be undone.
---   heavy_to_list: the question for the legal moves is above the limits.
+--   not_heard: the move isn't legal where the moves lead that were heard.
+--   heavy_to_hear: the question whether it is legal there is above the limits.
+--   heavy_where_heard: the question whether play is finished where it leads is above the limits.
+--   heavy_to_list, heavy_to_count: the question for the legal moves is above the limits.
 --   heavy_to_find: the question whether play is finished is above the limits.
 --   unplayed: a match by chance isn't played to its end.
 --   no_memory: it says nothing of the question.
@@ -109,9 +139,22 @@ pub data IsRefused (session : AbstractSession) : Question → Refusal → Type 0
   too_far : {many : Option ℕ} →
       length session.before < undone many →
       IsRefused session (Back many) Start
+  not_heard : {pairs : List (ℕ × ℕ)} →
+      ((to : AbstractPlace) → ¬ Legal session.game session.heard pairs to) →
+      IsRefused session (Heard pairs) Illegal
+  heavy_to_hear : {pairs : List (ℕ × ℕ)} →
+      IsHeavyToTry session.game session.heard pairs →
+      IsRefused session (Heard pairs) Over
+  heavy_where_heard : {pairs : List (ℕ × ℕ)} {to : AbstractPlace} →
+      Legal session.game session.heard pairs to →
+      IsHeavyToFind session.game to →
+      IsRefused session (Heard pairs) Over
   heavy_to_list : {max : Option ℕ} →
       IsTooHard session.game list_moves session.place →
       IsRefused session (Moves max) Over
+  heavy_to_count :
+      IsTooHard session.game list_moves session.place →
+      IsRefused session State Over
   heavy_to_find :
       IsHeavyToFind session.game session.place →
       IsRefused session Place Over

@@ -14,6 +14,8 @@ use Rattle.rbg_ask.specs.declared.standing.Standing.TheVariants.{ToMove, Finishe
 --   moves: some legal moves, and whether they are cut: there are more.
 --   to_move: the player who is to move.
 --   finished: nobody is, and these are the scores.
+--   state: how many legal moves there are, the key, how play stands, the pieces and what the variables hold.
+--   key: the key of the place.
 --   values: what the variables hold.
 --   board: the pieces on the vertices.
 --   names: the names of the players, of the pieces and of the variables.
@@ -23,6 +25,8 @@ pub data Answer : Type 0 where
   moves : (all : List (List (ℕ × ℕ))) → (cut : Bool) → Answer
   to_move : (player : ℕ) → Answer
   finished : (scores : List ℕ) → Answer
+  state : (count number : ℕ) → (standing : Answer) → (pieces numbers : List ℕ) → Answer
+  key : ℕ → Answer
   values board : List ℕ → Answer
   names : (players pieces variables : List (List ℕ)) → Answer
   by_chance : (matches : ℕ) → (counted : List Counted) → Answer
@@ -59,6 +63,12 @@ answer_text (moves all cut) =
     line_of (codes "moves " ++ decimal (length all) ++ cut_text cut) ++ flat_map (λ pairs. line_of (pairs_text pairs)) all
 answer_text (to_move player) = line_of (codes "player " ++ decimal player)
 answer_text (finished scores) = line_of (codes "finished" ++ numbers_text scores)
+answer_text (state count number standing pieces numbers) =
+    line_of (codes "state " ++ decimal count ++ codes " " ++ decimal number)
+    ++ answer_text standing
+    ++ line_of (codes "board" ++ numbers_text pieces)
+    ++ line_of (codes "values" ++ numbers_text numbers)
+answer_text (key number) = line_of (codes "key " ++ decimal number)
 answer_text (values numbers) = line_of (codes "values" ++ numbers_text numbers)
 answer_text (board pieces) = line_of (codes "board" ++ numbers_text pieces)
 answer_text (names players pieces variables) =

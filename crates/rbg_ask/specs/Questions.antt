@@ -3,7 +3,7 @@ use Rattle.std.specs.Prelude.{◌≡◌, ℕ, ◌≤◌, List, ◌++◌, length,
 use Rattle.rbg_base.specs.Move.{most_pairs}
 use Rattle.rbg_wire.specs.Messages.{ArePairs, pairs_text}
 use Rattle.rbg_ask.specs.declared.question.Question.{Question}
-use Rattle.rbg_ask.specs.declared.question.Question.TheVariants.{Moves, Make, Back, Place, Values, Board, Names, Random, Quit}
+use Rattle.rbg_ask.specs.declared.question.Question.TheVariants.{Moves, Make, Back, Heard, Place, State, Key, Values, Board, Names, Random, Quit}
 use Rattle.rbg_ask.specs.Limits.{IsCount, IsSeed}
 
 -- the words of a question, with a space between them
@@ -13,7 +13,10 @@ question_text (Moves (Some max)) = codes "moves " ++ decimal max
 question_text (Make pairs) = codes "make " ++ pairs_text pairs
 question_text (Back None) = codes "back"
 question_text (Back (Some moves)) = codes "back " ++ decimal moves
+question_text (Heard pairs) = codes "heard " ++ pairs_text pairs
 question_text Place = codes "place"
+question_text State = codes "state"
+question_text Key = codes "key"
 question_text Values = codes "values"
 question_text Board = codes "board"
 question_text Names = codes "names"
@@ -26,10 +29,13 @@ abbrev pub QuestionHasSpelling : Question → Type 0
 QuestionHasSpelling (Moves (Some max)) = IsCount max
 QuestionHasSpelling (Make pairs) = ArePairs pairs × (length pairs ≤ most_pairs)
 QuestionHasSpelling (Back (Some moves)) = IsCount moves
+QuestionHasSpelling (Heard pairs) = ArePairs pairs × (length pairs ≤ most_pairs)
 QuestionHasSpelling (Random seed count) = IsSeed seed × IsCount count
 QuestionHasSpelling (Moves None) = Unit {0}
 QuestionHasSpelling (Back None) = Unit {0}
 QuestionHasSpelling Place = Unit {0}
+QuestionHasSpelling State = Unit {0}
+QuestionHasSpelling Key = Unit {0}
 QuestionHasSpelling Values = Unit {0}
 QuestionHasSpelling Board = Unit {0}
 QuestionHasSpelling Names = Unit {0}

@@ -2,6 +2,7 @@
 pub mod Codes
 pub mod Counting
 pub mod Moving
+pub mod Ordering
 pub mod Places
 pub mod Reading
 pub mod Refusing

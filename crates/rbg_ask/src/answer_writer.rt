@@ -4,19 +4,19 @@ ghost use Rattle.std.specs.List.{flat_map};
 ghost use Rattle.rbg_wire.specs.Lines.{line_of};
 ghost use Rattle.rbg_wire.specs.Messages.{pairs_text};
 ghost use Rattle.rbg_wire.specs.Writing.{Appends, AppendsAll};
-ghost use Rattle.rbg_ask.specs.Answers.{moves as moves_answer, values as values_answer, board as board_answer, by_chance, answer_text, counted_text, cut_text, ending_text, numbers_text, refusal_text, standing_answer};
+ghost use Rattle.rbg_ask.specs.Answers.{moves as moves_answer, state as state_answer, key as key_answer, values as values_answer, board as board_answer, by_chance, answer_text, counted_text, cut_text, ending_text, numbers_text, refusal_text, standing_answer};
 ghost use Rattle.rbg_ask.specs.Chance.{counted_by, scores_of};
 
 use crate::refusal::Refusal;
 use crate::standing::Standing;
 use crate::tally::{Ending, Tally};
-use rbg_base::{Memory, Move, Piece};
+use rbg_base::{Memory, Pair, Piece};
 use rbg_wire::{all_or_nothing, put_number, write_number, write_pairs};
 
 /// Appends the lines of legal moves. On an error the bytes are unchanged.
-pub fn write_moves(moves: &[Move], cut: bool, out: &mut Vec<u8>) -> Result<(), Memory>
+pub fn write_moves(moves: &[&[Pair]], cut: bool, out: &mut Vec<u8>) -> Result<(), Memory>
     ensures { AppendsAll out.old.items out.new.items
-        (answer_text (moves_answer moves.now cut)) result }
+        (answer_text (moves_answer (map (λ m. m.now) moves.now) cut)) result }
 {
     let len = out.len();
     let written = put_moves(moves, cut, out);
@@ -29,6 +29,33 @@ pub fn write_standing(standing: &Standing, out: &mut Vec<u8>) -> Result<(), Memo
 {
     let len = out.len();
     let written = put_standing(standing, out);
+    all_or_nothing(written, len, out)
+}
+
+/// Appends the lines of all that is told of a place. On an error the bytes are unchanged.
+pub fn write_state(
+    count: u64,
+    key: u64,
+    standing: &Standing,
+    pieces: &[Piece],
+    values: &[u32],
+    out: &mut Vec<u8>,
+) -> Result<(), Memory>
+    ensures { AppendsAll out.old.items out.new.items
+        (answer_text (state_answer count key (standing_answer standing.now) pieces.now values.now))
+        result }
+{
+    let len = out.len();
+    let written = put_state(count, key, standing, pieces, values, out);
+    all_or_nothing(written, len, out)
+}
+
+/// Appends the line of a key. On an error the bytes are unchanged.
+pub fn write_key(key: u64, out: &mut Vec<u8>) -> Result<(), Memory>
+    ensures { AppendsAll out.old.items out.new.items (answer_text (key_answer key)) result }
+{
+    let len = out.len();
+    let written = put_key(key, out);
     all_or_nothing(written, len, out)
 }
 
@@ -79,8 +106,9 @@ pub fn write_refusal(refusal: Refusal, out: &mut Vec<u8>) -> Result<(), Memory>
 }
 
 #[tactic(auto, unfolding(crate::specs::Answers::answer_text))]
-fn put_moves(moves: &[Move], cut: bool, out: &mut Vec<u8>) -> Result<(), Memory>
-    ensures { Appends out.old.items out.new.items (answer_text (moves_answer moves.now cut)) result }
+fn put_moves(moves: &[&[Pair]], cut: bool, out: &mut Vec<u8>) -> Result<(), Memory>
+    ensures { Appends out.old.items out.new.items
+        (answer_text (moves_answer (map (λ m. m.now) moves.now) cut)) result }
 {
     put_number(b"moves ", moves.len() as u64, out)?;
     put_cut(cut, out)?;
@@ -98,9 +126,16 @@ fn put_cut(cut: bool, out: &mut Vec<u8>) -> Result<(), Memory>
     }
 }
 
-fn put_move_lines(moves: &[Move], out: &mut Vec<u8>) -> Result<(), Memory>
+fn put_move_lines(moves: &[&[Pair]], out: &mut Vec<u8>) -> Result<(), Memory>
     ensures { Appends out.old.items out.new.items (flat_map (λ pairs.
-        line_of (pairs_text pairs)) moves.now) result }
+        line_of (pairs_text pairs)) (map (λ m. m.now) moves.now)) result }
+{
+    put_lent_lines(moves, out)
+}
+
+fn put_lent_lines(moves: &[&[Pair]], out: &mut Vec<u8>) -> Result<(), Memory>
+    ensures { Appends out.old.items out.new.items (flat_map (λ m.
+        line_of (pairs_text m.now)) moves.now) result }
 {
     for pairs in moves {
         put_move_line(pairs, out)?;
@@ -108,10 +143,10 @@ fn put_move_lines(moves: &[Move], out: &mut Vec<u8>) -> Result<(), Memory>
     Ok(())
 }
 
-fn put_move_line(pairs: &Move, out: &mut Vec<u8>) -> Result<(), Memory>
+fn put_move_line(pairs: &[Pair], out: &mut Vec<u8>) -> Result<(), Memory>
     ensures { Appends out.old.items out.new.items (line_of (pairs_text pairs.now)) result }
 {
-    write_pairs(pairs.as_slice(), out)?;
+    write_pairs(pairs, out)?;
     out.extend_from_slice(b"\n")
 }
 
@@ -141,6 +176,43 @@ pub fn put_scores(scores: &[u64], out: &mut Vec<u8>) -> Result<(), Memory>
         put_number(b" ", *score, out)?;
     }
     Ok(())
+}
+
+#[tactic(auto, unfolding(crate::specs::Answers::answer_text))]
+fn put_state(
+    count: u64,
+    key: u64,
+    standing: &Standing,
+    pieces: &[Piece],
+    values: &[u32],
+    out: &mut Vec<u8>,
+) -> Result<(), Memory>
+    ensures { Appends out.old.items out.new.items
+        (answer_text (state_answer count key (standing_answer standing.now) pieces.now values.now))
+        result }
+{
+    put_state_head(count, key, out)?;
+    put_standing(standing, out)?;
+    put_board(pieces, out)?;
+    put_values(values, out)
+}
+
+/// Appends the first line of all that is told of a place.
+fn put_state_head(count: u64, key: u64, out: &mut Vec<u8>) -> Result<(), Memory>
+    ensures { Appends out.old.items out.new.items
+        (line_of (codes "state " ++ decimal count ++ codes " " ++ decimal key)) result }
+{
+    put_number(b"state ", count, out)?;
+    put_number(b" ", key, out)?;
+    out.extend_from_slice(b"\n")
+}
+
+#[tactic(auto, unfolding(crate::specs::Answers::answer_text))]
+fn put_key(key: u64, out: &mut Vec<u8>) -> Result<(), Memory>
+    ensures { Appends out.old.items out.new.items (answer_text (key_answer key)) result }
+{
+    put_number(b"key ", key, out)?;
+    out.extend_from_slice(b"\n")
 }
 
 #[tactic(auto, unfolding(crate::specs::Answers::answer_text))]

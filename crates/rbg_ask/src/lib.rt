@@ -4,7 +4,9 @@
 
 mod answer_writer;
 mod chance;
+mod keys;
 mod names_writer;
+mod ordering;
 mod question;
 mod question_reader;
 mod refusal;

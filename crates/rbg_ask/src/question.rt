@@ -14,8 +14,15 @@ pub enum Question {
     Make { pairs: Move },
     /// `back` or `back <moves>`: undoes the last move, or the last so many, with the keeper's moves behind each.
     Back { moves: Option<u64> },
+    /// `heard <pairs>`: a move as a referee passes it on, the keeper's too. From there on the session stands where the moves
+    /// that were heard lead.
+    Heard { pairs: Move },
     /// `place`: who is to move, or that play is finished.
     Place,
+    /// `state`: the number of legal moves, the key, who is to move or the scores, the board and the values.
+    State,
+    /// `key`: a number that is the same for equal places.
+    Key,
     /// `values`: what the variables hold.
     Values,
     /// `board`: the pieces on the vertices.

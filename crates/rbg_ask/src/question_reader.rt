@@ -42,6 +42,9 @@ pub fn read_question(line: &[u8]) -> Option<Question>
             count: chance.count,
         });
     }
+    if let Some(pairs) = pairs_behind(b"heard ", line) {
+        return Some(Question::Heard { pairs });
+    }
     let pairs = pairs_behind(b"make ", line)?;
     Some(Question::Make { pairs })
 }
@@ -61,6 +64,10 @@ fn plain_question(line: &[u8]) -> Option<Question>
         Some(Question::Back { moves: None })
     } else if line == b"place".as_slice() {
         Some(Question::Place)
+    } else if line == b"state".as_slice() {
+        Some(Question::State)
+    } else if line == b"key".as_slice() {
+        Some(Question::Key)
     } else if line == b"values".as_slice() {
         Some(Question::Values)
     } else if line == b"board".as_slice() {

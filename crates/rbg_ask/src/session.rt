@@ -9,20 +9,24 @@ ghost use Rattle.rbg_ask.specs.Limits.{longest_line};
 ghost use Rattle.rbg_ask.specs.Questions.{QuestionHasSpelling};
 ghost use Rattle.rbg_ask.specs.Sessions.{AbstractSession, HasLedTo, beginning_of};
 ghost use Rattle.rbg_ask.specs.internal.Codes.{coded_session};
-ghost use Rattle.rbg_ask.specs.internal.Places.{AreReached};
+ghost use Rattle.rbg_ask.specs.internal.Places.{AreReached, IsHeardPlace};
 ghost use Rattle.rbg_ask.specs.internal.Telling.{Tells};
 
 use crate::answer_writer::{
-    write_board, write_matches, write_moves, write_refusal, write_standing, write_values,
+    write_board, write_key, write_matches, write_refusal, write_standing, write_state, write_values,
 };
 use crate::chance::play_matches;
+use crate::keys::key_at;
 use crate::names_writer::write_names;
+use crate::ordering::write_in_order;
 use crate::question::Question;
 use crate::question_reader::read_question;
 use crate::refusal::Refusal;
 use crate::standing::Standing;
-use crate::stepping::{lead, pieces_at, standing_at, values_at};
-use rbg_base::{Memory, Move, Player};
+use crate::stepping::{
+    count_at, follow, lead, moves_at, pieces_at, standing_at, standing_of, values_at,
+};
+use rbg_base::{Memory, Move, MoveList, Player};
 use rbg_moves::{Place, PlayedGame, Unsettled, Workspace};
 use rbg_rules::Game;
 use std::alloc::Global;
@@ -32,10 +36,12 @@ use std::mem::replace;
 /// The most bytes of a line that is read as a question.
 pub const MAX_LINE: usize = 4096;
 
-/// The places that play has reached, from the start on. Contracts see the game, the last place and those before it.
+/// The places that play has reached, from the start on or from the place that was heard of last. Contracts see the game,
+/// that place, the last place and those before it.
 pub struct Session {
     alloc: Global,
     game: PlayedGame,
+    heard: Place,
     before: Vec<Place>,
     place: Place,
     workspace: Workspace,
@@ -46,9 +52,9 @@ impl Model for Session {
 
     ghost coded = { coded_session };
 
-    ghost view = { λ s. record { game = s.game; before = s.before.items; place = s.place } };
+    ghost view = { λ s. record { game = s.game; heard = s.heard; before = s.before.items; place = s.place } };
 
-    ghost invariant = { λ s. AreReached s.game s.before.items s.place };
+    ghost invariant = { λ s. AreReached s.game s.before.items s.place × IsHeardPlace s.game s.heard };
 }
 
 /// Written out, so that letting a session go is one call in the proofs of those who hold one, not a step for each part.
@@ -57,6 +63,7 @@ impl Drop for Session {
         let Session {
             alloc: _,
             game: _,
+            heard: _,
             before: _,
             place: _,
             workspace: _,
@@ -80,6 +87,7 @@ impl Session {
     /// A session at the place to which the keeper's first moves lead.
     pub fn new(alloc: Global, game: Game) -> Result<Session, Unsettled>
         ensures game { IfOk result (λ session. session.game ≡ game) }
+        ensures heard { IfOk result (λ session. session.heard ≡ beginning_of game) }
         ensures before { IfOk result (λ session. session.before ≡ []) }
         ensures place { IfOk result (λ session.
             Settles game (beginning_of game) session.place) }
@@ -88,10 +96,12 @@ impl Session {
     {
         let game = PlayedGame::new(alloc, game)?;
         let mut workspace = Workspace::new(alloc);
+        let heard = game.start()?;
         let place = first_place(&game, &mut workspace)?;
         Ok(Session {
             alloc,
             game,
+            heard,
             before: Vec::new(alloc),
             place,
             workspace,
@@ -150,7 +160,10 @@ impl Session {
             Question::Moves { max } => self.list_moves(*max, out),
             Question::Make { pairs } => self.make(pairs, out),
             Question::Back { moves } => self.go_back(*moves, out),
+            Question::Heard { pairs } => self.hear_move(pairs, out),
             Question::Place => self.tell_place(out),
+            Question::State => self.tell_state(out),
+            Question::Key => self.tell_key(out),
             Question::Values => self.tell_values(out),
             Question::Board => self.tell_board(out),
             Question::Names => self.tell_names(out),
@@ -161,13 +174,18 @@ impl Session {
 
     /// Lists the legal moves: so many of them, or all.
     #[tactic(auto, using(crate::proofs::OutOfMemory::memory_refused))]
-    fn list_moves(&self, max: Option<u64>, out: &mut Vec<u8>) -> Result<(), Refusal>
+    fn list_moves(&mut self, max: Option<u64>, out: &mut Vec<u8>) -> Result<(), Refusal>
         requires { QuestionHasSpelling (questions.Moves max) }
-        ensures { Tells self.now (questions.Moves max) out.old.items out.new.items result }
+        ensures answers { OnOk result (AnswersIn self.old (questions.Moves max) self.new
+            out.old.items out.new.items) }
+        ensures refused { IfErr result (IsRefused self.old (questions.Moves max)) }
+        ensures kept { self.new ≡ self.old }
+        ensures out { OnErr result (out.new.items ≡ out.old.items) }
     {
-        let listed = self.game.list_moves(&self.place, limit_of(max))?;
-        is_in_memory(&listed.moves);
-        write_moves(listed.moves.as_slice(), listed.cut, out)?;
+        let gathered = moves_at(&self.game, &self.place, limit_of(max), &mut self.workspace)?;
+        is_in_memory(&gathered.moves);
+        write_in_order(self.alloc, &gathered.moves, gathered.cut, out)?;
+        self.workspace.keep_moves(gathered.moves);
         Ok(())
     }
 
@@ -185,6 +203,25 @@ impl Session {
         self.before.reserve(1)?;
         write_standing(&standing, out)?;
         self.before.push_reserved(replace(&mut self.place, to));
+        Ok(())
+    }
+
+    /// Hears a move, and stands where it leads.
+    #[tactic(auto, using(crate::proofs::OutOfMemory::memory_refused))]
+    fn hear_move(&mut self, pairs: &Move, out: &mut Vec<u8>) -> Result<(), Refusal>
+        ensures answers { OnOk result (AnswersIn self.old (questions.Heard pairs.now) self.new
+            out.old.items out.new.items) }
+        ensures refused { IfErr result (IsRefused self.old (questions.Heard pairs.now)) }
+        ensures kept { OnErr result (self.new ≡ self.old) }
+        ensures out { OnErr result (out.new.items ≡ out.old.items) }
+    {
+        let heard = follow(&self.game, &self.heard, pairs, &mut self.workspace)?;
+        let standing = standing_at(&self.game, &heard, &mut self.workspace)?;
+        let place = self.workspace.copy_of(&heard)?;
+        write_standing(&standing, out)?;
+        self.before.clear();
+        self.workspace.keep(replace(&mut self.heard, heard));
+        self.workspace.keep(replace(&mut self.place, place));
         Ok(())
     }
 
@@ -252,6 +289,32 @@ impl Session {
     {
         let standing = standing_at(&self.game, &self.place, &mut self.workspace)?;
         write_standing(&standing, out)?;
+        Ok(())
+    }
+
+    #[tactic(auto, using(crate::proofs::OutOfMemory::memory_refused))]
+    fn tell_state(&mut self, out: &mut Vec<u8>) -> Result<(), Refusal>
+        ensures answers { OnOk result (AnswersIn self.old questions.State self.new out.old.items
+            out.new.items) }
+        ensures refused { IfErr result (IsRefused self.old questions.State) }
+        ensures kept { self.new ≡ self.old }
+        ensures out { OnErr result (out.new.items ≡ out.old.items) }
+    {
+        let count = count_at(&self.game, &self.place, &mut self.workspace)?;
+        let standing = standing_of(&self.game, &self.place, count);
+        let values = values_at(self.alloc, &self.game, &self.place)?;
+        let held = values.as_slice();
+        let key = key_at(&self.place, held);
+        write_state(count, key, &standing, pieces_at(&self.place), held, out)?;
+        Ok(())
+    }
+
+    #[tactic(auto, using(crate::proofs::OutOfMemory::memory_refused))]
+    fn tell_key(&self, out: &mut Vec<u8>) -> Result<(), Refusal>
+        ensures { Tells self.now questions.Key out.old.items out.new.items result }
+    {
+        let values = values_at(self.alloc, &self.game, &self.place)?;
+        write_key(key_at(&self.place, values.as_slice()), out)?;
         Ok(())
     }
 
@@ -337,8 +400,8 @@ fn limit_of(max: Option<u64>) -> usize
 
 /// For proofs alone: no list in memory is so long that it is cut at the greatest length. It does nothing.
 #[inline(always)]
-fn is_in_memory(moves: &Vec<Move>)
-    ensures { length moves.now.items < 2 ^ 63 }
+fn is_in_memory(moves: &MoveList)
+    ensures { length moves.now < 2 ^ 63 }
 {
     let _count = moves.len();
 }

@@ -1,15 +1,16 @@
 //! From one place of a session to the next, and how play stands there.
-ghost use Rattle.std.specs.Prelude.{◌≡◌, IfErr, IfOk};
-ghost use Rattle.rbg_rules.specs.Meaning.{IsPlaceOf};
+ghost use Rattle.std.specs.Prelude.{◌≡◌, ◌<◌, IfErr, IfOk};
+ghost use Rattle.rbg_rules.specs.Meaning.{IsPlaceOf, Legal};
+ghost use Rattle.rbg_moves.specs.Listing.{IsGathered};
 ghost use Rattle.rbg_ask.specs.Answers.{standing_answer};
-ghost use Rattle.rbg_ask.specs.Answering.{StandsAt};
+ghost use Rattle.rbg_ask.specs.Answering.{HasMoves, StandsAt};
 ghost use Rattle.rbg_ask.specs.Sessions.{Leads};
-ghost use Rattle.rbg_ask.specs.internal.Places.{IsUnmade, IsUntold};
+ghost use Rattle.rbg_ask.specs.internal.Places.{IsUnfollowed, IsUnlisted, IsUnmade, IsUntold};
 
 use crate::refusal::Refusal;
 use crate::standing::Standing;
 use rbg_base::{Memory, Move, Piece, Variable};
-use rbg_moves::{Place, PlayedGame, Workspace};
+use rbg_moves::{Gathered, Place, PlayedGame, Workspace};
 use std::alloc::Global;
 
 /// The place to which a move leads with the keeper's moves behind it.
@@ -29,6 +30,75 @@ pub(crate) fn lead(
     };
     game.settle(&mut to, workspace)?;
     Ok(to)
+}
+
+/// The place to which a move leads that was heard.
+pub(crate) fn follow(
+    game: &PlayedGame,
+    place: &Place,
+    pairs: &Move,
+    workspace: &mut Workspace,
+) -> Result<Place, Refusal>
+    requires { IsPlaceOf game.now place.now }
+    ensures legal { IfOk result (Legal game.now place.now pairs.now) }
+    ensures in_game { IfOk result (IsPlaceOf game.now) }
+    ensures unfollowed { IfErr result (IsUnfollowed game.now place.now pairs.now) }
+{
+    let Some(to) = game.try_move(place, pairs, workspace)? else {
+        return Err(Refusal::Illegal);
+    };
+    Ok(to)
+}
+
+/// The legal moves of a place, at most `max` of them, in a list that `Workspace::keep_moves` takes back.
+pub(crate) fn moves_at(
+    game: &PlayedGame,
+    place: &Place,
+    max: usize,
+    workspace: &mut Workspace,
+) -> Result<Gathered, Refusal>
+    requires place { IsPlaceOf game.now place.now }
+    requires some { 0 < max }
+    ensures gathered { IfOk result (λ gathered.
+        IsGathered game.now place.now max gathered.moves gathered.cut) }
+    ensures unlisted { IfErr result (IsUnlisted game.now place.now) }
+{
+    let mut lent = workspace.copy_of(place)?;
+    let gathered = game.gather_moves(&mut lent, max, workspace)?;
+    workspace.keep(lent);
+    Ok(gathered)
+}
+
+/// How many legal moves a place has.
+pub(crate) fn count_at(
+    game: &PlayedGame,
+    place: &Place,
+    workspace: &mut Workspace,
+) -> Result<u64, Refusal>
+    requires { IsPlaceOf game.now place.now }
+    ensures count { IfOk result (HasMoves game.now place.now) }
+    ensures unlisted { IfErr result (IsUnlisted game.now place.now) }
+{
+    let gathered = moves_at(game, place, usize::MAX, workspace)?;
+    let count = gathered.moves.len() as u64;
+    workspace.keep_moves(gathered.moves);
+    Ok(count)
+}
+
+/// How play stands at a place that has so many legal moves.
+pub(crate) fn standing_of(game: &PlayedGame, place: &Place, count: u64) -> Standing
+    requires place { IsPlaceOf game.now place.now }
+    requires count { HasMoves game.now place.now count }
+    ensures { StandsAt game.now place.now (standing_answer result) }
+{
+    if count == 0 {
+        return Standing::Finished {
+            scores: game.scores(place),
+        };
+    }
+    Standing::ToMove {
+        player: place.state.player(),
+    }
 }
 
 /// How play stands at a place.

@@ -1,12 +1,16 @@
 //! The program for authors of games: why a description is refused, what its game has, how many sequences of moves, how
-//! matches by chance end, how the board looks after each move of a match, the page of a match, and the description of a
-//! place.
+//! matches by chance end, how the board looks after each move of a match, the page of a match, the description of a
+//! place, and a page on which a game is played.
 #![tactic(auto)]
 
 mod explain;
 mod listing;
+mod lsp;
+mod moves;
+mod opening;
 mod page;
 mod perft;
+mod play;
 mod playouts;
 mod position;
 mod program;
@@ -14,5 +18,6 @@ mod reading;
 mod report;
 mod show;
 
+pub use play::{AuthorReader, Play, play_of};
 pub use program::run;
 pub use report::{Report, print};

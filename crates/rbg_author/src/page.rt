@@ -3,6 +3,7 @@
 use crate::reading::{Read, load_text, read_text, unreadable};
 use crate::report::Report;
 use rbg_console::{Files, Input, Status, read_record_input};
+use rbg_drawing::push_game;
 use rbg_game::LoadedGame;
 use rbg_moves::PlayedGame;
 use rbg_page::{PageError, page};
@@ -35,7 +36,11 @@ fn page_texts(
     record: Option<Vec<u8>>,
 ) -> Result<Report, AllocError> {
     match load_text(alloc, file, text)? {
-        Read::Found(loaded) => page_record(alloc, loaded, record),
+        Read::Found(loaded) => {
+            let mut described = Vec::new(alloc);
+            push_game(&loaded, 1, file, text, &mut described)?;
+            page_record(alloc, loaded, &described, record)
+        }
         Read::Other(report) => Ok(report),
     }
 }
@@ -43,6 +48,7 @@ fn page_texts(
 fn page_record(
     alloc: Global,
     loaded: LoadedGame,
+    described: &[u8],
     record: Option<Vec<u8>>,
 ) -> Result<Report, AllocError> {
     let Some(record) = record else {
@@ -50,7 +56,7 @@ fn page_record(
     };
     let LoadedGame { game, layout } = loaded;
     let game = PlayedGame::new(alloc, game)?;
-    match page(alloc, &game, &layout, &record) {
+    match page(alloc, &game, &layout, described, &record) {
         Ok(text) => Ok(Report {
             text,
             status: Status::Success,

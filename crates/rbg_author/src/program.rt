@@ -2,8 +2,11 @@
 ghost use Rattle.rbg_ask.specs.Limits.{IsCount};
 
 use crate::explain::{Lists, check_file, explain_file};
+use crate::lsp::serve_editor;
+use crate::moves::moves_file;
 use crate::page::page_file;
 use crate::perft::perft;
+use crate::play::no_network;
 use crate::playouts::playouts_file;
 use crate::position::position_file;
 use crate::reading::{Read, read_game};
@@ -67,8 +70,15 @@ fn answer<F: Files, R: io::Read, W: Write>(
             let only_last = words.get_flag("last");
             show_file(alloc, files, file_of(words), input, only_last)
         }
-        Some(("check", words)) => check_file(alloc, files, file_of(words)),
+        Some(("check" | "lint", words)) => {
+            let strict = words.get_flag("strict");
+            check_file(alloc, files, input, file_of(words), strict)
+        }
+        Some(("lsp", _)) => serve_editor(alloc, files, input, output),
         Some(("page", words)) => page_file(alloc, files, file_of(words), input),
+        Some(("moves", words)) => moves_file(alloc, files, file_of(words), words.get_str("RECORD")),
+        // (the program serves it before it comes here)
+        Some(("play", _)) => no_network(alloc),
         Some(("position", words)) => {
             let record = words.get_str("RECORD").unwrap_or("");
             position_file(alloc, files, file_of(words), record)
@@ -77,10 +87,11 @@ fn answer<F: Files, R: io::Read, W: Write>(
             let lists = Lists {
                 vertices: words.get_flag("vertices"),
                 positions: words.get_flag("positions"),
+                is_for_tools: words.get_flag("json"),
             };
-            explain_file(alloc, files, file_of(words), lists)
+            explain_file(alloc, files, input, file_of(words), lists)
         }
-        None => check_file(alloc, files, ""),
+        None => check_file(alloc, files, input, "", false),
     }
 }
 
@@ -101,7 +112,7 @@ fn perft_of<F: Files, W: Write>(
 }
 
 /// The file that words name.
-fn file_of<'a>(words: &ArgMatches<'a>) -> &'a str {
+pub(crate) fn file_of<'a>(words: &ArgMatches<'a>) -> &'a str {
     words.get_str("FILE").unwrap_or("")
 }
 
@@ -116,13 +127,32 @@ fn count_of(words: &ArgMatches<'_>) -> u64
     }
 }
 
+/// The file of a game, or the standard input.
+const GAME_OR_INPUT: Argument = Argument {
+    name: "FILE",
+    kind: Kind::Needed,
+    value: Value::Text,
+    help: "The description of a game, `-` for standard input",
+};
+
+/// The arguments of `check`.
+const CHECK: &[Argument] = &[
+    GAME_OR_INPUT,
+    Argument {
+        name: "strict",
+        kind: Kind::Flag(None),
+        value: Value::Text,
+        help: "Ends with status 2 where there are warnings",
+    },
+];
+
 /// The commands, in the order in which help lists them.
 const COMMANDS: &[CommandWords] = &[
     CommandWords {
         name: "explain",
         about: "Says why the description is refused, and where, or what its game has",
         arguments: &[
-            GAME,
+            GAME_OR_INPUT,
             Argument {
                 name: "vertices",
                 kind: Kind::Flag(None),
@@ -135,12 +165,23 @@ const COMMANDS: &[CommandWords] = &[
                 value: Value::Text,
                 help: "Lists each position too, with its place and its action",
             },
+            Argument {
+                name: "json",
+                kind: Kind::Flag(None),
+                value: Value::Text,
+                help: "Lists the faults, or the warnings of the game, in JSON",
+            },
         ],
     },
     CommandWords {
         name: "check",
-        about: "Warns of what the rules never use, and of numbers above a bound",
-        arguments: &[GAME],
+        about: "Warns of what is probably not meant in the description",
+        arguments: CHECK,
+    },
+    CommandWords {
+        name: "lint",
+        about: "The same as check",
+        arguments: CHECK,
     },
     CommandWords {
         name: "perft",
@@ -181,6 +222,19 @@ const COMMANDS: &[CommandWords] = &[
         ],
     },
     CommandWords {
+        name: "moves",
+        about: "Lists the legal moves by what they change, with their pairs, of the opening or after a record",
+        arguments: &[
+            GAME,
+            Argument {
+                name: "RECORD",
+                kind: Kind::Free,
+                value: Value::Text,
+                help: "A record of a match",
+            },
+        ],
+    },
+    CommandWords {
         name: "show",
         about: "Shows the moves that standard input lists as pairs, a script or a record, and each board",
         arguments: &[
@@ -199,13 +253,31 @@ const COMMANDS: &[CommandWords] = &[
         arguments: &[GAME],
     },
     CommandWords {
+        name: "play",
+        about: "Serves a page on which the game is played by hand in a browser, and prints its link",
+        arguments: &[
+            GAME,
+            Argument {
+                name: "port",
+                kind: Kind::Named("PORT", None),
+                value: Value::Port,
+                help: "The port of 127.0.0.1 [default: one that is free]",
+            },
+        ],
+    },
+    CommandWords {
         name: "position",
         about: "Prints the description with the board as it stands after the moves of a record, or says why not",
         arguments: &[GAME, RECORD],
     },
+    CommandWords {
+        name: "lsp",
+        about: "Serves an editor by the Language Server Protocol, on standard input and output",
+        arguments: &[],
+    },
 ];
 
-fn author_command<'a>(alloc: Global) -> Result<Command<'a>, AllocError> {
+pub(crate) fn author_command<'a>(alloc: Global) -> Result<Command<'a>, AllocError> {
     let program = Command::new(alloc, "rbg_author")
         .version("0.1.0")
         .about("Help for authors of games of Regular Boardgames")

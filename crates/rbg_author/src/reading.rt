@@ -1,11 +1,12 @@
 //! The text of a file and the game that it describes, or what is said of the file.
 
 use crate::report::Report;
-use rbg_console::{Files, Input, Status};
+use rbg_console::{Files, Input, Status, read_input};
 use rbg_explain::explain;
 use rbg_game::{LoadError, LoadedGame, load_with_layout};
 use rbg_tokens::{MAX_TEXT, TextError, Tokens, tokens};
 use std::alloc::{AllocError, Global};
+use std::io;
 
 /// What was read, or what is said where it can't be had.
 #[derive(Drop)]
@@ -62,13 +63,31 @@ pub(crate) fn load_with_tokens<'t>(
     Ok(Read::Other(refused?))
 }
 
+/// Reads the text of a file, or standard input for `-`.
+pub(crate) fn read_source<F: Files, R: io::Read>(
+    alloc: Global,
+    files: &mut F,
+    input: &mut R,
+    file: &str,
+) -> Result<Read<Vec<u8>>, AllocError> {
+    if file == "-" {
+        return text_of(alloc, file, read_input(alloc, input, MAX_TEXT)?);
+    }
+    read_text(alloc, files, file)
+}
+
 /// Reads the text of a file, if it is no longer than a description may be.
 pub(crate) fn read_text<F: Files>(
     alloc: Global,
     files: &mut F,
     file: &str,
 ) -> Result<Read<Vec<u8>>, AllocError> {
-    match files.read_file(alloc, file, MAX_TEXT)? {
+    text_of(alloc, file, files.read_file(alloc, file, MAX_TEXT)?)
+}
+
+/// The text that was read, or what is said of the file.
+fn text_of(alloc: Global, file: &str, read: Input) -> Result<Read<Vec<u8>>, AllocError> {
+    match read {
         Input::Whole(text) => Ok(Read::Found(text)),
         Input::TooLong => {
             let error = LoadError::Text(TextError::TooLong);

@@ -8,7 +8,7 @@
 //! | `words WORD ..` | the words of the case's command line, with single spaces between them |
 //! | `author` | the case runs `rbg_author`, else it runs `rbg` |
 //! | `news` | what the case tells on standard error is shown too, each line behind `news: ` |
-//! | `logs` | what the logs of the case hold is shown too, each line behind `log: `; a new log is full at 1,000 bytes |
+//! | `logs` | what the logs of the case hold is shown too, each line behind `log: `, with their game files and the records that are kept, behind `game: ` and the record's name; a new log is full at 1,000 bytes |
 //! | `sent` | what each connection of the case was sent is shown too, each line behind `sent NUMBER: `; a zero byte, which ends a line too, is shown as `\0` |
 //! | `clock MOMENT ..` | each clock of the case tells these moments, with single spaces between them, and then the last one again and again; without this line it tells 0 |
 //! | `last COUNT` | of what the case prints only this many lines are shown, the last ones |
@@ -16,7 +16,7 @@
 //! | `input fails` | behind its bytes the case's standard input fails |
 //! | `output fails` | what the case prints can't be written |
 //! | `made NAME` | the bytes of a file that the case has made are shown too, behind a line `made NAME` |
-//! | `file NAME` | a file of the case begins; what follows is its bytes |
+//! | `file NAME` | a file of the case begins; what follows is its bytes. Where there is one NAME.held, another process holds the log NAME |
 //! | `no memory for NAME` | where the case reads this file, memory is refused |
 //! | `stream` | what comes over a connection of the case begins; what follows is its bytes, and then nothing comes |
 //! | `stream that ends` | the same, but behind its bytes the stream ends |

@@ -1,7 +1,7 @@
 //! A network in memory. A stream never waits.
 
 use crate::cases::{Stream, Text, bytes_named};
-use rbg_program::{Clock, Log, LogFailure, Network, News};
+use rbg_program::{Clock, Log, LogFailure, Network, News, Pause};
 use std::alloc::{AllocError, Global};
 use std::cell::RefCell;
 use std::io::{self, ErrorKind, Read, Write};
@@ -34,6 +34,10 @@ pub struct MemoryNetwork<'a> {
     files: &'a [Text<'a>],
     /// The logs, in the order in which they were begun.
     logs: Vec<Channel>,
+    /// The game files that were written, one after the other.
+    games: Vec<u8>,
+    /// The records that were kept, each line behind the name of its file.
+    kept: Vec<u8>,
     /// What the streams of the case were sent, in the order in which they were connected.
     sent: Vec<Channel>,
     /// What each clock tells, one after the other.
@@ -57,6 +61,8 @@ impl<'a> MemoryNetwork<'a> {
             told: Vec::new(alloc),
             files,
             logs: Vec::new(alloc),
+            games: Vec::new(alloc),
+            kept: Vec::new(alloc),
             sent: Vec::new(alloc),
             moments,
         }
@@ -67,14 +73,26 @@ impl<'a> MemoryNetwork<'a> {
         self.told.as_slice()
     }
 
-    /// Appends what the logs hold, each line behind `log: `.
+    /// Appends what the game files, the logs and the records hold, each line behind `game: `, `log: ` or the record's name.
     pub fn add_logs(&self, output: &mut Vec<u8>) -> Result<(), AllocError> {
+        push_lines(b"game: ", self.games.as_slice(), output)?;
         for log in &self.logs {
             if let Ok(bytes) = log.try_borrow() {
                 push_lines(b"log: ", bytes.as_slice(), output)?;
             }
         }
-        Ok(())
+        output.extend_from_slice(self.kept.as_slice())
+    }
+
+    /// The bytes of a file of the case that lies beside another one.
+    fn beside(&self, name: &str, ending: &str) -> io::Result<Option<&[u8]>> {
+        let name = format!(in self.alloc; "{name}.{ending}")?;
+        Ok(bytes_named(self.files, name.as_bytes()))
+    }
+
+    /// The name of a record.
+    fn record_name(&self, directory: &str, number: u64) -> Result<String, AllocError> {
+        format!(in self.alloc; "{directory}/{number}.record")
     }
 
     /// Appends what each connection was sent, each line behind `sent` and its number.
@@ -168,6 +186,10 @@ impl<'a> Network for MemoryNetwork<'a> {
         }
     }
 
+    fn is_closed(&mut self, stream: &MemoryStream) -> bool {
+        stream.has_ended()
+    }
+
     fn connect(&mut self, _port: u16) -> io::Result<MemoryStream> {
         if !self.listens {
             return self.next_stream();
@@ -200,12 +222,52 @@ impl<'a> Network for MemoryNetwork<'a> {
         self.begin_log(NEW_ROOM)
     }
 
+    fn hold_log(&mut self, name: &str) -> io::Result<()> {
+        match self.beside(name, "held")? {
+            Some(_) => Err(io::Error::from(ErrorKind::ResourceBusy)),
+            None => Ok(()),
+        }
+    }
+
     fn rewrite_log(&mut self, _name: &str, _sync: bool) -> io::Result<MemoryLog> {
         self.begin_log(REPLACING_ROOM)
     }
 
     fn replace_log(&mut self, _name: &str) -> io::Result<()> {
         Ok(())
+    }
+
+    fn read_game(&mut self, log: &str) -> io::Result<Option<Vec<u8>>> {
+        match self.beside(log, "game")? {
+            Some(bytes) => Ok(Some(bytes.to_vec(self.alloc)?)),
+            None => Ok(None),
+        }
+    }
+
+    fn write_game(&mut self, _log: &str, text: &[u8]) -> io::Result<()> {
+        self.games.extend_from_slice(text)?;
+        Ok(())
+    }
+
+    fn begin_record(&mut self, directory: &str, number: u64, goes_on: bool) -> io::Result<()> {
+        let name = self.record_name(directory, number)?;
+        if !goes_on && bytes_named(self.files, name.as_bytes()).is_some() {
+            return Err(io::Error::from(ErrorKind::AlreadyExists));
+        }
+        Ok(())
+    }
+
+    fn keep_record(&mut self, directory: &str, number: u64, record: &[u8]) -> io::Result<()> {
+        let name = self.record_name(directory, number)?;
+        match bytes_named(self.files, name.as_bytes()) {
+            Some(bytes) if bytes == record => Ok(()),
+            Some(_) => Err(io::Error::from(ErrorKind::AlreadyExists)),
+            None => {
+                let head = format!(in self.alloc; "{name}: ")?;
+                push_lines(head.as_bytes(), record, &mut self.kept)?;
+                Ok(())
+            }
+        }
     }
 
     fn tell(&mut self, news: &News<'_>) {
@@ -225,11 +287,27 @@ impl Read for MemoryStream {
             bytes.drain(..count);
             return Ok(count);
         }
-        if self.stays_open || Rc::strong_count(&self.incoming) > 1 {
+        if self.may_go_on() {
             Err(io::Error::from(ErrorKind::WouldBlock))
         } else {
             Ok(0)
         }
+    }
+}
+
+impl MemoryStream {
+    /// Whether more may come than is there.
+    fn may_go_on(&self) -> bool {
+        self.stays_open || Rc::strong_count(&self.incoming) > 1
+    }
+
+    /// Whether nothing is there any more, and nothing more comes.
+    fn has_ended(&self) -> bool {
+        let is_empty = match self.incoming.try_borrow() {
+            Ok(bytes) => bytes.is_empty(),
+            Err(_) => false,
+        };
+        is_empty && !self.may_go_on()
     }
 }
 
@@ -296,4 +374,6 @@ impl Clock for CaseClock<'_> {
         }
         self.last
     }
+
+    fn wait(&mut self, _pause: Pause) {}
 }

@@ -44,6 +44,11 @@ impl<S: Read + Write + Drop> Client<S> {
         })
     }
 
+    /// Whether the player has said something that the stream has not taken yet.
+    pub fn has_unsent(&self) -> bool {
+        !self.unsent.is_empty()
+    }
+
     /// Hears what has come, in one read, and sends what the player says to it, as far as the stream takes it.
     pub fn turn(&mut self) -> Result<Heard, ClientError> {
         let heard = self.hear()?;

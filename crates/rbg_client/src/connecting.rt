@@ -3,6 +3,7 @@ ghost use Rattle.std.specs.Prelude.{◌≡◌, length, IfOk};
 
 use crate::{Client, PlayedLine};
 use rbg_network::{GatherError, Network, News, StreamLine, is_nothing_yet};
+use rbg_serving::{Clock, Pause};
 use std::alloc::Global;
 use std::io::{self, ErrorKind};
 
@@ -42,19 +43,20 @@ fn connect_line<N: Network>(
     listener: &mut N::Listener,
 ) -> io::Result<PlayedLine<N::Stream>> {
     let client = Client::new(alloc, network.connect(port)?);
-    let line = StreamLine::new(alloc, accept_made(network, listener)?);
+    let line = StreamLine::new(accept_made(network, listener)?);
     Ok(PlayedLine::new(line, client))
 }
 
 /// How often a connection that was made is looked for.
-const TRIES: usize = 1_000;
+const TRIES: usize = 10;
 
 /// A connection that was made to the listener.
 fn accept_made<N: Network>(network: &mut N, listener: &mut N::Listener) -> io::Result<N::Stream> {
+    let mut clock = network.start_clock()?;
     for _ in 0..TRIES {
         match network.accept(listener) {
             Ok(stream) => return Ok(stream),
-            Err(error) if is_nothing_yet(&error) => {}
+            Err(error) if is_nothing_yet(&error) => clock.wait(Pause::Playing { due: None }),
             Err(error) => return Err(error),
         }
     }

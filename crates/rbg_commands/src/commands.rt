@@ -46,6 +46,13 @@ const SYNC: Argument = Argument {
     help: "What is written to the log is on the disk before the match goes on",
 };
 
+const RECORDS: Argument = Argument {
+    name: "records",
+    kind: Kind::Named("DIR", None),
+    value: Value::Text,
+    help: "A directory in which the record of each match is written to a new file when the match has ended, DIR/1.record and so on",
+};
+
 const TURN: Argument = Argument {
     name: "turn",
     kind: Kind::Named("MS", None),
@@ -65,6 +72,13 @@ const ROUNDS: Argument = Argument {
     kind: Kind::Named("COUNT", None),
     value: Value::Number(0, u32::MAX),
     help: "The most rounds in which the connections are read, 0 to 4294967295 [default: 100000]",
+};
+
+const MINUTES: Argument = Argument {
+    name: "minutes",
+    kind: Kind::Named("MINUTES", None),
+    value: Value::Number(1, u32::MAX),
+    help: "How long the match may take, 1 to 4294967295, in place of a bound on rounds",
 };
 
 const CHECK: CommandWords = CommandWords {
@@ -172,7 +186,7 @@ const SERVE: CommandWords = CommandWords {
             name: "log",
             kind: Kind::Named("LOG", Some("resume")),
             value: Value::Text,
-            help: "A new file in which each event of the match is written before it is handled, as a script",
+            help: "A new file in which each event of the match is written before it is handled, as a script; LOG.game beside it names the game",
         },
         Argument {
             name: "resume",
@@ -181,17 +195,13 @@ const SERVE: CommandWords = CommandWords {
             help: "The log of a match that was stopped and is to go on, with the log's time for a turn and refusals",
         },
         SYNC,
-        Argument {
-            name: "minutes",
-            kind: Kind::Named("MINUTES", None),
-            value: Value::Number(1, u32::MAX),
-            help: "How long the match may take, 1 to 4294967295, in place of a bound on rounds",
-        },
+        RECORDS,
+        MINUTES,
         Argument {
             name: "names",
             kind: Kind::Named("NAMES", None),
             value: Value::Text,
-            help: "Who sits where, seat 1 first, with a comma between two names; they are told on standard error",
+            help: "Who sits where, seat 1 first, with a comma between two names; they are told on standard error, and stand in LOG.game",
         },
         PORT,
         WAIT,
@@ -213,6 +223,7 @@ const PLAY: CommandWords = CommandWords {
             value: Value::Number(1, u32::MAX),
             help: "The match to join, where a hall has several, 1 to 4294967295",
         },
+        MINUTES,
         ROUNDS,
     ],
 };

@@ -1,11 +1,13 @@
 //! Why a task is not done: each fault's printed line and its status.
 
+use crate::output::KeptOutput;
 use crate::player_refusal::PlayerRefusal;
 use rbg_console::{Refusal, Status, write_text};
 use rbg_game::LoadError;
 use rbg_keeping::ServingFault;
-use rbg_network::{ClientError, GatherError};
+use rbg_network::{ClientError, GatherError, Network, News};
 use rbg_player::PlayerError;
+use rbg_refereeing::Answer;
 use std::alloc::AllocError;
 use std::io::{self, Write};
 use thiserror::Error;
@@ -19,11 +21,11 @@ pub enum Fault {
     /// The config of the match is outside its limits. The words of no command give such a one.
     #[error("script 1")]
     Config,
-    /// This line of the log of a match that goes on is missing, or not of its form; 0 if it is longer than an input may be.
+    /// This line of the log of a match that goes on is missing, or not of its form.
     #[error("script {0}")]
     Script(usize),
-    /// A file or standard input can't be read, a log can't be made or written, or a connection can't be made, read or
-    /// written.
+    /// A file or standard input can't be read, a log or a record can't be made or written, a log is of another game or held by
+    /// another process, or a connection can't be made, read or written.
     #[error("device")]
     Device,
     /// The match, or the player's part in it, did not end in as many rounds, or as much time, as it may have.
@@ -113,15 +115,26 @@ impl From<io::Error> for Fault {
     }
 }
 
-/// Writes the lines or the fault's line and returns the status, or `Status::Device` if the output fails.
-pub fn report<W: Write>(output: &mut W, outcome: &Result<Vec<u8>, Fault>) -> Status {
-    match outcome {
-        Ok(lines) => write_text(output, lines.as_slice(), Status::Success),
-        Err(fault) => match write_fault(output, fault) {
+/// Writes the answer or the fault's line and returns the status, or `Status::Device` if the output fails. Then it is told
+/// that this could not be written, and why.
+pub fn report<N: Network, W: Write>(
+    network: &mut N,
+    output: &mut W,
+    what: &str,
+    outcome: &Result<Answer, Fault>,
+) -> Status {
+    let mut kept = KeptOutput::new(output);
+    let status = match outcome {
+        Ok(answer) => write_text(&mut kept, answer.text.as_slice(), answer.status),
+        Err(fault) => match write_fault(&mut kept, fault) {
             Ok(()) => fault.status(),
             Err(_) => Status::Device,
         },
+    };
+    if let Some(error) = kept.error() {
+        network.tell(&News::Unwritten { what, error });
     }
+    status
 }
 
 fn write_fault<W: Write>(output: &mut W, fault: &Fault) -> io::Result<()> {

@@ -6,6 +6,7 @@ mod ask;
 mod commands;
 mod fault;
 mod inputs;
+mod output;
 mod player_refusal;
 mod printed;
 mod running;

@@ -10,7 +10,7 @@ use rbg_hosting::{run_hall_script, serve_files};
 use rbg_keeping::{run_cut, run_script};
 use rbg_listing::run_moves;
 use rbg_network::Network;
-use rbg_refereeing::run_referee;
+use rbg_refereeing::{Answer, run_referee};
 use std::alloc::Global;
 use std::io::{Read, Write};
 
@@ -38,6 +38,7 @@ fn obey<F: Files, N: Network, R: Read, W: Write>(
     input: &mut R,
     output: &mut W,
 ) -> Status {
+    let what = told_as(&task);
     let outcome = match task {
         Task::Referee => return run_referee(alloc, input, output),
         Task::Cut { file } => return run_cut(alloc, file, files, input, output),
@@ -52,21 +53,34 @@ fn obey<F: Files, N: Network, R: Read, W: Write>(
             names,
             port,
             service,
-        } => serve_files(alloc, names.as_slice(), files, network, port, service).map_err(
+        } => done(serve_files(alloc, names.as_slice(), files, network, port, service).map_err(
             |fault| Fault::from(fault),
-        ),
-        Task::Ask { file } => ask_file(alloc, files, file, input, output),
-        Task::Demo { file, service } => demo_file(alloc, files, file, network, service),
+        )),
+        Task::Ask { file } => done(ask_file(alloc, files, file, input, output)),
+        Task::Demo { file, service } => done(demo_file(alloc, files, file, network, service)),
         Task::Serve {
             file,
             port,
             serving,
         } => serve_file(alloc, files, file, network, port, &serving),
-        Task::Play {
-            port,
-            table,
-            rounds,
-        } => play(alloc, network, port, table, rounds),
+        Task::Play { port, table, bound } => done(play(alloc, network, port, table, bound)),
     };
-    report(output, &outcome)
+    report(network, output, what, &outcome)
+}
+
+/// What a task prints, as it is told of where it can't be written.
+fn told_as(task: &Task<'_>) -> &'static str {
+    match task {
+        Task::Serve { .. } | Task::Demo { .. } => "the record",
+        Task::Hall { .. } => "the records",
+        _ => "the answer",
+    }
+}
+
+/// The answer of a task that is done when this is printed.
+fn done(lines: Result<Vec<u8>, Fault>) -> Result<Answer, Fault> {
+    Ok(Answer {
+        text: lines?,
+        status: Status::Success,
+    })
 }

@@ -7,19 +7,23 @@ ghost use Rattle.rbg_keeping.specs.Played.{IsPlayedMatch};
 use crate::fault::Fault;
 use crate::inputs::read_description;
 use crate::printed::outcome_line;
-use crate::task::Service;
+use crate::task::{Bound, Service};
 use rbg_client::{Client, connect_players, tell_who_gave_up};
-use rbg_console::Files;
+use rbg_console::{Files, Status};
 use rbg_game::load;
-use rbg_keeping::{NOTHING_KEPT, Serving, serve_lines, serve_match};
+use rbg_keeping::{NOTHING_KEPT, Serving, keep_record, serve_lines, serve_match};
 use rbg_match::Match;
 use rbg_network::{ClientError, Hosting, Network, News};
 use rbg_player::Heard;
 use rbg_record::{write_record, write_record_1};
+use rbg_refereeing::Answer;
+use rbg_serving::{Clock, Pause};
 use rbg_wire::Outcome;
 use std::alloc::Global;
+use std::io::{Read, Write};
 
-/// Referees a match of the file's game between the first players that connect to the port, and gives its record.
+/// Referees a match of the file's game between the first players that connect to the port, and gives its record. Where that
+/// is to be kept in a file too, and can't be, the status says so.
 pub fn serve_file<F: Files, N: Network>(
     alloc: Global,
     files: &mut F,
@@ -27,12 +31,18 @@ pub fn serve_file<F: Files, N: Network>(
     network: &mut N,
     port: u16,
     serving: &Serving<'_>,
-) -> Result<Vec<u8>, Fault>
-    ensures { IfOk result (λ told. IsMatchRecord timed_record (F.told files.old file.now) told.items) }
+) -> Result<Answer, Fault>
+    ensures { IfOk result (λ answer.
+        IsMatchRecord timed_record (F.told files.old file.now) answer.text.items) }
 {
     let text = read_description(alloc, files, file)?;
     let played = serve_match(alloc, text.as_slice(), files, network, port, serving)?;
-    record_match(alloc, &played)
+    let told = record_match(alloc, &played)?;
+    let status = match keep_record(network, &serving.keeping, told.as_slice()) {
+        Ok(()) => Status::Success,
+        Err(_) => Status::Device,
+    };
+    Ok(Answer { text: told, status })
 }
 
 /// Referees a match of the file's game between players of this process, and gives its record of version 1.
@@ -108,14 +118,14 @@ pub fn play<N: Network>(
     network: &mut N,
     port: u16,
     table: Option<u64>,
-    rounds: u64,
+    bound: Bound,
 ) -> Result<Vec<u8>, Fault> {
     let stream = network.connect(port)?;
     let mut client = match table {
         Some(table) => Client::join(alloc, stream, table)?,
         None => Client::new(alloc, stream),
     };
-    play_on(alloc, network, &mut client, port, rounds)
+    play_on(alloc, network, &mut client, port, bound)
 }
 
 /// Plays on a connection, and gives the match's last message.
@@ -124,9 +134,9 @@ fn play_on<N: Network>(
     network: &mut N,
     client: &mut Client<N::Stream>,
     port: u16,
-    rounds: u64,
+    bound: Bound,
 ) -> Result<Vec<u8>, Fault> {
-    let outcome = play_rounds(network, client, port, rounds)?;
+    let outcome = play_rounds(network, client, port, bound)?;
     Ok(outcome_line(alloc, &outcome)?)
 }
 
@@ -135,10 +145,15 @@ fn play_rounds<N: Network>(
     network: &mut N,
     client: &mut Client<N::Stream>,
     port: u16,
-    rounds: u64,
+    bound: Bound,
 ) -> Result<Outcome, Fault> {
     let mut told = false;
-    for _ in 0..rounds {
+    let mut clock = network.start_clock()?;
+    for _ in 0..bound.most_rounds() {
+        if bound.is_over(&mut clock) {
+            break;
+        }
+        wait_for(client, &mut clock);
         let heard = match client.patient_turn() {
             Ok(heard) => heard,
             Err(error) => return Err(lost(network, port, error)),
@@ -149,6 +164,19 @@ fn play_rounds<N: Network>(
         }
     }
     Err(Fault::Rounds)
+}
+
+/// For how many milliseconds nothing may come before a player says its move.
+const QUIET_MS: u64 = 5;
+
+/// Waits until something comes. Where the player has something to say, it is said once nothing has come for a while.
+fn wait_for<S: Read + Write + Drop, C: Clock>(client: &Client<S>, clock: &mut C) {
+    let due = if client.has_unsent() {
+        Some(clock.now().saturating_add(QUIET_MS))
+    } else {
+        None
+    };
+    clock.wait(Pause::Playing { due });
 }
 
 /// The fault of a client. Where its connection failed, or ended before the match, this is told.

@@ -7,6 +7,7 @@ use rbg_hosting::HallService;
 use rbg_keeping::{Keeping, Serving};
 use rbg_match::Config;
 use rbg_network::Hosting;
+use rbg_serving::Clock;
 use rbg_tasks::{FileTask, RecordTask};
 use std::alloc::{AllocError, Global};
 
@@ -23,6 +24,33 @@ pub struct Service {
     pub config: Config,
     /// The most rounds.
     pub rounds: u64,
+}
+
+/// How long a player goes on.
+#[derive(Clone, Copy)]
+pub struct Bound {
+    /// The most reads.
+    pub rounds: u64,
+    /// The most minutes. Then the reads aren't counted.
+    pub minutes: Option<u64>,
+}
+
+impl Bound {
+    /// The most reads.
+    pub(crate) fn most_rounds(self) -> u64 {
+        match self.minutes {
+            Some(_) => u64::MAX,
+            None => self.rounds,
+        }
+    }
+
+    /// Whether the minutes are over by this clock, which began with 0.
+    pub(crate) fn is_over<C: Clock>(self, clock: &mut C) -> bool {
+        match self.minutes {
+            Some(minutes) => minutes.saturating_mul(60_000) <= clock.now(),
+            None => false,
+        }
+    }
 }
 
 /// What the program is asked to do.
@@ -76,7 +104,7 @@ pub enum Task<'a> {
     Play {
         port: u16,
         table: Option<u64>,
-        rounds: u64,
+        bound: Bound,
     },
 }
 
@@ -133,7 +161,7 @@ impl<'a> Task<'a> {
             "play" => Task::Play {
                 port: port_of(words),
                 table: words.get_one("match"),
-                rounds: rounds_of(words),
+                bound: bound_of(words),
             },
             _ if words.get_flag("cut") => Task::Cut {
                 file: words.get_str("FILE"),
@@ -180,6 +208,13 @@ fn port_of(words: &ArgMatches<'_>) -> u16 {
     words.get_one("port").unwrap_or(0)
 }
 
+fn bound_of(words: &ArgMatches<'_>) -> Bound {
+    Bound {
+        rounds: rounds_of(words),
+        minutes: words.get_one("minutes"),
+    }
+}
+
 fn rounds_of(words: &ArgMatches<'_>) -> u64 {
     words.get_one("rounds").unwrap_or(USUAL_ROUNDS)
 }
@@ -219,6 +254,7 @@ fn keeping_of<'a>(words: &ArgMatches<'a>) -> Keeping<'a> {
         sync: words.get_flag("sync"),
         minutes: words.get_one("minutes"),
         names: words.get_str("names"),
+        records: words.get_str("records"),
     }
 }
 

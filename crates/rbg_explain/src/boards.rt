@@ -1,9 +1,10 @@
 //! The place of a refused board among the tokens of its section.
 
-use crate::among::{before_first, has_text, is_at};
+use crate::among::{before_first, count_names, has_text, is_at};
 use crate::sections::nth_name;
 use rbg_board::BoardError;
 use rbg_game::limits::MAX_VERTICES;
+use rbg_suggest::behind_head;
 use rbg_tokens::{Symbol, Token};
 
 /// The token at which a refused board is shown. The board is one that is spelt right.
@@ -28,6 +29,31 @@ fn empty_row<'a>(board: &'a [Token<'a>]) -> Option<Token<'a>> {
         }
     }
     board.first().copied()
+}
+
+/// How many cells a row has, counted from 0, in a description without macros; how many the row has by which it is measured,
+/// and whether that is the first one.
+pub(crate) fn row_lengths(tokens: &[Token<'_>], row: usize) -> Option<(usize, usize, bool)> {
+    let board = behind_head(tokens, b"board");
+    let is_rectangle = board.get(1)?.text == b"rectangle".as_slice();
+    let other = if is_rectangle { 0 } else { row.checked_sub(1)? };
+    Some((
+        row_length(board, row)?,
+        row_length(board, other)?,
+        is_rectangle,
+    ))
+}
+
+/// How many cells a row of a board has.
+fn row_length(board: &[Token<'_>], row: usize) -> Option<usize> {
+    let start = row_start(board, row)?;
+    for (index, token) in board.iter().enumerate() {
+        if token.at == start.at {
+            let cells = before_first(board.get(index..)?, Symbol::CloseBracket);
+            return Some(count_names(cells));
+        }
+    }
+    None
 }
 
 /// The bracket that opens a row, counted from 0.

@@ -1,20 +1,14 @@
 //! Where a macro is called in a text.
 
 use crate::among::{before_first, has_text, is_at};
-use crate::output::Telling;
+use rbg_diagnostics::{Diagnostic, Telling};
 use rbg_tokens::{Symbol, Token, count_line_feeds};
 use std::alloc::{AllocError, Global};
 
-/// The numbers of the lines on which a macro is called, each once. A call whose name is joined isn't found.
-pub fn called_lines(
-    alloc: Global,
-    text: &[u8],
-    tokens: &[Token<'_>],
-    name: &[u8],
-) -> Result<Vec<usize>, AllocError> {
-    let calls = calls_of(alloc, tokens, name)?;
+/// The numbers of the lines of these offsets, which are in order of the text, each once.
+fn lines_of(alloc: Global, text: &[u8], offsets: &[usize]) -> Result<Vec<usize>, AllocError> {
     let mut lines = Vec::new(alloc);
-    push_lines(text, &calls, &mut lines)?;
+    push_lines(text, offsets, &mut lines)?;
     Ok(lines)
 }
 
@@ -92,11 +86,36 @@ fn is_joined(tokens: &[Token<'_>], index: usize) -> bool {
         || is_at(tokens, index.saturating_sub(1), Symbol::Tilde)
 }
 
+/// Adds to a fault on which lines a macro is called, if it is called.
+pub(crate) fn relate_calls(
+    alloc: Global,
+    fault: &mut Diagnostic,
+    text: &[u8],
+    tokens: &[Token<'_>],
+    name: &[u8],
+) -> Result<(), AllocError> {
+    let calls = calls_of(alloc, tokens, name)?;
+    match calls.first() {
+        Some(first) => fault.relate(*first, name.len(), call_words(alloc, text, &calls)?),
+        None => Ok(()),
+    }
+}
+
+/// On which lines the calls at these offsets are.
+fn call_words(alloc: Global, text: &[u8], calls: &[usize]) -> Result<Vec<u8>, AllocError> {
+    let lines = lines_of(alloc, text, calls)?;
+    let mut words = Vec::new(alloc);
+    let mut told = Telling::new(alloc, &mut words);
+    tell_lines(&mut told, &lines);
+    told.end()?;
+    Ok(words)
+}
+
 /// Tells the lines of calls, if there are any.
-pub fn tell_calls(told: &mut Telling<'_>, lines: &[usize]) {
+fn tell_lines(told: &mut Telling<'_>, lines: &[usize]) {
     match lines {
         [] => {}
-        [line] => told.number("called on line ", *line, "\n"),
+        [line] => told.number("called on line ", *line, ""),
         [first, others @ ..] => {
             told.number("called on lines ", *first, "");
             tell_others(told, others);
@@ -108,10 +127,10 @@ pub fn tell_calls(told: &mut Telling<'_>, lines: &[usize]) {
 fn tell_others(told: &mut Telling<'_>, lines: &[usize]) {
     match lines {
         [] => {}
-        [line] => told.number(" and ", *line, "\n"),
+        [line] => told.number(" and ", *line, ""),
         [line, others @ ..] => {
             told.number(", ", *line, "");
-            told.number(" and ", others.len(), " more\n");
+            told.number(" and ", others.len(), " more");
         }
     }
 }

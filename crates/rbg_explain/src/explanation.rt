@@ -1,25 +1,29 @@
 //! A refused description, explained.
 
-use crate::brackets::open_bracket;
-use crate::calls::{called_lines, tell_calls};
+use crate::codes::code_of;
 use crate::exact::find_place;
-use crate::joined::{joined_text, tell_joins};
-use crate::message::{Message, tell_name};
-use crate::origin::faulty_call;
-use crate::output::{File, Telling, line_and_column, tell_location};
-use crate::spot::{Spot, head_name};
+use crate::joined::relate_joins;
+use crate::meant::meant_name;
+use crate::message::{Known, Message};
+use crate::notes::relate_notes;
+use crate::sections::cut;
+use crate::spot::Spot;
+use crate::traced::{Flat, PartFault};
 use rbg_console::Refusal;
+use rbg_diagnostics::{Diagnostic, File, Severity, Telling, push_diagnostics};
 use rbg_game::LoadError;
+use rbg_lint::{is_balanced, push_unbalanced};
 use rbg_macro::MacroError;
-use rbg_passages::Excerpt;
+use rbg_origins::unroll;
+use rbg_suggest::misspelt_section;
 use rbg_syntax::SyntaxError;
-use rbg_tokens::{Symbol, TextError, TextLine, Token, Tokens};
+use rbg_tokens::{Token, Tokens};
 use std::alloc::{AllocError, Global};
 
-/// A text that is refused: its file, its tokens where it can be cut into them, and why.
+/// A text that is refused: its bytes, its tokens where it can be cut into them, and why.
 #[derive(Clone, Copy)]
 struct Refused<'a> {
-    file: File<'a>,
+    text: &'a [u8],
     tokens: Option<&'a Tokens<'a>>,
     error: &'a LoadError,
 }
@@ -35,210 +39,329 @@ pub fn explain(
     error: LoadError,
 ) -> Result<Vec<u8>, AllocError> {
     let mut output = Vec::new(alloc);
-    let refused = Refused {
-        file: File { name: file, text },
-        tokens,
-        error: &error,
-    };
-    push_explanation(alloc, &mut output, &refused)?;
+    let file = File { name: file, text };
+    push_diagnostics(
+        alloc,
+        &mut output,
+        file,
+        &faults(alloc, text, tokens, &error)?,
+    )?;
+    push_refusal(alloc, &mut output, error)?;
     Ok(output)
 }
 
-/// Adds what is told of a refused text.
-fn push_explanation(
-    alloc: Global,
-    output: &mut Vec<u8>,
-    refused: &Refused<'_>,
-) -> Result<(), AllocError> {
+/// Adds the printed line of a refusal.
+fn push_refusal(alloc: Global, output: &mut Vec<u8>, error: LoadError) -> Result<(), AllocError> {
     let mut told = Telling::new(alloc, output);
-    tell_explanation(alloc, &mut told, refused)?;
     told.text("refused ");
-    told.shown(&Refusal(*refused.error));
+    told.shown(&Refusal(error));
     told.text("\n");
     told.end()
 }
 
-/// Tells of the text before the printed line of the refusal.
-fn tell_explanation(
+/// The faults of a text that is refused. The tokens are those of the text, where it can be cut into tokens.
+pub(crate) fn faults(
     alloc: Global,
-    told: &mut Telling<'_>,
+    text: &[u8],
+    tokens: Option<&Tokens<'_>>,
+    error: &LoadError,
+) -> Result<Vec<Diagnostic>, AllocError> {
+    let mut found = Vec::new(alloc);
+    let refused = Refused {
+        text,
+        tokens,
+        error,
+    };
+    push_faults(alloc, &refused, &mut found)?;
+    Ok(found)
+}
+
+/// Adds the faults of a text that is refused.
+fn push_faults(
+    alloc: Global,
     refused: &Refused<'_>,
+    found: &mut Vec<Diagnostic>,
 ) -> Result<(), AllocError> {
-    let text = refused.file.text;
-    match find_place(alloc, refused.error, text, refused.tokens)? {
-        Some(at) => tell_refused(alloc, told, refused, at),
-        None => {
-            tell_whole(told, refused);
-            Ok(())
+    match (refused.tokens, refused.error) {
+        (Some(tokens), LoadError::Syntax(_) | LoadError::Game(_)) => {
+            push_traced_faults(alloc, refused, tokens, found)?;
+        }
+        (Some(tokens), LoadError::Macro(error)) => {
+            push_macro_faults(alloc, refused, tokens, error, found)?;
+        }
+        _ => {}
+    }
+    if found.is_empty() {
+        push_fault(alloc, refused, found)?;
+    }
+    Ok(())
+}
+
+/// Adds the fault for which a text is refused, where no call is known.
+fn push_fault(
+    alloc: Global,
+    refused: &Refused<'_>,
+    found: &mut Vec<Diagnostic>,
+) -> Result<(), AllocError> {
+    match find_place(alloc, refused.error, refused.text, refused.tokens)? {
+        Some(at) => push_fault_at(alloc, refused, at, Known::Nothing, found),
+        None => push_whole_fault(alloc, refused, found),
+    }
+}
+
+/// Adds the faults of a text whose macros can't be expanded, if more is known than where it is refused.
+fn push_macro_faults(
+    alloc: Global,
+    refused: &Refused<'_>,
+    tokens: &Tokens<'_>,
+    error: &MacroError,
+    found: &mut Vec<Diagnostic>,
+) -> Result<(), AllocError> {
+    if matches!(error, MacroError::ArgumentCount { .. }) {
+        push_unbalanced(alloc, refused.text, tokens.as_slice(), found)?;
+    }
+    if !found.is_empty() {
+        return Ok(());
+    }
+    match error {
+        MacroError::ArgumentCount { at } | MacroError::Depth { at } => {
+            push_call_fault(alloc, refused, tokens, *at, found)
+        }
+        MacroError::TooManyTokens => push_too_long(alloc, refused, tokens, found),
+        _ => Ok(()),
+    }
+}
+
+/// Adds the fault of a call at an offset.
+fn push_call_fault(
+    alloc: Global,
+    refused: &Refused<'_>,
+    tokens: &Tokens<'_>,
+    at: usize,
+    found: &mut Vec<Diagnostic>,
+) -> Result<(), AllocError> {
+    let unrolled = unroll(alloc, refused.text, tokens.as_slice())?;
+    let known = match unrolled.call_at(at) {
+        Some(origin) => Known::Call(&unrolled, origin),
+        None => Known::Nothing,
+    };
+    push_fault_at(alloc, refused, at, known, found)
+}
+
+/// Adds the faults of a text where its macros are written out.
+fn push_traced_faults(
+    alloc: Global,
+    refused: &Refused<'_>,
+    tokens: &Tokens<'_>,
+    found: &mut Vec<Diagnostic>,
+) -> Result<(), AllocError> {
+    let unrolled = unroll(alloc, refused.text, tokens.as_slice())?;
+    match cut(alloc, &unrolled.text)? {
+        Some(cut) => {
+            let flat = Flat {
+                unrolled: &unrolled,
+                tokens: cut.as_slice(),
+            };
+            push_flat_faults(alloc, refused, flat, found)
+        }
+        None => Ok(()),
+    }
+}
+
+/// Adds the faults of a text whose macros are written out: those of brackets in the bodies of macros, or else those of
+/// its sections.
+fn push_flat_faults(
+    alloc: Global,
+    refused: &Refused<'_>,
+    flat: Flat<'_>,
+    found: &mut Vec<Diagnostic>,
+) -> Result<(), AllocError> {
+    let is_syntax = matches!(
+        refused.error,
+        LoadError::Syntax(SyntaxError::Expected { .. })
+    );
+    if is_syntax && !is_balanced(alloc, flat.tokens)? {
+        push_unbalanced(alloc, refused.text, slice_of(refused.tokens), found)?;
+    }
+    if !found.is_empty() {
+        return Ok(());
+    }
+    match refused.error {
+        LoadError::Syntax(SyntaxError::Expected { .. } | SyntaxError::TooDeep { .. }) => {
+            push_parts(alloc, refused, flat, &SYNTAX_PARTS, found)
+        }
+        LoadError::Game(_) => push_parts(alloc, refused, flat, &GAME_PARTS, found),
+        _ => Ok(()),
+    }
+}
+
+/// The sections that are looked at by themselves where a text can't be parsed.
+const SYNTAX_PARTS: [&[&str]; 5] = [
+    &["players"],
+    &["pieces"],
+    &["variables"],
+    &["board"],
+    &["rules"],
+];
+
+/// The sections that are looked at together where a text can be parsed.
+const GAME_PARTS: [&[&str]; 4] = [
+    &["players", "pieces", "variables", "board", "rules"],
+    &["players", "variables"],
+    &["pieces"],
+    &["pieces", "board"],
+];
+
+/// Adds the fault of each of these parts of a description.
+fn push_parts(
+    alloc: Global,
+    refused: &Refused<'_>,
+    flat: Flat<'_>,
+    parts: &[&[&str]],
+    found: &mut Vec<Diagnostic>,
+) -> Result<(), AllocError> {
+    for sections in parts {
+        if let Some(fault) = flat.fault_of(alloc, sections)?
+            && is_of_layer(refused.error, &fault.error)
+        {
+            push_part_fault(alloc, refused, flat, fault, found)?;
         }
     }
+    Ok(())
 }
 
-/// Tells of a text that is refused at no offset.
-fn tell_whole(told: &mut Telling<'_>, refused: &Refused<'_>) {
-    let message = Message {
-        error: refused.error,
-        spot: None,
-        joined: None,
-        has_mark: begins_with_mark(refused.file.text, refused.error),
-    };
-    told.text(refused.file.name);
-    told.text(": ");
-    message.tell(told);
-    told.text("\n");
+/// Whether two refusals are those of one layer.
+fn is_of_layer(left: &LoadError, right: &LoadError) -> bool {
+    matches!(
+        (left, right),
+        (LoadError::Syntax(_), LoadError::Syntax(_)) | (LoadError::Game(_), LoadError::Game(_))
+    )
 }
 
-/// Tells of a text that is refused at an offset.
-fn tell_refused(
+/// Adds the fault of a part of a description, if none is told at its place.
+fn push_part_fault(
     alloc: Global,
-    told: &mut Telling<'_>,
+    refused: &Refused<'_>,
+    flat: Flat<'_>,
+    fault: PartFault,
+    found: &mut Vec<Diagnostic>,
+) -> Result<(), AllocError> {
+    let Some(trace) = flat.trace(fault.at) else {
+        return Ok(());
+    };
+    if is_told(found, trace.origin.at) {
+        return Ok(());
+    }
+    let part = Refused {
+        text: refused.text,
+        tokens: refused.tokens,
+        error: &fault.error,
+    };
+    push_fault_at(alloc, &part, trace.origin.at, Known::Token(trace), found)
+}
+
+/// Whether a fault is told at an offset.
+fn is_told(found: &[Diagnostic], at: usize) -> bool {
+    for fault in found {
+        if fault.start == at {
+            return true;
+        }
+    }
+    false
+}
+
+/// Adds the fault of a text that is refused at no offset: at the head of a macro whose name is like that of the section
+/// that is missing, or for the whole text.
+fn push_whole_fault(
+    alloc: Global,
+    refused: &Refused<'_>,
+    found: &mut Vec<Diagnostic>,
+) -> Result<(), AllocError> {
+    let mut message = Message {
+        error: refused.error,
+        text: refused.text,
+        spot: None,
+        known: Known::Nothing,
+        has_ended: false,
+        meant: None,
+    };
+    let mut fault = Diagnostic::new(alloc, Severity::Fault, code_of(refused.error), 0, 0);
+    if let LoadError::Syntax(SyntaxError::MissingSection { which }) = refused.error
+        && let Some(head) = misspelt_section(alloc, slice_of(refused.tokens), which.name())?
+    {
+        message.meant = Some(head.text.to_vec(alloc)?);
+        fault.start = head.at;
+        fault.end = head.at.saturating_add(head.text.len());
+    }
+    message.tell(alloc, &mut fault.message)?;
+    found.push(fault)?;
+    Ok(())
+}
+
+/// Adds that the macros of a text expand to too many tokens, at the call where they do.
+fn push_too_long(
+    alloc: Global,
+    refused: &Refused<'_>,
+    tokens: &Tokens<'_>,
+    found: &mut Vec<Diagnostic>,
+) -> Result<(), AllocError> {
+    let unrolled = unroll(alloc, refused.text, tokens.as_slice())?;
+    match unrolled.too_long {
+        Some(origin) => {
+            let at = unrolled.root(origin).at;
+            push_fault_at(alloc, refused, at, Known::Nothing, found)
+        }
+        None => Ok(()),
+    }
+}
+
+/// Adds the fault of a text that is refused at an offset.
+fn push_fault_at(
+    alloc: Global,
     refused: &Refused<'_>,
     at: usize,
+    known: Known<'_>,
+    found: &mut Vec<Diagnostic>,
 ) -> Result<(), AllocError> {
-    let joined = joined_text(alloc, refused.error, refused.tokens, at)?;
-    let cut = slice_of(refused.tokens);
-    let message = Message {
+    let tokens = slice_of(refused.tokens);
+    let mut message = Message {
         error: refused.error,
-        spot: Spot::find(cut, at),
-        joined: joined.as_deref(),
-        has_mark: begins_with_mark(refused.file.text, refused.error),
+        text: refused.text,
+        spot: Spot::find(tokens, at),
+        known,
+        has_ended: false,
+        meant: None,
     };
-    tell_message(alloc, told, refused.file, cut, at, &message)
+    message.go_to_end(tokens);
+    message.meant = meant_name(alloc, &message)?;
+    let start = match message.spot {
+        Some(spot) => spot.token.at,
+        None => at,
+    };
+    let code = code_of(refused.error);
+    let mut fault = Diagnostic::new(alloc, Severity::Fault, code, start, message.width());
+    tell_fault(alloc, &mut fault, tokens, &message)?;
+    found.push(fault)?;
+    Ok(())
 }
 
-/// Tells the place with the message, where its token is joined, and what else is told of it.
-fn tell_message(
+/// Tells the message of a fault, where its token is joined, and what else is told of it.
+fn tell_fault(
     alloc: Global,
-    told: &mut Telling<'_>,
-    file: File<'_>,
+    fault: &mut Diagnostic,
     tokens: &[Token<'_>],
-    at: usize,
-    message: &Message<'_>,
+    message: &Message<'_, '_>,
 ) -> Result<(), AllocError> {
-    tell_place(told, file, at, message);
-    if let Some(joined) = message.joined {
-        tell_joins(alloc, told, file.text, tokens, at, joined)?;
+    message.tell(alloc, &mut fault.message)?;
+    if let Some(joined) = message.joined() {
+        relate_joins(alloc, fault, message.text, tokens, joined)?;
     }
-    tell_notes(alloc, told, file.text, tokens, message)
+    relate_notes(alloc, fault, tokens, message)
 }
 
 fn slice_of<'a>(tokens: Option<&'a Tokens<'a>>) -> &'a [Token<'a>] {
     match tokens {
         Some(tokens) => tokens.as_slice(),
         None => &[],
-    }
-}
-
-/// Whether the text is refused since it begins with a byte order mark.
-fn begins_with_mark(text: &[u8], error: &LoadError) -> bool {
-    matches!(error, LoadError::Text(TextError::BadByte { at: 0 }))
-        && text.starts_with(b"\xef\xbb\xbf")
-}
-
-/// Tells the file, the line, the column and the message, and the line itself with carets below the place.
-fn tell_place(told: &mut Telling<'_>, file: File<'_>, at: usize, message: &Message<'_>) {
-    tell_location(told, file, at);
-    message.tell(told);
-    told.text("\n");
-    told.excerpt(&excerpt_of(file.text, at, message.width()));
-}
-
-/// So many bytes at an offset, or at the end of the text where that is before, in their line.
-fn excerpt_of(text: &[u8], at: usize, width: usize) -> Excerpt<'_> {
-    let at = at.min(text.len());
-    let line = TextLine::of(text, at);
-    Excerpt {
-        number: line.number,
-        bytes: line.bytes.strip_suffix(b"\r").unwrap_or(line.bytes),
-        offset: at - line.start,
-        width,
-    }
-}
-
-/// Tells which bracket isn't closed, the macro in whose body the place is and where it is called, and where the macro is
-/// defined that the refusal is about.
-fn tell_notes(
-    alloc: Global,
-    told: &mut Telling<'_>,
-    text: &[u8],
-    tokens: &[Token<'_>],
-    message: &Message<'_>,
-) -> Result<(), AllocError> {
-    if let Some(bracket) = unclosed_bracket(message) {
-        let place = line_and_column(text, bracket.at);
-        told.place("the bracket opened at ", place, " isn't closed\n");
-    }
-    if let Some(head) = enclosing_macro(message) {
-        tell_body(alloc, told, text, tokens, head.text)?;
-    }
-    if let Some(head) = defined_macro(message, tokens) {
-        tell_definition(told, text, head);
-    }
-    Ok(())
-}
-
-/// Tells on which line the macro is defined that has this name in its head.
-fn tell_definition(told: &mut Telling<'_>, text: &[u8], head: Token<'_>) {
-    let (line, _) = line_and_column(text, head.at);
-    told.text("the macro ");
-    tell_name(told, head.text);
-    told.number(" is defined on line ", line, "\n");
-}
-
-/// Tells in the body of which macro the place is. In the next line stands at which line and column the macro is called
-/// from whose body the fault comes, or else on which lines it is called.
-fn tell_body(
-    alloc: Global,
-    told: &mut Telling<'_>,
-    text: &[u8],
-    tokens: &[Token<'_>],
-    name: &[u8],
-) -> Result<(), AllocError> {
-    told.text("in the body of the macro ");
-    tell_name(told, name);
-    told.text("\n");
-    match faulty_call(alloc, text, tokens, name)? {
-        Some(call) => told.place("called at ", line_and_column(text, call), "\n"),
-        None => tell_calls(told, &called_lines(alloc, text, tokens, name)?),
-    }
-    Ok(())
-}
-
-/// The bracket that isn't closed where a section ends too early, or where the arguments of a call don't end.
-fn unclosed_bracket<'a>(message: &Message<'a>) -> Option<Token<'a>> {
-    let spot = message.spot?;
-    match message.error {
-        LoadError::Syntax(SyntaxError::Expected { .. }) if spot.token.is(Symbol::Hash) => {
-            open_bracket(spot.behind())
-        }
-        LoadError::Macro(MacroError::ArgumentCount { .. }) if spot.is_open_call() => {
-            open_bracket(spot.behind())
-        }
-        _ => None,
-    }
-}
-
-/// The name of the macro in whose body the place is. A refused head is in no body, and nor is the end of a section.
-fn enclosing_macro<'a>(message: &Message<'a>) -> Option<Token<'a>> {
-    match message.error {
-        LoadError::Text(_)
-        | LoadError::Macro(MacroError::BadDefinition { .. } | MacroError::Twice { .. }) => None,
-        _ => {
-            let spot = message.spot?;
-            if spot.token.is(Symbol::Hash) {
-                return None;
-            }
-            spot.macro_name()
-        }
-    }
-}
-
-/// The name in the head of the macro that the refusal is about.
-fn defined_macro<'a>(message: &Message<'a>, tokens: &'a [Token<'a>]) -> Option<Token<'a>> {
-    match message.error {
-        LoadError::Macro(
-            MacroError::Twice { .. } | MacroError::ArgumentCount { .. } | MacroError::Depth { .. },
-        ) => head_name(tokens, message.spot?.token.text, 0),
-        _ => None,
     }
 }

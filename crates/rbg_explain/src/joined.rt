@@ -1,68 +1,13 @@
-//! Names and numbers that `~` has joined: the whole text of a refused one, and the `~` that joined it.
+//! Names and numbers that `~` has joined, and the `~` that joined them.
 
-use crate::output::{Telling, line_and_column};
 use crate::sections::{cut, expanded};
-use rbg_game::{GameError, LoadError};
-use rbg_macro::{Section, SectionKind, Source};
-use rbg_tokens::{Symbol, Token, Tokens};
+use rbg_diagnostics::{Diagnostic, Telling, line_and_column};
+use rbg_macro::{Section, Source};
+use rbg_tokens::{Symbol, Token};
 use std::alloc::{AllocError, Global};
 
 /// The most `~` that are tried.
 const MOST_TRIED: usize = 100;
-
-/// The whole text of the token that a refusal at an offset is about, where `~` has joined it. None where the token is one
-/// of the text, and where calls of a macro join several texts there and it can't be told which of them it is.
-pub(crate) fn joined_text(
-    alloc: Global,
-    error: &LoadError,
-    tokens: Option<&Tokens<'_>>,
-    at: usize,
-) -> Result<Option<Vec<u8>>, AllocError> {
-    let (Some(tokens), LoadError::Syntax(_) | LoadError::Game(_)) = (tokens, error) else {
-        return Ok(None);
-    };
-    match expanded(alloc, tokens)? {
-        Some(source) => joined_in(alloc, error, &source, tokens.as_slice(), at),
-        None => Ok(None),
-    }
-}
-
-fn joined_in(
-    alloc: Global,
-    error: &LoadError,
-    source: &Source<'_>,
-    tokens: &[Token<'_>],
-    at: usize,
-) -> Result<Option<Vec<u8>>, AllocError> {
-    let found = texts_at(alloc, source, at)?;
-    match chosen(error, source, found.as_slice()) {
-        Some(text) if !stands_at(tokens, at, text) => text.to_vec(alloc).map(Some),
-        _ => Ok(None),
-    }
-}
-
-/// The one of these texts that a refusal is about, if that can be told.
-fn chosen<'a>(error: &LoadError, source: &Source<'_>, texts: &[&'a [u8]]) -> Option<&'a [u8]> {
-    if let [text] = texts {
-        return Some(*text);
-    }
-    for text in texts {
-        if is_refused(error, source, text) {
-            return Some(*text);
-        }
-    }
-    None
-}
-
-/// Whether a token of the text is this one.
-fn stands_at(tokens: &[Token<'_>], at: usize, text: &[u8]) -> bool {
-    for token in tokens {
-        if token.at == at && token.text == text {
-            return true;
-        }
-    }
-    false
-}
 
 /// The texts of the tokens that come from an offset, each once.
 fn texts_at<'a>(
@@ -91,69 +36,71 @@ fn push_texts<'a>(
     Ok(())
 }
 
-/// Whether an unknown name is this one: no section gives it to a player, a piece, a variable or a direction.
-fn is_refused(error: &LoadError, source: &Source<'_>, name: &[u8]) -> bool {
-    if !matches!(error, LoadError::Game(GameError::UnknownName { .. })) {
-        return false;
-    }
-    for index in 0..source.len() {
-        let section = source.section(index);
-        if section.kind() != SectionKind::Rules && gives_name(&section, name) {
-            return false;
-        }
-    }
-    true
-}
-
-/// Whether a name stands in a section outside of `[` and `]`, between which a board names its pieces.
-fn gives_name(section: &Section<'_>, name: &[u8]) -> bool {
-    let mut is_piece = false;
-    for index in 0..section.len() {
-        let token = section.token(index);
-        is_piece = !token.is(Symbol::CloseBracket) && (is_piece || token.is(Symbol::OpenBracket));
-        if !is_piece && token.text == name {
-            return true;
-        }
-    }
-    false
-}
-
-/// Tells in a line at which lines and columns the `~` stand that join this text at an offset: those without which it
-/// isn't there. The first 100 of the text are tried.
-pub(crate) fn tell_joins(
+/// Adds to a fault at an offset, as another place, at which lines and columns the `~` stand that join this text there:
+/// those without which it isn't there. The first 100 of the text are tried.
+pub(crate) fn relate_joins(
     alloc: Global,
-    told: &mut Telling<'_>,
+    fault: &mut Diagnostic,
+    text: &[u8],
+    tokens: &[Token<'_>],
+    joined: &[u8],
+) -> Result<(), AllocError> {
+    let found = joins_of(alloc, text, tokens, fault.start, joined)?;
+    match found.first() {
+        Some(first) => fault.relate(*first, 1, join_words(alloc, text, &found)?),
+        None => Ok(()),
+    }
+}
+
+/// Where the `~` stand that join a text.
+fn join_words(alloc: Global, text: &[u8], found: &[usize]) -> Result<Vec<u8>, AllocError> {
+    let mut words = Vec::new(alloc);
+    let mut told = Telling::new(alloc, &mut words);
+    for (index, tilde) in found.iter().enumerate() {
+        told.text(if index == 0 {
+            "joined by `~` at "
+        } else {
+            " and "
+        });
+        told.place("", line_and_column(text, *tilde), "");
+    }
+    told.end()?;
+    Ok(words)
+}
+
+/// The offsets of the `~` that join a text at an offset.
+fn joins_of(
+    alloc: Global,
     text: &[u8],
     tokens: &[Token<'_>],
     at: usize,
     joined: &[u8],
-) -> Result<(), AllocError> {
+) -> Result<Vec<usize>, AllocError> {
+    let mut found = Vec::new(alloc);
     let mut variant = text.to_vec(alloc)?;
+    push_joins(alloc, &mut variant, tokens, at, joined, &mut found)?;
+    Ok(found)
+}
+
+/// Adds the offsets of the `~` that join a text at an offset.
+fn push_joins(
+    alloc: Global,
+    variant: &mut Vec<u8>,
+    tokens: &[Token<'_>],
+    at: usize,
+    joined: &[u8],
+    found: &mut Vec<usize>,
+) -> Result<(), AllocError> {
     let mut tried = 0usize;
-    let mut count = 0usize;
     for token in tokens {
         if token.is(Symbol::Tilde) && tried < MOST_TRIED {
             tried = tried.saturating_add(1);
-            if joins(alloc, &mut variant, token.at, at, joined)? {
-                tell_join(told, text, token.at, count);
-                count = count.saturating_add(1);
+            if joins(alloc, variant, token.at, at, joined)? {
+                found.push(token.at)?;
             }
         }
     }
-    if count > 0 {
-        told.text("\n");
-    }
     Ok(())
-}
-
-/// Tells the line and the column of one `~`, behind those of so many others.
-fn tell_join(told: &mut Telling<'_>, text: &[u8], at: usize, count: usize) {
-    let before = if count == 0 {
-        "joined by `~` at "
-    } else {
-        " and "
-    };
-    told.place(before, line_and_column(text, at), "");
 }
 
 /// Whether this text isn't at an offset where a space stands in place of a `~`, which stands again afterwards.

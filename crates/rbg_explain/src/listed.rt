@@ -1,8 +1,8 @@
 //! What a game's positions and vertices are: a line for each.
 
 use crate::among::start_of;
-use crate::output::{Telling, line_and_column};
 use crate::sections::{expanded, section_tokens};
+use rbg_diagnostics::{Telling, line_and_column};
 use rbg_game::Layout;
 use rbg_macro::SectionKind;
 use rbg_passages::actions;

@@ -1,34 +1,138 @@
 //! What is said of a refusal: what was expected, and what stands there.
 
+use crate::boards::row_lengths;
 use crate::brackets::CallForm;
-use crate::output::Telling;
 use crate::spot::{Needed, Spot};
+use crate::traced::Trace;
+use crate::words::{expectation_words, head_words, most_of, needed_words};
 use rbg_board::BoardError;
-use rbg_game::limits::{
-    MAX_BOUND, MAX_DIRECTIONS, MAX_NESTED_PATTERNS, MAX_PIECES, MAX_PLAYERS, MAX_POSITIONS,
-    MAX_VARIABLES, MAX_VERTICES,
-};
-use rbg_game::{GameError, LoadError, Thing};
+use rbg_diagnostics::{Telling, line_and_column};
+use rbg_game::limits::{MAX_BOUND, MAX_NESTED_PATTERNS, MAX_VERTICES};
+use rbg_game::{GameError, LoadError};
 use rbg_macro::{MAX_JOINED, MAX_KEPT, MAX_LEVEL, MAX_READ, MacroError, SectionKind};
+use rbg_origins::{Origin, Unrolled};
+use rbg_suggest::{kind_of, shown_at};
 use rbg_syntax::{Expectation, SyntaxError};
 use rbg_tokens::{MAX_TEXT, Symbol, TextError, Token};
-use std::str;
+use std::alloc::{AllocError, Global};
 
-/// A refusal in words. Its text is one line without a line feed.
+/// What is known of the calls from which the refusal's token comes.
 #[derive(Clone, Copy)]
-pub(crate) struct Message<'a> {
-    pub error: &'a LoadError,
-    /// What stands at the refusal's place.
-    pub spot: Option<Spot<'a>>,
-    /// The whole text of what stands there, if `~` has joined it.
-    pub joined: Option<&'a [u8]>,
-    /// Whether the text is refused since it begins with a byte order mark.
-    pub has_mark: bool,
+pub(crate) enum Known<'a> {
+    Nothing,
+    /// Where it is the name in a call, from which the text is expanded no further.
+    Call(&'a Unrolled, Origin),
+    /// What stands at the refusal's place where the macros are written out.
+    Token(Trace<'a>),
 }
 
-impl Message<'_> {
-    /// Tells the refusal.
-    pub fn tell(&self, told: &mut Telling<'_>) {
+/// A refusal in words. Its text is one line without a line feed.
+#[derive(Drop)]
+pub(crate) struct Message<'a, 'k> {
+    pub error: &'a LoadError,
+    /// The text that is refused.
+    pub text: &'a [u8],
+    /// What stands at the refusal's place.
+    pub spot: Option<Spot<'a>>,
+    pub known: Known<'k>,
+    /// Whether the section ends behind the refusal's place, where more of it is needed.
+    pub has_ended: bool,
+    /// The name that is probably meant.
+    pub meant: Option<Vec<u8>>,
+}
+
+impl<'a, 'k> Message<'a, 'k> {
+    /// Where the section ends too early: remembers that, and goes to the comma with which it ends, if it does.
+    pub fn go_to_end(&mut self, tokens: &'a [Token<'a>]) {
+        let is_expected = matches!(self.error, LoadError::Syntax(SyntaxError::Expected { .. }));
+        if !is_expected || !self.is_at_section() {
+            return;
+        }
+        self.has_ended = true;
+        if let Some(comma) = self.last_comma() {
+            self.spot = Spot::find(tokens, comma.origin.at);
+            self.known = Known::Token(comma);
+        }
+    }
+
+    /// Whether the place is the `#` of a section.
+    fn is_at_section(&self) -> bool {
+        match self.spot {
+            Some(spot) => spot.token.is(Symbol::Hash),
+            None => false,
+        }
+    }
+
+    /// The comma with which the section ends that begins here, where the macros are written out.
+    fn last_comma(&self) -> Option<Trace<'k>> {
+        let trace = self.trace()?;
+        let last = trace.spot.behind().last()?;
+        if last.is(Symbol::Comma) {
+            trace.flat.trace(last.at)
+        } else {
+            None
+        }
+    }
+
+    /// What stands at the refusal's place where the macros are written out, if that is known.
+    pub fn trace(&self) -> Option<Trace<'k>> {
+        match self.known {
+            Known::Token(trace) => Some(trace),
+            _ => None,
+        }
+    }
+
+    /// The offset of the call of the macro with this name from whose body the refusal's token comes.
+    pub fn call_of(&self, name: &[u8]) -> Option<usize> {
+        match self.known {
+            Known::Nothing => None,
+            Known::Call(unrolled, origin) => unrolled.named_call(self.text, origin, name),
+            Known::Token(trace) => {
+                trace
+                    .flat
+                    .unrolled
+                    .named_call(self.text, trace.origin, name)
+            }
+        }
+    }
+
+    /// Adds the refusal in words.
+    pub fn tell(&self, alloc: Global, output: &mut Vec<u8>) -> Result<(), AllocError> {
+        let mut told = Telling::new(alloc, output);
+        self.tell_error(&mut told);
+        if let Some(name) = &self.meant {
+            self.tell_meant(&mut told, name);
+        }
+        told.end()
+    }
+
+    /// Which name is probably meant, and by what, where that isn't what stands here.
+    fn tell_meant(&self, told: &mut Telling<'_>, name: &[u8]) {
+        match self.error {
+            LoadError::Syntax(SyntaxError::MissingSection { .. }) => {
+                told.named("; did you mean it by ", name, "?");
+            }
+            LoadError::Syntax(_) => {
+                told.named("; did you mean ", name, " by ");
+                told.name(self.called_name());
+                told.text("?");
+            }
+            _ => told.named("; did you mean ", name, "?"),
+        }
+    }
+
+    /// The name before the parenthesis that is open here.
+    fn called_name(&self) -> &'k [u8] {
+        match self.trace() {
+            Some(trace) => match trace.spot.called_name() {
+                Some(name) => name.text,
+                None => &[],
+            },
+            None => &[],
+        }
+    }
+
+    fn tell_error(&self, told: &mut Telling<'_>) {
         match self.error {
             LoadError::Text(error) => self.tell_text(told, error),
             LoadError::Macro(error) => self.tell_macro(told, error),
@@ -37,17 +141,37 @@ impl Message<'_> {
         }
     }
 
-    /// The text of the token at the refusal's place.
-    fn found(&self) -> Option<&[u8]> {
-        let spot = self.spot?;
-        Some(self.joined.unwrap_or(spot.token.text))
+    /// The text of the token at the refusal's place, if `~` has joined it.
+    pub fn joined(&self) -> Option<&'k [u8]> {
+        let trace = self.trace()?;
+        if self.has_ended || !self.is_of_token() || trace.text() == self.spot?.token.text {
+            None
+        } else {
+            Some(trace.text())
+        }
+    }
+
+    /// Whether the refusal tells the token at its place.
+    fn is_of_token(&self) -> bool {
+        matches!(
+            self.error,
+            LoadError::Syntax(_)
+                | LoadError::Game(
+                    GameError::UnknownName { .. }
+                        | GameError::SameName { .. }
+                        | GameError::Bound { .. }
+                )
+        )
     }
 
     /// How many bytes stand at the refusal's place.
     pub fn width(&self) -> usize {
-        match self.spot {
-            Some(spot) => spot.token.text.len(),
-            None => 1,
+        match (self.spot, self.error) {
+            (Some(spot), _) => spot.token.text.len(),
+            (None, LoadError::Text(TextError::BadByte { at })) => {
+                shown_at(self.text, *at).bytes.len().max(1)
+            }
+            (None, _) => 1,
         }
     }
 
@@ -55,13 +179,29 @@ impl Message<'_> {
         match error {
             TextError::TooLong => told.number("the text has more than ", MAX_TEXT, " bytes"),
             TextError::ZeroByte => told.text("expected no zero byte in the text"),
-            TextError::BadByte { .. } => told.text(if self.has_mark {
-                "expected a token, found a byte order mark"
-            } else {
-                "expected a token, found a byte that begins none"
-            }),
+            TextError::BadByte { at } => self.tell_byte(told, *at),
             TextError::Memory => told.text("out of memory"),
         }
+    }
+
+    /// What stands where no token begins.
+    fn tell_byte(&self, told: &mut Telling<'_>, at: usize) {
+        if at == 0 && self.text.starts_with(b"\xef\xbb\xbf") {
+            told.text("expected a token, found a byte order mark");
+            return;
+        }
+        let shown = shown_at(self.text, at);
+        told.text("expected a token, found ");
+        match shown.number {
+            Some(number) if number < 0x80 => told.name(shown.bytes),
+            Some(number) => {
+                told.named("", shown.bytes, " (U+");
+                told.hexadecimal(number);
+                told.text(")");
+            }
+            None => told.text("a byte that begins none"),
+        }
+        told.text(shown.meant);
     }
 
     fn tell_macro(&self, told: &mut Telling<'_>, error: &MacroError) {
@@ -76,6 +216,9 @@ impl Message<'_> {
             MacroError::TooManyTokens => {
                 told.number("the macros expand to more than ", MAX_KEPT, " tokens, or");
                 told.number(" more than ", MAX_READ, " are read");
+                if self.spot.is_some() {
+                    self.tell_around(told, ", at ", "");
+                }
             }
             MacroError::BadJoin { .. } => told.number(
                 "expected two tokens beside `~` that make a name or a number of at most ",
@@ -89,8 +232,17 @@ impl Message<'_> {
     /// Tells what was found, between these words.
     fn tell_around(&self, told: &mut Telling<'_>, before: &str, behind: &str) {
         told.text(before);
-        tell_found(told, self.found());
+        self.tell_found(told);
         told.text(behind);
+    }
+
+    /// Tells what was found: the token at the refusal's place, joined if `~` has joined it.
+    fn tell_found(&self, told: &mut Telling<'_>) {
+        match (self.trace(), self.spot) {
+            (Some(trace), _) if !self.has_ended => told.name(trace.text()),
+            (_, Some(spot)) => told.name(spot.token.text),
+            (_, None) => told.text("nothing"),
+        }
     }
 
     /// How many parameters the macro has that is called here, and what stands behind its name.
@@ -129,7 +281,9 @@ impl Message<'_> {
             Some(spot) if spot.starts_definition() => {
                 told.text("expected a whole head of a definition, found the end of the text");
             }
-            Some(spot) => self.tell_mismatch(told, head_words(spot.definition()), ""),
+            Some(spot) => {
+                self.tell_mismatch(told, head_words(spot.definition()), spot.comment_words());
+            }
         }
     }
 
@@ -137,7 +291,28 @@ impl Message<'_> {
     fn tell_mismatch(&self, told: &mut Telling<'_>, expected: &str, behind: &str) {
         told.text("expected ");
         told.text(expected);
+        self.tell_parameter(told);
         self.tell_around(told, ", found ", behind);
+    }
+
+    /// In place of which parameter the token stands.
+    fn tell_parameter(&self, told: &mut Telling<'_>) {
+        if let Some(parameter) = self.parameter() {
+            told.named(" in place of ", parameter.token.text, "");
+            if let Some(head) = parameter.macro_name() {
+                told.named(" in the body of ", head.text, "");
+            }
+            told.place(" at ", line_and_column(self.text, parameter.token.at), "");
+        }
+    }
+
+    /// The parameter in whose place the token stands, in the body of its macro.
+    pub fn parameter(&self) -> Option<Spot<'a>> {
+        let origin = self.trace()?.origin;
+        if self.has_ended || origin.place == origin.at {
+            return None;
+        }
+        self.spot?.beside(origin.place)
     }
 
     fn tell_syntax(&self, told: &mut Telling<'_>, error: &SyntaxError) {
@@ -157,23 +332,32 @@ impl Message<'_> {
     }
 
     fn tell_expected(&self, told: &mut Telling<'_>, what: Expectation) {
-        let expected = expectation_words(what);
-        match self.spot {
-            Some(spot) if spot.token.is(Symbol::Hash) => {
-                told.text("expected ");
-                told.text(expected);
-                told.text(", found the end of the section");
-            }
-            Some(spot) => self.tell_mismatch(told, expected, spot.comma_words()),
-            None => self.tell_mismatch(told, expected, ""),
+        match (self.trace(), self.spot) {
+            (Some(trace), _) => self.tell_expected_at(told, what, trace.spot),
+            (None, Some(spot)) => self.tell_expected_at(told, what, spot),
+            (None, None) => self.tell_mismatch(told, expectation_words(what, None), ""),
         }
+    }
+
+    /// What was expected in place of a token, where the macros are written out if that is known.
+    fn tell_expected_at(&self, told: &mut Telling<'_>, what: Expectation, spot: Spot<'_>) {
+        let expected = expectation_words(what, Some(spot));
+        if !self.has_ended {
+            self.tell_mismatch(told, expected, spot.hint(what));
+            return;
+        }
+        told.text("expected ");
+        told.text(expected);
+        told.text(if spot.token.is(Symbol::Comma) {
+            " behind this comma, found the end of the section"
+        } else {
+            ", found the end of the section"
+        });
     }
 
     fn tell_game(&self, told: &mut Telling<'_>, error: &GameError) {
         match error {
-            GameError::UnknownName { .. } => {
-                self.tell_mismatch(told, needed_words(self.spot), "");
-            }
+            GameError::UnknownName { .. } => self.tell_unknown(told),
             GameError::SameName { .. } => self.tell_mismatch(told, "a new name", " again"),
             GameError::Bound { .. } => self.tell_bound(told),
             GameError::SwitchInPattern { .. } => self.tell_around(
@@ -195,6 +379,31 @@ impl Message<'_> {
         }
     }
 
+    /// What a name must be here.
+    pub fn needed(&self) -> Needed {
+        match (self.trace(), self.spot) {
+            (Some(trace), _) => trace.spot.needed(),
+            (None, Some(spot)) => spot.needed(),
+            (None, None) => Needed::Anything,
+        }
+    }
+
+    /// What was expected in place of a name, and of what kind the name is.
+    fn tell_unknown(&self, told: &mut Telling<'_>) {
+        told.text("expected ");
+        told.text(needed_words(self.needed()));
+        self.tell_parameter(told);
+        told.text(", found ");
+        if let Some(trace) = self.trace()
+            && let Some(kind) = kind_of(trace.flat.tokens, trace.text())
+        {
+            told.text("the ");
+            told.text(kind.words());
+            told.text(" ");
+        }
+        self.tell_found(told);
+    }
+
     /// What is said of too great a number.
     fn tell_bound(&self, told: &mut Telling<'_>) {
         told.text("expected a bound of at most ");
@@ -209,11 +418,7 @@ impl Message<'_> {
             BoardError::SameDirection => self.tell_mismatch(told, "another direction", " again"),
             BoardError::UnknownVertex => self.tell_mismatch(told, "the name of a vertex", ""),
             BoardError::SameVertex => self.tell_mismatch(told, "a new name of a vertex", " again"),
-            BoardError::RowLength { row } => told.number(
-                "row ",
-                *row,
-                ", counted from 0, has a length that doesn't fit",
-            ),
+            BoardError::RowLength { row } => self.tell_row(told, *row),
             BoardError::TooManyVertices => {
                 told.number("expected at most ", MAX_VERTICES, " vertices");
             }
@@ -223,25 +428,33 @@ impl Message<'_> {
             BoardError::Memory => told.text("out of memory"),
         }
     }
-}
 
-/// How many bytes of a token are told.
-const MOST_SHOWN: usize = 40;
+    /// What is said of a row with a wrong length.
+    fn tell_row(&self, told: &mut Telling<'_>, row: usize) {
+        told.number("row ", row, ", counted from 0, has");
+        match self.row_lengths(row) {
+            Some((own, other, true)) => {
+                tell_cells(told, own);
+                told.number(", and row 0 has ", other, "");
+            }
+            Some((own, other, false)) => {
+                tell_cells(told, own);
+                told.number(", and the row before it ", other, "");
+                told.text(": the lengths of a hexagon's rows grow by one and then shrink by one");
+            }
+            None => told.text(" a length that doesn't fit"),
+        }
+    }
 
-/// Tells a token's text between back quotes; of a long one the beginning.
-fn tell_found(told: &mut Telling<'_>, found: Option<&[u8]>) {
-    match found {
-        Some(text) => tell_name(told, text),
-        None => told.text("nothing"),
+    /// How many cells a row has, and the row that it is measured by; and whether that is the first one.
+    fn row_lengths(&self, row: usize) -> Option<(usize, usize, bool)> {
+        row_lengths(self.trace()?.flat.tokens, row)
     }
 }
 
-/// Tells a name between back quotes; of a long one the beginning.
-pub(crate) fn tell_name(told: &mut Telling<'_>, name: &[u8]) {
-    let start = name.get(..MOST_SHOWN).unwrap_or(name);
-    told.text("`");
-    told.text(str::from_utf8(start).unwrap_or(""));
-    told.text(if start.len() < name.len() { "..`" } else { "`" });
+/// Tells of so many cells.
+fn tell_cells(told: &mut Telling<'_>, count: usize) {
+    told.number(" ", count, if count == 1 { " cell" } else { " cells" });
 }
 
 /// Tells of so many arguments.
@@ -257,60 +470,4 @@ fn tell_section(told: &mut Telling<'_>, before: &str, section: SectionKind) {
     told.text(before);
     told.text(section.name());
     told.text("`");
-}
-
-/// What fits behind the first tokens of a definition's head.
-fn head_words(head: &[Token<'_>]) -> &'static str {
-    match head {
-        [] => "`#`",
-        [_] => "the name of a section or a macro",
-        [_, _] => "`=` or a macro's parameters",
-        [.., last] if last.is(Symbol::OpenParenthesis) || last.is(Symbol::Semicolon) => {
-            "the name of one more parameter"
-        }
-        [.., last] if last.is(Symbol::CloseParenthesis) => "`=`",
-        _ => "`;` or `)`",
-    }
-}
-
-fn expectation_words(what: Expectation) -> &'static str {
-    match what {
-        Expectation::Name => "a name",
-        Expectation::Number => "a number",
-        Expectation::Opening => "an opening bracket",
-        Expectation::Closing => "the list's next part or its closing bracket",
-        Expectation::Equals => "`=`",
-        Expectation::Comma => "`,`",
-        Expectation::Colon => "`:`",
-        Expectation::Item => "an action or a `(`",
-        Expectation::Factor => "a number, a name, `(` or `-`",
-        Expectation::Relation => "one of `==`, `!=`, `<`, `<=`, `>` and `>=`",
-        Expectation::Generator => "`rectangle`, `hexagon` or `graph`",
-        Expectation::End => "the end of the section",
-    }
-}
-
-fn needed_words(spot: Option<Spot<'_>>) -> &'static str {
-    let needed = match spot {
-        Some(spot) => spot.needed(),
-        None => Needed::Anything,
-    };
-    match needed {
-        Needed::Direction => "the name of a direction",
-        Needed::Piece => "the name of a piece",
-        Needed::Player => "the name of a player",
-        Needed::Variable => "the name of a variable",
-        Needed::Value => "the name of a variable or a piece",
-        Needed::Anything => "the name of a direction, a piece, a player or a variable",
-    }
-}
-
-fn most_of(thing: Thing) -> usize {
-    match thing {
-        Thing::Players => MAX_PLAYERS,
-        Thing::Pieces => MAX_PIECES,
-        Thing::Variables => MAX_VARIABLES,
-        Thing::Directions => MAX_DIRECTIONS,
-        Thing::Positions => MAX_POSITIONS,
-    }
 }

@@ -1,7 +1,7 @@
 //! What stands around a token of a text.
 
 use crate::among::{before_first, from_last, index_of, is_at};
-use crate::brackets::{CallForm, call_form, parameter_count, stays_open};
+use crate::brackets::{CallForm, call_form, open_bracket, parameter_count, stays_open};
 use rbg_tokens::{Symbol, Token, TokenKind};
 
 /// The names of the sections.
@@ -41,6 +41,76 @@ impl<'a> Spot<'a> {
             }
         }
         None
+    }
+
+    /// How many tokens are before this one.
+    pub fn index(&self) -> usize {
+        self.before.len()
+    }
+
+    /// Another token of the same text.
+    pub fn beside(&self, at: usize) -> Option<Spot<'a>> {
+        Spot::find(self.tokens, at)
+    }
+
+    /// All tokens of the text.
+    pub fn tokens(&self) -> &'a [Token<'a>] {
+        self.tokens
+    }
+
+    /// The last bracket that is open before this token, or at the end of the section that begins here.
+    pub fn open_bracket(&self) -> Option<Token<'a>> {
+        if self.token.is(Symbol::Hash) {
+            open_bracket(self.behind())
+        } else {
+            open_bracket(self.definition())
+        }
+    }
+
+    /// Whether the bracket that this token opens isn't closed before another one is, or the definition ends.
+    pub fn is_unclosed(&self) -> bool {
+        let mut further = 0usize;
+        for token in self.behind() {
+            if token.kind.opens() {
+                further = further.saturating_add(1);
+            } else if token.kind.closes() {
+                if further == 0 {
+                    return !is_pair(self.token.kind, token.kind);
+                }
+                further -= 1;
+            }
+        }
+        true
+    }
+
+    /// The last bracket that is open at the end of the definition, of those behind this token.
+    pub fn bracket_behind(&self) -> Option<Token<'a>> {
+        open_bracket(self.behind())
+    }
+
+    /// The first token before this one that has its text, in the same section or else in the whole text.
+    pub fn first_of_name(&self) -> Option<Token<'a>> {
+        match first_with(self.definition(), self.token.text) {
+            Some(token) => Some(token),
+            None => first_with(self.before, self.token.text),
+        }
+    }
+
+    /// The name in the head of the definition in which the token stands, or that begins here.
+    pub fn head(&self) -> Option<Token<'a>> {
+        if self.token.is(Symbol::Hash) {
+            self.behind().first().copied()
+        } else {
+            self.definition().get(1).copied()
+        }
+    }
+
+    /// Whether the token stands in a section with this name, or begins it.
+    pub fn is_in(&self, section: &str) -> bool {
+        match self.head() {
+            Some(head) => head.text == section.as_bytes(),
+            None => false,
+        }
     }
 
     /// The token before this one.
@@ -196,6 +266,33 @@ impl<'a> Spot<'a> {
             None => false,
         }
     }
+}
+
+/// Whether two brackets are of one form.
+fn is_pair(open: TokenKind, close: TokenKind) -> bool {
+    matches!(
+        (open, close),
+        (
+            TokenKind::Symbol(Symbol::OpenParenthesis),
+            TokenKind::Symbol(Symbol::CloseParenthesis)
+        ) | (
+            TokenKind::Symbol(Symbol::OpenBracket),
+            TokenKind::Symbol(Symbol::CloseBracket)
+        ) | (
+            TokenKind::Symbol(Symbol::OpenBrace),
+            TokenKind::Symbol(Symbol::CloseBrace)
+        )
+    )
+}
+
+/// The first token with this text.
+fn first_with<'a>(tokens: &'a [Token<'a>], text: &[u8]) -> Option<Token<'a>> {
+    for token in tokens {
+        if token.text == text {
+            return Some(*token);
+        }
+    }
+    None
 }
 
 /// Whether a macro with parameters has this name.

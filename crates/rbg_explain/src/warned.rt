@@ -3,136 +3,195 @@
 use crate::among::index_of;
 use crate::boards::nth_direction;
 use crate::calls::calls_of;
-use crate::output::{File, Telling, tell_location};
-use crate::sections::{expanded, nth_name, section_tokens};
+use crate::doubted::push_doubts;
+use crate::sections::{cut, expanded, nth_name, section_tokens};
 use crate::spot::is_section;
+use rbg_base::Position;
+use rbg_diagnostics::{Diagnostic, Severity, Telling};
 use rbg_game::Game;
+use rbg_lint::{Look, push_warnings};
 use rbg_macro::{SectionKind, Source};
+use rbg_origins::unroll;
 use rbg_passages::actions;
+use rbg_rules::Action;
 use rbg_tokens::{Symbol, Token, Tokens};
 use rbg_warnings::{Thing, Warning, warnings};
 use std::alloc::{AllocError, Global};
-use std::str;
 
-/// A line for each warning of a game, with the file, the line and the column: what the rules never use, numbers above
-/// a bound, and macros that are never called. `no warnings` where there is none. The tokens and the game are those of the
-/// text.
-pub fn warn(
+/// The warnings of the game that a text with these tokens describes.
+pub fn game_warnings(
     alloc: Global,
-    file: &str,
     text: &[u8],
     tokens: &Tokens<'_>,
     game: &Game,
-) -> Result<Vec<u8>, AllocError> {
-    let mut output = Vec::new(alloc);
-    push_lines(alloc, &mut output, File { name: file, text }, tokens, game)?;
-    if output.is_empty() {
-        output.extend_from_slice(b"no warnings\n")?;
-    }
-    Ok(output)
+) -> Result<Vec<Diagnostic>, AllocError> {
+    let mut found = Vec::new(alloc);
+    push_game_warnings(alloc, text, tokens, game, &mut found)?;
+    push_uncalled(alloc, tokens.as_slice(), &mut found)?;
+    push_looks(alloc, text, tokens, &mut found)?;
+    Ok(found)
 }
 
-/// Adds the lines of the warnings.
-fn push_lines(
+/// Adds what is found by looking at the text.
+fn push_looks(
     alloc: Global,
-    output: &mut Vec<u8>,
-    file: File<'_>,
+    text: &[u8],
     tokens: &Tokens<'_>,
-    game: &Game,
+    found: &mut Vec<Diagnostic>,
 ) -> Result<(), AllocError> {
-    let mut told = Telling::new(alloc, output);
-    tell_warnings(alloc, &mut told, file, tokens, game)?;
-    tell_uncalled(alloc, &mut told, file, tokens.as_slice())?;
-    told.end()
-}
-
-/// Tells a warning about a token in a line, with a name between two parts of its words.
-fn tell_line(told: &mut Telling<'_>, file: File<'_>, token: Token<'_>, words: [&str; 2]) {
-    let [before, behind] = words;
-    tell_location(told, file, token.at);
-    told.text(before);
-    told.text(" `");
-    told.text(str::from_utf8(token.text).unwrap_or(""));
-    told.text("`");
-    told.text(behind);
-    told.text("\n");
-}
-
-/// Tells each warning of the game in a line, where the macros of the text are expanded.
-fn tell_warnings(
-    alloc: Global,
-    told: &mut Telling<'_>,
-    file: File<'_>,
-    tokens: &Tokens<'_>,
-    game: &Game,
-) -> Result<(), AllocError> {
-    match expanded(alloc, tokens)? {
-        Some(source) => tell_warnings_in(alloc, told, game, file, &source),
+    let unrolled = unroll(alloc, text, tokens.as_slice())?;
+    match cut(alloc, &unrolled.text)? {
+        Some(cut) => {
+            let look = Look {
+                text,
+                tokens: tokens.as_slice(),
+                unrolled: &unrolled,
+                flat: cut.as_slice(),
+            };
+            push_warnings(alloc, look, found)
+        }
         None => Ok(()),
     }
 }
 
-/// Tells each warning of the game with these sections in a line.
-fn tell_warnings_in(
+/// Adds a warning of a kind about a token, with its name between two parts of its words.
+fn push_warning(
     alloc: Global,
-    told: &mut Telling<'_>,
+    found: &mut Vec<Diagnostic>,
+    code: &'static str,
+    token: Token<'_>,
+    words: [&str; 2],
+) -> Result<(), AllocError> {
+    let [before, behind] = words;
+    let mut warning = warning_at(alloc, code, token);
+    let mut told = Telling::new(alloc, &mut warning.message);
+    told.named(before, token.text, behind);
+    told.end()?;
+    push_new(found, warning)
+}
+
+/// A warning of a kind about a token, of which nothing is said yet.
+pub(crate) fn warning_at(alloc: Global, code: &'static str, token: Token<'_>) -> Diagnostic {
+    Diagnostic::new(alloc, Severity::Warning, code, token.at, token.text.len())
+}
+
+/// Adds a warning, unless one of its kind is at its place already.
+pub(crate) fn push_new(found: &mut Vec<Diagnostic>, warning: Diagnostic) -> Result<(), AllocError> {
+    if !is_warned(found, &warning) {
+        found.push(warning)?;
+    }
+    Ok(())
+}
+
+fn is_warned(found: &[Diagnostic], warning: &Diagnostic) -> bool {
+    for other in found {
+        if other.start == warning.start && other.code == warning.code {
+            return true;
+        }
+    }
+    false
+}
+
+/// Adds the warnings of the game, where the macros of the text are expanded.
+fn push_game_warnings(
+    alloc: Global,
+    text: &[u8],
+    tokens: &Tokens<'_>,
     game: &Game,
-    file: File<'_>,
+    found: &mut Vec<Diagnostic>,
+) -> Result<(), AllocError> {
+    match expanded(alloc, tokens)? {
+        Some(source) => push_source_warnings(alloc, text, game, &source, found),
+        None => Ok(()),
+    }
+}
+
+/// Adds the warnings of the game with these sections.
+fn push_source_warnings(
+    alloc: Global,
+    text: &[u8],
+    game: &Game,
     source: &Source<'_>,
+    found: &mut Vec<Diagnostic>,
 ) -> Result<(), AllocError> {
     let rules = section_tokens(alloc, source, SectionKind::Rules)?;
     let actions = actions(alloc, &rules)?;
-    tell_warnings_among(alloc, told, file, source, &actions, game)
+    push_warnings_among(alloc, source, &actions, game, found)?;
+    push_doubts(alloc, text, &actions, game, found)
 }
 
-/// Tells each warning of the game with these sections and actions in a line.
-fn tell_warnings_among(
+/// Adds the warnings of the game with these sections and actions.
+fn push_warnings_among(
     alloc: Global,
-    told: &mut Telling<'_>,
-    file: File<'_>,
     source: &Source<'_>,
     actions: &[&[Token<'_>]],
     game: &Game,
+    found: &mut Vec<Diagnostic>,
 ) -> Result<(), AllocError> {
     for warning in &warnings(alloc, game)? {
         match warning {
             Warning::TooGreat { position } => {
                 let index = (*position as usize).saturating_sub(1);
-                tell_too_great(told, file, actions.get(index).copied().unwrap_or(&[]));
+                let action = actions.get(index).copied().unwrap_or(&[]);
+                push_too_great(alloc, found, action, bound_at(game, *position))?;
             }
             Warning::Unused { thing } => {
-                tell_unused(alloc, told, file, source, game.players(), *thing)?;
+                push_unused(alloc, found, source, game.players(), *thing)?;
             }
         }
     }
     Ok(())
 }
 
-/// Tells in a line that the number of an assignment is above the bound of its variable, the first name of its action.
-fn tell_too_great(told: &mut Telling<'_>, file: File<'_>, action: &[Token<'_>]) {
-    if let Some(token) = nth_name(action, 0) {
-        let words = [
-            "the number is above the bound of",
-            ", so this assignment is never valid",
-        ];
-        tell_line(told, file, token, words);
+/// The bound of the variable to which a position assigns.
+fn bound_at(game: &Game, position: Position) -> u32 {
+    if position == 0 || (position as usize) > game.positions() {
+        return 0;
+    }
+    match game.action(position) {
+        Action::Assign { variable, .. } if (*variable as usize) < game.variables() => {
+            game.bound(*variable)
+        }
+        _ => 0,
     }
 }
 
-/// Tells in a line that the rules never use a thing, at its name in the section that lists it.
-fn tell_unused(
+/// Adds that the number of an assignment is above the bound of its variable, the first name of its action.
+fn push_too_great(
     alloc: Global,
-    told: &mut Telling<'_>,
-    file: File<'_>,
+    found: &mut Vec<Diagnostic>,
+    action: &[Token<'_>],
+    bound: u32,
+) -> Result<(), AllocError> {
+    let Some(token) = nth_name(action, 0) else {
+        return Ok(());
+    };
+    let mut warning = warning_at(alloc, "AboveBound", token);
+    let mut told = Telling::new(alloc, &mut warning.message);
+    told.text("the number is above ");
+    told.shown(&bound);
+    told.named(
+        ", the bound of ",
+        token.text,
+        ", so this assignment is never valid",
+    );
+    told.end()?;
+    push_new(found, warning)
+}
+
+/// Adds that the rules never use a thing, at its name in the section that lists it.
+fn push_unused(
+    alloc: Global,
+    found: &mut Vec<Diagnostic>,
     source: &Source<'_>,
     players: usize,
     thing: Thing,
 ) -> Result<(), AllocError> {
     let tokens = section_tokens(alloc, source, section_of(thing))?;
-    if let Some(token) = named_token(&tokens, players, thing) {
-        tell_line(told, file, token, unused_words(thing));
+    match named_token(&tokens, players, thing) {
+        Some(token) => push_warning(alloc, found, "Unused", token, unused_words(thing)),
+        None => Ok(()),
     }
-    Ok(())
 }
 
 /// The section that lists a thing.
@@ -160,22 +219,21 @@ fn named_token<'a>(tokens: &'a [Token<'a>], players: usize, thing: Thing) -> Opt
 /// What is said of a thing, before its name and behind it.
 fn unused_words(thing: Thing) -> [&'static str; 2] {
     match thing {
-        Thing::Player { .. } => ["no switch gives the turn to the player", ""],
+        Thing::Player { .. } => ["no switch gives the turn to the player ", ""],
         Thing::Piece { .. } => [
-            "no vertex has the piece",
+            "no vertex has the piece ",
             " at the beginning, and no off puts it",
         ],
-        Thing::Variable { .. } => ["the rules never name the variable", ""],
-        Thing::Direction { .. } => ["the rules never write the direction", ""],
+        Thing::Variable { .. } => ["the rules never name the variable ", ""],
+        Thing::Direction { .. } => ["the rules never write the direction ", ""],
     }
 }
 
-/// Tells each macro that is never called in a line. Where a text joins tokens any name may be made, so none is told.
-fn tell_uncalled(
+/// Adds each macro that is never called. Where a text joins tokens any name may be made, so none is told.
+fn push_uncalled(
     alloc: Global,
-    told: &mut Telling<'_>,
-    file: File<'_>,
     tokens: &[Token<'_>],
+    found: &mut Vec<Diagnostic>,
 ) -> Result<(), AllocError> {
     if index_of(tokens, Symbol::Tilde).is_some() {
         return Ok(());
@@ -184,24 +242,29 @@ fn tell_uncalled(
         if token.is(Symbol::Hash)
             && let Some(head) = tokens.get(index.saturating_add(1))
         {
-            tell_if_uncalled(alloc, told, file, tokens, *head)?;
+            push_if_uncalled(alloc, tokens, *head, found)?;
         }
     }
     Ok(())
 }
 
-/// Tells the macro with this name in its head in a line, if nothing calls it.
-fn tell_if_uncalled(
+/// Adds the macro with this name in its head, if nothing calls it.
+fn push_if_uncalled(
     alloc: Global,
-    told: &mut Telling<'_>,
-    file: File<'_>,
     tokens: &[Token<'_>],
     head: Token<'_>,
+    found: &mut Vec<Diagnostic>,
 ) -> Result<(), AllocError> {
-    if !is_section(head.text) && !is_called(alloc, tokens, head.text)? {
-        tell_line(told, file, head, ["nothing calls the macro", ""]);
+    if is_section(head.text) || is_called(alloc, tokens, head.text)? {
+        return Ok(());
     }
-    Ok(())
+    push_warning(
+        alloc,
+        found,
+        "Uncalled",
+        head,
+        ["nothing calls the macro ", ""],
+    )
 }
 
 fn is_called(alloc: Global, tokens: &[Token<'_>], name: &[u8]) -> Result<bool, AllocError> {

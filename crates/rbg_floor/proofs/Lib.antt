@@ -3,6 +3,7 @@ pub mod Common
 mod Apart
 pub mod Beginnings
 mod Counts
+pub mod Dues
 mod Early
 mod Growing
 mod Halls

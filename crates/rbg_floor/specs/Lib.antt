@@ -1,6 +1,7 @@
 -- A whole hall: its lines and its tables, and what each line may have.
 pub mod Allowed
 pub mod Apart
+pub mod Due
 pub mod Events
 pub mod Failing
 pub mod Halls

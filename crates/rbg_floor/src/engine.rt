@@ -32,6 +32,7 @@ fn hall_event(event: Event<'_>) -> HallEvent<'_>
 impl<W: Log> Engine for Hall<W> {
     ghost use Rattle.std.specs.Prelude.{◌≡◌, false};
     ghost use Rattle.rbg_hall.specs.Limits.{lines_in_all};
+    ghost use Rattle.rbg_floor.specs.Due.{IsFirstDue};
     ghost use Rattle.rbg_floor.specs.Serving.{of_hall};
 
     type Outbox = HallOut;
@@ -48,6 +49,8 @@ impl<W: Log> Engine for Hall<W> {
 
     ghost valid = { λ hall. hall.failed ≡ false };
 
+    ghost first_due = { λ hall due. IsFirstDue hall.state.tables due };
+
     fn handle(&mut self, event: Event<'_>, outbox: &mut HallOut) -> Result<(), Memory> {
         self.step(hall_event(event), outbox)
     }
@@ -58,6 +61,10 @@ impl<W: Log> Engine for Hall<W> {
 
     fn is_over(&self) -> bool {
         self.have_all_ended()
+    }
+
+    fn due(&self) -> Option<u64> {
+        Hall::due(self)
     }
 
     fn bytes(outbox: &HallOut, line: usize) -> &[u8] {

@@ -3,6 +3,7 @@ ghost use Rattle.std.specs.Prelude.{◌≡◌, ◌↔◌, [], false, true, map, 
 ghost use Rattle.rbg_wire.specs.Streams.{incomplete};
 ghost use Rattle.rbg_match.specs.Matches.{HasHistory};
 ghost use Rattle.rbg_hall.specs.Limits.{lines_in_all};
+ghost use Rattle.rbg_floor.specs.Due.{IsFirstDue};
 ghost use Rattle.rbg_floor.specs.Events.{event_of};
 ghost use Rattle.rbg_floor.specs.Halls.{begun_at};
 ghost use Rattle.rbg_floor.specs.Hearing.{HallHears};
@@ -13,6 +14,7 @@ ghost use Rattle.rbg_floor.specs.Serving.{HaveAllEnded, MaySpeak};
 ghost use Rattle.rbg_floor.specs.internal.Parts.{ledgers_of, states_of};
 ghost use Rattle.rbg_ledger.specs.Kept.{no_log};
 
+use crate::due::first_due;
 use crate::ending::{has_log_failed, have_all_ended};
 use crate::events::hear_event;
 use crate::line::LinePhase;
@@ -166,6 +168,13 @@ impl<W: Log> Hall<W> {
         ensures { IsTrue result ↔ HaveAllEnded self.now.state.tables }
     {
         have_all_ended(&self.tables)
+    }
+
+    /// The first of the moments at which the time of a mover is over, if a match goes on.
+    pub fn due(&self) -> Option<u64>
+        ensures { IsFirstDue self.now.state.tables result }
+    {
+        first_due(&self.tables)
     }
 
     /// The allocator of the hall.

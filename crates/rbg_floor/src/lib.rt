@@ -2,6 +2,7 @@
 //! by no other; the clock is heard by all. Each table plays as if it stood alone.
 #![tactic(auto)]
 
+mod due;
 mod ending;
 mod engine;
 mod error;

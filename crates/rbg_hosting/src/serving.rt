@@ -59,6 +59,7 @@ pub fn serve_hall<N: Network>(
         &mut clock,
         service.rounds,
     )?;
+    tell_stalled(network, service.hosting, lines.as_slice());
     Ok(records_of(alloc, &hall, count)?)
 }
 
@@ -162,6 +163,16 @@ fn accept_lines<N: Network>(
         quiet: true,
     };
     Ok(gather(alloc, network, &mut listener, players, silent)?)
+}
+
+/// Reports which connections took nothing of what was left for them after the end. Connections are numbered from 1.
+fn tell_stalled<N: Network>(network: &mut N, hosting: Hosting, lines: &[StreamLine<N::Stream>]) {
+    for (index, line) in lines.iter().enumerate() {
+        if line.has_stalled() {
+            let connection = index.saturating_add(1);
+            hosting.tell(network, &News::ConnectionTookNothing { connection });
+        }
+    }
 }
 
 /// `match <k>` and the record of each match that has begun.

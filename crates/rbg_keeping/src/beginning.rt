@@ -5,12 +5,13 @@ ghost use Rattle.rbg_match.specs.PlayingOn.{seats_of};
 ghost use Rattle.rbg_keeping.specs.Played.{IsPlayedMatch};
 
 use crate::bounded::play_on;
-use crate::joining::{accept_players, tell_names};
+use crate::joining::{accept_players, tell_names, tell_stalled};
+use crate::record::begin_record;
 use crate::{Keeping, Serving, ServingFault};
 use rbg_game::{Game, load};
 use rbg_log::{Log, LoggedMatch};
 use rbg_match::{Match, Outbox};
-use rbg_network::{Network, News};
+use rbg_network::{Named, Network, News, begin_log};
 use rbg_serving::{Clock, Line};
 use std::alloc::Global;
 
@@ -26,11 +27,12 @@ pub(crate) fn serve_text<N: Network>(
     ensures { IfOk result (λ played. IsPlayedMatch text.now played) }
 {
     let game = load(alloc, text)?;
-    let log = create_log(network, &serving.keeping)?;
+    begin_record(network, &serving.keeping)?;
+    let log = create_log(alloc, text, network, &serving.keeping)?;
     let mut lines = accept_players(alloc, network, port, game.players(), serving)?;
-    tell_names(network, serving);
+    tell_names(network, serving, &None);
     serving.hosting.tell(network, &News::Begins);
-    serve_lines(
+    let played = serve_lines(
         alloc,
         game,
         text,
@@ -38,18 +40,26 @@ pub(crate) fn serve_text<N: Network>(
         serving,
         log,
         lines.as_mut_slice(),
-    )
+    );
+    tell_stalled(network, serving, lines.as_slice());
+    played
 }
 
 /// The new log of a match, if one is wanted.
 fn create_log<N: Network>(
+    alloc: Global,
+    text: &[u8],
     network: &mut N,
     keeping: &Keeping<'_>,
 ) -> Result<Option<N::Log>, ServingFault> {
-    match keeping.log {
-        Some(name) => Ok(Some(network.create_log(name, keeping.sync)?)),
-        None => Ok(None),
-    }
+    let Some(name) = keeping.log else {
+        return Ok(None);
+    };
+    let named = Named {
+        description: text,
+        names: keeping.names,
+    };
+    Ok(Some(begin_log(alloc, network, name, keeping.sync, named)?))
 }
 
 /// Referees a match over the lines, one for each seat, until it has ended. A clock begins with it.

@@ -7,7 +7,7 @@ use rbg_network::GatherError;
 use rbg_refereeing::RefereeingError;
 use rbg_script::ScriptError;
 use std::alloc::AllocError;
-use std::io;
+use std::io::{self, ErrorKind};
 use thiserror::Error;
 
 /// Why a match, or those of a hall, aren't played to their ends.
@@ -19,10 +19,11 @@ pub enum ServingFault {
     /// The config is outside its limits, or a hall has not as many tables or players. The words of no command lead here.
     #[error("a number of the config is outside its limits")]
     Config,
-    /// This line of the log that goes on is missing, or not of its form; 0 if it is longer than an input may be.
+    /// This line of the log that goes on is missing, or not of its form.
     #[error("line {0} of the log is not of its form")]
     Script(usize),
-    /// A file can't be read, a log can't be made or written, a connection can't be made, or the clock can't be read.
+    /// A file can't be read, a log or a record can't be made or written, a log is of another game or held by another process,
+    /// a connection can't be made, or the clock can't be read.
     #[error("device")]
     Device,
     /// Not all players have come in time.
@@ -98,7 +99,10 @@ impl From<GatherError> for ServingFault {
 }
 
 impl From<io::Error> for ServingFault {
-    fn from(_error: io::Error) -> ServingFault {
-        ServingFault::Device
+    fn from(error: io::Error) -> ServingFault {
+        match error.kind() {
+            ErrorKind::OutOfMemory => ServingFault::Memory(AllocError),
+            _ => ServingFault::Device,
+        }
     }
 }

@@ -31,12 +31,37 @@ fn most_of(serving: &Serving<'_>) -> News<'static> {
     }
 }
 
-/// Tells who sits where, as far as the organiser says.
-pub(crate) fn tell_names<N: Network>(network: &mut N, serving: &Serving<'_>) {
+/// Tells who sits where, as far as the organiser says, or else the log that goes on.
+pub(crate) fn tell_names<N: Network>(
+    network: &mut N,
+    serving: &Serving<'_>,
+    of_log: &Option<String>,
+) {
     if let Some(names) = serving.keeping.names {
-        for (index, name) in names.split(',').enumerate() {
+        tell_each(network, serving, names);
+    } else if let Some(names) = of_log {
+        tell_each(network, serving, names.as_str());
+    }
+}
+
+/// Tells who sits where by names with a comma between two of them.
+fn tell_each<N: Network>(network: &mut N, serving: &Serving<'_>, names: &str) {
+    for (index, name) in names.split(',').enumerate() {
+        let seat = index.saturating_add(1);
+        serving.hosting.tell(network, &News::Sits { seat, name });
+    }
+}
+
+/// Tells which seats took nothing of what was left for them after the end.
+pub(crate) fn tell_stalled<N: Network>(
+    network: &mut N,
+    serving: &Serving<'_>,
+    lines: &[StreamLine<N::Stream>],
+) {
+    for (index, line) in lines.iter().enumerate() {
+        if line.has_stalled() {
             let seat = index.saturating_add(1);
-            serving.hosting.tell(network, &News::Sits { seat, name });
+            serving.hosting.tell(network, &News::TookNothing { seat });
         }
     }
 }

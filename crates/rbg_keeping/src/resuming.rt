@@ -7,19 +7,31 @@ ghost use Rattle.rbg_script.specs.Scripts.{script_of};
 
 use crate::again::resume_match;
 use crate::bounded::play_on;
-use crate::joining::{accept_players, tell_names};
+use crate::joining::{accept_players, tell_names, tell_stalled};
+use crate::record::begin_record;
 use crate::{Serving, ServingFault};
-use rbg_console::{Files, Input, MAX_INPUT};
+use rbg_console::{Files, Input};
 use rbg_game::load;
 use rbg_log::{LaterClock, Log, LoggedMatch, cut_stumps, whole_lines};
 use rbg_match::{Match, Outbox};
-use rbg_network::{Network, News};
+use rbg_network::{Network, News, take_log};
 use rbg_refereeing::play_script;
 use rbg_script::{Script, read_script};
 use std::alloc::Global;
 
-/// Goes on with a match of the text's game from its log, between the first players that connect to the port. A match
-/// that has ended is given at once.
+/// A match that was stopped, as its log has it.
+#[derive(Drop)]
+struct Stopped {
+    script: Script,
+    /// Its last moment.
+    moment: u64,
+    seats: usize,
+    /// Who plays, if the log's game file says that.
+    names: Option<String>,
+}
+
+/// Goes on with a match of the text's game from its log, which this process takes, between the first players that connect
+/// to the port. A match that has ended is given at once.
 pub(crate) fn resume_text<F: Files, N: Network>(
     alloc: Global,
     text: &[u8],
@@ -32,24 +44,27 @@ pub(crate) fn resume_text<F: Files, N: Network>(
     ensures { IfOk result (λ played. IsPlayedMatch text.now played) }
 {
     load(alloc, text)?;
+    begin_record(network, &serving.keeping)?;
+    let names = take_log(alloc, network, name, text)?;
     let script = read_log(alloc, files, name)?;
     let played = stopped_match(alloc, text, &script)?;
     if played.outcome().is_some() {
         return Ok(played);
     }
-    let moment = played.moment();
-    let seats = played.players();
-    resume_script(
-        alloc, text, script, name, network, port, serving, moment, seats,
-    )
+    let stopped = Stopped {
+        moment: played.moment(),
+        seats: played.players(),
+        script,
+        names,
+    };
+    resume_stopped(alloc, text, stopped, name, network, port, serving)
 }
 
-/// The script that a log holds. A last line that isn't whole is left out.
+/// The script that a log holds, which may be of any size. A last line that isn't whole is left out.
 fn read_log<F: Files>(alloc: Global, files: &mut F, name: &str) -> Result<Script, ServingFault> {
-    match files.read_file(alloc, name, MAX_INPUT)? {
+    match files.read_file(alloc, name, usize::MAX)? {
         Input::Whole(bytes) => Ok(read_script(alloc, whole_lines(bytes.as_slice()))?),
-        Input::TooLong => Err(ServingFault::Script(0)),
-        Input::Device => Err(ServingFault::Device),
+        Input::TooLong | Input::Device => Err(ServingFault::Device),
     }
 }
 
@@ -61,24 +76,29 @@ fn stopped_match(alloc: Global, text: &[u8], script: &Script) -> Result<Match, S
     Ok(played)
 }
 
-/// Goes on with the match of a script for so many seats, of which the last moment is this one.
-fn resume_script<N: Network>(
+/// Goes on with a match that was stopped.
+fn resume_stopped<N: Network>(
     alloc: Global,
     text: &[u8],
-    script: Script,
+    stopped: Stopped,
     name: &str,
     network: &mut N,
     port: u16,
     serving: &Serving<'_>,
-    moment: u64,
-    seats: usize,
 ) -> Result<Match, ServingFault>
     ensures { IfOk result (λ played. IsPlayedMatch text.now played) }
 {
-    let mut script = script;
+    let Stopped {
+        mut script,
+        moment,
+        seats,
+        names,
+    } = stopped;
     cut_stumps(seats, moment, &mut script.events)?;
     let (logged, outbox) = begin_again(alloc, text, &script, name, network, serving)?;
-    go_on(alloc, network, port, serving, logged, outbox, moment)
+    go_on(
+        alloc, network, port, serving, logged, outbox, moment, &names,
+    )
 }
 
 /// The match of a script, with a log that replaces the old one.
@@ -101,7 +121,7 @@ fn begin_again<N: Network>(
     Ok(made)
 }
 
-/// Waits for the players of a match, and goes on with it from this moment.
+/// Waits for the players of a match, and goes on with it from this moment. Who plays is told, if that is known.
 fn go_on<N: Network, W: Log>(
     alloc: Global,
     network: &mut N,
@@ -110,6 +130,7 @@ fn go_on<N: Network, W: Log>(
     logged: LoggedMatch<W>,
     outbox: Outbox,
     moment: u64,
+    names: &Option<String>,
 ) -> Result<Match, ServingFault>
     requires { length outbox ≡ seats_of logged.played.game }
     ensures { (text : List ℕ) → IsPlayedMatch text logged.played →
@@ -117,11 +138,11 @@ fn go_on<N: Network, W: Log>(
 {
     let players = logged.played().players();
     let mut lines = accept_players(alloc, network, port, players, serving)?;
-    tell_names(network, serving);
+    tell_names(network, serving, names);
     serving.hosting.tell(network, &News::GoesOn);
     let mut outbox = outbox;
     let mut clock = LaterClock::new(network.start_clock()?, moment);
-    play_on(
+    let played = play_on(
         alloc,
         logged,
         serving,
@@ -129,5 +150,7 @@ fn go_on<N: Network, W: Log>(
         lines.as_mut_slice(),
         &mut outbox,
         &mut clock,
-    )
+    );
+    tell_stalled(network, serving, lines.as_slice());
+    played
 }

@@ -16,6 +16,8 @@ pub struct Keeping<'a> {
     pub minutes: Option<u64>,
     /// Who sits where, seat 1 first, with a comma between two names.
     pub names: Option<&'a str>,
+    /// The directory for the record.
+    pub records: Option<&'a str>,
 }
 
 /// Nothing is kept, and rounds are counted.
@@ -25,6 +27,7 @@ pub const NOTHING_KEPT: Keeping<'static> = Keeping {
     sync: false,
     minutes: None,
     names: None,
+    records: None,
 };
 
 /// How a match between players at a port is served.

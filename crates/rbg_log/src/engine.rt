@@ -8,6 +8,7 @@ impl<W: Log> Engine for LoggedMatch<W> {
     ghost use Rattle.rbg_match.specs.Matches.{HasHistory};
     ghost use Rattle.rbg_match.specs.PlayingOn.{seats_of};
     ghost use Rattle.rbg_rules.specs.Meaning.{AbstractGame};
+    ghost use Rattle.rbg_serving.specs.Serving.{IsDueIn};
     ghost use Rattle.rbg_log.specs.Serving.{of_log};
 
     type Outbox = Outbox;
@@ -24,6 +25,8 @@ impl<W: Log> Engine for LoggedMatch<W> {
 
     ghost valid = { λ logged. HasHistory logged.played };
 
+    ghost first_due = { λ logged due. IsDueIn logged.played due };
+
     fn handle(&mut self, event: Event<'_>, outbox: &mut Outbox) -> Result<(), Memory> {
         self.write(event)?;
         self.played.step(event, outbox)
@@ -35,6 +38,10 @@ impl<W: Log> Engine for LoggedMatch<W> {
 
     fn is_over(&self) -> bool {
         self.played.outcome().is_some()
+    }
+
+    fn due(&self) -> Option<u64> {
+        self.played.due()
     }
 
     fn bytes(outbox: &Outbox, line: usize) -> &[u8] {

@@ -1,7 +1,7 @@
 //! Clocks that go on from a moment.
 ghost use Rattle.std.specs.Prelude.{◌≡◌};
 
-use rbg_serving::Clock;
+use rbg_serving::{Clock, Pause};
 
 /// A clock whose moments are later than those of another one by so much.
 #[derive(Drop)]
@@ -27,5 +27,20 @@ impl<C: Clock + Drop> Clock for LaterClock<C> {
 
     fn now(&mut self) -> u64 {
         self.clock.now().saturating_add(self.since)
+    }
+
+    fn wait(&mut self, pause: Pause) {
+        self.clock.wait(earlier_by(self.since, pause));
+    }
+}
+
+/// The same pause, for a clock whose moments are earlier by so much.
+fn earlier_by(since: u64, pause: Pause) -> Pause {
+    match pause {
+        Pause::Playing { due: Some(due) } => Pause::Playing {
+            due: Some(due.saturating_sub(since)),
+        },
+        Pause::Playing { due: None } => Pause::Playing { due: None },
+        Pause::Ending => Pause::Ending,
     }
 }

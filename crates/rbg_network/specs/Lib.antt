@@ -1,3 +1,5 @@
 -- Lines over connections.
+pub mod GameFiles
+pub mod Moments
 pub mod Passing
 pub mod Laws

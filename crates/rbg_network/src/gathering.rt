@@ -4,7 +4,7 @@ ghost use Rattle.std.specs.Prelude.{◌≡◌, length, IfOk};
 
 use crate::network::is_nothing_yet;
 use crate::{Network, News, StreamLine};
-use rbg_serving::Clock;
+use rbg_serving::{Clock, Pause};
 use std::alloc::{AllocError, Global};
 use std::io::{self, Read, Write};
 use thiserror::Error;
@@ -38,6 +38,13 @@ impl Hosting {
             network.tell(news);
         }
     }
+
+    /// What is waited for until all have come.
+    fn pause(self) -> Pause {
+        Pause::Playing {
+            due: self.wait.map(|seconds| seconds.saturating_mul(1_000)),
+        }
+    }
 }
 
 /// Waits until a player is there for each seat. Returns their lines, in order of seats.
@@ -52,14 +59,7 @@ pub fn gather<N: Network>(
 {
     let mut taken = free_seats(alloc, seats)?;
     let mut clock = network.start_clock()?;
-    fill(
-        alloc,
-        network,
-        listener,
-        &mut clock,
-        taken.as_mut_slice(),
-        hosting,
-    )?;
+    fill(network, listener, &mut clock, taken.as_mut_slice(), hosting)?;
     lines_of(alloc, taken)
 }
 
@@ -79,7 +79,6 @@ fn free_seats<S: Read + Write + Drop>(
 
 /// Waits until each seat is taken by a connection that is open.
 fn fill<N: Network>(
-    alloc: Global,
     network: &mut N,
     listener: &mut N::Listener,
     clock: &mut N::Clock,
@@ -88,7 +87,8 @@ fn fill<N: Network>(
 ) -> Result<(), GatherError> {
     for _ in 0..u64::MAX {
         if is_full(seats) {
-            free_closed(network, seats, hosting)?;
+            clock.wait(Pause::Playing { due: Some(0) });
+            free_closed(network, seats, hosting);
             if is_full(seats) {
                 return Ok(());
             }
@@ -97,8 +97,11 @@ fn fill<N: Network>(
             return Err(GatherError::Absent);
         }
         match network.accept(listener) {
-            Ok(stream) => take_seat(network, StreamLine::new(alloc, stream), seats, hosting),
-            Err(error) if is_nothing_yet(&error) => free_closed(network, seats, hosting)?,
+            Ok(stream) => take_seat(network, StreamLine::new(stream), seats, hosting),
+            Err(error) if is_nothing_yet(&error) => {
+                free_closed(network, seats, hosting);
+                clock.wait(hosting.pause());
+            }
             Err(error) => return Err(GatherError::Device(error)),
         }
     }
@@ -155,31 +158,20 @@ fn free_closed<N: Network>(
     network: &mut N,
     seats: &mut [Option<StreamLine<N::Stream>>],
     hosting: Hosting,
-) -> Result<(), AllocError> {
+) {
     for index in 0..seats.len() {
-        if free_if_closed(&mut seats[index])? {
+        if is_closed(network, &seats[index]) {
+            seats[index] = None;
             hosting.tell(network, &News::Left { seat: index + 1 });
         }
     }
-    Ok(())
-}
-
-/// Frees a seat whose connection is closed. Returns whether it did.
-fn free_if_closed<S: Read + Write + Drop>(
-    seat: &mut Option<StreamLine<S>>,
-) -> Result<bool, AllocError> {
-    let closed = is_closed(seat)?;
-    if closed {
-        *seat = None;
-    }
-    Ok(closed)
 }
 
 /// Whether a seat is taken by a connection that is closed.
-fn is_closed<S: Read + Write + Drop>(seat: &mut Option<StreamLine<S>>) -> Result<bool, AllocError> {
+fn is_closed<N: Network>(network: &mut N, seat: &Option<StreamLine<N::Stream>>) -> bool {
     match seat {
-        Some(line) => line.is_closed(),
-        None => Ok(false),
+        Some(line) => network.is_closed(line.stream()),
+        None => false,
     }
 }
 

@@ -3,6 +3,7 @@
 use crate::ClientError;
 use rbg_wire::Outcome;
 use std::fmt::{self, Formatter};
+use std::io;
 
 /// What an organiser is told, apart from the program's answer. Its text is a line without its end.
 #[derive(Clone, Copy)]
@@ -25,10 +26,20 @@ pub enum News<'a> {
     GoesOn,
     /// The match has ended.
     Ended { outcome: Outcome },
+    /// The match has ended, and the connection of this seat took nothing of what was left for it.
+    TookNothing { seat: usize },
+    /// The matches of a hall have ended, and this connection took nothing of what was left for it.
+    ConnectionTookNothing { connection: usize },
     /// The match did not end in this many rounds.
     Unfinished { rounds: u64 },
     /// The match did not end within this many minutes.
     OutOfTime { minutes: u64 },
+    /// Beside the log of a match that goes on there is no file that names its game.
+    Unnamed { log: &'a str },
+    /// The file beside the log of a match that is to go on doesn't name this game.
+    OtherGame { log: &'a str },
+    /// What was to be printed couldn't be written.
+    Unwritten { what: &'a str, error: &'a io::Error },
     /// Who sits on a seat, as the organiser says.
     Sits { seat: usize, name: &'a str },
     /// The player of this process that has this seat gave up.
@@ -55,11 +66,30 @@ impl fmt::Display for News<'_> {
             News::Begins => f.write_str("match begins"),
             News::GoesOn => f.write_str("match goes on"),
             News::Ended { outcome } => write_end(f, outcome),
+            News::TookNothing { seat } => {
+                write_number(f, "seat ", *seat as u64, " took nothing for 10 seconds")
+            }
+            News::ConnectionTookNothing { connection } => write_number(
+                f,
+                "connection ",
+                *connection as u64,
+                " took nothing for 10 seconds",
+            ),
             News::Unfinished { rounds } => {
                 write_count(f, *rounds, "match not ended within", "round")
             }
             News::OutOfTime { minutes } => {
                 write_count(f, *minutes, "match not ended within", "minute")
+            }
+            News::Unnamed { log } => {
+                write!(
+                    f,
+                    "the log {log} doesn't name its game: {log}.game isn't there"
+                )
+            }
+            News::OtherGame { log } => write!(f, "the log {log} is of another game, by {log}.game"),
+            News::Unwritten { what, error } => {
+                write!(f, "can't write {what} to standard output: {error}")
             }
             News::Sits { seat, name } => write_name(f, "is", name, *seat as u64),
             News::GaveUp { seat, error } => {

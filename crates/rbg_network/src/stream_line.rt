@@ -1,66 +1,42 @@
 //! A line over a stream.
-ghost use Rattle.std.specs.Prelude.{◌≡◌, ◌≤◌, ◌+◌, length, take, true, false};
-ghost use Rattle.rbg_serving.specs.Answers.{FitsPoll};
+ghost use Rattle.std.specs.Prelude.{◌≡◌, ◌≢◌, ◌≤◌, ◌+◌, ℕ, length, take, true, false};
+ghost use Rattle.rbg_serving.specs.Answers.{FitsPoll, FitsPut};
 ghost use Rattle.rbg_network.specs.Passing.{Gives, passed, begun_after};
 
 use crate::network::is_nothing_yet;
 use crate::passing::Passing;
 use rbg_serving::{Line, Polled, Put};
-use std::alloc::{AllocError, Global};
-use std::io::{Read, Write};
-
-/// The most bytes that are read at once before a match.
-const PIECE: usize = 4_096;
+use std::io::{self, ErrorKind, Read, Write};
 
 /// A line over a stream. Of a message that is too long it gives the first bytes and the zero byte alone.
 #[derive(Drop)]
 pub struct StreamLine<S: Read + Write + Drop> {
     stream: S,
-    /// What came before the match began. It is given before anything else.
-    early: Vec<u8>,
     passing: Passing,
     failures: u64,
+    /// Whether it failed since it took nothing for too long.
+    stalled: bool,
 }
 
 impl<S: Read + Write + Drop> StreamLine<S> {
     /// A line over this stream, which hasn't failed.
-    pub fn new(alloc: Global, stream: S) -> StreamLine<S> {
+    pub fn new(stream: S) -> StreamLine<S> {
         StreamLine {
             stream,
-            early: Vec::new(alloc),
             passing: Passing::new(),
             failures: 0,
+            stalled: false,
         }
     }
 
-    /// Whether the stream is closed, or has failed. What has come is kept for the match. Where that is much already, the
-    /// stream isn't looked at.
-    pub(crate) fn is_closed(&mut self) -> Result<bool, AllocError>
-        ensures { self.new.failures ≡ self.old.failures }
-    {
-        if self.early.len() >= PIECE {
-            return Ok(false);
-        }
-        let mut piece = [0u8; PIECE];
-        match self.stream.read(&mut piece) {
-            Ok(0) => Ok(true),
-            Ok(count) => {
-                self.early.extend_from_slice(&piece[..count])?;
-                Ok(false)
-            }
-            Err(error) => Ok(!is_nothing_yet(&error)),
-        }
+    /// The stream.
+    pub(crate) fn stream(&self) -> &S {
+        &self.stream
     }
 
-    /// Gives bytes that came before the match began, as many as the buffer takes.
-    fn give_early(&mut self, buffer: &mut [u8]) -> usize
-        ensures count { result ≤ length buffer.new }
-        ensures failures { self.new.failures ≡ self.old.failures }
-    {
-        let count = self.early.len().min(buffer.len());
-        buffer[..count].copy_from_slice(&self.early[..count]);
-        self.early.drain(..count);
-        count
+    /// Whether the stream failed since it took nothing for too long.
+    pub fn has_stalled(&self) -> bool {
+        self.stalled
     }
 
     /// Takes the first bytes of the buffer, so many of them, as the next ones of the stream, and gives those that are
@@ -76,6 +52,20 @@ impl<S: Read + Write + Drop> StreamLine<S> {
         match self.passing.pass(buffer, count) {
             0 => Polled::Nothing,
             kept => Polled::Got(kept),
+        }
+    }
+
+    /// The answer to a put that failed.
+    fn fail_to_put(&mut self, error: &io::Error) -> Put
+        ensures fits { (offered : ℕ) → FitsPut result offered }
+        ensures counted { result ≡ Put.Failed → self.new.failures ≡ self.old.failures + 1 }
+        ensures full { result ≢ Put.Failed → (result ≡ Put.Took 0) × (self.new.failures ≡ self.old.failures) }
+    {
+        self.stalled = error.kind() == ErrorKind::TimedOut;
+        if self.count_failure() {
+            Put::Failed
+        } else {
+            Put::Took(0)
         }
     }
 
@@ -100,10 +90,6 @@ impl<S: Read + Write + Drop> Line for StreamLine<S> {
     ghost failure_count = { λ line. line.failures };
 
     fn poll(&mut self, buffer: &mut [u8]) -> Polled {
-        if !self.early.is_empty() {
-            let count = self.give_early(buffer);
-            return self.pass(buffer, count);
-        }
         match self.stream.read(buffer) {
             Ok(0) => Polled::Ended,
             Ok(count) => self.pass(buffer, count),
@@ -117,8 +103,7 @@ impl<S: Read + Write + Drop> Line for StreamLine<S> {
         match self.stream.write(bytes) {
             Ok(count) => Put::Took(count),
             Err(error) if is_nothing_yet(&error) => Put::Took(0),
-            Err(_) if self.count_failure() => Put::Failed,
-            Err(_) => Put::Took(0),
+            Err(error) => self.fail_to_put(&error),
         }
     }
 

@@ -1,46 +1,112 @@
-//! The connections and the clock of the system. What fails is said on standard error, and so is what is told.
+//! The network of the system. What fails is reported on standard error, and so is the news.
 
 use crate::network::{Network, is_nothing_yet};
+use crate::readiness::Readiness;
+use crate::system_file::{guard_streams, lock, name_beside, open_locked, write_whole};
 use crate::system_log::say_log_failure;
-use crate::{News, SystemLog};
-use rbg_serving::Clock;
+use crate::watch::{Mark, Watch};
+use crate::{News, SystemClock, SystemLog, SystemStream};
+use mio::net::{TcpListener, TcpStream};
 use std::alloc::AllocError;
 use std::fs::{self, File};
-use std::net::{Ipv4Addr, TcpListener, TcpStream};
-use std::time::{Duration, Instant};
-use std::{io, thread};
+use std::io::{self, ErrorKind};
+use std::net::{self, Ipv4Addr, SocketAddr};
+use std::rc::Rc;
 
-/// How many milliseconds a stream or a listener waits before it says that it has nothing now.
-const PATIENCE_MS: u64 = 5;
+/// A listener of the system, which doesn't wait.
+#[derive(Drop)]
+pub struct SystemListener {
+    listener: TcpListener,
+    mark: Mark,
+}
 
 /// The ports of 127.0.0.1.
 #[derive(Drop)]
 pub struct SystemNetwork<'a> {
     rt: &'a HostRuntime,
+    /// What waits for the sockets, once there is one.
+    watch: Option<Rc<Watch<'a>>>,
+    /// The logs that this process holds beside those that it writes.
+    held: Vec<File>,
+    /// What stands where a stream of the process is closed.
+    _guards: [Option<File>; 3],
 }
 
 impl<'a> SystemNetwork<'a> {
     /// The connections that this runtime can make.
     pub fn new(rt: &'a HostRuntime) -> SystemNetwork<'a> {
-        SystemNetwork { rt }
+        SystemNetwork {
+            rt,
+            watch: None,
+            held: Vec::new(rt.alloc()),
+            _guards: guard_streams(rt),
+        }
     }
 
-    /// A listener that doesn't wait.
-    fn bind(&self, port: u16) -> io::Result<TcpListener> {
-        let listener = TcpListener::bind(self.rt, (Ipv4Addr::LOCALHOST, port))?;
-        listener.set_nonblocking(true)?;
-        Ok(listener)
+    /// What waits for the sockets.
+    fn watch(&mut self) -> io::Result<Rc<Watch<'a>>> {
+        if let Some(watch) = &self.watch {
+            return Ok(watch.clone()?);
+        }
+        let watch = Rc::new(self.rt.alloc(), Watch::new(self.rt)?)?;
+        self.watch = Some(watch.clone()?);
+        Ok(watch)
     }
 
-    /// The log of this name in a file, if that could be opened.
+    fn bind(&mut self, port: u16) -> io::Result<SystemListener> {
+        let mut listener = TcpListener::bind(self.rt, port_here(port))?;
+        let mark = self.watch()?.register(&mut listener, Readiness::new())?;
+        Ok(SystemListener { listener, mark })
+    }
+
+    /// A connection that was made to a port of this machine.
+    fn connect_to(&mut self, port: u16) -> io::Result<SystemStream> {
+        let stream = net::TcpStream::connect(self.rt, port_here(port))?;
+        stream.set_nonblocking(true)?;
+        let watch = self.watch()?;
+        SystemStream::new(&watch, TcpStream::from_std(stream), Readiness::new())
+    }
+
+    /// The next connection, if there is one.
+    fn accept_next(&mut self, listener: &SystemListener) -> io::Result<SystemStream> {
+        let readiness = listener.mark.get();
+        if !readiness.may_give() {
+            return Err(io::Error::from(ErrorKind::WouldBlock));
+        }
+        match listener.listener.accept() {
+            Ok((stream, _)) => {
+                let watch = self.watch()?;
+                let accepted = SystemStream::new(&watch, stream, Readiness::of_player());
+                if let Err(error) = &accepted {
+                    let _said = eprintln!(self.rt; "can't watch a connection: {error}");
+                }
+                accepted
+            }
+            Err(error) if error.kind() == ErrorKind::WouldBlock => {
+                listener.mark.set(readiness.gave_nothing());
+                Err(error)
+            }
+            // (it is asked again)
+            Err(error) if is_nothing_yet(&error) => {
+                listener.mark.set(readiness.gave(true));
+                Err(error)
+            }
+            Err(error) => {
+                let _said = eprintln!(self.rt; "can't accept a connection: {error}");
+                Err(error)
+            }
+        }
+    }
+
+    /// The log of this name in a file, if that could be opened, and no other process holds it.
     fn begin_log(
         &self,
         name: &str,
         path: &str,
-        file: io::Result<File>,
+        opened: io::Result<File>,
         sync: bool,
     ) -> io::Result<SystemLog<'a>> {
-        match file {
+        match locked(self.rt, path, opened) {
             Ok(file) => {
                 let name = String::from_str(self.rt.alloc(), name)?;
                 Ok(SystemLog::new(self.rt, name, file, sync))
@@ -52,25 +118,59 @@ impl<'a> SystemNetwork<'a> {
         }
     }
 
-    /// The next connection. Where there is none yet, a few milliseconds pass.
-    fn accept_next(&self, listener: &TcpListener) -> io::Result<TcpStream> {
-        match listener.accept() {
-            Ok((stream, _)) => impatient(stream),
-            Err(error) => {
-                if is_nothing_yet(&error) {
-                    thread::sleep(self.rt, Duration::from_millis(PATIENCE_MS));
-                } else {
-                    let _said = eprintln!(self.rt; "can't accept a connection: {error}");
-                }
-                Err(error)
-            }
+    /// Begins the record of this path, unless there is one.
+    fn begin_at(&self, directory: &str, path: &str, goes_on: bool) -> io::Result<()> {
+        fs::create_dir_all(self.rt, directory)?;
+        if !goes_on && fs::exists(self.rt, path)? {
+            return Err(io::Error::from(ErrorKind::AlreadyExists));
         }
+        Ok(())
+    }
+
+    /// Writes the record of this path, unless it is there.
+    fn keep_at(&self, path: &str, record: &[u8]) -> io::Result<()> {
+        match fs::read(self.rt, path) {
+            Ok(there) => {
+                if there.as_slice() == record {
+                    Ok(())
+                } else {
+                    Err(io::Error::from(ErrorKind::AlreadyExists))
+                }
+            }
+            Err(error) if error.kind() == ErrorKind::NotFound => write_whole(self.rt, path, record),
+            Err(error) => Err(error),
+        }
+    }
+
+    /// The result of what was done with a file. Where that failed, this is said.
+    fn said<T>(&self, deed: &str, path: &str, done: io::Result<T>) -> io::Result<T> {
+        if let Err(error) = &done {
+            let _said = eprintln!(self.rt; "can't {deed} {path}: {error}");
+        }
+        done
     }
 }
 
-/// The name of the file that is to replace a log, and lies beside it.
-fn name_beside(rt: &HostRuntime, name: &str) -> Result<String, AllocError> {
-    format!(in rt.alloc(); "{name}.new")
+/// The file of a log, with its lock.
+fn locked(rt: &HostRuntime, path: &str, opened: io::Result<File>) -> io::Result<File> {
+    let file = opened?;
+    lock(rt, path, &file)?;
+    Ok(file)
+}
+
+/// The name of the game file beside a log.
+fn game_beside(rt: &HostRuntime, log: &str) -> Result<String, AllocError> {
+    format!(in rt.alloc(); "{log}.game")
+}
+
+/// The name of the record of a match in a directory.
+fn record_in(rt: &HostRuntime, directory: &str, number: u64) -> Result<String, AllocError> {
+    format!(in rt.alloc(); "{directory}/{number}.record")
+}
+
+/// A port of 127.0.0.1.
+fn port_here(port: u16) -> SocketAddr {
+    SocketAddr::from((Ipv4Addr::LOCALHOST, port))
 }
 
 /// Says that something fails, and why.
@@ -79,15 +179,15 @@ fn say_failure(rt: &HostRuntime, what: &str, port: u16, error: &io::Error) {
 }
 
 impl<'a> Network for SystemNetwork<'a> {
-    type Stream = TcpStream;
+    type Stream = SystemStream;
 
-    type Listener = TcpListener;
+    type Listener = SystemListener;
 
     type Clock = SystemClock<'a>;
 
     type Log = SystemLog<'a>;
 
-    fn listen(&mut self, port: u16) -> io::Result<TcpListener> {
+    fn listen(&mut self, port: u16) -> io::Result<SystemListener> {
         let listener = self.bind(port);
         if let Err(error) = &listener {
             say_failure(self.rt, "listen on", port, error);
@@ -95,35 +195,46 @@ impl<'a> Network for SystemNetwork<'a> {
         listener
     }
 
-    fn port_of(&mut self, listener: &TcpListener) -> io::Result<u16> {
-        Ok(listener.local_addr()?.port())
+    fn port_of(&mut self, listener: &SystemListener) -> io::Result<u16> {
+        Ok(listener.listener.local_addr()?.port())
     }
 
-    fn accept(&mut self, listener: &mut TcpListener) -> io::Result<TcpStream> {
+    fn accept(&mut self, listener: &mut SystemListener) -> io::Result<SystemStream> {
         self.accept_next(listener)
     }
 
-    fn connect(&mut self, port: u16) -> io::Result<TcpStream> {
-        match TcpStream::connect(self.rt, (Ipv4Addr::LOCALHOST, port)) {
-            Ok(stream) => impatient(stream),
-            Err(error) => {
-                say_failure(self.rt, "connect to", port, &error);
-                Err(error)
-            }
+    fn is_closed(&mut self, stream: &SystemStream) -> bool {
+        stream.is_closed()
+    }
+
+    fn connect(&mut self, port: u16) -> io::Result<SystemStream> {
+        let stream = self.connect_to(port);
+        if let Err(error) = &stream {
+            say_failure(self.rt, "connect to", port, error);
         }
+        stream
     }
 
     fn start_clock(&mut self) -> io::Result<SystemClock<'a>> {
-        Ok(SystemClock {
-            rt: self.rt,
-            start: Instant::now(self.rt)?,
-            last: 0,
-        })
+        Ok(SystemClock::new(self.watch()?))
     }
 
     fn create_log(&mut self, name: &str, sync: bool) -> io::Result<SystemLog<'a>> {
         let file = File::create_new(self.rt, name);
         self.begin_log(name, name, file, sync)
+    }
+
+    fn hold_log(&mut self, name: &str) -> io::Result<()> {
+        match open_locked(self.rt, name) {
+            Ok(file) => {
+                self.held.push(file)?;
+                Ok(())
+            }
+            Err(error) => {
+                say_log_failure(self.rt, "take", name, &error);
+                Err(error)
+            }
+        }
     }
 
     fn rewrite_log(&mut self, name: &str, sync: bool) -> io::Result<SystemLog<'a>> {
@@ -141,35 +252,34 @@ impl<'a> Network for SystemNetwork<'a> {
         renamed
     }
 
+    fn read_game(&mut self, log: &str) -> io::Result<Option<Vec<u8>>> {
+        let path = game_beside(self.rt, log)?;
+        match fs::read(self.rt, path.as_str()) {
+            Ok(bytes) => Ok(Some(bytes)),
+            Err(error) if error.kind() == ErrorKind::NotFound => Ok(None),
+            Err(error) => self.said("read", path.as_str(), Err(error)),
+        }
+    }
+
+    fn write_game(&mut self, log: &str, text: &[u8]) -> io::Result<()> {
+        let path = game_beside(self.rt, log)?;
+        let written = write_whole(self.rt, path.as_str(), text);
+        self.said("write", path.as_str(), written)
+    }
+
+    fn begin_record(&mut self, directory: &str, number: u64, goes_on: bool) -> io::Result<()> {
+        let path = record_in(self.rt, directory, number)?;
+        let begun = self.begin_at(directory, path.as_str(), goes_on);
+        self.said("write", path.as_str(), begun)
+    }
+
+    fn keep_record(&mut self, directory: &str, number: u64, record: &[u8]) -> io::Result<()> {
+        let path = record_in(self.rt, directory, number)?;
+        let kept = self.keep_at(path.as_str(), record);
+        self.said("write", path.as_str(), kept)
+    }
+
     fn tell(&mut self, news: &News<'_>) {
         let _told = eprintln!(self.rt; "{news}");
-    }
-}
-
-/// A stream that does not wait long, and sends small messages at once.
-fn impatient(stream: TcpStream) -> io::Result<TcpStream> {
-    let patience = Duration::from_millis(PATIENCE_MS);
-    stream.set_read_timeout(Some(patience))?;
-    stream.set_write_timeout(Some(patience))?;
-    stream.set_nodelay(true)?;
-    Ok(stream)
-}
-
-/// The milliseconds since a start. Where the system's clock fails, the last moment again.
-#[derive(Drop)]
-pub struct SystemClock<'a> {
-    rt: &'a HostRuntime,
-    start: Instant,
-    last: u64,
-}
-
-impl Clock for SystemClock<'_> {
-    ghost told = { λ _ _. Unit {0} };
-
-    fn now(&mut self) -> u64 {
-        if let Ok(passed) = self.start.elapsed(self.rt) {
-            self.last = u64::try_from(passed.as_millis()).unwrap_or(u64::MAX);
-        }
-        self.last
     }
 }

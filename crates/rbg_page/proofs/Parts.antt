@@ -5,11 +5,13 @@ use Rattle.rbg_game.specs.declared.layout.Layout.{Layout}
 use Rattle.rbg_numbering.specs.NameTables.{bytes_of}
 use Rattle.rbg_page.specs.declared.drawing.Spot.{Spot}
 use Rattle.rbg_page.specs.declared.head.TheConstants.{HEAD}
-use Rattle.rbg_page.specs.declared.tail.TheConstants.{TAIL}
+use Rattle.rbg_page.specs.declared.tail.TheConstants.{STYLES, SCRIPTS, END}
+use Rattle.rbg_drawing.specs.declared.style.TheConstants.{BOARD_STYLE}
+use Rattle.rbg_drawing.specs.declared.script.TheConstants.{BOARD_SCRIPT}
 use Rattle.rbg_page.specs.Texts.{escaped, field_text, names_text, values_text}
 use Rattle.rbg_page.specs.Boards.{spot_text, mark_text, vertex_text, size_text, frame_text, widest, vertices_text, labels_text, rows_text, graph_text, drawing_text}
 use Rattle.rbg_page.specs.Telling.{Told}
-use Rattle.rbg_page.specs.Pages.{values_part, names_part, place_part, lines_part, page_text}
+use Rattle.rbg_page.specs.Pages.{values_part, names_part, place_part, lines_part, tail_text, page_text}
 
 pub spot_is : (spot : Spot) (piece : ℕ) → spot_text spot piece ≡ field_text (codes "<g style='--x:") spot.column ++ field_text (codes ";--y:") spot.row ++ field_text (codes ";--l:") spot.length ++ field_text (codes ";--p:") piece ++ codes "' data-piece='"
 spot_is spot piece = unfold spot_text in refl
@@ -35,8 +37,11 @@ names_are game = unfold names_part in refl
 pub place_is : (game : AbstractGame) (layout : Layout) (marked : List (ℕ × ℕ)) (place : AbstractPlace) → place_part game layout marked place ≡ drawing_text layout game.pieces marked place.state.pieces ++ codes "</svg>\n" ++ values_part game place ++ codes "<div id='play'></div>\n"
 place_is game layout marked place = unfold place_part in refl
 
-pub lines_are : (lines : List ℕ) → lines_part lines ≡ codes "<details><summary>The record, and each place</summary>\n<pre id='record'>\n" ++ lines
-lines_are lines = unfold lines_part in refl
+pub lines_are : (described lines : List ℕ) → lines_part described lines ≡ codes "<details><summary>The record, and each place</summary>\n<pre id='game' hidden>\n" ++ escaped described ++ codes "</pre>\n<pre id='record'>\n" ++ lines
+lines_are described lines = unfold lines_part in refl
 
-pub page_is : (game : AbstractGame) (layout : Layout) (told : Told) → page_text game layout told ≡ HEAD.now ++ place_part game layout told.marked told.place ++ names_part game ++ lines_part told.lines ++ TAIL.now
-page_is game layout told = unfold page_text in refl
+pub tail_is : tail_text ≡ STYLES.now ++ BOARD_STYLE.now ++ SCRIPTS.now ++ BOARD_SCRIPT.now ++ END.now
+tail_is = unfold tail_text in refl
+
+pub page_is : (game : AbstractGame) (layout : Layout) (described : List ℕ) (told : Told) → page_text game layout described told ≡ HEAD.now ++ place_part game layout told.marked told.place ++ names_part game ++ lines_part described told.lines ++ tail_text
+page_is game layout described told = unfold page_text in refl

@@ -8,8 +8,10 @@ use Rattle.rbg_record.specs.Judged.{BeginsWith, IsFormFault, IsBadLine, IsHeavyL
 use Rattle.rbg_page.specs.declared.error.PageError.{PageError}
 use Rattle.rbg_page.specs.declared.error.PageError.TheVariants.{Form, Bad, Over, Memory}
 use Rattle.rbg_page.specs.declared.head.TheConstants.{HEAD}
-use Rattle.rbg_page.specs.declared.tail.TheConstants.{TAIL}
-use Rattle.rbg_page.specs.Texts.{names_text, values_text}
+use Rattle.rbg_page.specs.declared.tail.TheConstants.{STYLES, SCRIPTS, END}
+use Rattle.rbg_drawing.specs.declared.style.TheConstants.{BOARD_STYLE}
+use Rattle.rbg_drawing.specs.declared.script.TheConstants.{BOARD_SCRIPT}
+use Rattle.rbg_page.specs.Texts.{escaped, names_text, values_text}
 use Rattle.rbg_page.specs.Boards.{drawing_text}
 use Rattle.rbg_page.specs.Telling.{Told, Tells}
 
@@ -39,24 +41,31 @@ place_part game layout marked place =
     ++ values_part game place
     ++ codes "<div id='play'></div>\n"
 
--- the lines of the record with their places
-unfoldable pub lines_part : List ℕ → List ℕ
-lines_part lines =
-    codes "<details><summary>The record, and each place</summary>\n<pre id='record'>\n" ++ lines
+-- what a script is told of the game, and the lines of the record with their places
+unfoldable pub lines_part : (described lines : List ℕ) → List ℕ
+lines_part described lines =
+    codes "<details><summary>The record, and each place</summary>\n<pre id='game' hidden>\n"
+    ++ escaped described
+    ++ codes "</pre>\n<pre id='record'>\n"
+    ++ lines
 
--- A page: its fixed head with the style; the last place; the names; the lines; and its fixed tail with the script.
-unfoldable pub page_text : AbstractGame → Layout → Told → List ℕ
-page_text game layout told =
-    HEAD.now ++ place_part game layout told.marked told.place ++ names_part game ++ lines_part told.lines ++ TAIL.now
+-- the fixed tail: the style and the script that draw boards, and the script of the page
+unfoldable pub tail_text : List ℕ
+tail_text = STYLES.now ++ BOARD_STYLE.now ++ SCRIPTS.now ++ BOARD_SCRIPT.now ++ END.now
+
+-- A page: its fixed head with the style; the last place; the names; the lines; and its fixed tail with the scripts.
+unfoldable pub page_text : AbstractGame → Layout → (described : List ℕ) → Told → List ℕ
+page_text game layout described told =
+    HEAD.now ++ place_part game layout told.marked told.place ++ names_part game ++ lines_part described told.lines ++ tail_text
 
 -- The bytes are those of a right record, and the page tells its lines.
-pub record IsPage (game : AbstractGame) (layout : Layout) (bytes page : List ℕ) : Type 0 where
+pub record IsPage (game : AbstractGame) (layout : Layout) (described bytes page : List ℕ) : Type 0 where
   pub right : IsRightRecord game bytes
   pub texts : List (List ℕ)
   pub begins : BeginsWith bytes texts []
   pub told : Told
   pub tells : Tells game texts nothing_next told
-  pub is : page ≡ page_text game layout told
+  pub is : page ≡ page_text game layout described told
 
 -- why there is no page: the record's first fault, as `check_record` tells it
 abbrev pub IsRefused : AbstractGame → (bytes : List ℕ) → PageError → Type 0

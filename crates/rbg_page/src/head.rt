@@ -25,14 +25,17 @@ body { margin: 0 auto; padding: 1rem; max-width: 68rem; background: var(--page);
 #board circle { stroke: #0006; stroke-width: .3; }
 #board .marked { --fill: var(--hint); }
 #board .marked circle { stroke: var(--mark); stroke-width: .8; }
-.square g { transform: translate(calc(var(--x) * 10px + 5px), calc(var(--y) * 10px + 5px)); }
-.hexagon g { transform: translate(calc((2 * var(--x) - var(--l) + var(--w)) * 5px + 5px), calc(var(--y) * 8.66px + 5.77px)); }
-.graph g { transform: translate(calc(var(--w) * 5px), calc(var(--w) * 5px)) rotate(calc(var(--x) * 360deg / var(--w))) translate(0, calc(var(--w) * -4px)) rotate(calc(var(--x) * -360deg / var(--w))) scale(2); }
+#board.square g { transform: translate(calc(var(--x) * 10px + 5px), calc(var(--y) * 10px + 5px)); }
+#board.hexagon g { transform: translate(calc((2 * var(--x) - var(--l) + var(--w)) * 5px + 5px), calc(var(--y) * 8.66px + 5.77px)); }
+#board.graph g { transform: translate(calc(var(--w) * 5px), calc(var(--w) * 5px)) rotate(calc(var(--x) * 360deg / var(--w))) translate(0, calc(var(--w) * -4px)) rotate(calc(var(--x) * -360deg / var(--w))) scale(2); }
 ul { list-style: none; margin: 0; padding: 0; }
 #variables, #values { display: inline-block; vertical-align: top; margin: 0 1rem 1rem 0; }
 #values { text-align: right; font-variant-numeric: tabular-nums; }
 #players, #pieces { color: var(--soft); }
 #players li, #pieces li { display: inline-block; margin-right: .8rem; }
+h1 { font-size: 1.2rem; margin: 0 0 .5rem; }
+svg.board { float: left; max-width: none; margin: 0 1.5rem 1rem 0; }
+#pieces svg.board { float: none; display: inline-block; width: 1.4em; height: 1.4em; margin: 0 .2em 0 0; vertical-align: -.35em; }
 #pieces i { display: inline-block; width: .9em; height: .9em; border-radius: 50%; margin-right: .3em; vertical-align: -.1em; }
 #controls { display: flex; gap: .4rem; align-items: center; margin: .5rem 0; }
 #controls input { flex: 1; min-width: 6rem; }

@@ -1,37 +1,41 @@
 //! The page of a record.
 ghost use Rattle.std.specs.Prelude.{◌≡◌, ◌++◌, IfErr, IfOk, OnOk};
 ghost use Rattle.rbg_rules.specs.Meaning.{IsPlaceOf};
-ghost use Rattle.rbg_page.specs.Pages.{IsPage, IsRefused, lines_part, names_part, page_text, place_part, values_part};
+ghost use Rattle.rbg_page.specs.Pages.{IsPage, IsRefused, lines_part, names_part, page_text, place_part, tail_text, values_part};
 
 use crate::drawing::put_drawing;
 use crate::error::PageError;
 use crate::head::HEAD;
 use crate::places::values_at;
-use crate::tail::TAIL;
+use crate::tail::{END, SCRIPTS, STYLES};
 use crate::telling::{Telling, tell};
-use crate::texts::{put_pieces, put_players, put_values, put_variables};
+use crate::texts::{put_escaped, put_pieces, put_players, put_values, put_variables};
 use rbg_base::{Memory, Pair};
+use rbg_drawing::{BOARD_SCRIPT, BOARD_STYLE};
 use rbg_game::Layout;
 use rbg_moves::{Place, PlayedGame};
 use rbg_rules::Game;
 use std::alloc::Global;
 
 /// The page of a record, of either version: a file for a browser, with nothing from elsewhere. A game is laid out as its
-/// description writes it.
+/// description writes it. What is described stands in the page as it is, for the script that draws the board: the lines
+/// of `push_game` of rbg_drawing.
 ///
 /// A record that isn't right has no page. The lines are judged as `check_record` does.
 pub fn page(
     alloc: Global,
     game: &PlayedGame,
     layout: &Layout,
+    described: &[u8],
     bytes: &[u8],
 ) -> Result<Vec<u8>, PageError>
-    ensures page { IfOk result (λ page. IsPage game.now layout.now bytes.now page.items) }
+    ensures page { IfOk result (λ page.
+        IsPage game.now layout.now described.now bytes.now page.items) }
     ensures refused { IfErr result (IsRefused game.now bytes.now) }
 {
     let telling = tell(alloc, game, bytes)?;
     let mut out = Vec::new(alloc);
-    put_page(alloc, game.as_game(), layout, &telling, &mut out)?;
+    put_page(alloc, game.as_game(), layout, described, &telling, &mut out)?;
     Ok(out)
 }
 
@@ -39,12 +43,13 @@ fn put_page(
     alloc: Global,
     game: &Game,
     layout: &Layout,
+    described: &[u8],
     telling: &Telling,
     out: &mut Vec<u8>,
 ) -> Result<(), Memory>
     requires { IsPlaceOf game.now telling.now.place }
     ensures { OnOk result (out.new.items ≡ out.old.items
-        ++ page_text game.now layout.now telling.now) }
+        ++ page_text game.now layout.now described.now telling.now) }
 {
     out.extend_from_slice(HEAD)?;
     put_place_part(
@@ -56,8 +61,8 @@ fn put_page(
         out,
     )?;
     put_names_part(game, out)?;
-    put_lines_part(telling.as_lines(), out)?;
-    out.extend_from_slice(TAIL)?;
+    put_lines_part(described, telling.as_lines(), out)?;
+    put_tail(out)?;
     Ok(())
 }
 
@@ -84,14 +89,28 @@ fn put_place_part(
     Ok(())
 }
 
-/// Appends the lines of the record with their places.
-fn put_lines_part(lines: &[u8], out: &mut Vec<u8>) -> Result<(), Memory>
-    ensures { OnOk result (out.new.items ≡ out.old.items ++ lines_part lines.now) }
+/// Appends what is described for the script, and the lines of the record with their places.
+fn put_lines_part(described: &[u8], lines: &[u8], out: &mut Vec<u8>) -> Result<(), Memory>
+    ensures { OnOk result (out.new.items ≡ out.old.items ++ lines_part described.now lines.now) }
 {
     out.extend_from_slice(
-        b"<details><summary>The record, and each place</summary>\n<pre id='record'>\n",
+        b"<details><summary>The record, and each place</summary>\n<pre id='game' hidden>\n",
     )?;
+    put_escaped(described, out)?;
+    out.extend_from_slice(b"</pre>\n<pre id='record'>\n")?;
     out.extend_from_slice(lines)?;
+    Ok(())
+}
+
+/// Appends the style and the script that draw boards, and the script of the page.
+fn put_tail(out: &mut Vec<u8>) -> Result<(), Memory>
+    ensures { OnOk result (out.new.items ≡ out.old.items ++ tail_text) }
+{
+    out.extend_from_slice(STYLES)?;
+    out.extend_from_slice(BOARD_STYLE)?;
+    out.extend_from_slice(SCRIPTS)?;
+    out.extend_from_slice(BOARD_SCRIPT)?;
+    out.extend_from_slice(END)?;
     Ok(())
 }
 

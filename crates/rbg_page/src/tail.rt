@@ -1,26 +1,31 @@
-//! The tail of each page, with its script.
+//! The tail of each page, with its scripts.
 
-/// The tail of each page, with its script.
-pub(crate) const TAIL: &[u8] = b"</pre></details>
+/// What stands before the style that draws boards.
+pub(crate) const STYLES: &[u8] = b"</pre></details>
+<style>
+";
+
+/// What stands before the script that draws boards.
+pub(crate) const SCRIPTS: &[u8] = b"</style>
 <script>
-(() => {
-  'use strict';
+";
+
+/// The script of a page. It holds no byte that begins or ends a string of this language.
+pub(crate) const END: &[u8] = b"(() => {
+  const { LINE } = RbgBoard;
   const get = id => document.getElementById(id);
-  const texts = id => Array.from(get(id).children, item => item.textContent);
-  const players = texts('players');
-  const pieces = texts('pieces');
-  const cells = Array.from(document.querySelectorAll('#board g[data-piece]'));
-  const labels = Array.from(document.querySelectorAll('#board .label'), label => label.textContent);
-  const [start, ...lines] = get('record').textContent.trim().split('\\n');
-  const name = player => player > 0 ? players[player - 1] : 'the keeper';
+  const game = RbgBoard.read(get('game').textContent);
+  const drawing = RbgBoard.draw(game);
+  get('board').replaceWith(drawing.svg);
+  document.title = game.title;
+  const heading = document.createElement('h1');
+  heading.textContent = game.title;
+  document.body.prepend(heading);
+  const [start, ...lines] = get('record').textContent.trim().split(LINE);
+  const name = player => player > 0 ? game.players[player - 1] : 'the keeper';
 
-  // What pieces are called on the board: their names, cut where they all differ.
-  const shared = (one, other) => { let at = 0; while (at < one.length && one[at] === other[at]) at++; return at; };
-  const width = 1 + Math.max(0, ...pieces.map((one, at) => Math.max(0, ...pieces.slice(0, at).map(other => shared(one, other)))));
-  const signs = pieces.map(piece => piece.slice(0, width));
-
-  // An item is a letter, or a number with a point. The first line has all items of the start, the later ones those that
-  // have changed, each with its index.
+  /* An item is a letter, or a number with a point. The first line has all items of the start, the later ones those that
+     have changed, each with its index. */
   const number = item => item.endsWith('.') ? parseInt(item) : item.charCodeAt(0) - 97;
   const items = text => (text.match(/[a-z]|[0-9]+[.]/g) || []).map(number);
   const changed = (before, text) => {
@@ -29,27 +34,27 @@ pub(crate) const TAIL: &[u8] = b"</pre></details>
     return after;
   };
 
-  // A step is the start or a player's move, with the keeper's moves behind it.
+  /* A step is the start or a player's move, with the keeper's moves behind it. */
   let [board, values] = start.split('|').map(items);
   const steps = [];
   for (const line of lines) {
     const [text, vertices, variables, player] = line.split('|');
     if (vertices === undefined) continue;
+    const before = board;
     board = changed(board, vertices);
     values = changed(values, variables);
     const place = { board, values, player: Number(player) };
     const numbers = text.split(' ').map(Number);
     const moment = lines[0] === 'rbg 2' ? numbers.shift() : undefined;
     const mover = numbers.shift();
-    // the line before the first move begins with a word
-    if (steps.length === 0) steps.push({ mover: 0, vertices: [], ...place });
-    else if (mover > 0) steps.push({ mover, moment, vertices: numbers.filter((_, at) => at % 2 === 0), ...place });
+    if (steps.length === 0) steps.push({ mover: 0, changed: [], ...place });
+    else if (mover > 0) steps.push({ mover, moment, changed: RbgBoard.changes(game, before, numbers), pairs: numbers, ...place });
     else Object.assign(steps[steps.length - 1], place);
   }
   const began = lines[0] === 'rbg 2' ? Number(lines.find(line => line.startsWith('start ')).split(/[ |]/)[2]) : 0;
   const [how, ...numbers] = lines[lines.length - 1].split(' ').slice(lines[0] === 'rbg 2' ? 1 : 0);
   const outcome = {
-    'E0': () => 'finished: ' + numbers.map((score, at) => players[at] + ' ' + score).join(', '),
+    'E0': () => 'finished: ' + numbers.map((score, at) => game.players[at] + ' ' + score).join(', '),
     'E1': () => 'ended: the time of ' + name(numbers[0]) + ' was over',
     'E2': () => 'ended: ' + name(numbers[0]) + ' had too many messages refused',
     'E3': () => 'ended: the stream of ' + name(numbers[0]) + ' ended',
@@ -57,11 +62,12 @@ pub(crate) const TAIL: &[u8] = b"</pre></details>
     '-': () => 'still in play',
   }[how]();
 
-  const seconds = step => step.moment === undefined ? '' : ((step.moment - began) / 1000).toFixed(1) + ' s';
-  const vertex = at => labels[at] || at;
-  const told = (step, at) => at === 0 ? 'start' : at + ' ' + name(step.mover) + ' ' + step.vertices.filter((one, k, all) => one !== all[k - 1]).map(vertex).join(' ');
+  for (const step of steps) drawing.learn(step.mover, step.changed);
 
-  get('play').innerHTML = '<div id=controls><button title=first>&laquo;</button><button title=back>&lsaquo;</button><input type=range min=0 aria-label=move><button title=on>&rsaquo;</button><button title=last>&raquo;</button></div><p id=now></p><ol id=moves></ol>';
+  const seconds = step => step.moment === undefined ? '' : ((step.moment - began) / 1000).toFixed(1) + ' s';
+  const told = (step, at) => at === 0 ? 'start' : at + ' ' + name(step.mover) + ': ' + (RbgBoard.spell(game, drawing, step.changed) || drawing.layout.names[step.pairs[0]]);
+
+  get('play').innerHTML = '<div id=controls><button title=first>&laquo;</button><button title=back>&lsaquo;</button><input type=range min=0 aria-label=move><button title=on>&rsaquo;</button><button title=last>&raquo;</button><button title=smaller>-</button><button title=larger>+</button></div><p id=now></p><ol id=moves></ol>';
   const slider = document.querySelector('#controls input');
   slider.max = steps.length - 1;
   steps.forEach((step, at) => {
@@ -78,37 +84,42 @@ pub(crate) const TAIL: &[u8] = b"</pre></details>
     now = Math.max(0, Math.min(steps.length - 1, to));
     const step = steps[now];
     slider.value = now;
-    cells.forEach((cell, at) => {
-      const piece = step.board[at];
-      cell.dataset.piece = pieces[piece];
-      cell.style.setProperty('--p', piece);
-      cell.querySelector('text').textContent = signs[piece];
-      cell.setAttribute('class', step.vertices.includes(at) ? 'marked' : '');
-    });
+    const marked = new Set(step.changed.map(change => change.vertex));
+    drawing.show(step.board, vertex => marked.has(vertex) ? 'changed' : '');
     Array.from(get('values').children).forEach((item, at) => { item.textContent = step.values[at]; });
     const last = now === steps.length - 1;
     get('now').textContent = last ? outcome : name(step.player) + ' is to move';
     const item = get('moves').children[now];
     item.className = 'now';
     get('moves').scrollTop = item.offsetTop - get('moves').offsetTop - get('moves').clientHeight / 2;
+    document.body.dataset.at = now;
+    if (location.hash !== '#' + now) history.replaceState(null, '', '#' + now);
+  };
+  let zoom = 1;
+  const zoomBy = factor => {
+    zoom = Math.min(8, Math.max(0.4, zoom * factor));
+    drawing.svg.style.width = 'min(' + (100 * zoom).toFixed(0) + '%, ' + (36 * zoom).toFixed(1) + 'rem, ' + (80 * zoom * drawing.width / drawing.height).toFixed(1) + 'vh)';
   };
   const buttons = document.querySelectorAll('#controls button');
   buttons[0].onclick = () => go(0);
   buttons[1].onclick = () => go(now - 1);
   buttons[2].onclick = () => go(now + 1);
   buttons[3].onclick = () => go(steps.length - 1);
+  buttons[4].onclick = () => zoomBy(0.8);
+  buttons[5].onclick = () => zoomBy(1.25);
   slider.oninput = () => go(Number(slider.value));
   document.onkeydown = event => {
     const to = { ArrowLeft: now - 1, ArrowRight: now + 1, Home: 0, End: steps.length - 1 }[event.key];
     if (to !== undefined) { event.preventDefault(); go(to); }
   };
   Array.from(get('pieces').children).forEach((item, piece) => {
-    item.style.setProperty('--p', piece);
-    item.dataset.piece = pieces[piece];
-    item.prepend(document.createElement('i'));
+    if (drawing.looks[piece].hidden) item.remove(); else item.prepend(RbgBoard.pictureOf(drawing.looks[piece]));
   });
   const asked = location.hash.slice(1);
-  go(asked === '' ? steps.length - 1 : Number(asked));
+  const fromHash = text => /^[0-9]+$/.test(text) ? Number(text) : steps.length - 1;
+  window.onhashchange = () => go(fromHash(location.hash.slice(1)));
+  zoomBy(1);
+  go(fromHash(asked));
 })();
 </script>
 </body>

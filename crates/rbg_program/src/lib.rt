@@ -8,4 +8,4 @@ pub use program::run;
 pub use rbg_console::{Files, Input, Note, Status};
 pub use rbg_log::{Log, LogFailure};
 pub use rbg_network::{Network, News, SystemClock, SystemNetwork};
-pub use rbg_serving::Clock;
+pub use rbg_serving::{Clock, Pause};

@@ -13,6 +13,12 @@ pub const GAME: &[u8] = b"#players = white(100), black(100)
 #rules = ->white {e}[w][$ white=100] ->black right {e}[b] ->> {}
 ";
 
+/// White's move in the small game, as a message.
+pub const WHITE: &[u8] = b"M0 3 0 4 0 5\0";
+
+/// Black's move.
+pub const BLACK: &[u8] = b"M1 8 1 9\0";
+
 /// A match of the small game, as a script.
 pub const SCRIPT: &[u8] = b"config 1000 3 0
 m 1 10 M0 3 0 4 0 5
@@ -39,6 +45,20 @@ pub const STAR: &[u8] = b"#players = white(100), black(100)
 #pieces = e, w
 #board = rectangle(up,down,left,right,[e])
 #rules = ->white ([e])* ->black
+";
+
+/// White puts its piece on its one square as often as it likes.
+pub const DEEPEST: &[u8] = b"#players = white(100), black(100)
+#pieces = e, w
+#board = rectangle(up,down,left,right,[e])
+#rules = ->white ([w])* ->black
+";
+
+/// White has no move, since its pattern is not valid.
+pub const FINISHED: &[u8] = b"#players = white(100), black(100)
+#pieces = e, w
+#board = rectangle(up,down,left,right,[e,e])
+#rules = ->white {! right [w] {w}} [w] ->black
 ";
 
 /// A pattern takes the piece off that white needs, and gives it back.

@@ -4,14 +4,16 @@ ghost use Rattle.rbg_floor.specs.Openings.{AreLoaded};
 ghost use Rattle.rbg_game.specs.Loading.{Loads};
 
 use crate::copies::{add_copy, is_copy};
-use crate::games::{CONFIG, GAME};
-use crate::records;
+use crate::games::{BLACK, CONFIG, GAME, WHITE};
+use crate::lines::{Plan, ROOM as LINE_ROOM, tell_served, two_lines};
 use crate::stop::Stop;
 use crate::telling::Telling;
+use crate::two_tables;
 use rbg_floor::{Hall, HallError, HallEvent, Table};
 use rbg_game::load;
 use rbg_hall::HallOut;
 use rbg_log::MemoryLog;
+use rbg_serving::ListClock;
 use std::alloc::Global;
 use std::io::Write;
 
@@ -40,6 +42,23 @@ const EVENTS: [HallEvent<'static>; 4] = [
     },
 ];
 
+/// Lines to two players, which ask for seats at the first poll and move at the second one.
+const PLAYERS: [Plan; 2] = [
+    Plan {
+        gives: &[b"H1\0", WHITE],
+        takes: &[],
+        room: LINE_ROOM,
+    },
+    Plan {
+        gives: &[b"H1\0", BLACK],
+        takes: &[],
+        room: LINE_ROOM,
+    },
+];
+
+/// How many rounds a hall is served at most.
+const ROUNDS: u64 = 100;
+
 /// How many lines say something.
 const LINES: u64 = 3;
 
@@ -52,12 +71,13 @@ pub fn run<W: Write>(alloc: Global, name: &str, told: &mut Telling<W>) -> Result
         "hall" => make(alloc, &[], told),
         "hall-begin" => make(alloc, &EVENTS[..3], told),
         "hall-step" => make(alloc, &EVENTS, told),
-        _ => records::run(alloc, name, told),
+        "hall-run" => make_and_run(alloc, told),
+        _ => two_tables::run(alloc, name, told),
     }
 }
 
 /// A table for a match of the small game.
-fn table(alloc: Global) -> Result<Table, Stop>
+pub fn table(alloc: Global) -> Result<Table, Stop>
     ensures { IfOk result (λ table. Loads table.text.items table.game) }
 {
     let game = load(alloc, GAME)?;
@@ -108,10 +128,7 @@ fn tell_error<W: Write>(
 fn tell_queues<W: Write>(out: &HallOut, told: &mut Telling<W>) {
     for line in 0..LINES {
         let bytes = out.bytes(line);
-        told.size("line", line, bytes.len());
-        if !bytes.is_empty() {
-            told.messages(bytes);
-        }
+        told.queue("line", line, bytes);
     }
 }
 
@@ -199,4 +216,24 @@ fn tell_log<W: Write>(log: Option<&MemoryLog>, told: &mut Telling<W>) {
         Some(log) => told.bytes(log.bytes()),
         None => told.line("no log"),
     }
+}
+
+/// Makes a hall of one table, and serves it over two lines.
+fn make_and_run<W: Write>(alloc: Global, told: &mut Telling<W>) -> Result<(), Stop> {
+    let tables = tables(alloc)?;
+    let (mut hall, mut out) = Hall::new(alloc, tables)?;
+    run_hall(alloc, &mut hall, &mut out, told)
+}
+
+fn run_hall<W: Write>(
+    alloc: Global,
+    hall: &mut Hall<MemoryLog>,
+    out: &mut HallOut,
+    told: &mut Telling<W>,
+) -> Result<(), Stop> {
+    let mut lines = two_lines(alloc, &PLAYERS)?;
+    let mut clock = ListClock::new(Vec::new(alloc));
+    let served = hall.run(&mut lines, out, &mut clock, ROUNDS);
+    tell_served(served, &lines, [out.bytes(0), out.bytes(1)], told);
+    Ok(())
 }

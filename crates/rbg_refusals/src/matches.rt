@@ -1,26 +1,20 @@
 //! Runs of matches, and of their records.
-ghost use Rattle.std.specs.Prelude.{◌≡◌, IfOk, length};
+ghost use Rattle.std.specs.Prelude.{◌≡◌, length};
 ghost use Rattle.rbg_match.specs.PlayingOn.{seats_of};
 
 use crate::copies::{add_copy, is_copy};
-use crate::games::{CONFIG, GAME};
-use crate::halls;
+use crate::games::{BLACK, CONFIG, GAME, WHITE};
+use crate::opening::new_match;
+use crate::serving;
 use crate::stop::Stop;
 use crate::telling::Telling;
 use rbg_base::Memory;
 use rbg_game::load;
-use rbg_match::{Event, Match, MatchError, Outbox};
+use rbg_match::{Config, Event, Match, MatchError, Outbox};
 use rbg_record::{write_record, write_record_1};
 use rbg_referee::{RefereeError, referee};
-use rbg_serving::{Give, ListClock, MemoryLine, ServeError, Served, Take, serve};
 use std::alloc::Global;
 use std::io::Write;
-
-/// White's move in the small game, as a message.
-const WHITE: &[u8] = b"M0 3 0 4 0 5\0";
-
-/// Black's move.
-const BLACK: &[u8] = b"M1 8 1 9\0";
 
 /// What the seats say in the small game.
 const EVENTS: [Event<'static>; 2] = [
@@ -36,11 +30,18 @@ const EVENTS: [Event<'static>; 2] = [
     },
 ];
 
-/// How many bytes a line takes at most.
-const ROOM: usize = 1000;
+/// The longest turn that there may be.
+const LONGEST: Config = Config {
+    turn_ms: 3_600_000,
+    refusals: 3,
+};
 
-/// How many rounds a match is served at most.
-const ROUNDS: u64 = 100;
+/// White's move at the greatest moment that a seat's bytes can have.
+const LATEST: Event<'static> = Event::Piece {
+    seat: 1,
+    at: u64::MAX,
+    bytes: WHITE,
+};
 
 /// What a run does with a match of the small game.
 #[derive(Clone, Copy)]
@@ -48,19 +49,19 @@ enum Task {
     Step,
     WriteRecord,
     WritePlainRecord,
-    Serve,
+    TellDue,
 }
 
 /// Makes the run of a name, if it is one of these; else the next module does.
 pub fn run<W: Write>(alloc: Global, name: &str, told: &mut Telling<W>) -> Result<(), Stop> {
     match name {
         "open" => open(alloc, told),
-        "step" => do_task(alloc, Task::Step, told),
+        "step" => do_task(alloc, CONFIG, 0, Task::Step, told),
         "referee" => referee_all(alloc, told),
-        "serve" => do_task(alloc, Task::Serve, told),
-        "write-record" => do_task(alloc, Task::WriteRecord, told),
-        "write-record-1" => do_task(alloc, Task::WritePlainRecord, told),
-        _ => halls::run(alloc, name, told),
+        "write-record" => do_task(alloc, CONFIG, 0, Task::WriteRecord, told),
+        "write-record-1" => do_task(alloc, CONFIG, 0, Task::WritePlainRecord, told),
+        "due-latest" => do_task(alloc, LONGEST, u64::MAX, Task::TellDue, told),
+        _ => serving::run(alloc, name, told),
     }
 }
 
@@ -93,18 +94,15 @@ fn tell_opened<W: Write>(opened: &Result<(Match, Outbox), MatchError>, told: &mu
     }
 }
 
-/// A match of the small game, and its outbox.
-fn new_match(alloc: Global) -> Result<(Match, Outbox), Stop>
-    ensures { IfOk result (λ made. length made.1 ≡ seats_of made.0.game) }
-{
-    let game = load(alloc, GAME)?;
-    let made = Match::new(alloc, game, GAME, CONFIG, 0)?;
-    Ok(made)
-}
-
-/// Makes a match of the small game, and does something with it.
-fn do_task<W: Write>(alloc: Global, task: Task, told: &mut Telling<W>) -> Result<(), Stop> {
-    let (mut opened, mut outbox) = new_match(alloc)?;
+/// Makes a match of the small game that begins at a moment, and does something with it.
+fn do_task<W: Write>(
+    alloc: Global,
+    config: Config,
+    now: u64,
+    task: Task,
+    told: &mut Telling<W>,
+) -> Result<(), Stop> {
+    let (mut opened, mut outbox) = new_match(alloc, GAME, config, now)?;
     do_in(alloc, task, &mut opened, &mut outbox, told)
 }
 
@@ -121,7 +119,7 @@ fn do_in<W: Write>(
         Task::Step => step(alloc, opened, outbox, told),
         Task::WriteRecord => write_played(alloc, false, opened, outbox, told),
         Task::WritePlainRecord => write_played(alloc, true, opened, outbox, told),
-        Task::Serve => serve_match(alloc, opened, outbox, told),
+        Task::TellDue => tell_due(opened, outbox, told),
     }
 }
 
@@ -230,86 +228,26 @@ fn tell_refereed<W: Write>(refereed: &Result<Outbox, RefereeError>, told: &mut T
     }
 }
 
-/// The line of seat 1, which moves.
-fn moving_line(alloc: Global) -> Result<MemoryLine, Stop> {
-    let bytes = Vec::from_slice(alloc, WHITE)?;
-    let mut gives = Vec::new(alloc);
-    gives.push(Give::Bytes(bytes))?;
-    Ok(MemoryLine::new(alloc, gives, Vec::new(alloc), ROOM)?)
-}
-
-/// The line of seat 2, whose second put fails.
-fn failing_line(alloc: Global) -> Result<MemoryLine, Stop> {
-    let takes = Vec::from_slice(alloc, &[Take::UpTo(ROOM), Take::Fail])?;
-    Ok(MemoryLine::new(alloc, Vec::new(alloc), takes, ROOM)?)
-}
-
-/// The lines of the two seats.
-fn two_lines(alloc: Global) -> Result<[MemoryLine; 2], Stop> {
-    let first = moving_line(alloc)?;
-    Ok([first, failing_line(alloc)?])
-}
-
-/// Serves a match of the small game over lines in memory.
-fn serve_match<W: Write>(
-    alloc: Global,
+/// Lets white move at the greatest moment, and says when the time was over before that and when it is over after that.
+fn tell_due<W: Write>(
     opened: &mut Match,
     outbox: &mut Outbox,
     told: &mut Telling<W>,
 ) -> Result<(), Stop>
     requires { length outbox.old ≡ seats_of opened.old.game }
 {
-    let mut lines = two_lines(alloc)?;
-    serve_over(alloc, &mut lines, opened, outbox, told)
-}
-
-fn serve_over<W: Write>(
-    alloc: Global,
-    lines: &mut [MemoryLine; 2],
-    opened: &mut Match,
-    outbox: &mut Outbox,
-    told: &mut Telling<W>,
-) -> Result<(), Stop>
-    requires { length outbox.old ≡ seats_of opened.old.game }
-{
-    if opened.players() != lines.len() {
-        return Err(Stop::Wrong);
-    }
-    let mut clock = ListClock::new(Vec::new(alloc));
-    let served = serve(alloc, lines, opened, outbox, &mut clock, ROUNDS);
-    tell_served(served, lines, outbox, told);
+    let before = opened.due();
+    opened.step(LATEST, outbox)?;
+    tell_moment(before, told);
+    tell_moment(opened.due(), told);
+    tell_outbox(outbox, told);
     Ok(())
 }
 
-fn tell_served<W: Write>(
-    served: Result<Served, ServeError>,
-    lines: &[MemoryLine; 2],
-    outbox: &Outbox,
-    told: &mut Telling<W>,
-) {
-    match served {
-        Ok(served) => {
-            told.number("rounds", served.rounds);
-            told.truth(", whole", served.whole);
-            told.messages(lines[0].took());
-            told.messages(lines[1].took());
-        }
-        Err(ServeError::Memory) => {
-            told.memory();
-            tell_beginnings(lines, outbox, told);
-        }
-        Err(error) => told.error(&error),
+/// Says when a mover's time is over.
+fn tell_moment<W: Write>(due: Option<u64>, told: &mut Telling<W>) {
+    match due {
+        Some(at) => told.count("due", at),
+        None => told.line("ended"),
     }
-}
-
-/// Says whether each line took the beginning of what is queued for its seat.
-fn tell_beginnings<W: Write>(lines: &[MemoryLine; 2], outbox: &Outbox, told: &mut Telling<W>) {
-    let right = outbox.seats() == 2
-        && outbox.bytes(1).starts_with(lines[0].took())
-        && outbox.bytes(2).starts_with(lines[1].took());
-    told.line(if right {
-        "each line took the beginning of what is queued"
-    } else {
-        "a line took something else"
-    });
 }

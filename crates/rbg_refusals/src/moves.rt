@@ -2,7 +2,7 @@
 ghost use Rattle.std.specs.Prelude.{IfOk};
 ghost use Rattle.rbg_rules.specs.Meaning.{IsPlaceOf};
 
-use crate::games::{PATTERN, STAR, played};
+use crate::games::{DEEPEST, PATTERN, STAR, played};
 use crate::searches::{self, tell_over, tell_pair};
 use crate::stop::Stop;
 use crate::telling::Telling;
@@ -57,6 +57,8 @@ enum Asked<'a> {
     Try(&'a [Pair]),
     /// Which ones there are.
     List,
+    /// How long they are, if that many are listed at most.
+    Measure(usize),
 }
 
 /// Makes the run of a name, if it is one of these; else the next module does.
@@ -68,6 +70,9 @@ pub fn run<W: Write>(alloc: Global, name: &str, told: &mut Telling<W>) -> Result
         "find-pattern" => ask_moves(alloc, PATTERN, Asked::Find, told),
         "try-pattern" => ask_moves(alloc, PATTERN, Asked::Try(&PATTERN_MOVE), told),
         "list-pattern" => ask_moves(alloc, PATTERN, Asked::List, told),
+        // There is a move of each length up to 200 pairs, and a search for a longer one is too deep.
+        "list-deepest" => ask_moves(alloc, DEEPEST, Asked::Measure(199), told),
+        "list-too-deep" => ask_moves(alloc, DEEPEST, Asked::Measure(200), told),
         _ => searches::run(alloc, name, told),
     }
 }
@@ -124,6 +129,7 @@ fn ask_at<W: Write>(
         Asked::Find => tell_found(game, place, told),
         Asked::Try(pairs) => tell_tried(game, place, pairs, told),
         Asked::List => tell_list(game, place, told),
+        Asked::Measure(max) => tell_lengths(game, place, max, told),
     }
 }
 
@@ -188,5 +194,34 @@ fn tell_listed<W: Write>(listed: &Listed, told: &mut Telling<W>) {
     for pairs in &listed.moves {
         tell_pairs(pairs.as_slice(), told);
     }
+    told.truth("cut", listed.cut);
+}
+
+/// How many moves are listed of at most `max`, and how many pairs each of them has.
+fn tell_lengths<W: Write>(
+    game: &PlayedGame,
+    place: &Place,
+    max: usize,
+    told: &mut Telling<W>,
+) -> Result<(), Stop>
+    requires { IsPlaceOf game.now place.now }
+{
+    if max == 0 {
+        return Err(Stop::Wrong);
+    }
+    match game.list_moves(place, max) {
+        Ok(listed) => tell_measured(&listed, told),
+        Err(over) => tell_over(over, told),
+    }
+    Ok(())
+}
+
+fn tell_measured<W: Write>(listed: &Listed, told: &mut Telling<W>) {
+    told.count("moves", listed.moves.len() as u64);
+    told.text("pairs");
+    for pairs in &listed.moves {
+        told.number("", pairs.as_slice().len() as u64);
+    }
+    told.bytes(b"\n");
     told.truth("cut", listed.cut);
 }

@@ -147,6 +147,14 @@ impl<W: Write> Telling<W> {
         }
     }
 
+    /// How many bytes a numbered queue has, and the messages of those that there are.
+    pub fn queue(&mut self, word: &str, number: u64, bytes: &[u8]) {
+        self.size(word, number, bytes.len());
+        if !bytes.is_empty() {
+            self.messages(bytes);
+        }
+    }
+
     /// The messages of a list of bytes, or that memory was refused and whether the list is `KEPT` still.
     pub fn appended(&mut self, went_well: bool, bytes: &[u8]) {
         if went_well {

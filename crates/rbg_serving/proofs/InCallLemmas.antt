@@ -56,6 +56,17 @@ pub either_with_one_more : {T E C : Type 0} {told : C → List ℕ → Type 0} {
     MatchResult result (λ _. WithMoments told before clock Holds) (λ _. WithMoments told before clock Lacks)
 either_with_one_more clock Holds Lacks result at tells call holds = either result (one_more_moment at tells call) (one_more_moment at tells call) holds
 
+-- a clock that waited has told no more
+pub waited : {C : Type 0} {told : C → List ℕ → Type 0} {before : List ℕ} {old clock : C} {Holds : List ℕ → Type 0} →
+    ((so_far : List ℕ) → told old so_far → told clock so_far) →
+    WithMoments told before old Holds →
+    WithMoments told before clock Holds
+waited {before = before} tells call = record {
+  moments = call.moments;
+  clock_tells = tells (before ++ call.moments) call.clock_tells;
+  holds = call.holds;
+}
+
 module _ {L S : Type 0} {told : L → Told → Type 0} {failure_count : L → ℕ} {engine : Behaviour S} {start : Start S} where
   -- it was handled
   pub handled : {moments : List ℕ} {rounds : ℕ} {lines : List L} {states : List LineState} {state new : S}

@@ -1,5 +1,5 @@
 -- What a call of `serve` does.
-use Rattle.std.specs.Prelude.{◌≡◌, ◌↔◌, ◌⊎◌, ◌<◌, ◌≤◌, ◌+◌, ℕ, List, [], ◌∷◌, ◌++◌, length, IsTrue, true, Result, Ok, Err, IsSome}
+use Rattle.std.specs.Prelude.{◌≡◌, ◌↔◌, ◌⊎◌, ◌<◌, ◌≤◌, ◌+◌, ℕ, List, [], ◌∷◌, ◌++◌, length, IsTrue, true, Result, Ok, Err, IsSome, Option, Some, None, MatchOption}
 use Rattle.rbg_serving.specs.declared.served.Served.{Served}
 use Rattle.rbg_serving.specs.declared.served.ServeError.{ServeError}
 use Rattle.rbg_serving.specs.declared.served.ServeError.TheVariants.{Rounds, Memory}
@@ -7,6 +7,7 @@ use Rattle.rbg_serving.specs.Heard.{Heard, given_by, ends_of, failures_of, round
 use Rattle.rbg_serving.specs.Passing.{Behaviour, Intake, intake_at, queued_at, MayComeNext, Handles, AllHandled}
 use Rattle.rbg_serving.specs.Told.{Told, told_at, TellEach}
 use Rattle.rbg_match.specs.Matches.{MatchState, Steps}
+use Rattle.rbg_match.specs.Play.{due_of}
 
 -- What a seat's line told before a call and after it, where this was heard, and these bytes are queued for the seat: it
 -- gave what was heard, it ended and failed as often as was heard, and it took the first of the queued bytes, with this
@@ -107,6 +108,10 @@ ServesLines told failure_count clock_told engine old_lines lines old_clock clock
     TellEach told failure_count old_lines before →
     clock_told old_clock asked →
     ServesOver told failure_count clock_told engine lines clock rounds before asked old new queued_before queued result
+
+-- the moment at which the mover's time is over in a match, if that goes on
+abbrev pub IsDueIn : MatchState → Option ℕ → Type 0
+IsDueIn state due = MatchOption state.play.outcome (due ≡ Some (due_of state.config state.play)) (λ _. due ≡ None)
 
 -- A match, as a call knows it. It is over once it has ended, and hears each line until then. It fails where it has no
 -- memory for an event.

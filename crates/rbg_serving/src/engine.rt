@@ -1,11 +1,11 @@
 //! What is served.
-ghost use Rattle.std.specs.Prelude.{◌≡◌, ◌≤◌, ◌-◌, ◌↔◌, ℕ, List, [], length, slice_index_or, IsTrue, OnOk, OnErr};
+ghost use Rattle.std.specs.Prelude.{◌≡◌, ◌≤◌, ◌-◌, ◌↔◌, ℕ, List, [], Option, length, slice_index_or, IsTrue, OnOk, OnErr};
 ghost use Rattle.rbg_match.specs.Inputs.{event_of};
 ghost use Rattle.rbg_match.specs.Matches.{HasHistory};
 ghost use Rattle.rbg_match.specs.PlayingOn.{seats_of};
 ghost use Rattle.rbg_rules.specs.Meaning.{AbstractGame};
 ghost use Rattle.rbg_serving.specs.Passing.{Behaviour, ExtendAll};
-ghost use Rattle.rbg_serving.specs.Serving.{of_match};
+ghost use Rattle.rbg_serving.specs.Serving.{IsDueIn, of_match};
 
 use rbg_base::Memory;
 use rbg_match::{Event, Match, Outbox};
@@ -33,6 +33,9 @@ pub trait Engine {
     /// What it keeps as long as there is memory.
     ghost valid: { Self → Type 0 };
 
+    /// Whether this is the moment at which the time of the first is over for whom it is over, if there is one.
+    ghost first_due: { Self → Option ℕ → Type 0 };
+
     /// Handles an event.
     fn handle(&mut self, event: Event<'_>, outbox: &mut Self::Outbox) -> Result<(), Memory>
         requires { length (queued outbox.old) ≡ lines (fixed self.old) }
@@ -52,6 +55,10 @@ pub trait Engine {
     /// Whether it is over.
     fn is_over(&self) -> bool
         ensures { IsTrue result ↔ behaviour.over self.now };
+
+    /// The first moment at which somebody's time is over, if nothing is heard until then.
+    fn due(&self) -> Option<u64>
+        ensures { first_due self.now result };
 
     /// The bytes that are queued for a line, which must be one of those for which it queues bytes.
     fn bytes(outbox: &Self::Outbox, line: usize) -> &[u8]
@@ -75,6 +82,8 @@ impl Engine for Match {
 
     ghost valid = { HasHistory };
 
+    ghost first_due = { IsDueIn };
+
     fn handle(&mut self, event: Event<'_>, outbox: &mut Outbox) -> Result<(), Memory> {
         self.step(event, outbox)
     }
@@ -85,6 +94,10 @@ impl Engine for Match {
 
     fn is_over(&self) -> bool {
         self.outcome().is_some()
+    }
+
+    fn due(&self) -> Option<u64> {
+        Match::due(self)
     }
 
     fn bytes(outbox: &Outbox, line: usize) -> &[u8] {

@@ -18,7 +18,7 @@ mod served;
 mod serving;
 
 pub use answer::{Polled, Put};
-pub use clock::Clock;
+pub use clock::{Clock, Pause};
 pub use engine::Engine;
 pub use faulty::Faulty;
 pub use give::{Give, Take};

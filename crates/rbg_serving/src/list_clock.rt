@@ -2,7 +2,7 @@
 ghost use Rattle.std.specs.Prelude.{◌≡◌, ◌≤◌, ◌++◌, ◌∷◌, [], ℕ, List, vec_len};
 ghost use Rattle.rbg_serving.specs.ListClocks.{HasTold};
 
-use crate::Clock;
+use crate::{Clock, Pause};
 
 /// A clock that tells the moments of a list, then the last of them again and again. The moment is 0 if there is none.
 #[derive(Drop)]
@@ -39,4 +39,8 @@ impl Clock for ListClock {
         }
         self.moments.as_slice().last().copied().unwrap_or(0)
     }
+
+    fn wait(&mut self, _pause: Pause)
+        ensures { self.new ≡ self.old }
+    {}
 }

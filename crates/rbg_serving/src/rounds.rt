@@ -5,7 +5,7 @@ ghost use Rattle.rbg_serving.specs.Answers.{FitsPoll};
 ghost use Rattle.rbg_serving.specs.Heard.{Heard, IsLive, event_of as heard_event};
 ghost use Rattle.rbg_serving.specs.Told.{Told};
 ghost use Rattle.rbg_serving.specs.Passing.{Intake};
-ghost use Rattle.rbg_serving.specs.internal.InCall.{Start, InCallOf, PassedOf, PassesOrLacks, Fits, Keeps};
+ghost use Rattle.rbg_serving.specs.internal.InCall.{Start, InCallOf, PassedOf, PassesOrLacks, Fits, Keeps, Stays};
 ghost use Rattle.rbg_serving.specs.internal.Lines.{AreServed, absent};
 ghost use Rattle.rbg_serving.specs.internal.Polling.{heard_by_poll, is_last};
 
@@ -13,7 +13,7 @@ use crate::call::Call;
 use crate::engine::Engine;
 use crate::line_state::LineState;
 use crate::passing::pass;
-use crate::{Clock, Line, Polled};
+use crate::{Clock, Line, Pause, Polled};
 use rbg_base::Memory;
 use rbg_match::Event;
 
@@ -139,7 +139,30 @@ impl<'a, L: Line, E: Engine, C: Clock> Call<'a, L, E, C> {
         pass(self.lines, self.states, self.engine, self.outbox, at)
     }
 
-    /// One round. A line that isn't heard any more is not polled.
+    /// What the clock has to wait for.
+    fn pause(&self) -> Pause {
+        if self.engine.is_over() {
+            return Pause::Ending;
+        }
+        Pause::Playing {
+            due: self.engine.due(),
+        }
+    }
+
+    /// Waits until something may be heard, or taken.
+    fn wait(&mut self)
+        requires fits { Fits (λ engine. E.lines (E.fixed engine)) E.queued self.old }
+        ensures waits { (start : Start E) (rounds : ℕ) →
+            PassedOf L.told L.failure_count E.behaviour E.queued C.told start rounds self.old →
+            PassedOf L.told L.failure_count E.behaviour E.queued C.told start rounds self.new }
+        ensures stays { Stays (λ engine. E.lines (E.fixed engine)) E.queued E.fixed self.old self.new }
+        ensures valid { E.valid self.old.engine.now → E.valid self.new.engine.now }
+    {
+        let pause = self.pause();
+        self.clock.wait(pause);
+    }
+
+    /// One round: a wait, a poll of each line and a tick. A line that isn't heard any more is not polled.
     pub(crate) fn round(&mut self, buffer: &mut [u8]) -> Result<(), Memory>
         requires fits { Fits (λ engine. E.lines (E.fixed engine)) E.queued self.old }
         ensures goes_on { (start : Start E) (rounds : ℕ) →
@@ -147,6 +170,7 @@ impl<'a, L: Line, E: Engine, C: Clock> Call<'a, L, E, C> {
             PassesOrLacks L.told L.failure_count E.behaviour E.queued C.told start (rounds + 1) self.new result }
         ensures kept { Keeps (λ engine. E.lines (E.fixed engine)) E.queued E.fixed E.valid self.old self.new result }
     {
+        self.wait();
         for index in 0..self.lines.len() {
             self.visit(index, buffer)?;
         }

@@ -16,9 +16,9 @@ use rbg_match::{Match, Outbox};
 use std::alloc::Global;
 
 /// Serves a match over a line for each seat, seat 1 first, in that many rounds at most. In a round each line that has
-/// neither ended nor failed in this call is polled in turn, and then the clock ticks. What is queued for a seat, from its
-/// first byte on, is put to its line before the first round and after each event. A line that fails to take it has ended.
-/// Once the match has ended no line is polled.
+/// neither ended nor failed in this call is polled in turn, and then the clock ticks. The clock waits before each round, and
+/// nowhere else. What is queued for a seat, from its first byte on, is put to its line before the first round and after
+/// each event. A line that fails to take it has ended. Once the match has ended no line is polled.
 ///
 /// Serving ends when the match has ended and each line that neither ended nor failed took all that is queued for it.
 pub fn serve<L: Line, C: Clock>(

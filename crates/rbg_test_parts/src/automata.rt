@@ -1,6 +1,7 @@
 //! What no contract says of the automaton of a game: equal lists are in it once, it lends its answers, and common actions
-//! are told at a glance.
-use rbg_auto::{Glance, Steps, compact};
+//! are told at a glance. Its two forms give the same answers.
+use rbg_auto::{Expr, Glance, Steps, compact, compile};
+use rbg_base::Position;
 use rbg_game::load;
 use rbg_rules::Game;
 use std::alloc::Global;
@@ -13,8 +14,18 @@ const HEAD: &str = "#players = white(100), black(100)
 #board = rectangle(up,down,left,right,[w,e])
 #rules = ";
 
-/// Macros of texts with long rules: what they are given, nine times and ten times.
-const MACROS: &str = "\n#nine(x) = x x x x x x x x x\n#ten(x) = x x x x x x x x x x";
+/// Macros of texts with long rules: what they are given, some times; choices; and sums of 271 and of 368.
+const MACROS: &str = "
+#six(x) = x x x x x x
+#nine(x) = x x x x x x x x x
+#ten(x) = x x x x x x x x x x
+#choice = ([w] + [e])
+#fifteen = ten(choice) choice choice choice choice choice
+#more = + [w]
+#hundred = ten(ten(more))
+#short = [w] hundred hundred six(ten(more)) ten(more)
+#long = [w] hundred hundred hundred six(ten(more)) six(more) more
+";
 
 /// Rules, and how many entries the different lists of their positions have in all.
 const RULES: [(&str, usize); 22] = [
@@ -72,6 +83,34 @@ const RULES: [(&str, usize); 22] = [
     ),
 ];
 
+/// More rules, whose lists aren't counted.
+const MORE_RULES: [&str; 24] = [
+    "right",
+    "->white {e}[w][$ white=100] ->black right {e}[b] ->> {}",
+    "->white ([e])* ->black",
+    "->white ([w])* {}",
+    "->white ([$ n=n+1])* ->black",
+    "->white {! right [w] {w}} [w] ->black",
+    "->white {$ 7/2*2 == 6} {$ (0-7)/2 == -3} [$ white = e*3] ->black",
+    "->white {$ 7/2*2 == 6} {$ 1/0 != 1} {$ (0-7)/2 == -3} [$ white = e*3] ->black",
+    "->white [$ white = 5, black = white + 1] ->black",
+    "->white {$ -9223372036854775807 - 1 < 0} [$ white = 7] ->black",
+    "->white {$ (-9223372036854775807 - 1) / -1 > 0} [$ white = 7] ->black",
+    "->white ([w] + [e] ->white) ->black",
+    "->white (right + left)* [w] ->black",
+    "->white (right + left)* {! left [w] {w}} {? right {e}} [w] ->black",
+    "->white {! [w] right [w] {$ w == 2} {}} {$ w == 0} [w] {$ w == 1} ->black",
+    "->white fifteen {}",
+    "->white fifteen choice {}",
+    "->white (short) (long) {}",
+    "->white (short) (long more) {}",
+    "->white {! fifteen {}} [w] ->black",
+    "->white {! fifteen {}} {! fifteen {}} [w] ->black",
+    "->white {! ([w])* {}} [w] ->black",
+    "->white {! choice {}} ->black",
+    "->white {! ([w])* {! ([w])* {! ([w])* {! ([w])* {! ([w])* {! ([w])* {! ([w])* {! ([w])*}}}}}}}} ->black",
+];
+
 /// The game of these rules.
 fn game_of(alloc: Global, rules: &str) -> Result<Game, Fail> {
     let text = format!(in alloc; "{HEAD}{rules}{MACROS}")?;
@@ -87,6 +126,47 @@ fn has_entries(alloc: Global, game: &Game, entries: usize) -> Result<bool, Fail>
 /// Whether the automaton of the game of these rules has so many entries, and lends its answers.
 fn shares_lists(alloc: Global, rules: &str, entries: usize) -> Result<bool, Fail> {
     has_entries(alloc, &game_of(alloc, rules)?, entries)
+}
+
+/// Whether two automata give the same answers for an expression.
+fn same_first(one: &impl Steps, other: &impl Steps, expr: Expr) -> bool {
+    one.first(expr) == other.first(expr) && one.may_be_empty(expr) == other.may_be_empty(expr)
+}
+
+/// Whether two automata give the same answers for the position, and for the pattern that may stand there.
+fn same_at(one: &impl Steps, other: &impl Steps, position: Position) -> bool {
+    one.next(position) == other.next(position)
+        && one.may_end(position) == other.may_end(position)
+        && same_first(one, other, Expr::Inside(position))
+}
+
+/// Whether two automata give the same answers for the rules, and for each position to the last and for one on either side.
+fn agree(one: &impl Steps, other: &impl Steps, last: Position) -> bool {
+    let mut same = same_first(one, other, Expr::Rules);
+    for position in 0..=last.saturating_add(1) {
+        same = same && same_at(one, other, position);
+    }
+    same
+}
+
+/// Whether both forms of the automaton of the game of these rules give the same answers.
+fn forms_agree(alloc: Global, rules: &str) -> Result<bool, Fail> {
+    let game = game_of(alloc, rules)?;
+    let plain = compile(alloc, &game)?;
+    let compact = compact(alloc, &game)?;
+    Ok(agree(&plain, &compact, game.positions() as Position))
+}
+
+#[test]
+fn both_forms_give_the_same_answers(rt: HostRuntime) -> Result<(), Fail> {
+    for example in &RULES {
+        let (rules, _) = *example;
+        assert!(rt; forms_agree(rt.alloc(), rules)?, "at {rules}");
+    }
+    for rules in MORE_RULES {
+        assert!(rt; forms_agree(rt.alloc(), rules)?, "at {rules}");
+    }
+    Ok(())
 }
 
 #[test]

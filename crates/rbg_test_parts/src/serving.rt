@@ -31,6 +31,15 @@ const WHOLE: &[u8] = b"W1 white\0G#players = white(100), black(100)
 /// How many bytes a seat is sent in the whole match.
 const SENT: usize = 217;
 
+/// How many bytes it is sent before the first round.
+const OPENED: u64 = 186;
+
+/// How many bytes it is sent up to white's move.
+const MOVED: usize = 199;
+
+/// The call of the line of seat 2 that polls it, behind one for each byte up to white's move.
+const POLLED: u64 = 200;
+
 /// How often the line of seat 2 is called in the whole match: it is polled once, and each byte is put to it.
 const CALLS: u64 = 218;
 
@@ -74,43 +83,54 @@ fn serve_over<L: Line>(
     serve(alloc, lines, opened, outbox, &mut clock, 100)
 }
 
-/// Whether the line of seat 1 took what is queued for it, and the answer says whether that of seat 2 did.
-fn is_right(
-    answer: Result<Served, ServeError>,
-    lines: &[Faulty<MemoryLine>; 2],
-    outbox: &Outbox,
-) -> bool {
-    if outbox.seats() != 2 {
-        return false;
-    }
-    let all = lines[1].line().took() == outbox.bytes(2);
-    lines[0].line().took() == outbox.bytes(1)
-        && matches!(answer, Ok(Served { whole, .. }) if whole == all)
-}
-
-/// Serves a match over the lines, and says whether that went right.
-fn is_served(alloc: Global, lines: &mut [Faulty<MemoryLine>; 2]) -> Result<bool, Fail> {
+/// Serves a match over the lines.
+fn serve_match(
+    alloc: Global,
+    lines: &mut [Faulty<MemoryLine>; 2],
+) -> Result<Result<Served, ServeError>, Fail> {
     let (mut opened, mut outbox) = open(alloc, TEXT)?;
-    let answer = serve_over(alloc, lines, &mut opened, &mut outbox);
-    Ok(is_right(answer, lines, &outbox))
+    Ok(serve_over(alloc, lines, &mut opened, &mut outbox))
 }
 
-/// Whether seat 1 took the whole match; or, where seat 2's line failed at a call, its beginning and then that seat 2's
-/// stream ended.
-fn is_whole_or_cut(took: &[u8], call: u64) -> bool {
-    match took.strip_suffix(b"E3 2\0".as_slice()) {
-        Some(before) => call > 0 && before.ends_with(b"\0") && WHOLE.starts_with(before),
-        None => took == WHOLE,
+/// How serving ends where seat 2's line fails at that call, or never at 0. The opening is put to it before the first round, and
+/// then white's move; then it is polled, and black's move and the end are put to it. It is whole where no put failed: a
+/// seat whose stream has ended is sent nothing more.
+fn served_at(call: u64) -> Served {
+    Served {
+        rounds: (call == 0 || call > OPENED) as u64,
+        whole: call == 0 || call == POLLED || call > CALLS,
+    }
+}
+
+/// How many bytes of the whole match seat 1 is sent where seat 2's line fails at that call, or never at 0.
+fn sent_at(call: u64) -> usize {
+    if call == 0 || call > POLLED {
+        SENT
+    } else if call > OPENED {
+        MOVED
+    } else {
+        OPENED as usize
+    }
+}
+
+/// Whether seat 1 took so much of the whole match, and then that seat 2's stream ended, unless it took all.
+fn is_taken(took: &[u8], sent: usize) -> bool {
+    if sent == SENT {
+        return took == WHOLE;
+    }
+    match (took.strip_suffix(b"E3 2\0".as_slice()), WHOLE.get(..sent)) {
+        (Some(before), Some(part)) => before == part,
+        _ => false,
     }
 }
 
 /// Whether a match is served right where seat 2's line fails at that call, or never at 0.
 fn fails_at(alloc: Global, call: u64) -> Result<bool, Fail> {
     let mut lines = two_lines(alloc, call)?;
-    let right = is_served(alloc, &mut lines)?;
+    let answer = serve_match(alloc, &mut lines)?;
     Ok(
-        right
-            && is_whole_or_cut(lines[0].line().took(), call)
+        matches!(answer, Ok(served) if served == served_at(call))
+            && is_taken(lines[0].line().took(), sent_at(call))
             && (lines[1].failures() == 0) == (call == 0 || call > CALLS),
     )
 }

@@ -10,5 +10,6 @@ mod odd;
 mod playing;
 mod table;
 mod tree;
+mod undoing;
 mod words;
 mod world;

@@ -2,13 +2,14 @@
 use Rattle.std.specs.Prelude.{◌≡◌, ℕ, ◌++◌, List, codes, decimal, Some}
 use Rattle.rbg_ask.specs.Limits.{IsCount, IsSeed}
 use Rattle.rbg_ask.specs.declared.question.Question.{Question}
-use Rattle.rbg_ask.specs.declared.question.Question.TheVariants.{Moves, Make, Back, Random}
+use Rattle.rbg_ask.specs.declared.question.Question.TheVariants.{Moves, Make, Back, Heard, Random}
 
 -- the question is a single word
 abbrev pub IsPlain : Question → Type 0
 IsPlain (Moves (Some max)) = ⊥
 IsPlain (Make pairs) = ⊥
 IsPlain (Back (Some moves)) = ⊥
+IsPlain (Heard pairs) = ⊥
 IsPlain (Random seed count) = ⊥
 IsPlain _ = Unit {0}
 

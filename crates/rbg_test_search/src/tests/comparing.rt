@@ -23,6 +23,19 @@ const BUDGET: Budget = Budget {
     modifiers: 30,
 };
 
+/// Budgets within which searches by sets and by pairs are compared: the last ones are above the limits of many questions.
+const BUDGETS: [Budget; 3] = [
+    BUDGET,
+    Budget {
+        openings: 6,
+        modifiers: 200,
+    },
+    Budget {
+        openings: 2_000,
+        modifiers: 2,
+    },
+];
+
 /// At the beginning of the rules.
 fn at_beginning(game: &Game) -> Origin
     ensures { IsStart game.now.rules (start_of result) }
@@ -75,6 +88,7 @@ fn reach<S: Steps>(
     asked: &Asked<'_, S>,
     place: &Place,
     origin: Origin,
+    budget: Budget,
     buffers: &mut Buffers,
 ) -> Result<Result<FlatPart, Over>, Odd>
     requires asked { IsSearchedAt S.of_rules asked.now.steps.now asked.now.game.now
@@ -82,7 +96,7 @@ fn reach<S: Steps>(
     requires stands { IsStart asked.now.game.now.rules (start_of origin) }
 {
     let mut state = place.state.try_clone()?;
-    let reached = asked.search(BUDGET, buffers).reach(&mut state, origin);
+    let reached = asked.search(budget, buffers).reach(&mut state, origin);
     expect(state == place.state, Odd::Reach)?;
     Ok(reached)
 }
@@ -103,7 +117,7 @@ fn compare_start<S: Steps>(
 {
     let next = asked.rules.next(asked.alloc, world, words)?;
     tally.count_next(&next);
-    let reached = reach(asked, place, origin, buffers)?;
+    let reached = reach(asked, place, origin, BUDGET, buffers)?;
     expect_reached(&reached, &next)
 }
 
@@ -112,6 +126,7 @@ fn pattern<S: Steps>(
     asked: &Asked<'_, S>,
     place: &Place,
     position: Position,
+    budget: Budget,
     buffers: &mut Buffers,
 ) -> Result<Result<bool, Over>, Odd>
     requires asked { IsSearchedAt S.of_rules asked.now.steps.now asked.now.game.now
@@ -119,7 +134,7 @@ fn pattern<S: Steps>(
     requires there { IsPatternAt asked.now.game.now.rules position }
 {
     let mut state = place.state.try_clone()?;
-    let valid = asked.search(BUDGET, buffers).pattern(&mut state, position);
+    let valid = asked.search(budget, buffers).pattern(&mut state, position);
     expect(state == place.state, Odd::Pattern)?;
     Ok(valid)
 }
@@ -140,6 +155,77 @@ fn expect_pattern(valid: Result<bool, Over>, known: Known, tally: &mut Tally) ->
         }
         Known::Unknown => Ok(()),
     }
+}
+
+/// Whether two searches reached the same, or were given up for the same cause.
+fn reach_alike(one: &Result<FlatPart, Over>, other: &Result<FlatPart, Over>) -> bool {
+    match (one, other) {
+        (Ok(one), Ok(other)) => {
+            one.ends == other.ends && one.pairs.as_slice() == other.pairs.as_slice()
+        }
+        (Err(one), Err(other)) => one == other,
+        _ => false,
+    }
+}
+
+/// Compares what is reached in a pattern and whether it holds, within a budget, by sets and by pairs.
+fn compare_order<S: Steps>(
+    asked: &Asked<'_, S>,
+    by_pairs: &Asked<'_, S>,
+    place: &Place,
+    position: Position,
+    budget: Budget,
+    buffers: &mut Buffers,
+) -> Result<Result<bool, Over>, Odd>
+    requires asked { IsSearchedAt S.of_rules asked.now.steps.now asked.now.game.now
+        (λ told. ArePathsOf asked.now.game.now told.now) asked.now.paths place.now }
+    requires by_pairs { IsSearchedAt S.of_rules by_pairs.now.steps.now by_pairs.now.game.now
+        (λ told. ArePathsOf by_pairs.now.game.now told.now) by_pairs.now.paths place.now }
+    requires there { IsPatternAt asked.now.game.now.rules position }
+    requires there_too { IsPatternAt by_pairs.now.game.now.rules position }
+{
+    let origin = in_pattern(asked.game, position);
+    let reached = reach(asked, place, origin, budget, buffers)?;
+    let origin = in_pattern(by_pairs.game, position);
+    let again = reach(by_pairs, place, origin, budget, buffers)?;
+    expect(reach_alike(&reached, &again), Odd::Order)?;
+    let valid = pattern(asked, place, position, budget, buffers)?;
+    let again = pattern(by_pairs, place, position, budget, buffers)?;
+    expect(valid == again, Odd::Order)?;
+    Ok(valid)
+}
+
+/// Compares searches by sets in a pattern with those by pairs. A search by pairs takes what it meets in the order of a
+/// queue, one by sets takes what it met last.
+fn compare_orders<S: Steps>(
+    asked: &Asked<'_, S>,
+    place: &Place,
+    position: Position,
+    buffers: &mut Buffers,
+    tally: &mut Tally,
+) -> Result<(), Odd>
+    requires asked { IsSearchedAt S.of_rules asked.now.steps.now asked.now.game.now
+        (λ told. ArePathsOf asked.now.game.now told.now) asked.now.paths place.now }
+    requires there { IsPatternAt asked.now.game.now.rules position }
+{
+    if asked.paths.is_none() {
+        return Ok(());
+    }
+    let by_pairs = Asked {
+        alloc: asked.alloc,
+        game: asked.game,
+        steps: asked.steps,
+        paths: None,
+        played: asked.played,
+        rules: asked.rules,
+    };
+    for budget in &BUDGETS {
+        let valid = compare_order(asked, &by_pairs, place, position, *budget, buffers)?;
+        if let Err(over) = valid {
+            tally.count_over(over);
+        }
+    }
+    Ok(())
 }
 
 /// Compares what is reached after a position, and at the beginning of the pattern there and whether it holds.
@@ -169,8 +255,9 @@ fn compare_position<S: Steps>(
     }
     let origin = in_pattern(asked.game, position);
     compare_start(asked, place, world, origin, words, buffers, tally)?;
-    let valid = pattern(asked, place, position, buffers)?;
-    expect_pattern(valid, asked.rules.is_valid(world, position), tally)
+    let valid = pattern(asked, place, position, BUDGET, buffers)?;
+    expect_pattern(valid, asked.rules.is_valid(world, position), tally)?;
+    compare_orders(asked, place, position, buffers, tally)
 }
 
 /// Compares what is reached from everywhere in the rules, and which patterns hold, at a place, with these buffers.

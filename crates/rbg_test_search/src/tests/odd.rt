@@ -1,6 +1,7 @@
 //! Why a game isn't compared to its end, and how much was compared.
 use crate::tests::meaning::{Moves, Next};
 use rbg_base::Memory;
+use rbg_search::Over;
 use std::alloc::AllocFailed;
 
 /// Why a game isn't compared to its end.
@@ -17,6 +18,8 @@ pub(crate) enum Odd {
     /// An answer of that call isn't the slow one.
     Reach,
     Pattern,
+    /// A search by sets doesn't answer or give up as one by pairs does.
+    Order,
     Try,
     Find,
     List,
@@ -61,6 +64,9 @@ pub(crate) struct Tally {
     /// Patterns that are valid or not.
     pub valid: u32,
     pub invalid: u32,
+    /// What was asked by sets and by pairs, and was too deep or too wide for both.
+    pub deep: u32,
+    pub wide: u32,
 }
 
 /// Adds to a count.
@@ -85,6 +91,8 @@ impl Tally {
             whole_starts: 0,
             valid: 0,
             invalid: 0,
+            deep: 0,
+            wide: 0,
         }
     }
 
@@ -106,6 +114,15 @@ impl Tally {
         );
     }
 
+    /// Counts why a search was given up.
+    pub(crate) fn count_over(&mut self, over: Over) {
+        match over {
+            Over::Deep => add(&mut self.deep, 1),
+            Over::Wide => add(&mut self.wide, 1),
+            Over::Memory => {}
+        }
+    }
+
     /// Whether so much was compared that each kind of answer was met often.
     pub(crate) fn shows_enough(&self) -> bool {
         self.games > 1_500
@@ -120,5 +137,7 @@ impl Tally {
             && self.whole_starts > 50_000
             && self.valid > 1_000
             && self.invalid > 1_000
+            && self.deep > 100
+            && self.wide > 100
     }
 }

@@ -1,6 +1,11 @@
--- If an item is not written, the bytes from before the first one are still there.
-use Rattle.rbg_wire.proofs.Kept.{broken_off}
+-- The lines of moves that are lent are those of the moves.
+use Rattle.std.proofs.Common.{List, ℕ, subst, sym}
+use Rattle.rbg_wire.specs.Writing.{Appends}
+use Rattle.rbg_wire.proofs.Common.{line_of, pairs_text}
+use Rattle.rbg_ask.proofs.Sorted.{lines_shown}
 use Rattle.rbg_ask.proofs.answer_writer.put_move_lines.Goals as goal
 
-pub returns-in_err-put_move_line : goal.returns-in_err-put_move_line
-returns-in_err-put_move_line c = broken_off _ _ _ _ _ _ c.from_residual.result c.from_residual.ensures.1 c.loop-pairs.invariant c.put_move_line.ensures.kept
+pub returns : goal.returns
+returns c =
+    subst (λ (text : List ℕ). Appends c.args.out.now.items c.put_lent_lines.new.out.items text c.put_lent_lines.result)
+    (sym (lines_shown (λ m. m.now) (λ pairs. line_of (pairs_text pairs)) c.args.moves.now)) c.put_lent_lines.ensures

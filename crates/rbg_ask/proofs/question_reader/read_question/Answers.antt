@@ -1,5 +1,5 @@
 -- A single word, or a word with a number or with pairs.
-use Rattle.rbg_ask.proofs.Reading.{no_question, spells_moves, spells_back, spells_make, spells_random}
+use Rattle.rbg_ask.proofs.Reading.{no_question, spells_moves, spells_back, spells_heard, spells_make, spells_random}
 use Rattle.rbg_ask.proofs.question_reader.read_question.Goals as goal
 
 pub returns-in-Some-count_behind-clause-found : goal.returns-in-Some-count_behind-clause-found
@@ -14,7 +14,10 @@ returns-clause-found c = let pairs = c.in_ok-pairs.ensures.found in spells_make 
 pub returns-in_err-pairs-clause-none : goal.returns-in_err-pairs-clause-none
 returns-in_err-pairs-clause-none c =
     rw c.from_residual.ensures
-    (no_question _ c.in_default.ensures.none c.in_default-count_behind.ensures.none c.in_default-count_behind-2.ensures.none c.in_err-pairs.ensures.none c.in_default-chance_behind.ensures.none)
+    (no_question _ c.in_default.ensures.none c.in_default-count_behind.ensures.none c.in_default-count_behind-2.ensures.none c.in_default-pairs_behind.ensures.none c.in_err-pairs.ensures.none c.in_default-chance_behind.ensures.none)
 
 pub returns-in-Some-chance_behind-clause-found : goal.returns-in-Some-chance_behind-clause-found
 returns-in-Some-chance_behind-clause-found c = spells_random _ _ _ c.in-Some-chance_behind.ensures.found
+
+pub returns-in-Some-pairs_behind-clause-found : goal.returns-in-Some-pairs_behind-clause-found
+returns-in-Some-pairs_behind-clause-found c = let pairs = c.in-Some-pairs_behind.ensures.found in spells_heard _ _ pairs.0 pairs.1 pairs.2

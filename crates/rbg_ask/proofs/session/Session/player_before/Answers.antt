@@ -10,4 +10,4 @@ returns c =
     let within : c.args.index < length c.self.inside.before.items = rw (← c.self.view_is) at c.requires in
     rw (← c.self.view_is) (λ new back.
     subst (λ n. StandsAt new.game new.place (to_move n)) (sym (c.player.ensures ∙ ap (λ p. p.state.player) c.behind-self.view_is))
-    (stands_before _ _ _ c.self.invariant within (slice_get-get_or _ _ _ within ∙ ap Some (sym c.index.ensures)) new back))
+    (stands_before _ _ _ c.self.invariant.0 within (slice_get-get_or _ _ _ within ∙ ap Some (sym c.index.ensures)) new back))

@@ -4,7 +4,7 @@ use Rattle.rbg_ask.proofs.Places.{reached_before, cut_behind, goes_back_to}
 use Rattle.rbg_ask.proofs.session.Session.return_to.Goals as goal
 
 pub invariant_of-self : goal.invariant_of-self
-invariant_of-self c = reached_before _ _ _ c.self.invariant _ _ _ (cut_behind _ _ _ c.args.index (sym c.truncate.ensures.items ∙ c.in-Some.ensures.items))
+invariant_of-self c = (reached_before _ _ _ c.self.invariant.0 _ _ _ (cut_behind _ _ _ c.args.index (sym c.truncate.ensures.items ∙ c.in-Some.ensures.items)), c.self.invariant.1)
 
 pub returns-in-Some : goal.returns-in-Some
 returns-in-Some c =

@@ -1,0 +1,203 @@
+"""Disks that fail: each call about a file fails once, comes short or is cut off by a signal. Each time the documented line and
+status come, the log goes on, and the record is good."""
+
+import errno
+import os
+import random
+import signal
+import subprocess
+from pathlib import Path
+from typing import Any, NamedTuple
+
+from served import Wrong
+from storm_between import clean, records
+from storm_match import pair, play
+from storm_players import Stored
+from storm_referee import Ended, Trial, check_record, expect, outcome
+
+CALLS = ["open", "write", "sync", "rename", "lock"]
+ERRORS = ["ENOSPC", "EIO", "EDQUOT", "EFBIG", "EROFS", "EACCES", "EPERM", "EINTR", "EAGAIN", "EMFILE", "EINVAL", "ENOLCK"]
+
+
+class Fault(NamedTuple):
+    """What becomes of the calls of a kind, from one on."""
+
+    call: str
+    at: int
+    lasts: bool
+    how: str  # the name of an error, a number of bytes that a write takes, or the name of a signal
+
+    def environment(self, library: Path, folder: Path) -> dict[str, str]:
+        told = {"DISK_CALL": self.call, "DISK_AT": str(self.at), "DISK_ON": str(int(self.lasts))}
+        if self.how in errno.errorcode.values():
+            told["DISK_ERRNO"] = str(getattr(errno, self.how))
+        elif self.how.startswith("SIG"):
+            told["DISK_SIGNAL"] = str(int(signal.Signals[self.how]))
+        else:
+            told["DISK_SHORT"] = self.how
+        return {**os.environ, "LD_PRELOAD": str(library), "DISK_UNDER": str(folder) + "/", **told}
+
+    @property
+    def is_harmless(self) -> bool:
+        """Whether a call that comes short, or is interrupted, has only to be made again. (Who renames isn't interrupted, but for
+        file systems over a network.)"""
+        return self.how.isdigit() or (self.how == "EINTR" and self.call in ("open", "write", "sync"))
+
+
+class Disk:
+    """Runs of one kind, whose calls about files are counted first."""
+
+    def __init__(self, trial: Trial, library: Path, stored: Stored, folder: Path):
+        self.trial, self.library, self.stored, self.folder = trial, library, stored, folder
+        self.log = folder / "log"
+        folder.mkdir()
+
+    def words(self) -> list[str]:
+        raise NotImplementedError
+
+    def begin(self) -> None:
+        """Makes what a run needs, and nothing else is there."""
+        for file in self.folder.iterdir():
+            file.unlink()
+
+    def run(self, **how: Any) -> Ended:
+        return play(self.trial, self.words(), pair(self.stored), **how)
+
+    def counts(self) -> dict[str, int]:
+        """How many calls of each kind a run makes."""
+        self.begin()
+        file = self.folder.with_suffix(".counts")
+        told = {"LD_PRELOAD": str(self.library), "DISK_UNDER": str(self.folder) + "/", "DISK_COUNT": str(file)}
+        ended = self.run(env={**os.environ, **told})
+        expect(ended.status == 0, f"with no fault: {ended}")
+        return {word: int(number) for word, number in map(str.split, file.read_text().splitlines())}
+
+    def check(self, fault: Fault) -> str:
+        """One run with a fault, and one that goes on from its log. Returns how the first one ended."""
+        self.begin()
+        ended = self.run(env=fault.environment(self.library, self.folder))
+        try:
+            how = self.judge(fault, ended)
+            self.go_on()
+        except Wrong as wrong:
+            raise Wrong(f"{' '.join(self.words())}: {fault}: {ended}: {wrong}") from None
+        return how
+
+    def judge(self, fault: Fault, ended: Ended) -> str:
+        """The status and the lines are documented ones."""
+        if fault.how.startswith("SIG"):
+            expect(ended.status == -signal.Signals[fault.how] and not ended.printed, "a signal has another status, or a line")
+            return "signal"
+        if ended.status == 0:
+            check_record(self.trial, self.stored.game, self.log, ended.printed)
+            expect(outcome(ended.printed) == self.stored.outcome, "the match ended in another way")
+            return "played"
+        expect(not fault.is_harmless, "a call had only to be made again")
+        reason = os.strerror(getattr(errno, fault.how)) if fault.how in errno.errorcode.values() else ""
+        expect("can't " in ended.told and reason in ended.told, f"standard error doesn't say `can't ..: {reason}`")
+        if ended.printed != "device\n":  # a record that can't be kept is printed all the same
+            expect("record" in ended.told, "neither `device` nor a record that can't be kept")
+            check_record(self.trial, self.stored.game, self.log, ended.printed)
+        expect(ended.status == 3, "the status isn't 3")
+        return "device"
+
+    def go_on(self) -> None:
+        """Goes on from the log, or begins anew where it has no line."""
+        if self.log.exists() and b"\n" not in self.log.read_bytes():
+            clean(self.log)
+        words = ["serve", str(self.stored.game), "--minutes", "5", "--resume" if self.log.exists() else "--log", str(self.log)]
+        again = play(self.trial, words, pair(self.stored))
+        expect(again.status == 0, f"it doesn't go on: {again}")
+        check_record(self.trial, self.stored.game, self.log, again.printed)
+        expect(outcome(again.printed) == self.stored.outcome, f"it goes on to another end: {again}")
+
+
+class Logged(Disk):
+    """A match with a log."""
+
+    def words(self) -> list[str]:
+        return ["serve", str(self.stored.game), "--minutes", "5", "--log", str(self.log)]
+
+
+class Synced(Logged):
+    """A match whose log waits for the disk."""
+
+    def words(self) -> list[str]:
+        return [*super().words(), "--sync"]
+
+
+class Kept(Logged):
+    """A match whose record is kept in a file, too."""
+
+    def words(self) -> list[str]:
+        return [*super().words(), "--records", str(self.folder)]
+
+
+class Resumed(Disk):
+    """A match that goes on from its log, which is replaced first. Its log has half of the moves."""
+
+    def words(self) -> list[str]:
+        return ["serve", str(self.stored.game), "--minutes", "5", "--resume", str(self.log)]
+
+    def begin(self) -> None:
+        super().begin()
+        moves = [(seat, move) for seat, move in self.stored.moves if seat]
+        lines = [f"p {seat} {10 * at} {(move + bytes(1)).hex()}\n" for at, (seat, move) in enumerate(moves[: len(moves) // 2])]
+        self.log.write_text("config 60000 3 0\n" + "".join(lines) + "p 1")  # the last line was cut off
+
+
+class Hall(Disk):
+    """A hall of two matches, of which each has a log."""
+
+    def words(self) -> list[str]:
+        return ["hall", *[str(self.stored.game)] * 2, "--rounds", "4294967295", "--log", str(self.log)]
+
+    def run(self, **how: Any) -> Ended:
+        return play(self.trial, self.words(), [(self.stored, 1), (self.stored, 2)] * 2, **how)
+
+    def judge(self, fault: Fault, ended: Ended) -> str:
+        if ended.status:
+            return super().judge(fault, ended)
+        for match, record in records(ended.printed).items():
+            check_record(self.trial, self.stored.game, Path(f"{self.log}.{match}"), record)
+            expect(outcome(record) == self.stored.outcome, "the match ended in another way")
+        return "played"
+
+    def go_on(self) -> None:
+        whole = self.log
+        for match in (1, 2):
+            self.log = Path(f"{whole}.{match}")
+            super().go_on()
+        self.log = whole
+
+
+def chosen(counts: dict[str, int], chance: random.Random) -> Fault:
+    """A fault of one of the calls that a run makes."""
+    call = chance.choice([it for it in CALLS if counts.get(it)])
+    hows = ERRORS + (["1", "7", "20", "SIGTERM", "SIGINT", "SIGHUP", "SIGKILL"] if call == "write" else [])
+    how = chance.choice(hows)
+    lasts = how != "EINTR" and chance.random() < 0.3  # what is interrupted is made again, and so without an end
+    return Fault(call, chance.randint(1, counts[call]), lasts, how)
+
+
+def built(trial: Trial, top: Path) -> Path:
+    """The library to preload."""
+    library = trial.folder / "disks.so"
+    source = top / "tools" / "refuse" / "disks.c"
+    subprocess.run(["gcc", "-O2", "-Wall", "-Wextra", "-shared", "-fPIC", "-o", str(library), str(source)], check=True)
+    return library
+
+
+def fail(trial: Trial, top: Path, kinds: list[type[Disk]], runs: int, seed: int) -> str:
+    """So many runs with a fault each, over all kinds in turn. The library's source is in the repository whose top this is."""
+    library = built(trial, top)
+    stored = Stored(trial.rbg, trial.game("tictactoe"))
+    chance = random.Random(seed)
+    disks = [kind(trial, library, stored, trial.folder / kind.__name__) for kind in kinds]
+    counts = [disk.counts() for disk in disks]
+    ended: dict[str, int] = {}
+    for number in range(runs):
+        disk, counted = disks[number % len(disks)], counts[number % len(disks)]
+        how = disk.check(chosen(counted, chance))
+        ended[how] = ended.get(how, 0) + 1
+    return f"{runs} runs, " + ", ".join(f"{count} {how}" for how, count in sorted(ended.items()))

@@ -1,0 +1,244 @@
+//! Other places that a fault is about.
+
+use crate::calls::relate_calls;
+use crate::message::{Known, Message};
+use crate::spot::{Spot, head_name};
+use rbg_diagnostics::{Diagnostic, Telling, line_and_column};
+use rbg_game::{GameError, LoadError};
+use rbg_lint::relate_bracket;
+use rbg_macro::MacroError;
+use rbg_suggest::{NameKind, kind_of};
+use rbg_syntax::{Expectation, SyntaxError};
+use rbg_tokens::{Symbol, Token};
+use std::alloc::{AllocError, Global};
+
+/// Adds to a fault which bracket isn't closed, where a name was given first, what a parameter hides, the macro in whose body the place is and where
+/// it is called, and where the macro is defined that the refusal is about.
+pub(crate) fn relate_notes(
+    alloc: Global,
+    fault: &mut Diagnostic,
+    tokens: &[Token<'_>],
+    message: &Message<'_, '_>,
+) -> Result<(), AllocError> {
+    if let Some(bracket) = unclosed_bracket(message) {
+        relate_bracket(alloc, fault, message.text, bracket)?;
+    } else if let Some(bracket) = list_start(message) {
+        relate_list(alloc, fault, message.text, bracket)?;
+    }
+    if let Some(first) = first_of_name(message) {
+        relate_first(alloc, fault, message.text, first)?;
+    }
+    if let Some(parameter) = message.parameter() {
+        relate_hidden(alloc, fault, parameter, message)?;
+    }
+    if let Some(head) = enclosing_macro(message) {
+        relate_body(alloc, fault, tokens, head, message)?;
+    }
+    if let Some(head) = defined_macro(message, tokens) {
+        relate_definition(alloc, fault, head, message)?;
+    }
+    Ok(())
+}
+
+/// The offset of the bracket that isn't closed where a list ends too early, or the arguments of a call.
+fn unclosed_bracket(message: &Message<'_, '_>) -> Option<usize> {
+    match message.error {
+        LoadError::Syntax(SyntaxError::Expected { .. }) => match message.trace() {
+            Some(trace) => {
+                let bracket = trace.open_bracket()?;
+                if bracket.spot.is_unclosed() {
+                    Some(bracket.origin.at)
+                } else {
+                    None
+                }
+            }
+            None => Some(message.spot?.open_bracket()?.at),
+        },
+        LoadError::Macro(MacroError::ArgumentCount { .. }) => open_call(message.spot?),
+        _ => None,
+    }
+}
+
+/// The offset of the bracket that isn't closed behind a call.
+fn open_call(spot: Spot<'_>) -> Option<usize> {
+    if spot.is_open_call() {
+        Some(spot.bracket_behind()?.at)
+    } else {
+        None
+    }
+}
+
+/// The offset of the bracket that begins the list in which an argument doesn't fit.
+fn list_start(message: &Message<'_, '_>) -> Option<usize> {
+    let LoadError::Syntax(SyntaxError::Expected { what, .. }) = message.error else {
+        return None;
+    };
+    if *what != Expectation::Closing {
+        return None;
+    }
+    let _argument = message.parameter()?;
+    Some(message.trace()?.open_bracket()?.origin.at)
+}
+
+/// The offset at which the name that stands here again was given first.
+fn first_of_name(message: &Message<'_, '_>) -> Option<usize> {
+    let trace = message.trace()?;
+    if !matches!(message.error, LoadError::Game(GameError::SameName { .. })) {
+        return None;
+    }
+    let found = trace.spot.first_of_name()?;
+    Some(trace.flat.trace(found.at)?.origin.at)
+}
+
+/// Adds to a fault where the list begins in which it is.
+fn relate_list(
+    alloc: Global,
+    fault: &mut Diagnostic,
+    text: &[u8],
+    at: usize,
+) -> Result<(), AllocError> {
+    let mut words = Vec::new(alloc);
+    let mut told = Telling::new(alloc, &mut words);
+    told.place("the list begins at ", line_and_column(text, at), "");
+    told.end()?;
+    fault.relate(at, 1, words)
+}
+
+/// Adds to a fault where its name was given first.
+fn relate_first(
+    alloc: Global,
+    fault: &mut Diagnostic,
+    text: &[u8],
+    at: usize,
+) -> Result<(), AllocError> {
+    let mut words = Vec::new(alloc);
+    let mut told = Telling::new(alloc, &mut words);
+    told.place(
+        "the name was given first at ",
+        line_and_column(text, at),
+        "",
+    );
+    told.end()?;
+    fault.relate(at, 1, words)
+}
+
+/// Adds to a fault in place of a parameter what the parameter hides.
+fn relate_hidden(
+    alloc: Global,
+    fault: &mut Diagnostic,
+    parameter: Spot<'_>,
+    message: &Message<'_, '_>,
+) -> Result<(), AllocError> {
+    let name = parameter.token.text;
+    let Some(kind) = hidden_kind(message, name) else {
+        return Ok(());
+    };
+    let mut words = Vec::new(alloc);
+    let mut told = Telling::new(alloc, &mut words);
+    told.named("the parameter ", name, " hides the ");
+    told.text(kind.words());
+    told.text(" of its name");
+    told.end()?;
+    fault.relate(parameter.token.at, name.len(), words)
+}
+
+/// Of which kind a name is outside of the macro whose parameter has it.
+fn hidden_kind(message: &Message<'_, '_>, name: &[u8]) -> Option<NameKind> {
+    kind_of(message.trace()?.flat.tokens, name)
+}
+
+/// Adds to a fault on which line the macro is defined that has this name in its head, and whether it calls itself.
+fn relate_definition(
+    alloc: Global,
+    fault: &mut Diagnostic,
+    head: Token<'_>,
+    message: &Message<'_, '_>,
+) -> Result<(), AllocError> {
+    let mut words = Vec::new(alloc);
+    let mut told = Telling::new(alloc, &mut words);
+    let (line, _) = line_and_column(message.text, head.at);
+    told.named("the macro ", head.text, "");
+    told.number(" is defined on line ", line, "");
+    if repeats(message) {
+        told.text(", and calls itself, or by way of other macros");
+    }
+    told.end()?;
+    fault.relate(head.at, head.text.len(), words)
+}
+
+/// Whether a call is too deep since it leads to itself.
+fn repeats(message: &Message<'_, '_>) -> bool {
+    match (message.error, message.known) {
+        (LoadError::Macro(MacroError::Depth { at }), Known::Call(unrolled, _)) => {
+            unrolled.repeats(*at)
+        }
+        _ => false,
+    }
+}
+
+/// Adds to a fault in the body of which macro it is, and then at which line and column the macro is called from whose body
+/// the fault comes, or else on which lines it is called.
+fn relate_body(
+    alloc: Global,
+    fault: &mut Diagnostic,
+    tokens: &[Token<'_>],
+    head: Token<'_>,
+    message: &Message<'_, '_>,
+) -> Result<(), AllocError> {
+    let mut words = Vec::new(alloc);
+    let mut told = Telling::new(alloc, &mut words);
+    told.named("in the body of the macro ", head.text, "");
+    told.end()?;
+    fault.relate(head.at, head.text.len(), words)?;
+    match message.call_of(head.text) {
+        Some(call) => relate_call(alloc, fault, head, call, message),
+        None => relate_calls(alloc, fault, message.text, tokens, head.text),
+    }
+}
+
+/// Adds to a fault from which call it comes.
+fn relate_call(
+    alloc: Global,
+    fault: &mut Diagnostic,
+    head: Token<'_>,
+    call: usize,
+    message: &Message<'_, '_>,
+) -> Result<(), AllocError> {
+    let mut words = Vec::new(alloc);
+    let mut told = Telling::new(alloc, &mut words);
+    told.place("called at ", line_and_column(message.text, call), "");
+    if is_same_name(message.error) {
+        told.named(": the macro stands in place of the name ", head.text, "");
+    }
+    told.end()?;
+    fault.relate(call, head.text.len(), words)
+}
+
+fn is_same_name(error: &LoadError) -> bool {
+    matches!(error, LoadError::Game(GameError::SameName { .. }))
+}
+
+/// The name of the macro in whose body the place is. A refused head is in no body, and nor is the end of a section.
+fn enclosing_macro<'a>(message: &Message<'a, '_>) -> Option<Token<'a>> {
+    match message.error {
+        LoadError::Text(_)
+        | LoadError::Macro(MacroError::BadDefinition { .. } | MacroError::Twice { .. }) => None,
+        _ => {
+            let spot = message.spot?;
+            if spot.token.is(Symbol::Hash) {
+                return None;
+            }
+            spot.macro_name()
+        }
+    }
+}
+
+/// The name in the head of the macro that the refusal is about.
+fn defined_macro<'a>(message: &Message<'_, '_>, tokens: &'a [Token<'a>]) -> Option<Token<'a>> {
+    match message.error {
+        LoadError::Macro(
+            MacroError::Twice { .. } | MacroError::ArgumentCount { .. } | MacroError::Depth { .. },
+        ) => head_name(tokens, message.spot?.token.text, 0),
+        _ => None,
+    }
+}

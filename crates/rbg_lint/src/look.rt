@@ -1,0 +1,63 @@
+//! The text that is looked at, and what is found in it.
+
+use crate::parameters::push_parameters;
+use crate::signs::push_signs;
+use crate::stars::push_stars;
+use rbg_diagnostics::{Diagnostic, Severity};
+use rbg_origins::{Origin, Unrolled};
+use rbg_tokens::Token;
+use std::alloc::{AllocError, Global};
+
+/// A text, and the same with its macros written out.
+#[derive(Clone, Copy)]
+pub struct Look<'a> {
+    pub text: &'a [u8],
+    /// The tokens of the text.
+    pub tokens: &'a [Token<'a>],
+    pub unrolled: &'a Unrolled,
+    /// The tokens of the text of `unrolled`.
+    pub flat: &'a [Token<'a>],
+}
+
+impl<'a> Look<'a> {
+    /// Where the token with an index comes from, of those whose macros are written out.
+    pub(crate) fn origin(&self, index: usize) -> Option<Origin> {
+        self.unrolled.origin(index)
+    }
+
+    /// The token of the text at an offset.
+    pub(crate) fn token_at(&self, at: usize) -> Option<Token<'a>> {
+        for token in self.tokens {
+            if token.at == at {
+                return Some(*token);
+            }
+        }
+        None
+    }
+}
+
+/// Adds what is found by looking at a text that describes a game.
+pub fn push_warnings(
+    alloc: Global,
+    look: Look<'_>,
+    found: &mut Vec<Diagnostic>,
+) -> Result<(), AllocError> {
+    push_stars(alloc, look, found)?;
+    push_signs(alloc, look, found)?;
+    push_parameters(alloc, look, found)
+}
+
+/// A warning of a kind about a token of the text, unless there is one at its place already. Nothing is said of it yet.
+pub(crate) fn new_warning(
+    alloc: Global,
+    found: &[Diagnostic],
+    code: &'static str,
+    token: Token<'_>,
+) -> Option<Diagnostic> {
+    for other in found {
+        if other.start == token.at && other.code == code {
+            return None;
+        }
+    }
+    Some(Diagnostic::new(alloc, Severity::Warning, code, token.at, token.text.len()))
+}

@@ -1,0 +1,94 @@
+//! Rules that are never reached, and a `+` that is written like a repetition.
+
+use crate::look::{Look, new_warning};
+use rbg_diagnostics::{Diagnostic, Telling};
+use rbg_tokens::{Symbol, Token};
+use std::alloc::{AllocError, Global};
+
+/// Adds what is found of signs in the sections, where macros are written out.
+pub(crate) fn push_signs(
+    alloc: Global,
+    look: Look<'_>,
+    found: &mut Vec<Diagnostic>,
+) -> Result<(), AllocError> {
+    for index in 0..look.flat.len() {
+        if let Some(words) = sign_words(look, index) {
+            push_sign(alloc, look, index, words, found)?;
+        }
+    }
+    Ok(())
+}
+
+/// The word for the kind of a warning, and what is said.
+type Words = (&'static str, &'static str);
+
+/// What is said of the tokens from an index on.
+fn sign_words(look: Look<'_>, index: usize) -> Option<Words> {
+    match look.flat.get(index..)? {
+        [open, close, next, ..]
+            if open.is(Symbol::OpenBrace) && close.is(Symbol::CloseBrace) && begins_item(next) => {
+            Some(("Unreached", "nothing behind `{}` is ever reached"))
+        }
+        [_, plus, ..] if plus.is(Symbol::Plus) => repetition_words(look, index),
+        _ => None,
+    }
+}
+
+/// Whether an item of rules begins with a token.
+fn begins_item(token: &Token<'_>) -> bool {
+    token.kind.is_name()
+        || token.kind.opens()
+        || token.is(Symbol::Arrow)
+        || token.is(Symbol::DoubleArrow)
+}
+
+/// What is said of a `+` behind the item with an index, if it is written like a repetition: next to a closing bracket, and
+/// not next to what follows.
+fn repetition_words(look: Look<'_>, index: usize) -> Option<Words> {
+    let item = look.flat.get(index)?;
+    let before = look.origin(index)?;
+    let plus = look.origin(index.saturating_add(1))?;
+    let end = before.at.saturating_add(item.text.len());
+    let is_behind = item.is(Symbol::CloseParenthesis) && plus.at == end;
+    let next = look.text.get(plus.at.saturating_add(1))?;
+    if is_behind && next.is_ascii_whitespace() {
+        Some((
+            "Plus",
+            "`+` is a choice between what stands before it and behind it: once or more is `x x*`",
+        ))
+    } else {
+        None
+    }
+}
+
+/// Adds what is said of the token with an index, or of the one behind it for a `+`.
+fn push_sign(
+    alloc: Global,
+    look: Look<'_>,
+    index: usize,
+    words: Words,
+    found: &mut Vec<Diagnostic>,
+) -> Result<(), AllocError> {
+    let (code, text) = words;
+    let shown = if code == "Plus" {
+        index.saturating_add(1)
+    } else {
+        index
+    };
+    let Some(token) = text_token(look, shown) else {
+        return Ok(());
+    };
+    let Some(mut warning) = new_warning(alloc, found, code, token) else {
+        return Ok(());
+    };
+    let mut told = Telling::new(alloc, &mut warning.message);
+    told.text(text);
+    told.end()?;
+    found.push(warning)?;
+    Ok(())
+}
+
+/// The token of the text from which the one with an index comes.
+fn text_token<'a>(look: Look<'a>, index: usize) -> Option<Token<'a>> {
+    look.token_at(look.origin(index)?.at)
+}

@@ -1,0 +1,144 @@
+//! The run of a hall of two tables of the small game, and what each event queues.
+ghost use Rattle.std.specs.Prelude.{IfOk};
+ghost use Rattle.rbg_floor.specs.Openings.{AreLoaded};
+
+use crate::halls::table;
+use crate::records;
+use crate::stop::Stop;
+use crate::telling::Telling;
+use rbg_base::Memory;
+use rbg_floor::{Hall, HallEvent, Table};
+use rbg_hall::HallOut;
+use rbg_log::MemoryLog;
+use std::alloc::Global;
+use std::io::Write;
+
+/// How many events the hall hears.
+const EVENTS: usize = 9;
+
+/// How many lines say something.
+const LINES: usize = 6;
+
+/// How many bytes are queued for each line.
+type Sizes = [usize; LINES];
+
+/// What the hall hears. Each match begins when its second line asks for it. White of match 2 moves before that, so it is
+/// refused, and no player moves in time. A third table isn't there, and a match that is over has no seat.
+const HEARD: [HallEvent<'static>; EVENTS] = [
+    HallEvent::Piece {
+        line: 0,
+        at: 0,
+        bytes: b"H1\0",
+    },
+    HallEvent::Piece {
+        line: 1,
+        at: 0,
+        bytes: b"H2\0",
+    },
+    HallEvent::Piece {
+        line: 2,
+        at: 5,
+        bytes: b"H1\0",
+    },
+    HallEvent::Piece {
+        line: 1,
+        at: 6,
+        bytes: b"M0 3 0 4 0 5\0",
+    },
+    HallEvent::Piece {
+        line: 3,
+        at: 6,
+        bytes: b"H3\0",
+    },
+    HallEvent::Piece {
+        line: 4,
+        at: 7,
+        bytes: b"H2\0",
+    },
+    HallEvent::Tick { at: 1005 },
+    HallEvent::Tick { at: 1007 },
+    HallEvent::Piece {
+        line: 5,
+        at: 1008,
+        bytes: b"H1\0",
+    },
+];
+
+/// Makes the run of a name, if it is this one; else the next module does.
+pub fn run<W: Write>(alloc: Global, name: &str, told: &mut Telling<W>) -> Result<(), Stop> {
+    match name {
+        "hall-two-tables" => make(alloc, told),
+        _ => records::run(alloc, name, told),
+    }
+}
+
+/// The two tables of a hall.
+fn two_tables(alloc: Global) -> Result<Vec<Table>, Stop>
+    ensures { IfOk result (λ tables. AreLoaded tables.items) }
+{
+    let mut tables = Vec::with_capacity(alloc, 2)?;
+    tables.push(table(alloc)?)?;
+    tables.push(table(alloc)?)?;
+    Ok(tables)
+}
+
+/// Makes a hall of two tables, which hears the events.
+fn make<W: Write>(alloc: Global, told: &mut Telling<W>) -> Result<(), Stop> {
+    let tables = two_tables(alloc)?;
+    let (mut hall, mut out) = Hall::new(alloc, tables)?;
+    hear(&mut hall, &mut out, told);
+    Ok(())
+}
+
+/// Lets the hall hear the events, and says what each of them queues.
+fn hear<W: Write>(hall: &mut Hall<MemoryLog>, out: &mut HallOut, told: &mut Telling<W>) {
+    let mut sizes = [[0; LINES]; EVENTS];
+    match step_each(hall, out, &mut sizes) {
+        Ok(()) => tell_each(out, &sizes, told),
+        Err(_) => told.memory(),
+    }
+}
+
+/// Lets the hall hear the events, and keeps how much is queued after each of them.
+fn step_each(
+    hall: &mut Hall<MemoryLog>,
+    out: &mut HallOut,
+    sizes: &mut [Sizes; EVENTS],
+) -> Result<(), Memory> {
+    for index in 0..EVENTS {
+        hall.step(HEARD[index], out)?;
+        sizes[index] = sizes_of(out);
+    }
+    Ok(())
+}
+
+/// How many bytes are queued for each line.
+fn sizes_of(out: &HallOut) -> Sizes {
+    let mut sizes = [0; LINES];
+    for line in 0..LINES {
+        sizes[line] = out.bytes(line as u64).len();
+    }
+    sizes
+}
+
+/// Says what each event queued.
+fn tell_each<W: Write>(out: &HallOut, sizes: &[Sizes; EVENTS], told: &mut Telling<W>) {
+    let mut before = [0; LINES];
+    for index in 0..EVENTS {
+        told.count("event", index as u64 + 1);
+        tell_queued(out, &before, &sizes[index], told);
+        before = sizes[index];
+    }
+}
+
+/// Says what was queued for each line that got something, between two sizes.
+fn tell_queued<W: Write>(out: &HallOut, before: &Sizes, after: &Sizes, told: &mut Telling<W>) {
+    for line in 0..LINES {
+        let queued = out.bytes(line as u64).get(before[line]..after[line]);
+        if let Some(bytes) = queued
+            && !bytes.is_empty()
+        {
+            told.queue("line", line as u64, bytes);
+        }
+    }
+}

@@ -1,0 +1,272 @@
+//! The bench: a game's file, the game that it held last, and a session of questions about it.
+
+use crate::page::{BODY, END, HEAD};
+use crate::reading::{Reader, Reading};
+use crate::recording::record_of;
+use crate::script::PLAY_SCRIPT;
+use rbg_ask::{Session, Unsettled};
+use rbg_base::number_of_decimal;
+use rbg_console::{Files, Input};
+use rbg_drawing::{BOARD_SCRIPT, BOARD_STYLE, push_game};
+use rbg_game::LoadedGame;
+use rbg_tokens::MAX_TEXT;
+use rbg_web::{Method, Reply, Request, Site, Status};
+use rbg_wire::{after_text, cut_at, write_number};
+use std::alloc::{AllocError, Global};
+
+/// The most bytes of an answer.
+const MAX_ANSWER: usize = 16_777_216;
+
+/// A game's file, and what is played of it.
+#[derive(Drop)]
+pub struct Bench<'a, F: Files + Drop, R: Reader + Drop> {
+    alloc: Global,
+    files: F,
+    reader: R,
+    file: &'a str,
+    /// The text of the file, as it was read last.
+    text: Vec<u8>,
+    /// Whether this text was refused, and what is said of it.
+    is_refused: bool,
+    notes: Vec<u8>,
+    /// The last game that the file held, as it is told to the page; its text; and how many there were.
+    told: Vec<u8>,
+    good: Vec<u8>,
+    version: u64,
+    session: Option<Session>,
+    /// How many times a question was asked or a game was read.
+    stamp: u64,
+}
+
+impl<'a, F: Files + Drop, R: Reader + Drop> Bench<'a, F, R> {
+    /// The bench of a file, which is read. None where it can't be.
+    pub fn new(
+        alloc: Global,
+        files: F,
+        reader: R,
+        file: &'a str,
+    ) -> Result<Option<Bench<'a, F, R>>, AllocError> {
+        let mut bench = Bench {
+            alloc,
+            files,
+            reader,
+            file,
+            text: Vec::new(alloc),
+            is_refused: true,
+            notes: Vec::new(alloc),
+            told: Vec::new(alloc),
+            good: Vec::new(alloc),
+            version: 0,
+            session: None,
+            stamp: 0,
+        };
+        if bench.read_file()? {
+            Ok(Some(bench))
+        } else {
+            Ok(None)
+        }
+    }
+
+    /// Reads the file again. Returns whether it could be read.
+    fn read_file(&mut self) -> Result<bool, AllocError> {
+        match self.files.read_file(self.alloc, self.file, MAX_TEXT)? {
+            Input::Whole(text) => {
+                self.take_text(text)?;
+                Ok(true)
+            }
+            Input::TooLong => {
+                self.notes = self.reader.refuse_long(self.alloc, self.file)?;
+                self.is_refused = true;
+                Ok(true)
+            }
+            Input::Device => Ok(false),
+        }
+    }
+
+    /// Takes a text of the file, if it is another one.
+    fn take_text(&mut self, text: Vec<u8>) -> Result<(), AllocError> {
+        if self.stamp > 0 && text.as_slice() == self.text.as_slice() {
+            return Ok(());
+        }
+        self.stamp = self.stamp.saturating_add(1);
+        let reading = self.reader.read(self.alloc, self.file, &text)?;
+        self.text = text;
+        self.take_reading(reading)
+    }
+
+    fn take_reading(&mut self, reading: Reading) -> Result<(), AllocError> {
+        match reading {
+            Reading::Game { loaded, notes } => self.take_game(loaded, notes),
+            Reading::Refused { notes } => {
+                self.is_refused = true;
+                self.notes = notes;
+                Ok(())
+            }
+        }
+    }
+
+    /// Takes a game in place of the last one, if play of it begins.
+    fn take_game(&mut self, loaded: LoadedGame, notes: Vec<u8>) -> Result<(), AllocError> {
+        let version = self.version.saturating_add(1);
+        let mut told = Vec::new(self.alloc);
+        push_game(&loaded, version, self.file, &self.text, &mut told)?;
+        match begin(self.alloc, loaded)? {
+            Ok(session) => {
+                self.good = self.text.clone()?;
+                self.session = Some(session);
+                self.told = told;
+                self.version = version;
+                self.is_refused = false;
+                self.notes = notes;
+            }
+            Err(reason) => {
+                self.is_refused = true;
+                self.notes = reason.to_vec(self.alloc)?;
+            }
+        }
+        Ok(())
+    }
+
+    /// Answers a request of this method for a path.
+    fn answer_path(
+        &mut self,
+        request: &Request<'_>,
+        text: &mut Vec<u8>,
+    ) -> Result<Reply, AllocError> {
+        match (request.method, path_of(request.path)) {
+            (Method::Get, "/") => push_page(text),
+            (Method::Get, "/state") => self.push_state(text),
+            (Method::Get, "/game") => {
+                text.extend_from_slice(&self.told)?;
+                Ok(Reply::plain(Status::Done))
+            }
+            (Method::Post, "/ask") => self.answer_questions(request, text),
+            (Method::Post, "/record") => self.push_record(request.body, text),
+            (_, "/" | "/state" | "/game" | "/ask" | "/record") => {
+                Ok(Reply::plain(Status::NoMethod))
+            }
+            _ => Ok(Reply::plain(Status::NotFound)),
+        }
+    }
+
+    /// Appends the lines of how things stand, and what is said of the file.
+    fn push_state(&self, text: &mut Vec<u8>) -> Result<Reply, AllocError> {
+        push_count(b"version ", self.version, text)?;
+        push_count(b"refused ", u64::from(self.is_refused), text)?;
+        push_count(b"stamp ", self.stamp, text)?;
+        push_count(b"made ", self.moves_made(), text)?;
+        text.extend_from_slice(b"notes\n")?;
+        text.extend_from_slice(&self.notes)?;
+        Ok(Reply::plain(Status::Done))
+    }
+
+    fn moves_made(&self) -> u64 {
+        match &self.session {
+            Some(session) => session.moves_made() as u64,
+            None => 0,
+        }
+    }
+
+    /// Answers the lines of a request. Where it names the number of questions that it knows of, it is answered only if
+    /// nothing was asked since.
+    fn answer_questions(
+        &mut self,
+        request: &Request<'_>,
+        text: &mut Vec<u8>,
+    ) -> Result<Reply, AllocError> {
+        if !is_after(request.path, self.stamp) {
+            return Ok(Reply::plain(Status::Changed));
+        }
+        self.stamp = self.stamp.saturating_add(1);
+        match &mut self.session {
+            Some(session) => hear_lines(session, request.body, text),
+            None => Ok(Reply::plain(Status::NotFound)),
+        }
+    }
+
+    /// Appends the record of the match that a script tells.
+    fn push_record(&self, script: &[u8], text: &mut Vec<u8>) -> Result<Reply, AllocError> {
+        match record_of(self.alloc, &self.good, script)? {
+            Some(record) => {
+                text.extend_from_slice(&record)?;
+                Ok(Reply::plain(Status::Done))
+            }
+            None => Ok(Reply::plain(Status::Malformed)),
+        }
+    }
+}
+
+impl<F: Files + Drop, R: Reader + Drop> Site for Bench<'_, F, R> {
+    fn answer(&mut self, request: &Request<'_>, text: &mut Vec<u8>) -> Result<Reply, AllocError> {
+        self.answer_path(request, text)
+    }
+
+    fn look_around(&mut self) {
+        // (where the file can't be read now, or there is no memory, it is read again)
+        let _read = self.read_file();
+    }
+}
+
+/// A session at the beginning of play, or why there is none.
+fn begin(alloc: Global, loaded: LoadedGame) -> Result<Result<Session, &'static [u8]>, AllocError> {
+    match Session::new(alloc, loaded.game) {
+        Ok(session) => Ok(Ok(session)),
+        Err(Unsettled::Memory) => Err(AllocError),
+        Err(Unsettled::Heavy) => Ok(Err(b"play can't begin: a question is above the limits\n")),
+        Err(Unsettled::Endless) => Ok(Err(b"play can't begin: the keeper makes 1,000 moves\n")),
+    }
+}
+
+/// The path without what stands behind a `?`.
+fn path_of(path: &str) -> &str {
+    match path.split_once('?') {
+        Some((front, _)) => front,
+        None => path,
+    }
+}
+
+/// Whether a path names this stamp, or none.
+fn is_after(path: &str, stamp: u64) -> bool {
+    match after_text(b"/ask?after=", path.as_bytes()) {
+        Some(digits) => number_of_decimal(digits) == Some(stamp),
+        None => true,
+    }
+}
+
+/// Appends the page.
+fn push_page(text: &mut Vec<u8>) -> Result<Reply, AllocError> {
+    for part in [HEAD, BOARD_STYLE, BODY, BOARD_SCRIPT, PLAY_SCRIPT, END] {
+        text.extend_from_slice(part)?;
+    }
+    Ok(Reply::page())
+}
+
+/// Hears each line, and appends the answers.
+fn hear_lines(
+    session: &mut Session,
+    lines: &[u8],
+    text: &mut Vec<u8>,
+) -> Result<Reply, AllocError> {
+    let mut rest = lines;
+    for _ in 0..u64::MAX {
+        let Some((line, later)) = cut_at(b'\n', rest) else {
+            break;
+        };
+        if text.len() > MAX_ANSWER {
+            return Ok(Reply::plain(Status::TooLong));
+        }
+        session.hear(line, text)?;
+        rest = later;
+    }
+    if !rest.is_empty() {
+        session.hear(rest, text)?;
+    }
+    Ok(Reply::plain(Status::Done))
+}
+
+/// Appends a word and a number as a line.
+fn push_count(word: &[u8], number: u64, out: &mut Vec<u8>) -> Result<(), AllocError> {
+    out.extend_from_slice(word)?;
+    write_number(number, out)?;
+    out.extend_from_slice(b"\n")
+}

@@ -1,0 +1,89 @@
+#!/usr/bin/env python3
+"""Writes the pages and files that are made from the sources: make docs. With --check it says which are stale, and writes nothing.
+
+    docs/COMMANDS.md              the commands and options of both programs
+    share/man/man1                their manual pages
+    share/bash-completion, share/zsh, share/fish    completions of their command lines
+    docs/ARCHITECTURE.md, docs/PROVED.md    their tables of crates, from crates.txt and the crates' own README.md
+"""
+
+import argparse
+import re
+import sys
+from pathlib import Path
+
+sys.dont_write_bytecode = True
+sys.path.insert(0, str(Path(__file__).resolve().parent))
+import completions  # noqa: E402
+import manual  # noqa: E402
+import tables  # noqa: E402
+
+ROOT = tables.ROOT
+PROVED = "Proved: "
+MADE = re.compile(r"(<!-- made by make docs: (\w+) -->\n).*?(<!-- end -->)", re.S)
+
+
+def groups(listed: str) -> list[tuple[str, list[str]]]:
+    """The crates of crates.txt, by the comments above them.
+
+    >>> groups("# NAME: LIBRARIES\\n\\n# Low\\none: std\\n# High\\ntwo staticlib: one\\nthree: two\\n")
+    [('Low', ['one']), ('High', ['two', 'three'])]
+    """
+    found: list[tuple[str, list[str]]] = []
+    for line in listed.splitlines():
+        if line.startswith("#"):
+            found.append((line[1:].strip(), []))
+        elif line.strip():
+            found[-1][1].append(line.partition(":")[0].split()[0])
+    return [it for it in found if it[1]]
+
+
+def told(name: str) -> tuple[str, str]:
+    """What a crate holds, and what is proved of it, as its README says."""
+    parts = (ROOT / "crates" / name / "README.md").read_text().split("\n\n")
+    proved = next((it.removeprefix(PROVED).strip() for it in parts if it.startswith(PROVED)), "")
+    return parts[1].strip(), proved
+
+
+def table(of: str) -> str:
+    """The table of what the crates hold, or of what is proved of them."""
+    at = ["holds", "proved"].index(of)
+    lines = [f"| Crate | {['Holds', 'Its contracts say'][at]} |", "|---|---|"]
+    for title, names in groups((ROOT / "crates.txt").read_text()):
+        rows = [f"| [{it}](../crates/{it}/README.md) | {told(it)[at]} |" for it in names if told(it)[at]]
+        lines += [f"| **{title}** | |", *rows] if rows else []
+    return "\n".join(lines) + "\n"
+
+
+def made() -> dict[Path, str]:
+    """Each file that is made, with its text."""
+    programs = [tables.program(name) for name in tables.SOURCES]
+    files = {ROOT / "docs/COMMANDS.md": manual.page_of(programs)}
+    for program in programs:
+        share = ROOT / "share"
+        files[share / f"man/man1/{program.name}.1"] = manual.manual_of(program)
+        files[share / f"bash-completion/completions/{program.name}"] = completions.for_bash(program)
+        files[share / f"zsh/site-functions/_{program.name}"] = completions.for_zsh(program)
+        files[share / f"fish/vendor_completions.d/{program.name}.fish"] = completions.for_fish(program)
+    for page in (ROOT / "docs/ARCHITECTURE.md", ROOT / "docs/PROVED.md"):
+        files[page] = MADE.sub(lambda it: it[1] + table(it[2]) + it[3], page.read_text())
+    return files
+
+
+def main() -> int:
+    parser = argparse.ArgumentParser(description=__doc__.splitlines()[0])
+    parser.add_argument("--check", action="store_true", help="say which files are stale, and write nothing")
+    words = parser.parse_args()
+    stale = [(file, text) for file, text in made().items() if not file.exists() or file.read_text() != text]
+    for file, text in stale:
+        print(f"{'stale' if words.check else 'written'}: {file.relative_to(ROOT)}")
+        if not words.check:
+            file.parent.mkdir(parents=True, exist_ok=True)
+            file.write_text(text)
+    if words.check and not stale:
+        print("what make docs makes is up to date")
+    return 1 if words.check and stale else 0
+
+
+if __name__ == "__main__":
+    sys.exit(main())

@@ -1,0 +1,241 @@
+#!/usr/bin/env python3
+"""Plays whole games by clicks in a browser, on the page that `./rbg_author play` serves, and looks whether they end as they
+should; then whether `./rbg replay` calls each saved record good. It needs a browser and its driver (browser.py).
+
+    python3 tools/page/playing.py            plays all of them
+    python3 tools/page/playing.py chess hex  plays these
+"""
+
+import argparse
+import pathlib
+import re
+import subprocess
+import sys
+import tempfile
+import time
+
+import browser
+
+DATA = pathlib.Path("crates/rbg_games/data")
+# the matches that are stored with the games, and how their page says that they ended; the last two have passes
+STORED = {
+    "hex": "red has most: red 100, blue 0",
+    "abalone": "black has most: black 100, white 0",
+    "english_draughts": None,
+    "reversi": "black has most: black 100, white 0",
+    "nine_mens_morris": "white has most: white 100, black 0",
+    "carrot_race": "blue has most",
+    "chess": "white has most: white 100, black 0",
+    "kalah": "south has most: south 40, north 8",
+    "pentago": "white has most: white 100, black 0",
+    "peg_solitaire": "finished",
+    "amazons": None,
+    "go_9x9": None,
+    "othello_6x6": None,
+}
+# squares, or squares with the piece that is chosen at the end
+CHESS = """e2e4 a7a6 e4e5 d7d5 e5d6 g8f6 d6c7 g7g6 c7b8q f8g7 g1f3 e8g8 f1e2 a8b8 e1g1""".split()
+
+
+class Server:
+    """`./rbg_author play` with a file."""
+
+    def __init__(self, program, game, port=None):
+        words = [program, "play", str(game)] + (["--port", str(port)] if port else [])
+        self.process = subprocess.Popen(words, stdout=subprocess.PIPE, text=True)
+        self.link = self.process.stdout.readline().strip()
+        if not re.fullmatch(r"http://127\.0\.0\.1:[0-9]+/", self.link):
+            sys.exit(f"{game}: no link, but {self.link!r}")
+
+    def __enter__(self):
+        return self
+
+    def __exit__(self, *_):
+        self.process.terminate()
+        self.process.wait()
+
+
+def ready(page, at=None):
+    """Waits until the page has done what it was asked for."""
+    also = "" if at is None else f" && document.body.dataset.at === '{at}'"
+    page.until(f"return document.body.dataset.ready === 'yes'{also}")
+
+
+def click_square(page, vertex):
+    page.run(
+        "const group = document.querySelector('[data-vertex=\"' + arguments[0] + '\"]');"
+        "const box = group.querySelector('.cell').getBoundingClientRect();"
+        "const hit = document.elementFromPoint(box.x + box.width / 2, box.y + box.height / 2);"
+        "if (!group.contains(hit)) group.scrollIntoView({block: 'center'});"
+        "group.dispatchEvent(new MouseEvent('click', {bubbles: true}))",
+        vertex,
+    )
+
+
+def moves_of(file):
+    lines = file.read_text().splitlines()
+    return [line for line in lines if line and not line.startswith("//")]
+
+
+def make_by_clicks(page, pairs, at):
+    """Clicks the squares of the move with these pairs, and its button where squares don't suffice."""
+    clicks = page.run(
+        "const move = RbgPlay.state().legal.find(one => one.pairs.join(' ') === arguments[0]); return move ? move.clicks : null",
+        pairs,
+    )
+    if clicks is None:
+        sys.exit(f"move {at}, {pairs}, isn't legal on the page")
+    for vertex in clicks:
+        if page.run("return RbgPlay.state().at") == at:
+            break
+        click_square(page, vertex)
+        time.sleep(0.005)
+    if page.run("return document.body.dataset.ready === 'yes' && RbgPlay.state().at") == at - 1:
+        button = f"[data-pairs='{pairs}']"
+        if page.run(f"return document.querySelector(\"{button}\") !== null"):
+            page.click(button)
+    ready(page, at)
+    made = page.run("return RbgPlay.state().steps[RbgPlay.state().at].pairs.join(' ')")
+    if made != pairs:
+        sys.exit(f"move {at}: {made} was made, and not {pairs}")
+
+
+def record_of(page):
+    """The record that the page saves."""
+    page.run(
+        "const keep = URL.createObjectURL; window.saved = '';"
+        "URL.createObjectURL = blob => { URL.createObjectURL = keep; blob.text().then(all => { window.saved = all; }); return keep.call(URL, blob); };"
+        "document.getElementById('save').click();"
+    )
+    return page.until("return window.saved || document.getElementById('problem').textContent", 240)
+
+
+def replay(words, game, record):
+    with tempfile.NamedTemporaryFile("w", suffix=".record") as file:
+        file.write(record)
+        file.flush()
+        judged = subprocess.run([words.rbg, "replay", str(game), file.name], capture_output=True, text=True)
+    if judged.stdout != "good\n":
+        sys.exit(f"{game}: the record is {judged.stdout!r}")
+
+
+def leave(page, name):
+    """Leaves the page, which may have complained of nothing."""
+    for line in [line for line in page.complaints() if "409" not in line]:
+        sys.exit(f"{name}: {line}")
+    page.open("about:blank")
+
+
+def play_stored(words, page, name):
+    game = DATA / f"{name}.rbg"
+    moves = moves_of(DATA / f"{name}.moves")[: words.most]
+    with Server(words.author, game) as server:
+        begun = time.monotonic()
+        page.open(server.link)
+        ready(page, 0)
+        for at, pairs in enumerate(moves, 1):
+            make_by_clicks(page, pairs, at)
+        end = page.text("#turn")
+        wanted = STORED[name]
+        if wanted and len(moves) < words.most and wanted not in end:
+            sys.exit(f"{name}: it ended so: {end}")
+        page.picture(words.folder / f"{name}.png")
+        replay(words, game, record_of(page))
+        leave(page, name)
+        taken = time.monotonic() - begun
+    print(f"{name}: {len(moves)} moves by clicks, {end}; the record is good; {taken:.0f} s", flush=True)
+
+
+def play_chess(words, page):
+    """A game with a capture in passing, a promotion and castling on both sides, by the names of squares."""
+    game = DATA / "chess.rbg"
+    with Server(words.author, game) as server:
+        page.open(server.link)
+        ready(page, 0)
+        for at, told in enumerate(CHESS, 1):
+            for name in (told[:2], told[2:4]):
+                vertex = page.run("return RbgPlay.state().drawing.layout.names.indexOf(arguments[0])", name)
+                click_square(page, vertex)
+            if told[4:]:
+                page.picture(words.folder / "chess_promotion.png")
+                piece = "wb"[at % 2 == 0] + told[4]
+                page.run(
+                    "const all = Array.from(document.querySelectorAll('#choices .choice'));"
+                    "all.find(one => one.textContent.trim().endsWith(arguments[0])).click()",
+                    piece,
+                )
+            ready(page, at)
+        page.picture(words.folder / "chess_castled.png")
+        replay(words, game, record_of(page))
+        leave(page, "chess")
+    print(f"chess: {len(CHESS)} moves by names of squares; the record is good", flush=True)
+
+
+def play_edits(words, page):
+    """Moves are kept while the file is broken and mended; keys, a dropped list, a narrow window and one page more."""
+    with tempfile.TemporaryDirectory() as folder:
+        game = pathlib.Path(folder) / "own.rbg"
+        text = (DATA / "breakthrough.rbg").read_text()
+        game.write_text(text)
+        moves = moves_of(DATA / "breakthrough.moves")[:6]
+        with Server(words.author, game) as server:
+            page.open(server.link)
+            ready(page, 0)
+            for at, pairs in enumerate(moves[:2], 1):
+                make_by_clicks(page, pairs, at)
+            game.write_text(text.replace("#board", "#bord"))
+            page.until("return document.body.dataset.refused === 'yes'")
+            if "own.rbg:" not in page.text("#notes"):
+                sys.exit(f"a refused text isn't explained: {page.text('#notes')}")
+            page.picture(words.folder / "refused.png")
+            # an action more at the front gives each action another number
+            game.write_text(text.replace("#rules =", "#rules = {e,w,b}"))
+            page.until("return document.body.dataset.refused === 'no'")
+            page.until("return document.body.dataset.version === '2'")
+            ready(page, 2)
+            page.run("document.activeElement.blur()")
+            page.keys("\ue003")
+            ready(page, 1)
+            page.keys("r")
+            ready(page, 2)
+            page.keys("b", "\ue013", "\ue013", "\ue007")
+            page.run("return RbgPlay.state().chosen")
+            page.keys("\ue00c")
+            page.run("RbgPlay.open('a list', arguments[0])", "\n".join(["// a list", *moves]))
+            told = page.until("return document.getElementById('problem').textContent")
+            if not told.startswith("a list:"):
+                sys.exit(f"a list isn't opened: {told}")
+            game.write_text(text)
+            page.until("return document.body.dataset.version === '3'")
+            page.run("RbgPlay.open('a list', arguments[0])", "\n".join(["// a list", *moves]))
+            ready(page, len(moves))
+            other = page.run("return fetch('/ask', {method: 'POST', body: 'back'}).then(answer => answer.status)")
+            make_by_clicks(page, moves_of(DATA / "breakthrough.moves")[len(moves)], len(moves) + 1)
+            leave(page, "edits")
+    print(f"edits: moves are kept, and a list is opened ({told}); another page's question ({other}) does no harm", flush=True)
+
+
+def main():
+    parser = argparse.ArgumentParser(description=__doc__, formatter_class=argparse.RawDescriptionHelpFormatter)
+    parser.add_argument("--rbg", default="./rbg")
+    parser.add_argument("--author", default="./rbg_author")
+    parser.add_argument("--folder", type=pathlib.Path)
+    parser.add_argument("--most", type=int, default=1000, help="the most moves of each stored match")
+    parser.add_argument("names", nargs="*")
+    words = parser.parse_args()
+    if not browser.is_there():
+        sys.exit("there is no chromium with its driver: apt-get install chromium chromium-driver")
+    words.folder = words.folder or pathlib.Path(tempfile.mkdtemp())
+    words.folder.mkdir(parents=True, exist_ok=True)
+    with browser.Browser() as page:
+        if not words.names or "chess" in words.names:
+            play_chess(words, page)
+        if not words.names or "edits" in words.names:
+            play_edits(words, page)
+        for name in [name for name in words.names if name != "edits"] or ([] if words.names else STORED):
+            play_stored(words, page, name)
+    print(f"the pictures are in {words.folder}")
+
+
+if __name__ == "__main__":
+    main()
