@@ -58,7 +58,7 @@ help:
 	@echo 'make compare  compares ./rbg with the interpreter of tools/slow, on stored cases and N=10000 others of SEED=1 (after make build)'
 	@echo 'make refusals refuses each request for memory in turn, and checks each answer (after make build, with gcc)'
 	@echo 'make doctests runs the examples in the comments of the clients and tools (after make build)'
-	@echo 'make links    looks whether what the pages link is there, and whether what make docs makes is up to date'
+	@echo 'make links    checks that what the pages link and name is there, and that what make docs makes is up to date'
 	@echo 'make docs     makes the page of all commands, the manual pages and the completions, from the sources'
 	@echo 'make install  copies ./rbg, ./rbg_author, their manual pages and completions below PREFIX=/usr/local (after make build)'
 	@echo 'make try      runs the stored runs, ten with a request for memory refused, and the tests, with no proof; make -j4 try runs four at once'
