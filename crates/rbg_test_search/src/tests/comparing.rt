@@ -27,12 +27,12 @@ const BUDGET: Budget = Budget {
 const BUDGETS: [Budget; 3] = [
     BUDGET,
     Budget {
-        openings: 6,
+        openings: 1,
         modifiers: 200,
     },
     Budget {
         openings: 2_000,
-        modifiers: 2,
+        modifiers: 1,
     },
 ];
 
