@@ -20,7 +20,7 @@ needs = @test -x $(1) || { echo 'make $@ needs $(1): run make build first, or gi
 # How many matches and halls `make crash` kills.
 MATCHES := 50
 HALLS := 20
-# How many cases `make compare` makes by chance, and the seed of the first one.
+# How many random cases `make compare` makes, and the seed of the first one.
 N := 10000
 SEED := 1
 # How many requests of each run `make refusals` refuses one after the other, and how many of the later ones, spread out.
@@ -54,11 +54,11 @@ help:
 	@echo 'make crash    kills ./rbg in the middle of 50 matches and 20 halls, lets each go on, and compares its record (after make build)'
 	@echo 'make storm    tries ./rbg from outside: clocks, logs, disks, floods, and 1000 matches and 100 halls through a proxy that disturbs; SHORT=yes, and WHAT names parts (after make build, with gcc)'
 	@echo 'make page     plays a match of chess, hex, abalone and reversi, makes a page of each, and takes pictures by a browser if there is one (after make build)'
-	@echo 'make editor   talks with ./rbg_author lsp as editors do, with EDITS=10000 edits of the games by chance (after make build)'
+	@echo 'make editor   talks with ./rbg_author lsp as editors do, with EDITS=10000 random edits of the games (after make build)'
 	@echo 'make compare  compares ./rbg with the interpreter of tools/slow, on stored cases and N=10000 others of SEED=1 (after make build)'
 	@echo 'make refusals refuses each request for memory in turn, and checks each answer (after make build, with gcc)'
 	@echo 'make doctests runs the examples in the comments of the clients and tools (after make build)'
-	@echo 'make links    looks whether what the pages link is there, and whether what make docs makes is up to date'
+	@echo 'make links    checks that what the pages link and name is there, and that what make docs makes is up to date'
 	@echo 'make docs     makes the page of all commands, the manual pages and the completions, from the sources'
 	@echo 'make install  copies ./rbg, ./rbg_author, their manual pages and completions below PREFIX=/usr/local (after make build)'
 	@echo 'make try      runs the stored runs, ten with a request for memory refused, and the tests, with no proof; make -j4 try runs four at once'
@@ -119,7 +119,7 @@ play:
 	@test -x ./rbg_author || { echo 'make play needs ./rbg_author: run make build first'; exit 1; }
 	@./rbg_author play $(GAME)
 
-# How many edits of the games that ship `make editor` makes by chance, and the program that it talks with.
+# How many random edits of the games that ship `make editor` makes, and the program that it talks with.
 EDITS := 10000
 AUTHOR_PROGRAM := ./rbg_author
 editor:

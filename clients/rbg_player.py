@@ -2,7 +2,7 @@
 """A player for `rbg serve`, as an example for authors of playing programs.
 
 It speaks the protocol of docs/PROTOCOL.md, and asks `rbg ask` for the rules, so it plays every game: by the first legal
-move, by chance (--random), or by playouts (--think). With --record it says the moves that a record has for it, as long
+move, at random (--random), or by playouts (--think). With --record it sends the moves that a record has for it, as long
 as the match goes as the record says. If a move is refused, it says so and stops.
 """
 
@@ -154,10 +154,10 @@ def play(stream, chooser):
 def main():
     parser = argparse.ArgumentParser(description=__doc__.splitlines()[0])
     parser.add_argument("port", type=int, help="the port on 127.0.0.1 on which the match is served")
-    parser.add_argument("--random", type=int, metavar="SEED", help="choose by chance; the seed of --think")
+    parser.add_argument("--random", type=int, metavar="SEED", help="choose at random; the seed of --think")
     parser.add_argument("--think", type=int, metavar="MS", help="choose by playouts for so long, at most half a turn")
     parser.add_argument("--rbg", default="./rbg", metavar="PROGRAM", help="the program rbg")
-    parser.add_argument("--record", metavar="FILE", help="say the moves of a record")
+    parser.add_argument("--record", metavar="FILE", help="send the moves of a record")
     parser.add_argument("--match", type=int, metavar="K", help="join match K of a hall")
     words = parser.parse_args()
     chance = random.Random(words.random)

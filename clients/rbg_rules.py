@@ -92,7 +92,7 @@ class Rules:
         return {line[0]: line[1:] for line in (self.ask("names"), self.line(), self.line())}
 
     def playouts(self, seed: int, count: int = 1) -> list[tuple[Optional[list[int]], int]]:
-        """How so many matches end that are played by chance from here: scores, and how many matches end with them. A match
+        """How so many random matches from here end: scores, and how many matches end with them. A match
         that is stopped after 10,000 moves has no scores. The place is the same afterwards."""
         endings = []
         left = int(self.ask("random %d %d" % (seed, count))[1])

@@ -1,4 +1,4 @@
-"""Chooses moves by playouts: matches that are played on by chance.
+"""Chooses moves by playouts: random matches from a place.
 
 >>> import random
 >>> with Rules("crates/rbg_games/data/tictactoe.rbg") as rules:

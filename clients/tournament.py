@@ -78,7 +78,7 @@ def words_of() -> argparse.Namespace:
     table.add_argument("--check", action="store_true", help="looks at each record again, by rbg replay")
     merging = command("merge", "takes over the results of copies of a folder")
     merging.add_argument("sources", type=Path, metavar="FROM", nargs="+")
-    openings = command("openings", "prints openings of a game, moves by chance", folder=False)
+    openings = command("openings", "prints openings of a game, of random moves", folder=False)
     openings.add_argument("game", type=Path, metavar="GAME")
     openings.add_argument("count", type=count, metavar="N", help="how many")
     openings.add_argument("--plies", type=count, default=4, metavar="K", help="how many moves each has (4)")

@@ -3,7 +3,7 @@
 
     python3 tools/counts/counting.py                      counts as deep as the stored run of rbg_games, and compares
     python3 tools/counts/counting.py clobber 3            counts one game up to the depth
-    python3 tools/counts/counting.py --follow clobber 20  plays 20 matches by chance, and compares places
+    python3 tools/counts/counting.py --follow clobber 20  plays 20 random matches, and compares places
     python3 tools/counts/counting.py --match clobber      follows the match that is stored with the game
 
 A game is a module beside this one. It plays by its own board and its own rules, and knows nothing of the language:

@@ -4,12 +4,12 @@ from tables import Command, Option, Program
 
 # What the exit statuses of both programs mean.
 STATUSES = [
-    ("0", "the answer is there"),
-    ("1", "the description is refused, or a check found something"),
-    ("2", "a script or a record is refused"),
-    ("3", "a file, a connection or the output failed"),
-    ("4", "memory was refused"),
-    ("64", "the words of the command line are wrong"),
+    ("0", "done"),
+    ("1", "the description is refused, or something can't be counted or shown"),
+    ("2", "a script or a record is refused, or there are warnings with --strict"),
+    ("3", "a file, a connection or the output failed, a match didn't end in its time, or a player gave up"),
+    ("4", "out of memory"),
+    ("64", "the command line is wrong: standard error says how, and nothing is printed"),
 ]
 
 

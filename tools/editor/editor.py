@@ -118,7 +118,7 @@ def at_other(found: dict[str, Any]) -> dict[str, Any]:
 def main() -> int:
     parser = argparse.ArgumentParser(description="Talks with rbg_author lsp as editors do.")
     parser.add_argument("--program", type=Path, default=Path("./rbg_author"))
-    parser.add_argument("--count", type=int, default=10000, help="how many edits are made by chance")
+    parser.add_argument("--count", type=int, default=10000, help="how many random edits are made")
     parser.add_argument("--seed", type=int, default=1)
     parser.add_argument("--game", help="makes edits of this game alone")
     parser.add_argument("--within", type=float, help="fails if an edit is answered after more milliseconds")

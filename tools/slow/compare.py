@@ -1,5 +1,5 @@
 #!/usr/bin/env python3
-"""Compares the program `rbg` with the interpreter beside this file: first on the stored cases, then on cases by chance.
+"""Compares the program `rbg` with the interpreter beside this file: first on the stored cases, then on random cases.
 
 Every printed byte and the status are compared. Each difference is kept as a small case in a folder that is named.
 """

@@ -1,4 +1,4 @@
-"""The grammar of the sections (docs/LANGUAGE.md, "Grammar"; docs/DECISIONS.md, "Parser")."""
+"""The grammar of the sections (docs/LANGUAGE.md, "Grammar"; crates/rbg_syntax/README.md, "Decisions")."""
 
 from collections import namedtuple
 

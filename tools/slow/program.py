@@ -1,5 +1,5 @@
 #!/usr/bin/env python3
-"""The commands `referee`, `check`, `moves`, `replay` and `migrate` of `rbg` (docs/PROGRAM.md), as a second opinion.
+"""The commands `referee`, `check`, `moves`, `replay` and `migrate` of `rbg` (docs/REFERENCE.md), as a second opinion.
 
 Written from the documents alone, to be read beside them, and as slow as it likes.
 """

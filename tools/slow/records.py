@@ -1,4 +1,4 @@
-"""Records (docs/PROGRAM.md, "Records"; docs/DECISIONS.md, "Records")."""
+"""Records (docs/FORMATS.md, "Records"; crates/rbg_record/README.md, "Decisions")."""
 
 import re
 

@@ -1,4 +1,4 @@
-"""Scripts (docs/PROGRAM.md, "Scripts")."""
+"""Scripts (docs/FORMATS.md, "Scripts")."""
 
 import re
 

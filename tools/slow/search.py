@@ -1,4 +1,4 @@
-"""Questions about moves (docs/LANGUAGE.md, "Limits of play"; docs/DECISIONS.md, "The automaton and the search").
+"""Questions about moves (docs/LANGUAGE.md, "Limits of play"; docs/DECISIONS.md, "The search").
 
 A move is a list of pairs `(vertex, position)`.
 """

@@ -27,7 +27,7 @@ Move = str  # the pairs of a vertex and a position, as in messages
 
 
 class Ending(NamedTuple):
-    """How matches by chance ended: the scores, none where they were stopped, and how many matches ended so."""
+    """How random matches ended: the scores, none where they were stopped, and how many matches ended so."""
 
     scores: Optional[list[int]]
     matches: int
@@ -266,12 +266,12 @@ class State:
         return ";".join(self.game.heard[: self.after]) + "|" + ";".join(self.history)
 
     def playouts(self, count: int = 1, seed: int = 0) -> list[Ending]:
-        """How so many matches end that are played by chance from here."""
+        """How so many random matches from here end."""
         [answer] = self.ask("random %d %d" % (seed, count))
         return endings_of(answer)
 
     def search(self, count: int, seed: int = 0, moves: Optional[list[Move]] = None) -> list[Tried]:
-        """Tries out these moves, or all that are legal: so many matches by chance after each. All is asked at once."""
+        """Tries out these moves, or all that are legal: so many random matches after each. All is asked at once."""
         tried = self.moves() if moves is None else moves
         questions: list[Question] = []
         for index, move in enumerate(tried):
