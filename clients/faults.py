@@ -39,8 +39,7 @@ def check_faults(match: Match) -> int:
 def fail_at(match: Match, limit: int, room: int, *words: str) -> str:
     """What standard error tells last of a match in which the system gives the referee no more than this of something, and
     each player says a long message."""
-    less = {"restore_signals": False, "preexec_fn": lambda: resource.setrlimit(limit, (room, room))}
-    referee, port = listen([match.rbg, "serve", str(match.game), *words], **less)
+    referee, port = listen([match.rbg, "serve", str(match.game), *words], preexec_fn=lambda: resource.setrlimit(limit, (room, room)))
     with contextlib.ExitStack() as connections:
         try:
             with contextlib.suppress(OSError):  # the referee may have ended

@@ -17,6 +17,7 @@ Each trial is told in a line. What is known to be open is told too, and fails no
 """
 
 import argparse
+import signal
 import sys
 import tempfile
 import time
@@ -136,6 +137,7 @@ def main() -> int:
     parser.add_argument("--memory", type=int, default=16, help="the most megabytes of a referee")
     parser.add_argument("--storm", metavar="SEED", help="this storm between alone, as it is named where one goes wrong")
     words = parser.parse_args()
+    signal.signal(signal.SIGHUP, signal.SIG_DFL)  # what is ignored here, as under nohup, is ignored by each referee too
     size = Size(words)
     results = []
     with tempfile.TemporaryDirectory(prefix="rbg-storm-") as folder:

@@ -38,6 +38,13 @@ class Fault(NamedTuple):
         return {**os.environ, "LD_PRELOAD": str(library), "DISK_UNDER": str(folder) + "/", **told}
 
     @property
+    def reason(self) -> str:
+        """What standard error says of it; nothing if it is no error. A lock that can't be had at once is another process's."""
+        if self.call == "lock" and self.how == "EAGAIN":
+            return "another process has it"
+        return os.strerror(getattr(errno, self.how)) if self.how in errno.errorcode.values() else ""
+
+    @property
     def is_harmless(self) -> bool:
         """Whether a call that comes short, or is interrupted, has only to be made again. (Who renames isn't interrupted, but for
         file systems over a network.)"""
@@ -93,8 +100,7 @@ class Disk:
             expect(outcome(ended.printed) == self.stored.outcome, "the match ended in another way")
             return "played"
         expect(not fault.is_harmless, "a call had only to be made again")
-        reason = os.strerror(getattr(errno, fault.how)) if fault.how in errno.errorcode.values() else ""
-        expect("can't " in ended.told and reason in ended.told, f"standard error doesn't say `can't ..: {reason}`")
+        expect("can't " in ended.told and fault.reason in ended.told, f"standard error doesn't say `can't ..: {fault.reason}`")
         if ended.printed != "device\n":  # a record that can't be kept is printed all the same
             expect("record" in ended.told, "neither `device` nor a record that can't be kept")
             check_record(self.trial, self.stored.game, self.log, ended.printed)

@@ -87,6 +87,8 @@ status 0
 """
 HALL_REFUSALS = ["memory\nstatus 4\n", "device\nstatus 3\n", "status 3\n", HALL_MATCHES.format(1, 2), HALL_MATCHES.format(2, 1)]
 
+# What runs over lines print then.
+BEGINNINGS = ["each line took the beginning of what is queued"]
 # What rbg_refusals prints after the word `memory`, by the name of the run; `setup memory` alone may stand for all of it.
 AFTERWARDS = {
     "feed": ["the inbox is as before"],
@@ -98,7 +100,11 @@ AFTERWARDS = {
     "hall-begin": ["the queues are as before", "again memory"],
     "hall-step": ["the queues are as before", "again memory"],
     "hear": ["the bytes are as before", "again memory"],
-    "serve": ["each line took the beginning of what is queued"],
+    "serve": BEGINNINGS,
+    "serve-byte-by-byte": BEGINNINGS,
+    "serve-taking-nothing": BEGINNINGS,
+    "serve-failing-and-taking-nothing": BEGINNINGS,
+    "hall-run": BEGINNINGS,
 }
 # The same of `referee`, which tells how far it came: before the match, before the first event, or before the second one.
 REFEREED = [["done 0"], ["done 0", "seat 1 186 bytes", "seat 2 186 bytes"], ["done 1", "seat 1 199 bytes", "seat 2 199 bytes"]]
