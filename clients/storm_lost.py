@@ -21,6 +21,8 @@ def begun_log(trial: Trial, stored: Stored, log: Path, least: int) -> None:
         players = [Player(loop, served.port, stored.moves, think=0.01) for _ in range(2)]
         expect(loop.run(lambda: log.read_bytes().count(b"\n") >= least, PATIENCE), "no log is written")
         expect(not players[0].is_over, "the match has ended")
+        served.referee.kill()  # before its players leave
+        served.referee.wait()
 
 
 def other_game(trial: Trial) -> str:
