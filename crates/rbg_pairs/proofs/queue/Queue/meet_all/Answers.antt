@@ -37,3 +37,6 @@ returns-then-are_marked-clause-met c =
     let pairs : take q.met c.make_room.new.room.items ≡ c.args.self.now.pairs = same ∙ ap (λ (m : Met). m.pairs) c.self.view_is in
     subst (λ (xs : List (ℕ × ℕ)). MeetsAll xs (take q.met c.make_room.new.room.items) c.args.vertex c.args.positions.now) pairs
     (met_all_before q.vertices q.marks q.rows q.words.items (take q.met c.make_room.new.room.items) c.args.vertex c.args.positions.now are has marked)
+
+pub returns-in_err-make_room-clause-refused : goal.returns-in_err-make_room-clause-refused
+returns-in_err-make_room-clause-refused c = ap (take c.self.inside.met) c.in_err-make_room.ensures.refused ∙ ap (λ (m : Met). m.pairs) c.self.view_is
