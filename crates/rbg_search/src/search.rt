@@ -456,7 +456,7 @@ impl<'a, S: Steps> Search<'a, S> {
                 return Ok(ends);
             };
             let valid = match self.ask(state, vertex, position, nested) {
-                Ok(valid) => valid,
+                Ok(answer) => answer,
                 Err(over) => return Err(self.lose(flat, over)),
             };
             let Ok(_taken) = self.take(&mut flat, vertex, position, valid) else {
@@ -488,7 +488,7 @@ impl<'a, S: Steps> Search<'a, S> {
         let mut flat = self.begun_by_sets(paths, state, origin)?;
         while let Some(Pair { vertex, position }) = self.advance_by_sets(paths, &mut flat, state) {
             let valid = match self.ask(state, vertex, position, nested) {
-                Ok(valid) => valid,
+                Ok(answer) => answer,
                 Err(over) => return Err(self.lose_sets(flat, over)),
             };
             self.take_by_sets(paths, &mut flat, state, vertex, position, valid);

@@ -119,10 +119,10 @@ pairs_part-lose-requires-clause-marks g t c = c.advance.ensures.marks
 pub pairs_part-lose-requires-clause-one : goal.pairs_part-lose-requires-clause-one
 pairs_part-lose-requires-clause-one g t c = finds_room c.loop-next.invariant.finds
 
-pub pairs_part-returns-in_default-advance-clause-asked : goal.pairs_part-returns-in_default-advance-clause-asked
-pairs_part-returns-in_default-advance-clause-asked g t c =
+pub pairs_part-returns-in_default-clause-asked : goal.pairs_part-returns-in_default-clause-asked
+pairs_part-returns-in_default-clause-asked g t c =
     let flat = c.advance.new.flat.value in
-    pairs_stopped c.loop-next.invariant flat.queue.pairs (c.in_default-advance.ensures.lost (start_of c.args.origin) (begun_now c.loop-next.invariant flat)) _ Memory c.lose.ensures.over refl c.lose.new.self c.lose.ensures.kept c.lose.ensures.opened c.lose.ensures.taken
+    pairs_stopped c.loop-next.invariant flat.queue.pairs (c.in_default.ensures.lost (start_of c.args.origin) (begun_now c.loop-next.invariant flat)) _ Memory c.lose.ensures.over refl c.lose.new.self c.lose.ensures.kept c.lose.ensures.opened c.lose.ensures.taken
 
 pub pairs_part-ask-requires : goal.pairs_part-ask-requires
 pairs_part-ask-requires g t c κs within =
@@ -176,14 +176,14 @@ pairs_part-returns-in_default-take-clause-asked g t c =
     let flat = c.advance.new.flat.value in
     let is = pairs_on c.loop-next.invariant flat (c.in-Ok.ensures.begun (start_of c.args.origin)) c.in-Ok.ensures.still_done c.in-Ok.ensures.quiet in
     let next : IsNextPair c.loop-next.self flat c.in-Some.field-0.vertex c.in-Some.field-0.position = search rules in
-    pairs_dropped is _ _ next c.ask.ensures.asked c.in-Ok-ask.valid c.in-Ok-ask.is c.in-Ok-ask.ensures.forced _ Memory c.lose-in_default-take.ensures.over refl c.take.new.flat.value.queue.pairs c.in_default-take.ensures.refused c.lose-in_default-take.new.self c.lose-in_default-take.ensures.kept c.lose-in_default-take.ensures.opened c.lose-in_default-take.ensures.taken
+    pairs_dropped is _ _ next c.ask.ensures.asked c.in-Ok-ask.answer c.in-Ok-ask.is c.in-Ok-ask.ensures.forced _ Memory c.lose-in_default-take.ensures.over refl c.take.new.flat.value.queue.pairs c.in_default-take.ensures.refused c.lose-in_default-take.new.self c.lose-in_default-take.ensures.kept c.lose-in_default-take.ensures.opened c.lose-in_default-take.ensures.taken
 
 pub pairs_part-loop-next-preserved : goal.pairs_part-loop-next-preserved
 pairs_part-loop-next-preserved g t c =
     let flat = c.advance.new.flat.value in
     let is = pairs_on c.loop-next.invariant flat (c.in-Ok.ensures.begun (start_of c.args.origin)) c.in-Ok.ensures.still_done c.in-Ok.ensures.quiet in
     let next : IsNextPair c.loop-next.self flat c.in-Some.field-0.vertex c.in-Some.field-0.position = search rules in
-    pairs_more is _ _ next c.ask.ensures.asked c.in-Ok-ask.valid c.in-Ok-ask.is c.in-Ok-ask.ensures.forced c.take.new.flat.value c.in-Ok-ask.valid c.in-Ok-ask.ensures.valid c.in-Ok-take.ensures.done (c.in-Ok-take.ensures.begun c.loop-next.state.state (start_of c.args.origin))
+    pairs_more is _ _ next c.ask.ensures.asked c.in-Ok-ask.answer c.in-Ok-ask.is c.in-Ok-ask.ensures.forced c.take.new.flat.value c.in-Ok-ask.answer c.in-Ok-ask.ensures.valid c.in-Ok-take.ensures.done (c.in-Ok-take.ensures.begun c.loop-next.state.state (start_of c.args.origin))
 
 pub pairs_part-loop-next-smaller : goal.pairs_part-loop-next-smaller
 pairs_part-loop-next-smaller g t c =
@@ -308,7 +308,7 @@ pub sets_part-loop-vertex-preserved : goal.sets_part-loop-vertex-preserved
 sets_part-loop-vertex-preserved g t c =
     let is = sets_on c.loop-vertex.invariant c.advance_by_sets.new.flat.value c.advance_by_sets.ensures.advances in
     let next : IsToBeAsked c.loop-vertex.self.game c.advance_by_sets.new.flat.value c.in-Some.field-0.vertex c.in-Some.field-0.position = search rules in
-    sets_more is _ _ next c.ask.ensures.asked c.take_by_sets.new.flat.value c.in-Ok.valid c.in-Ok.valid c.in-Ok.is c.in-Ok.ensures.valid c.take_by_sets.ensures.takes c.in-Ok.ensures.forced
+    sets_more is _ _ next c.ask.ensures.asked c.take_by_sets.new.flat.value c.in-Ok.answer c.in-Ok.answer c.in-Ok.is c.in-Ok.ensures.valid c.take_by_sets.ensures.takes c.in-Ok.ensures.forced
 
 pub sets_part-loop-vertex-smaller : goal.sets_part-loop-vertex-smaller
 sets_part-loop-vertex-smaller g t c = omega (arith, c.advance_by_sets.ensures.advances.lighter, c.take_by_sets.ensures.takes.lighter)
