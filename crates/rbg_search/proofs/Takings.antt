@@ -1,5 +1,5 @@
 -- What a search counts of pairs: those of a flat part, and those of parts that are joined.
-use Rattle.rbg_base.proofs.Common.{◌≡◌, ◌≢◌, ℕ, ◌+◌, ◌*◌, ◌≤◌, inl, inr, List, [], ◌∷◌, ◌++◌, length, Bool, true, false, refl, sym, ap, ◌∙◌, subst, arith, Result, Ok, Err, IsOk, IsErrAnd, All, AllPairs, Contains, sum, mul-le, sum_by-append, sum_by-le, All-nil, All-push, All-append, All-weaker, All-contains}
+use Rattle.rbg_base.proofs.Common.{◌≡◌, ◌≢◌, ℕ, ◌+◌, ◌*◌, ◌≤◌, inl, inr, List, [], ◌∷◌, ◌++◌, length, Bool, true, false, refl, sym, ap, ◌∙◌, subst, arith, Result, Ok, Err, IsOk, IsErrAnd, OnErr, All, AllPairs, Contains, sum, mul-le, sum_by-append, sum_by-le, All-nil, All-push, All-append, All-weaker, All-contains}
 use Rattle.std.proofs.lemmas.List.{length-append}
 use Rattle.rbg_rules.specs.Meaning.{shift, Expression, IsNumbered, IsModifierAt, IsPatternAt, is_modifier, inside, Start, beginning, after, AbstractGame, AbstractState, Question, reach, pattern}
 use Rattle.rbg_rules.proofs.PositionLemmas.{one_stands}
@@ -41,6 +41,11 @@ ok_held (Err e) x is lost = cc
 pub not_held : {X : Type 0} (r : Result X Over) (e : Over) → IsErrAnd r (λ y. y ≡ e) → e ≡ Memory → ¬ (¬ (r ≡ Err Memory))
 not_held (Ok x) e is same held = absurd is
 not_held (Err y) e is same held = held (ap Err (is ∙ same))
+
+-- What is so is so of an error.
+pub on_err : {X E : Type 0} (r : Result X E) (P : Type 0) → P → OnErr r P
+on_err (Ok x) P is = tt
+on_err (Err e) P is = is
 
 -- ---- the pairs of one flat part
 
