@@ -1,5 +1,6 @@
 -- Lemmas on answers.
-use Rattle.std.proofs.Common.{◌≡◌, ℕ, List, refl, sym, subst, arith, Global, Option, Some, Vec}
+use Rattle.std.proofs.Common.{◌≡◌, ◌≤◌, ℕ, List, length, refl, sym, subst, arith, Global, Option, Some, Vec}
+use Rattle.rbg_console.specs.Inputs.{most_input}
 use Rattle.rbg_console.specs.declared.status.Status.{Status}
 use Rattle.rbg_console.specs.declared.status.Status.TheVariants.{Success, Refused, BadInput}
 use Rattle.rbg_game.specs.Loading.{Loads, IsRefused, IsMemory}
@@ -13,13 +14,13 @@ use Rattle.rbg_refereeing.specs.declared.error.RefereeingError.TheVariants.{Load
 use Rattle.rbg_rules.specs.Meaning.{AbstractGame}
 use Rattle.rbg_tokens.specs.Limits.{longest_text}
 use Rattle.rbg_tokens.specs.declared.error.TextError.TheVariants.{TooLong, Memory as TextMemory}
-use Rattle.rbg_tasks.specs.declared.task.Command.{Command}
-use Rattle.rbg_tasks.specs.declared.task.Command.TheVariants.{Referee}
+use Rattle.rbg_answering.specs.Tasks.{FileCommand}
+use Rattle.rbg_answering.specs.Tasks.FileCommand.{Referee}
 use Rattle.rbg_answering.specs.Answers.{IsGamesAnswer, IsTaskAnswer, form_line}
 use Rattle.rbg_answering.specs.Answers.IsGamesAnswer.{played, misfit}
 use Rattle.rbg_answering.specs.Answers.IsTaskAnswer.{of_game, refused, long_script, long_record}
 use Rattle.rbg_answering.specs.Tasks.{AbstractTask, IsReadOf}
-use Rattle.rbg_answering.specs.internal.Parts.{task_of, AnswersWhole, AnswersLong, AnswersLongRecord, AnswersMatch, SaysUnloaded}
+use Rattle.rbg_answering.specs.internal.Parts.{task_of, AnswersWhole, AnswersLong, AnswersLongRecord, AnswersMatch, AnswersTexts, SaysUnloaded}
 
 -- the answer with this text and this status
 pub answer_is : (task : AbstractTask) (text said : List ℕ) (status ended : Status) → text ≡ said → status ≡ ended → IsTaskAnswer task said ended → IsTaskAnswer task text status
@@ -30,11 +31,11 @@ pub long_known : ¬ IsMemory (Text TooLong)
 long_known same = absurd (let e : TooLong ≡ TextMemory = same in cc)
 
 -- what is said of a game is the answer
-pub game_answers : (command : Command) (read : Option (Vec ℕ Global)) (told : List ℕ) (game : AbstractGame) (text : List ℕ) (status : Status) → ((d : List ℕ) → IsReadOf longest_text read d → Loads d game) → ((d : List ℕ) → IsGamesAnswer game d told command text status) → AnswersWhole command read told text status
+pub game_answers : (command : FileCommand) (read : Option (Vec ℕ Global)) (told : List ℕ) (game : AbstractGame) (text : List ℕ) (status : Status) → ((d : List ℕ) → IsReadOf longest_text read d → Loads d game) → ((d : List ℕ) → IsGamesAnswer game d told command text status) → AnswersWhole command read told text status
 game_answers command read told game text status loads says = λ d reads fits. of_game game text status (loads d reads) fits (says d)
 
 -- the line of a refusal is the answer
-pub refusal_answers : (command : Command) (read : Option (Vec ℕ Global)) (told : List ℕ) (error : LoadError) (text : List ℕ) (status : Status) → ((d : List ℕ) → IsReadOf longest_text read d → IsRefused d error) → ¬ IsMemory error → text ≡ refused_line error → status ≡ Refused → AnswersWhole command read told text status
+pub refusal_answers : (command : FileCommand) (read : Option (Vec ℕ Global)) (told : List ℕ) (error : LoadError) (text : List ℕ) (status : Status) → ((d : List ℕ) → IsReadOf longest_text read d → IsRefused d error) → ¬ IsMemory error → text ≡ refused_line error → status ≡ Refused → AnswersWhole command read told text status
 refusal_answers command read told error text status why known is was =
     λ d reads fits. answer_is (task_of command d told) text (refused_line error) status Refused is was
     (refused error (why d reads) known (λ same above. let no : ⊥ = omega (arith, fits, above) in no))
@@ -45,7 +46,7 @@ refusal_answers_long read error text status why known is was =
     (refused error (why d reads) known (λ same. absurd (other same)))
 
 -- the same of what is said of a description that is not loaded
-pub unloaded_answers : (command : Command) (read : Option (Vec ℕ Global)) (told : List ℕ) (error : LoadError) (text : List ℕ) (status : Status) → ((d : List ℕ) → IsReadOf longest_text read d → IsRefused d error) → SaysUnloaded error text status → AnswersWhole command read told text status
+pub unloaded_answers : (command : FileCommand) (read : Option (Vec ℕ Global)) (told : List ℕ) (error : LoadError) (text : List ℕ) (status : Status) → ((d : List ℕ) → IsReadOf longest_text read d → IsRefused d error) → SaysUnloaded error text status → AnswersWhole command read told text status
 unloaded_answers command read told error text status why says = refusal_answers command read told error text status why says.0 says.1 says.2
 
 pub unloaded_answers_long : (read : Option (Vec ℕ Global)) (error : LoadError) (text : List ℕ) (status : Status) → ((d : List ℕ) → IsReadOf longest_text read d → IsRefused d error) → SaysUnloaded error text status → AnswersLongRecord read text status
@@ -82,7 +83,13 @@ read_match_answers bytes told text status answers =
     λ d reads fits. subst (λ description. IsTaskAnswer (task_of Referee description told) text status) reads.1 (answers fits)
 
 -- the answer to the parts of a task is that to the task
-pub whole_answer : (task : AbstractTask) (command : Command) (told text : List ℕ) (status : Status) → task.command ≡ command → told ≡ task.told → IsTaskAnswer (task_of command task.description told) text status → IsTaskAnswer task text status
+pub whole_answer : (task : AbstractTask) (command : FileCommand) (told text : List ℕ) (status : Status) → task.command ≡ command → told ≡ task.told → IsTaskAnswer (task_of command task.description told) text status → IsTaskAnswer task text status
 whole_answer task command told text status same is answer =
     subst (λ c. IsTaskAnswer (task_of c task.description task.told) text status) (sym same)
     (subst (λ t. IsTaskAnswer (task_of command task.description t) text status) is answer)
+
+-- what is read whole is answered as a whole
+pub whole_texts : (command : FileCommand) (read : Option (Vec ℕ Global)) (told : Vec ℕ Global) (text : List ℕ) (status : Status) → AnswersWhole command read told.items text status → AnswersTexts command read (Some told) text status
+whole_texts command read told text status answers = λ d t reads is.
+    subst (λ bytes. IsTaskAnswer (task_of command d bytes) text status) is.1
+    (answers d reads (subst (λ bytes. length bytes ≤ most_input) (sym is.1) is.0))

@@ -10,15 +10,15 @@ use Rattle.rbg_record.specs.declared.error.RecordError.TheVariants.{Form, Over, 
 use Rattle.rbg_record.specs.declared.fault.Fault.{Fault}
 use Rattle.rbg_record.specs.declared.fault.Fault.TheVariants as faults
 use Rattle.rbg_rules.specs.Meaning.{AbstractGame}
-use Rattle.rbg_tasks.specs.declared.task.Command.{Command}
-use Rattle.rbg_tasks.specs.declared.task.Command.TheVariants.{Replay, Migrate, Moves}
+use Rattle.rbg_answering.specs.Tasks.{FileCommand}
+use Rattle.rbg_answering.specs.Tasks.FileCommand.{Replay, Migrate, Moves}
 use Rattle.rbg_answering.specs.Answers.{IsGamesAnswer, good_line, bad_line, form_line, over_line}
 use Rattle.rbg_answering.specs.Answers.IsGamesAnswer.{good, wrong, not_plain, no_moves}
 use Rattle.rbg_answering.specs.Answers.NamesFault.{bad, not_of_form, over}
 use Rattle.rbg_answering.specs.internal.Parts.{SaysChecked, SaysFault}
 
 -- the answer with this text and this status
-pub games_answer_is : (game : AbstractGame) (description told : List ℕ) (command : Command) (text said : List ℕ) (status ended : Status) → text ≡ said → status ≡ ended → IsGamesAnswer game description told command said ended → IsGamesAnswer game description told command text status
+pub games_answer_is : (game : AbstractGame) (description told : List ℕ) (command : FileCommand) (text said : List ℕ) (status ended : Status) → text ≡ said → status ≡ ended → IsGamesAnswer game description told command said ended → IsGamesAnswer game description told command text status
 games_answer_is game description told command text said status ended is was answer =
     subst (λ t. IsGamesAnswer game description told command t status) (sym is) (subst (IsGamesAnswer game description told command said) (sym was) answer)
 

@@ -12,8 +12,8 @@ use Rattle.rbg_record.specs.declared.error.RecordError.TheVariants.{Form, Over, 
 use Rattle.rbg_refereeing.specs.Answers.{script_line}
 use Rattle.rbg_rules.specs.Meaning.{IsNumbered, AbstractGame}
 use Rattle.rbg_script.specs.Laws.{ScriptsAreApart}
-use Rattle.rbg_tasks.specs.declared.task.Command.{Command}
-use Rattle.rbg_tasks.specs.declared.task.Command.TheVariants.{Check, Referee, Replay, Migrate, Moves}
+use Rattle.rbg_answering.specs.Tasks.{FileCommand}
+use Rattle.rbg_answering.specs.Tasks.FileCommand.{Check, Referee, Replay, Migrate, Moves}
 use Rattle.rbg_answering.specs.Answers.{IsGamesAnswer, NamesFault, IsLong, good_line, bad_line, form_line, over_line}
 use Rattle.rbg_answering.specs.Answers.IsGamesAnswer.{counted, played, misfit, good, wrong, migrated, not_plain, goes_on, no_moves}
 use Rattle.rbg_answering.specs.Answers.NamesFault.{bad, not_of_form, over}
@@ -122,7 +122,7 @@ moves_apart known game numbered description told _ _ _ _ (no_moves text fault) (
 moves_apart known game numbered description told _ _ _ _ (no_moves text fault) (no_moves other fault') =
     replays_apart known.judge game numbered told text other BadInput BadInput (tells_fault game told text fault) (tells_fault game told other fault')
 
-games_apart : Known → (game : AbstractGame) → IsNumbered game.rules → (description told : List ℕ) (command : Command) (text other : List ℕ) (status ended : Status) → IsGamesAnswer game description told command text status → IsGamesAnswer game description told command other ended → AreOne text other status ended ⊎ NamesOver text other
+games_apart : Known → (game : AbstractGame) → IsNumbered game.rules → (description told : List ℕ) (command : FileCommand) (text other : List ℕ) (status ended : Status) → IsGamesAnswer game description told command text status → IsGamesAnswer game description told command other ended → AreOne text other status ended ⊎ NamesOver text other
 games_apart known game numbered description told Check text other status ended a b = inl (counts_apart game description told text other status ended a b)
 games_apart known game numbered description told Referee text other status ended a b = inl (matches_apart known.scripts game description told text other status ended a b)
 games_apart known game numbered description told Replay text other status ended a b =

@@ -2,6 +2,7 @@
 pub mod AnswerLemmas
 mod JudgingLemmas
 mod LawLemmas
+mod OpeningLemmas
 mod ReadingLemmas
 mod RecordRunLemmas
 mod RecordedLemmas

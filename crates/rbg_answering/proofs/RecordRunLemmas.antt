@@ -1,5 +1,5 @@
 -- Lemmas on the answer to a match with its record.
-use Rattle.std.proofs.Common.{◌≡◌, ◌≢◌, ◌∙◌, ℕ, List, [], refl, sym, subst, arith, Global, ◌≤◌, Option, Some, None, Vec, length}
+use Rattle.std.proofs.Common.{◌≡◌, ◌≢◌, ◌∙◌, ℕ, List, refl, sym, subst, arith, Global, ◌≤◌, Option, Some, None, Vec, length}
 use Rattle.rbg_console.specs.Files.{KnownFiles}
 use Rattle.rbg_console.specs.Inputs.{most_input, IsAll, IsAbove}
 use Rattle.rbg_console.specs.declared.status.Status.{Status}
@@ -16,10 +16,9 @@ use Rattle.rbg_answering.specs.Recorded.{IsRecorded}
 use Rattle.rbg_answering.specs.RecordRuns.IsRecordedAnswer.{recorded, unplayed, failed}
 use Rattle.rbg_answering.specs.RecordRuns.{IsRecordedAnswer}
 use Rattle.rbg_answering.specs.Tasks.IsInputOf.{whole as is_whole, too_long}
-use Rattle.rbg_tasks.specs.Tasks.{NamedTask}
-use Rattle.rbg_answering.specs.Tasks.{AbstractTask, AsksFor, IsInputOf, IsReadOf, IsTaskOf}
-use Rattle.rbg_tasks.specs.declared.task.Command.TheVariants.{Referee}
-use Rattle.rbg_answering.specs.declared.task.Task.{Task}
+use Rattle.rbg_answering.specs.Tasks.{AbstractTask, AsksFor, IsInputOf, IsReadOf, on_file}
+use Rattle.rbg_answering.specs.Tasks.FileCommand.{Referee}
+use Rattle.rbg_answering.specs.internal.Parts.{task_of}
 use Rattle.rbg_answering.specs.internal.RecordParts.{WritesRecord, RecordsMatch, RecordsTexts, RecordsInput, RecordsTask}
 use Rattle.rbg_answering.specs.internal.RecordParts.WritesRecord.{written, unwritten}
 use Rattle.rbg_answering.specs.internal.RecordParts.RecordsMatch.{recorded as has_record, unplayed as has_none, failed as has_failed}
@@ -60,17 +59,13 @@ input_answer tells known after unread left file input text status all (unmarked 
 pub long_input_answer : (tells : Type 0) (known after : KnownFiles) (unread left : Option (List ℕ)) (file text : List ℕ) (status : Status) → IsAbove most_input unread left → text ≡ script_line 0 → status ≡ BadInput → IsRecordedAnswer tells known after unread left (record { file = None; record_file = file }) text status
 long_input_answer tells known after unread left file text status above is was = unplayed (long_reader above is was) (bad_is_no_success status was)
 
--- the task of a file's description
-abbrev of_file : (file : List ℕ) → NamedTask
-of_file file = record { command = Referee; file = file; record_file = [] }
-
 -- what is within the limit was read whole
 whole_input_of : (unread left : Option (List ℕ)) (script : List ℕ) → length script ≤ most_input → IsInputOf unread left script → IsAll most_input unread left script
 whole_input_of unread left script fits (is_whole all) = all
 whole_input_of unread left script fits (too_long above long may) = absurd (let no : ⊥ = omega (arith, fits, long) in no)
 
 -- the answer to a task of a file's description
-pub task_answer : (tells : Type 0) (known mid after : KnownFiles) (unread left : Option (List ℕ)) (file other : List ℕ) (task : AbstractTask) (text : List ℕ) (status : Status) → AsksFor known unread left (of_file file) task → mid other ≡ known other → RecordsTask tells (mid other) (after other) task text status → IsRecordedAnswer tells known after unread left (record { file = Some file; record_file = other }) text status
+pub task_answer : (tells : Type 0) (known mid after : KnownFiles) (unread left : Option (List ℕ)) (file other : List ℕ) (task : AbstractTask) (text : List ℕ) (status : Status) → AsksFor known unread left (on_file Referee file) task → mid other ≡ known other → RecordsTask tells (mid other) (after other) task text status → IsRecordedAnswer tells known after unread left (record { file = Some file; record_file = other }) text status
 task_answer tells known mid after unread left file other task text status asks kept (texts fits (created absent (has_record told is keeps was))) =
     recorded task.description task.told told (asks.description, whole_input_of unread left task.told fits asks.told) is (sym kept ∙ absent) keeps was
 task_answer tells known mid after unread left file other task text status asks kept (texts fits (created absent (has_none error why says))) =
@@ -81,8 +76,8 @@ task_answer tells known mid after unread left file other task text status asks k
 task_answer tells known mid after unread left file other task text status asks kept (plain answer other_status) = unplayed (task, asks, answer) other_status
 
 -- both texts of a task were read
-pub read_texts : (tells : Type 0) (known after : Option (List ℕ)) (read : Task) (whole : AbstractTask) (description script : Vec ℕ Global) (text : List ℕ) (status : Status) → read.description ≡ Some description → read.told ≡ Some script → IsTaskOf read whole → RecordsTexts tells known after description.items script.items text status → RecordsTask tells known after whole text status
-read_texts tells known after read whole description script text status has told of is =
-    let d = subst (λ r. IsReadOf longest_text r whole.description) has of.description in
-    let t = subst (λ r. IsReadOf most_input r whole.told) told of.told in
-    texts t.0 (subst (λ bytes. RecordsTexts tells known after bytes whole.told text status) d.1 (subst (λ bytes. RecordsTexts tells known after description.items bytes text status) t.1 is))
+pub read_texts : (tells : Type 0) (known after : Option (List ℕ)) (read told : Option (Vec ℕ Global)) (whole bytes : List ℕ) (description script : Vec ℕ Global) (text : List ℕ) (status : Status) → read ≡ Some description → told ≡ Some script → IsReadOf longest_text read whole → IsReadOf most_input told bytes → RecordsTexts tells known after description.items script.items text status → RecordsTask tells known after (task_of Referee whole bytes) text status
+read_texts tells known after read told whole bytes description script text status has also reads tells_script is =
+    let d = subst (λ r. IsReadOf longest_text r whole) has reads in
+    let t = subst (λ r. IsReadOf most_input r bytes) also tells_script in
+    texts t.0 (subst (λ one. RecordsTexts tells known after one bytes text status) d.1 (subst (λ one. RecordsTexts tells known after description.items one text status) t.1 is))

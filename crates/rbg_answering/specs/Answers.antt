@@ -14,8 +14,8 @@ use Rattle.rbg_refereeing.specs.Answers.{refused_line, script_line}
 use Rattle.rbg_refereeing.specs.Matches.{IsScriptsMatch}
 use Rattle.rbg_rules.specs.Meaning.{AbstractGame}
 use Rattle.rbg_script.specs.Scripts.{HasMisfit}
-use Rattle.rbg_tasks.specs.declared.task.Command.{Command}
-use Rattle.rbg_tasks.specs.declared.task.Command.TheVariants.{Check, Referee, Replay, Migrate, Moves}
+use Rattle.rbg_answering.specs.Tasks.{FileCommand}
+use Rattle.rbg_answering.specs.Tasks.FileCommand.{Check, Referee, Replay, Migrate, Moves}
 use Rattle.rbg_answering.specs.Tasks.{AbstractTask}
 
 -- the lines of a right record, and of one of which a line is not right, not of the form, or above the limits
@@ -43,7 +43,7 @@ pub data NamesFault (game : AbstractGame) (told : List ℕ) : (text : List ℕ) 
 --   good, wrong: the record is right, or its fault is named.
 --   migrated, not_plain: version 2 of the record, or its first line is named that is not of the form of version 1.
 --   goes_on, no_moves: how play can go on behind the record, or its fault is named.
-pub data IsGamesAnswer (game : AbstractGame) (description told : List ℕ) : Command → (text : List ℕ) → Status → Type 0 where
+pub data IsGamesAnswer (game : AbstractGame) (description told : List ℕ) : FileCommand → (text : List ℕ) → Status → Type 0 where
   counted : IsGamesAnswer game description told Check (counts_of game ++ codes "\n") Success
   played : (lines : List ℕ)
       → IsScriptsMatch description told lines

@@ -8,7 +8,7 @@ use Rattle.rbg_record.specs.Judged.{IsHeavyLine}
 use Rattle.rbg_record.specs.Right.{IsRightRecord}
 use Rattle.rbg_refereeing.specs.Matches.{IsScriptsMatch}
 use Rattle.rbg_rules.specs.Meaning.{AbstractGame}
-use Rattle.rbg_tasks.specs.declared.task.Command.TheVariants.{Replay}
+use Rattle.rbg_answering.specs.Tasks.FileCommand.{Replay}
 use Rattle.rbg_answering.specs.Answers.{IsTaskAnswer, good_line, over_line}
 use Rattle.rbg_answering.specs.Recorded.{IsRecorded}
 use Rattle.rbg_answering.specs.Tasks.{AbstractTask}

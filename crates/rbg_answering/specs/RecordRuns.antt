@@ -10,8 +10,8 @@ use Rattle.rbg_refereeing.specs.Runs.{IsReadersAnswer, IsRunOf, device_line}
 use Rattle.rbg_answering.specs.Answers.{IsTaskAnswer}
 use Rattle.rbg_answering.specs.Recorded.{IsRecorded}
 use Rattle.rbg_answering.specs.Tasks.{AbstractTask, AsksFor}
-use Rattle.rbg_tasks.specs.declared.task.Command.TheVariants.{Referee}
-use Rattle.rbg_tasks.specs.Tasks.{RecordedTask}
+use Rattle.rbg_answering.specs.Tasks.FileCommand.{Referee}
+use Rattle.rbg_answering.specs.Tasks.{RecordedTask}
 
 -- The description and the script: both are in all of standard input, or the description is a file's, if one is named,
 -- and the script is all of standard input.

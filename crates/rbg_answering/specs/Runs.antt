@@ -6,7 +6,7 @@ use Rattle.rbg_console.specs.declared.status.Status.{Status}
 use Rattle.rbg_console.specs.declared.status.Status.TheVariants.{Device, Memory}
 use Rattle.rbg_refereeing.specs.Runs.{device_line, memory_line}
 use Rattle.rbg_answering.specs.Answers.{IsTaskAnswer}
-use Rattle.rbg_tasks.specs.Tasks.{NamedTask}
+use Rattle.rbg_answering.specs.Tasks.{NamedTask}
 use Rattle.rbg_answering.specs.Tasks.{AbstractTask, AsksFor}
 
 -- The files are known as far as they tell their bytes; standard input had some bytes unread and has the others left;

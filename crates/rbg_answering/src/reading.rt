@@ -1,15 +1,14 @@
-//! Reading what a task asks for. All is read before any of it is looked into.
-ghost use Rattle.std.specs.Prelude.{◌≡◌, ℕ, [], List, Option, IfOk};
+//! Reading what a command asks for. All is read before any of it is looked into.
+ghost use Rattle.std.specs.Prelude.{◌≡◌, IfOk};
 ghost use Rattle.rbg_console.specs.Files.{KeepsFiles};
 ghost use Rattle.rbg_console.specs.Inputs.{most_input};
+ghost use Rattle.rbg_refereeing.specs.Runs.{device_line};
 ghost use Rattle.rbg_tokens.specs.Limits.{longest_text};
-ghost use Rattle.rbg_tasks.specs.Tasks.{file_task};
-ghost use Rattle.rbg_answering.specs.Tasks.{IsReadOf};
-ghost use Rattle.rbg_answering.specs.internal.Parts.{Gives, IsOnRecord, IsReadFor, IsReadIn, IsReadInput};
+ghost use Rattle.rbg_answering.specs.internal.Parts.{Gives, IsReadIn, IsReadInput};
 
-use crate::Task;
-use rbg_console::{Files, Input, MAX_INPUT, read_input, read_record};
-use rbg_tasks::{Command, FileTask};
+use crate::texts::Texts;
+use rbg_console::{Files, Input, MAX_INPUT, Status, read_input, read_record};
+use rbg_refereeing::{Answer, answer_device};
 use rbg_tokens::MAX_TEXT;
 use std::alloc::{AllocError, Global};
 use std::io::Read;
@@ -29,42 +28,15 @@ impl From<AllocError> for Unread {
     }
 }
 
-/// Reads the files of a command, and its script from standard input.
-pub(crate) fn read_task<F: Files, R: Read>(
-    alloc: Global,
-    named: FileTask<'_>,
-    files: &mut F,
-    input: &mut R,
-) -> Result<Task, Unread>
-    ensures { IfOk result (IsReadFor (F.told files.old) (R.remaining input.old)
-        (R.remaining input.new) (file_task named.entry)) }
+/// The line that says that a file or standard input can't be read.
+pub(crate) fn answer_unread(alloc: Global, unread: Unread) -> Result<Answer, AllocError>
+    ensures text { IfOk result (λ answer. answer.text.items ≡ device_line) }
+    ensures status { IfOk result (λ answer. answer.status ≡ Status.Device) }
 {
-    match named {
-        FileTask::Check { file } => read_check(alloc, files, file),
-        FileTask::Referee { file } => read_match(alloc, files, file, input),
-        FileTask::Replay { file, record } => {
-            read_both(alloc, Command::Replay, files, file, record)
-        }
-        FileTask::Migrate { file, record } => {
-            read_both(alloc, Command::Migrate, files, file, record)
-        }
-        FileTask::Moves { file, record } => read_both(alloc, Command::Moves, files, file, record),
+    match unread {
+        Unread::Device => answer_device(alloc),
+        Unread::Memory => Err(AllocError),
     }
-}
-
-/// Reads a description alone.
-fn read_check<F: Files>(alloc: Global, files: &mut F, file: &str) -> Result<Task, Unread>
-    ensures command { IfOk result (λ read. read.command ≡ Command.Check) }
-    ensures description { IfOk result (λ read.
-        IsReadIn longest_text (F.told files.old file.now) read.description) }
-    ensures told { IfOk result (λ read. IsReadOf most_input read.told []) }
-{
-    let description = read_within(alloc, files, file, MAX_TEXT)?;
-    Ok(Task {
-        command: Command::Check,
-        description,
-        told: Some(Vec::new(alloc)),
-    })
 }
 
 /// Reads a description, and a script from standard input.
@@ -73,8 +45,7 @@ pub(crate) fn read_match<F: Files, R: Read>(
     files: &mut F,
     file: &str,
     input: &mut R,
-) -> Result<Task, Unread>
-    ensures command { IfOk result (λ read. read.command ≡ Command.Referee) }
+) -> Result<Texts, Unread>
     ensures description { IfOk result (λ read.
         IsReadIn longest_text (F.told files.old file.now) read.description) }
     ensures told { IfOk result (λ read.
@@ -83,37 +54,28 @@ pub(crate) fn read_match<F: Files, R: Read>(
 {
     let description = read_within(alloc, files, file, MAX_TEXT)?;
     let told = read_script(alloc, input)?;
-    Ok(Task {
-        command: Command::Referee,
-        description,
-        told,
-    })
+    Ok(Texts { description, told })
 }
 
 /// Reads a description and a record.
-fn read_both<F: Files>(
+pub(crate) fn read_both<F: Files>(
     alloc: Global,
-    command: Command,
     files: &mut F,
     file: &str,
     other: &str,
-) -> Result<Task, Unread>
-    requires { IsOnRecord command }
-    ensures { IfOk result (λ read. (unread : Option (List ℕ)) →
-        IsReadFor (F.told files.old) unread unread
-        (record { command = command; file = file.now; record_file = other.now }) read) }
+) -> Result<Texts, Unread>
+    ensures description { IfOk result (λ read.
+        IsReadIn longest_text (F.told files.old file.now) read.description) }
+    ensures told { IfOk result (λ read.
+        IsReadIn most_input (F.told files.old other.now) read.told) }
 {
     let description = read_within(alloc, files, file, MAX_TEXT)?;
     let told = read_told(alloc, files, other)?;
-    Ok(Task {
-        command,
-        description,
-        told,
-    })
+    Ok(Texts { description, told })
 }
 
 /// The bytes of a file, or None where there are more than `limit`.
-fn read_within<F: Files>(
+pub(crate) fn read_within<F: Files>(
     alloc: Global,
     files: &mut F,
     name: &str,

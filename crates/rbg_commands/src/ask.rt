@@ -1,10 +1,11 @@
 //! The command `ask`: questions on standard input, each of which is answered before more is read.
 
-use crate::fault::Fault;
+use crate::fault::{Fault, report_lines};
 use crate::inputs::read_description;
 use rbg_ask::{MAX_LINE, Session, Unsettled};
-use rbg_console::Files;
+use rbg_console::{Files, Status};
 use rbg_game::load;
+use rbg_network::Network;
 use std::alloc::{AllocError, Global};
 use std::io::{ErrorKind, Read, Write};
 
@@ -20,9 +21,22 @@ enum Next {
     End,
 }
 
+/// Answers the questions about the game that the file describes.
+pub fn run_ask<F: Files, N: Network, R: Read, W: Write>(
+    alloc: Global,
+    file: &str,
+    files: &mut F,
+    network: &mut N,
+    input: &mut R,
+    output: &mut W,
+) -> Status {
+    let rest = ask_file(alloc, files, file, input, output);
+    report_lines(network, output, "the answer", rest)
+}
+
 /// Answers the questions about the game that the file describes. The answers are written as they are known. What is
 /// returned is to be written behind them.
-pub fn ask_file<F: Files, R: Read, W: Write>(
+fn ask_file<F: Files, R: Read, W: Write>(
     alloc: Global,
     files: &mut F,
     file: &str,

@@ -137,6 +137,24 @@ pub fn report<N: Network, W: Write>(
     status
 }
 
+/// The same of lines that are the answer of a command that is done when they are printed.
+pub fn report_lines<N: Network, W: Write>(
+    network: &mut N,
+    output: &mut W,
+    what: &str,
+    lines: Result<Vec<u8>, Fault>,
+) -> Status {
+    report(network, output, what, &done(lines))
+}
+
+/// The answer of a command that is done when this is printed.
+fn done(lines: Result<Vec<u8>, Fault>) -> Result<Answer, Fault> {
+    Ok(Answer {
+        text: lines?,
+        status: Status::Success,
+    })
+}
+
 fn write_fault<W: Write>(output: &mut W, fault: &Fault) -> io::Result<()> {
     match fault {
         Fault::Absent => {}

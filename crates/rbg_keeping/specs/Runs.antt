@@ -3,7 +3,7 @@
 use Rattle.std.specs.Prelude.{◌≡◌, ℕ, ◌<◌, List, [], length, Option, Some, None, codes}
 use Rattle.rbg_answering.specs.Answers.{form_line}
 use Rattle.rbg_answering.specs.Runs.{IsTaskRun}
-use Rattle.rbg_tasks.specs.declared.task.Command.TheVariants.{Referee}
+use Rattle.rbg_answering.specs.Tasks.FileCommand.{Referee}
 use Rattle.rbg_console.specs.Files.{KnownFiles, MayBe}
 use Rattle.rbg_console.specs.Inputs.{most_input, IsAll, IsAbove, IsCutOff}
 use Rattle.rbg_console.specs.Outputs.{IsWritten}

@@ -3,11 +3,10 @@ ghost use Rattle.std.specs.Prelude.{ℕ, List, Option, option_map};
 ghost use Rattle.rbg_console.specs.Inputs.{IsReading, most_input};
 ghost use Rattle.rbg_keeping.specs.Runs.{IsCutRun, IsRefereeRun};
 
-use rbg_answering::run_task;
+use rbg_answering::run_match;
 use rbg_console::{Files, Input, MAX_INPUT, Status, read_input, write_text};
 use rbg_log::whole_lines;
 use rbg_refereeing::run_referee;
-use rbg_tasks::FileTask;
 use std::alloc::Global;
 use std::io::{Read, Write};
 
@@ -61,7 +60,7 @@ fn run_bytes<F: Files, W: Write>(
 {
     let mut input = bytes;
     match file {
-        Some(file) => run_task(alloc, FileTask::Referee { file }, files, &mut input, output),
+        Some(file) => run_match(alloc, file, files, &mut input, output),
         None => run_referee(alloc, &mut input, output),
     }
 }

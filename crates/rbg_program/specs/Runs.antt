@@ -8,7 +8,7 @@ use Rattle.rbg_keeping.specs.Runs.{IsCutRun, IsScriptRun}
 use Rattle.rbg_listing.specs.Runs.{IsMovesRun}
 use Rattle.rbg_answering.specs.RecordRuns.{IsRecordedRun}
 use Rattle.rbg_refereeing.specs.Runs.{IsRun}
-use Rattle.rbg_tasks.specs.Words.{Wish, match_of_input, on_files, recorded_match, cut_match, moves_of, script_of}
+use Rattle.rbg_program.specs.Words.{Wish, match_of_input, on_files, recorded_match, cut_match, moves_of, script_of}
 
 -- A run that does what is asked for. The files are known before and after it, new ones if they tell what is written to
 -- them; standard input had some bytes unread and has the others left; the output held some bytes and holds more now.

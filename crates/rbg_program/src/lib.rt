@@ -1,8 +1,9 @@
-//! The program `rbg` apart from its system: what it prints for its words, its files, its input and its connections, and
-//! its status.
+//! The program `rbg` apart from its system: what its words ask for, and what it prints for them, its files, its input and
+//! its connections, and its status.
 #![tactic(auto)]
 
 mod program;
+mod words;
 
 pub use program::run;
 pub use rbg_console::{Files, Input, Note, Status};

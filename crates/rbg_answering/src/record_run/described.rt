@@ -1,28 +1,34 @@
 //! Refereeing with a record, where a file has the description and standard input the script.
-ghost use Rattle.std.specs.Prelude.{IfOk};
-ghost use Rattle.rbg_answering.specs.Tasks.{AbstractTask, IsTaskOf};
+ghost use Rattle.std.specs.Prelude.{ℕ, List, IfOk};
+ghost use Rattle.rbg_console.specs.Inputs.{most_input};
+ghost use Rattle.rbg_tokens.specs.Limits.{longest_text};
+ghost use Rattle.rbg_answering.specs.Tasks.{IsReadOf};
+ghost use Rattle.rbg_answering.specs.Tasks.FileCommand.{Referee};
+ghost use Rattle.rbg_answering.specs.internal.Parts.{task_of};
 ghost use Rattle.rbg_answering.specs.internal.RecordParts.{RecordsTask};
 
 use super::filing::record_texts;
-use crate::Task;
-use crate::answer::answer_task;
+use crate::referee::answer_texts;
+use crate::texts::Texts;
 use rbg_console::Files;
 use rbg_refereeing::Answer;
 use std::alloc::{AllocError, Global};
 
 /// The answer to what was read of a description and a script. What is longer than it may be has no match.
-pub(super) fn record_task<F: Files>(
+pub(super) fn record_read<F: Files>(
     alloc: Global,
-    task: &Task,
+    texts: &Texts,
     target: &str,
     files: &mut F,
 ) -> Result<Answer, AllocError>
-    ensures { IfOk result (λ answer. (whole : AbstractTask) → IsTaskOf task.now whole
-        → RecordsTask F.tells_new (F.told files.old target.now) (F.told files.new target.now) whole
-        answer.text.items answer.status) }
+    ensures { IfOk result (λ answer. (description script : List ℕ) →
+        IsReadOf longest_text texts.now.description description →
+        IsReadOf most_input texts.now.told script →
+        RecordsTask F.tells_new (F.told files.old target.now) (F.told files.new target.now)
+        (task_of Referee description script) answer.text.items answer.status) }
 {
-    match &task.description {
-        Some(description) => match &task.told {
+    match &texts.description {
+        Some(description) => match &texts.told {
             Some(script) => {
                 record_texts(
                     alloc,
@@ -32,8 +38,8 @@ pub(super) fn record_task<F: Files>(
                     script.as_slice(),
                 )
             }
-            None => answer_task(alloc, task),
+            None => answer_texts(alloc, texts),
         },
-        None => answer_task(alloc, task),
+        None => answer_texts(alloc, texts),
     }
 }

@@ -1,6 +1,7 @@
 -- The answer is written.
 use Rattle.rbg_answering.specs.RecordRuns.{IsRecordedAnswer}
-use Rattle.rbg_tasks.specs.Tasks.{record_task}
+use Rattle.std.proofs.Common.{option_map}
+use Rattle.rbg_answering.specs.Tasks.{recorded_task}
 use Rattle.rbg_refereeing.proofs.CallerLemmas.{run_of}
 use Rattle.rbg_answering.proofs.record_run.run_recorded.Goals as goal
 
@@ -10,4 +11,4 @@ returns g c =
     let after = g.F.Files.told c.answer_recorded-answered.new.files in
     let unread = g.R.Read.remaining c.args.input.now in
     let left = g.R.Read.remaining c.answer_recorded-answered.new.input in
-    run_of (IsRecordedAnswer g.F.Files.tells_new known after unread left (record_task c.args.task)) _ _ c.answer_recorded-answered.result c.write_answer.result c.answer_recorded-answered.ensures c.write_answer.ensures
+    run_of (IsRecordedAnswer g.F.Files.tells_new known after unread left (recorded_task (option_map (λ name. name.now) c.args.file) c.args.target.now)) _ _ c.answer_recorded-answered.result c.write_answer.result c.answer_recorded-answered.ensures c.write_answer.ensures
