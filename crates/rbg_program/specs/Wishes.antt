@@ -2,23 +2,23 @@
 use Rattle.std.specs.Prelude.{◌≡◌, Option, Some, None, option_map, Result, Ok, Err}
 use Rattle.rbg_console.specs.declared.command_line.WordsError.{WordsError}
 use Rattle.rbg_answering.specs.Tasks.{on_file, on_record, recorded_task}
-use Rattle.rbg_answering.specs.Tasks.FileCommand as files
+use Rattle.rbg_answering.specs.Tasks.FileCommand.{Check as to_check, Referee as to_referee, Replay as to_replay, Migrate as to_migrate, Moves as to_move_on}
 use Rattle.rbg_commands.specs.declared.command.Command.{Command}
 use Rattle.rbg_commands.specs.declared.command.Command.TheVariants.{Check, Moves, MovesBehind, Ask, Referee, Recorded, Cut, Replay, Migrate, Script, Demo, Serve, Play, Hall, HallScript}
 use Rattle.rbg_program.specs.Words.{Wish, match_of_input, on_files, recorded_match, cut_match, moves_of, script_of}
 
 -- the wish that a command grants; none where words of its kind are judged by the command line
 abbrev pub wish_of : Command → Option Wish
-wish_of (Check file) = Some (on_files (on_file files.Check file.now))
+wish_of (Check file) = Some (on_files (on_file to_check file.now))
 wish_of (Moves file) = Some (moves_of file.now)
-wish_of (MovesBehind file other) = Some (on_files (on_record files.Moves file.now other.now))
+wish_of (MovesBehind file other) = Some (on_files (on_record to_move_on file.now other.now))
 wish_of (Ask file) = None
 wish_of (Referee None) = Some match_of_input
-wish_of (Referee (Some file)) = Some (on_files (on_file files.Referee file.now))
+wish_of (Referee (Some file)) = Some (on_files (on_file to_referee file.now))
 wish_of (Recorded file target) = Some (recorded_match (recorded_task (option_map (λ name. name.now) file) target.now))
 wish_of (Cut file) = Some (cut_match (option_map (λ name. name.now) file))
-wish_of (Replay file other) = Some (on_files (on_record files.Replay file.now other.now))
-wish_of (Migrate file other) = Some (on_files (on_record files.Migrate file.now other.now))
+wish_of (Replay file other) = Some (on_files (on_record to_replay file.now other.now))
+wish_of (Migrate file other) = Some (on_files (on_record to_migrate file.now other.now))
 wish_of (Script file) = Some (script_of file.now)
 wish_of (Demo file service) = None
 wish_of (Serve file port serving) = None

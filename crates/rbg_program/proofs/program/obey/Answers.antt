@@ -1,7 +1,7 @@
 -- What is done is what the command grants.
 use Rattle.std.proofs.Common.{refl, option_map}
 use Rattle.rbg_answering.specs.Tasks.{on_file, on_record, recorded_task}
-use Rattle.rbg_answering.specs.Tasks.FileCommand as files
+use Rattle.rbg_answering.specs.Tasks.FileCommand.{Check, Referee, Replay, Migrate, Moves}
 use Rattle.rbg_program.specs.Runs.{IsRunFor}
 use Rattle.rbg_program.specs.Words.{match_of_input, on_files, recorded_match, cut_match, moves_of, script_of}
 use Rattle.rbg_program.proofs.WishLemmas.{granted, not_granted}
@@ -12,7 +12,7 @@ returns-in-Check g c = λ wish.
     granted (λ w. IsRunFor w g.F.Files.tells_new (g.F.Files.told c.args.files.now) (g.F.Files.told c.run_check.new.files)
     (g.R.Read.remaining c.args.input.now) (g.R.Read.remaining c.args.input.now)
     (g.W.Write.contents c.args.output.now) (g.W.Write.contents c.run_check.new.output) c.run_check.result)
-    c.args.command _ (on_files (on_file files.Check c.in-Check.file.now)) wish c.in-Check.is refl (c.run_check.ensures (g.R.Read.remaining c.args.input.now))
+    c.args.command _ (on_files (on_file Check c.in-Check.file.now)) wish c.in-Check.is refl (c.run_check.ensures (g.R.Read.remaining c.args.input.now))
 
 pub returns-in-Moves : goal.returns-in-Moves
 returns-in-Moves g c = λ wish.
@@ -26,7 +26,7 @@ returns-in-MovesBehind g c = λ wish.
     granted (λ w. IsRunFor w g.F.Files.tells_new (g.F.Files.told c.args.files.now) (g.F.Files.told c.run_moves_behind.new.files)
     (g.R.Read.remaining c.args.input.now) (g.R.Read.remaining c.args.input.now)
     (g.W.Write.contents c.args.output.now) (g.W.Write.contents c.run_moves_behind.new.output) c.run_moves_behind.result)
-    c.args.command _ (on_files (on_record files.Moves c.in-MovesBehind.file.now c.in-MovesBehind.other.now)) wish c.in-MovesBehind.is refl (c.run_moves_behind.ensures (g.R.Read.remaining c.args.input.now))
+    c.args.command _ (on_files (on_record Moves c.in-MovesBehind.file.now c.in-MovesBehind.other.now)) wish c.in-MovesBehind.is refl (c.run_moves_behind.ensures (g.R.Read.remaining c.args.input.now))
 
 pub returns-in-Referee-None : goal.returns-in-Referee-None
 returns-in-Referee-None g c = λ wish.
@@ -40,7 +40,7 @@ returns-in-Referee-Some g c = λ wish.
     granted (λ w. IsRunFor w g.F.Files.tells_new (g.F.Files.told c.args.files.now) (g.F.Files.told c.run_match.new.files)
     (g.R.Read.remaining c.args.input.now) (g.R.Read.remaining c.run_match.new.input)
     (g.W.Write.contents c.args.output.now) (g.W.Write.contents c.run_match.new.output) c.run_match.result)
-    c.args.command _ (on_files (on_file files.Referee c.in-Referee-Some.file.now)) wish c.in-Referee-Some.is refl c.run_match.ensures
+    c.args.command _ (on_files (on_file Referee c.in-Referee-Some.file.now)) wish c.in-Referee-Some.is refl c.run_match.ensures
 
 pub returns-in-Recorded : goal.returns-in-Recorded
 returns-in-Recorded g c = λ wish.
@@ -61,14 +61,14 @@ returns-in-Replay g c = λ wish.
     granted (λ w. IsRunFor w g.F.Files.tells_new (g.F.Files.told c.args.files.now) (g.F.Files.told c.run_replay.new.files)
     (g.R.Read.remaining c.args.input.now) (g.R.Read.remaining c.args.input.now)
     (g.W.Write.contents c.args.output.now) (g.W.Write.contents c.run_replay.new.output) c.run_replay.result)
-    c.args.command _ (on_files (on_record files.Replay c.in-Replay.file.now c.in-Replay.other.now)) wish c.in-Replay.is refl (c.run_replay.ensures (g.R.Read.remaining c.args.input.now))
+    c.args.command _ (on_files (on_record Replay c.in-Replay.file.now c.in-Replay.other.now)) wish c.in-Replay.is refl (c.run_replay.ensures (g.R.Read.remaining c.args.input.now))
 
 pub returns-in-Migrate : goal.returns-in-Migrate
 returns-in-Migrate g c = λ wish.
     granted (λ w. IsRunFor w g.F.Files.tells_new (g.F.Files.told c.args.files.now) (g.F.Files.told c.run_migrate.new.files)
     (g.R.Read.remaining c.args.input.now) (g.R.Read.remaining c.args.input.now)
     (g.W.Write.contents c.args.output.now) (g.W.Write.contents c.run_migrate.new.output) c.run_migrate.result)
-    c.args.command _ (on_files (on_record files.Migrate c.in-Migrate.file.now c.in-Migrate.other.now)) wish c.in-Migrate.is refl (c.run_migrate.ensures (g.R.Read.remaining c.args.input.now))
+    c.args.command _ (on_files (on_record Migrate c.in-Migrate.file.now c.in-Migrate.other.now)) wish c.in-Migrate.is refl (c.run_migrate.ensures (g.R.Read.remaining c.args.input.now))
 
 pub returns-in-Script : goal.returns-in-Script
 returns-in-Script g c = λ wish.
