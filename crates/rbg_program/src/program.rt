@@ -73,7 +73,7 @@ fn obey<F: Files, N: Network, R: Read, W: Write>(
         } => run_moves_behind(alloc, file, other, files, output),
         Command::Ask { file } => run_ask(alloc, file, files, network, input, output),
         Command::Referee { file: None } => run_referee(alloc, input, output),
-        Command::Referee { file: Some(file) } => run_match(alloc, file, files, input, output),
+        Command::Referee { file: Some(name) } => run_match(alloc, name, files, input, output),
         Command::Recorded { file, target } => {
             run_recorded(alloc, file, target, files, input, output)
         }

@@ -6,5 +6,5 @@ use Rattle.rbg_answering.proofs.opening.open_texts.Goals as goal
 pub returns-in-Some : goal.returns-in-Some
 returns-in-Some c = subst (λ told. IfOk c.open_whole.result (OpensTexts c.args.texts.description told)) (sym c.in-Some.is) c.open_whole.ensures
 
-pub returns-in-None : goal.returns-in-None
-returns-in-None c = subst (λ told. IfOk c.open_long.result (OpensTexts c.args.texts.description told)) (sym c.in-None.is) c.open_long.ensures
+pub returns : goal.returns
+returns c = subst (λ told. IfOk c.open_long.result (OpensTexts c.args.texts.description told)) (sym c.in-None.is) c.open_long.ensures

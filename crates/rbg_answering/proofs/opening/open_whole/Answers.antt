@@ -2,9 +2,9 @@
 use Rattle.rbg_answering.proofs.AnswerLemmas.{unloaded_answers, whole_texts}
 use Rattle.rbg_answering.proofs.opening.open_whole.Goals as goal
 
-pub returns-in-Err : goal.returns-in-Err
-returns-in-Err c =
+pub returns-in_ok-answer-in-Err : goal.returns-in_ok-answer-in-Err
+returns-in_ok-answer-in-Err c =
     let read = c.args.description.now in
-    let answer = c.in_ok-answer.field-0 in
+    let answer = c.in_ok-answer-in-Err.answer in
     λ command other. whole_texts command read c.args.told answer.text.items answer.status
-    (unloaded_answers command read c.args.told.items c.in-Err.error answer.text.items answer.status c.in-Err.ensures.refused c.in_ok-answer.ensures)
+    (unloaded_answers command read c.args.told.items c.in-Err.error answer.text.items answer.status c.in-Err.ensures.refused c.in_ok-answer-in-Err.ensures)

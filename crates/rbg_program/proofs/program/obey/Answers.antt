@@ -1,8 +1,10 @@
 -- What is done is what the command grants.
-use Rattle.std.proofs.Common.{refl, option_map}
+use Rattle.std.proofs.Common.{ap, refl, option_map}
 use Rattle.rbg_answering.specs.Tasks.{on_file, on_record, recorded_task}
 use Rattle.rbg_answering.specs.Tasks.FileCommand.{Check, Referee, Replay, Migrate, Moves}
+use Rattle.rbg_commands.specs.declared.command.Command.TheVariants.{Referee as refereed}
 use Rattle.rbg_program.specs.Runs.{IsRunFor}
+use Rattle.rbg_program.specs.Wishes.{wish_of}
 use Rattle.rbg_program.specs.Words.{match_of_input, on_files, recorded_match, cut_match, moves_of, script_of}
 use Rattle.rbg_program.proofs.WishLemmas.{granted, not_granted}
 use Rattle.rbg_program.proofs.program.obey.Goals as goal
@@ -33,14 +35,14 @@ returns-in-Referee-None g c = λ wish.
     granted (λ w. IsRunFor w g.F.Files.tells_new (g.F.Files.told c.args.files.now) (g.F.Files.told c.args.files.now)
     (g.R.Read.remaining c.args.input.now) (g.R.Read.remaining c.run_referee.new.input)
     (g.W.Write.contents c.args.output.now) (g.W.Write.contents c.run_referee.new.output) c.run_referee.result)
-    c.args.command _ (match_of_input) wish c.in-Referee-None.is refl c.run_referee.ensures
+    c.args.command _ match_of_input wish c.in-Referee-None.is (ap (λ one. wish_of (refereed one)) c.in-Referee-None.file-is) c.run_referee.ensures
 
 pub returns-in-Referee-Some : goal.returns-in-Referee-Some
 returns-in-Referee-Some g c = λ wish.
     granted (λ w. IsRunFor w g.F.Files.tells_new (g.F.Files.told c.args.files.now) (g.F.Files.told c.run_match.new.files)
     (g.R.Read.remaining c.args.input.now) (g.R.Read.remaining c.run_match.new.input)
     (g.W.Write.contents c.args.output.now) (g.W.Write.contents c.run_match.new.output) c.run_match.result)
-    c.args.command _ (on_files (on_file Referee c.in-Referee-Some.file.now)) wish c.in-Referee-Some.is refl c.run_match.ensures
+    c.args.command _ (on_files (on_file Referee c.in-Referee-Some.name.now)) wish c.in-Referee-Some.is (ap (λ one. wish_of (refereed one)) c.in-Referee-Some.file-is) c.run_match.ensures
 
 pub returns-in-Recorded : goal.returns-in-Recorded
 returns-in-Recorded g c = λ wish.
