@@ -1,5 +1,5 @@
 -- Lemmas on runs.
-use Rattle.std.proofs.Common.{ℕ, ◌≤◌, List, [], length, refl, subst, arith, Global, Option, Vec, Result, Ok, Err, IfOk}
+use Rattle.std.proofs.Common.{ℕ, List, [], refl, subst, arith, Global, Option, Vec, Result, Ok, Err, IfOk}
 use Rattle.rbg_console.specs.Files.{KnownFiles}
 use Rattle.rbg_console.specs.Outputs.{IsWritten}
 use Rattle.rbg_console.specs.declared.status.Status.{Status}

@@ -3,7 +3,6 @@ use Rattle.std.specs.Global.{Global}
 use Rattle.std.specs.Prelude.{◌≡◌, ℕ, ◌<◌, ◌≤◌, List, [], length, Option, Some, None, Vec}
 use Rattle.rbg_console.specs.Files.{KnownFiles, MayBe}
 use Rattle.rbg_console.specs.Inputs.{most_input, IsAll, IsAbove}
-use Rattle.rbg_tokens.specs.Limits.{longest_text}
 
 -- A command on files.
 --   Check: to print how many of each thing the game has.
