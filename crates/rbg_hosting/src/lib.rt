@@ -1,4 +1,4 @@
-//! A hall from its descriptions: what it prints of a script that it hears, and its matches over connections.
+//! A hall from its descriptions: its tables, and what it prints of a script that it hears.
 #![tactic(auto)]
 
 mod answer;
@@ -8,11 +8,11 @@ mod printed;
 mod reading;
 mod run;
 mod script_events;
-mod serving;
 mod tables;
 
 pub use answer::answer_hall;
 pub use error::HostingError;
 pub use hearing::hall_texts;
-pub use run::{run_hall_script, serve_files};
-pub use serving::{HallService, serve_hall};
+pub use reading::{read_all, whole_texts};
+pub use run::run_hall_script;
+pub use tables::tables_of;

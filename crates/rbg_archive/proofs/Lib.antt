@@ -1,0 +1,5 @@
+-- Lemmas, by topic.
+mod Handling
+mod Noting
+mod Serving
+mod Staying

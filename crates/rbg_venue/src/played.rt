@@ -1,0 +1,114 @@
+//! The matches of a hall are played until all have ended, or the bound on them is used up.
+ghost use Rattle.std.specs.Prelude.{◌≡◌, ◌≤◌, [], List, length, IfOk, OnOk};
+ghost use Rattle.rbg_archive.specs.Ended.{HasEnded};
+ghost use Rattle.rbg_floor.specs.Events.{AbstractHallEvent};
+ghost use Rattle.rbg_floor.specs.Halls.{AbstractTable};
+ghost use Rattle.rbg_floor.specs.Wholes.{HasRun};
+ghost use Rattle.rbg_hall.specs.Limits.{lines_in_all};
+ghost use Rattle.rbg_venue.specs.Records.{HaveRecords};
+
+use crate::desk::Desk;
+use crate::records::records_of;
+use rbg_archive::{Archive, RecordedHall};
+use rbg_console::Status;
+use rbg_floor::Hall;
+use rbg_hall::HallOut;
+use rbg_keeping::{Serving, ServingFault};
+use rbg_log::Log;
+use rbg_network::{Network, StreamLine};
+use rbg_refereeing::Answer;
+use rbg_serving::{Clock, ServeError};
+use std::alloc::{AllocError, Global};
+use std::io::{Read, Write};
+
+/// Serves the matches of a hall over the lines until all have ended, keeps their records, and gives them.
+pub(crate) fn play_hall<N: Network, C: Clock>(
+    alloc: Global,
+    network: &mut N,
+    hall: Hall<N::Log>,
+    out: &mut HallOut,
+    lines: &mut [StreamLine<N::Stream>],
+    clock: &mut C,
+    matches: usize,
+    serving: &Serving<'_>,
+) -> Result<Answer, ServingFault>
+    requires lines { length lines.old ≤ lines_in_all }
+    requires clock { C.told clock.old [] }
+    ensures { IfOk result (λ answer. (starts : List AbstractTable) (events : List AbstractHallEvent) →
+        length starts ≡ matches →
+        HasRun starts events hall.state out.old →
+        HaveRecords starts answer.text.items) }
+{
+    let desk = Desk::new(network, serving);
+    let mut recorded = RecordedHall::new(alloc, hall, desk, matches)?;
+    let rounds = begin_bound(&mut recorded, serving);
+    run_hall(&mut recorded, lines, out, clock, rounds)?;
+    answer_of(alloc, &recorded, matches)
+}
+
+/// Sets how long the matches may take, and returns the most rounds.
+fn begin_bound<W: Log, A: Archive>(recorded: &mut RecordedHall<W, A>, serving: &Serving<'_>) -> u64
+    ensures { recorded.new.hall ≡ recorded.old.hall }
+{
+    match serving.keeping.minutes {
+        Some(minutes) => {
+            recorded.stop_at(minutes.saturating_mul(60_000));
+            u64::MAX
+        }
+        None => serving.rounds,
+    }
+}
+
+/// Serves the matches over the lines until all have ended.
+fn run_hall<S: Read + Write + Drop, C: Clock, W: Log, A: Archive>(
+    recorded: &mut RecordedHall<W, A>,
+    lines: &mut [StreamLine<S>],
+    out: &mut HallOut,
+    clock: &mut C,
+    rounds: u64,
+) -> Result<(), ServingFault>
+    requires lines { length lines.old ≤ lines_in_all }
+    requires clock { C.told clock.old [] }
+    ensures { OnOk result ((starts : List AbstractTable) (events : List AbstractHallEvent) →
+        HasRun starts events recorded.old.hall.state out.old →
+        HasEnded starts recorded.new.hall.state) }
+{
+    match recorded.serve(lines, out, clock, rounds) {
+        Ok(_served) => Ok(()),
+        Err(error) => Err(fault_of(recorded, error)),
+    }
+}
+
+/// Why a hall is served no more. Where a log failed, or the time is over, that is the reason.
+fn fault_of<W: Log, A: Archive>(recorded: &RecordedHall<W, A>, error: ServeError) -> ServingFault {
+    if recorded.hall().has_log_failed() {
+        return ServingFault::Device;
+    }
+    if recorded.is_late() {
+        return ServingFault::Rounds;
+    }
+    match error {
+        ServeError::Rounds => ServingFault::Rounds,
+        ServeError::Memory => ServingFault::Memory(AllocError),
+    }
+}
+
+/// The records of the matches, all of which have ended. The status says whether each that is to be kept was.
+fn answer_of<W: Log, A: Archive>(
+    alloc: Global,
+    recorded: &RecordedHall<W, A>,
+    matches: usize,
+) -> Result<Answer, ServingFault>
+    ensures { IfOk result (λ answer. (starts : List AbstractTable) →
+        length starts ≡ matches →
+        HasEnded starts recorded.now.hall.state →
+        HaveRecords starts answer.text.items) }
+{
+    let text = records_of(alloc, recorded.hall(), matches)?;
+    let status = if recorded.has_lost() {
+        Status::Device
+    } else {
+        Status::Success
+    };
+    Ok(Answer { text, status })
+}
