@@ -6,11 +6,12 @@ use crate::serving::{demo_file, play, serve_file};
 use crate::task::Task;
 use rbg_answering::{run_recorded, run_task};
 use rbg_console::{Files, Status, write_words};
-use rbg_hosting::{run_hall_script, serve_files};
-use rbg_keeping::{run_cut, run_script};
+use rbg_hosting::run_hall_script;
+use rbg_keeping::{ServingFault, run_cut, run_script};
 use rbg_listing::run_moves;
 use rbg_network::Network;
 use rbg_refereeing::{Answer, run_referee};
+use rbg_venue::serve_files;
 use std::alloc::Global;
 use std::io::{Read, Write};
 
@@ -52,10 +53,8 @@ fn obey<F: Files, N: Network, R: Read, W: Write>(
         Task::Hall {
             names,
             port,
-            service,
-        } => done(serve_files(alloc, names.as_slice(), files, network, port, service).map_err(
-            |fault| Fault::from(fault),
-        )),
+            serving,
+        } => served(serve_files(alloc, names.as_slice(), files, network, port, &serving)),
         Task::Ask { file } => done(ask_file(alloc, files, file, input, output)),
         Task::Demo { file, service } => done(demo_file(alloc, files, file, network, service)),
         Task::Serve {
@@ -75,6 +74,11 @@ fn told_as(task: &Task<'_>) -> &'static str {
         Task::Hall { .. } => "the records",
         _ => "the answer",
     }
+}
+
+/// The answer of a task that serves matches.
+fn served(answer: Result<Answer, ServingFault>) -> Result<Answer, Fault> {
+    Ok(answer?)
 }
 
 /// The answer of a task that is done when this is printed.

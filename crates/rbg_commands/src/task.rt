@@ -3,7 +3,6 @@
 use crate::commands::rbg_command;
 use clap::ArgMatches;
 use rbg_console::{WordsError, match_words};
-use rbg_hosting::HallService;
 use rbg_keeping::{Keeping, Serving};
 use rbg_match::Config;
 use rbg_network::Hosting;
@@ -98,7 +97,7 @@ pub enum Task<'a> {
     Hall {
         names: Vec<&'a str>,
         port: u16,
-        service: HallService<'a>,
+        serving: Serving<'a>,
     },
     /// To play a seat of the match that is served at the port, or of this one of the matches there.
     Play {
@@ -119,7 +118,7 @@ impl<'a> Task<'a> {
             "hall" => Ok(Task::Hall {
                 names: names_of(alloc, words)?,
                 port: port_of(words),
-                service: hall_service_of(words),
+                serving: serving_of(words),
             }),
             "hallscript" => Ok(Task::HallScript {
                 names: names_of(alloc, words)?,
@@ -223,17 +222,6 @@ fn hosting_of(words: &ArgMatches<'_>) -> Hosting {
     Hosting {
         wait: words.get_one("wait"),
         quiet: words.get_flag("quiet"),
-    }
-}
-
-fn hall_service_of<'a>(words: &ArgMatches<'a>) -> HallService<'a> {
-    let service = service_of(words);
-    HallService {
-        config: service.config,
-        rounds: service.rounds,
-        log: words.get_str("log"),
-        sync: words.get_flag("sync"),
-        hosting: hosting_of(words),
     }
 }
 
