@@ -51,7 +51,8 @@ pub trait Network {
 
     /// A file for a log that is to replace the one of this name, which this process holds. It lies beside it; one that is
     /// left there is written over.
-    fn rewrite_log(&mut self, name: &str, sync: bool) -> io::Result<Self::Log>;
+    fn rewrite_log(&mut self, name: &str, sync: bool) -> io::Result<Self::Log>
+        ensures rewritten { IfOk result (λ log. Self.Log.told log []) };
 
     /// Replaces the log of this name by the one that was written beside it.
     fn replace_log(&mut self, name: &str) -> io::Result<()>;

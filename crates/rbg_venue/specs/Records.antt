@@ -44,3 +44,8 @@ pub record AreHallsRecords (config : Config) (descriptions : List (List ℕ)) (p
   pub tables : List AbstractTable
   pub are : AreTablesOf config descriptions tables
   pub have : HaveRecords tables printed
+
+-- The same where the config isn't known, as that of the logs from which a hall went on.
+pub record AreSomeRecords (descriptions : List (List ℕ)) (printed : List ℕ) : Type 0 where
+  pub config : Config
+  pub are : AreHallsRecords config descriptions printed

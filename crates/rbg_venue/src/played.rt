@@ -8,6 +8,7 @@ ghost use Rattle.rbg_hall.specs.Limits.{lines_in_all};
 ghost use Rattle.rbg_venue.specs.Records.{HaveRecords};
 
 use crate::desk::Desk;
+use crate::lines::HallLine;
 use crate::records::records_of;
 use rbg_archive::{Archive, RecordedHall};
 use rbg_console::Status;
@@ -15,22 +16,24 @@ use rbg_floor::Hall;
 use rbg_hall::HallOut;
 use rbg_keeping::{Serving, ServingFault};
 use rbg_log::Log;
-use rbg_network::{Network, StreamLine};
+use rbg_network::Network;
 use rbg_refereeing::Answer;
 use rbg_serving::{Clock, ServeError};
 use std::alloc::{AllocError, Global};
 use std::io::{Read, Write};
 
-/// Serves the matches of a hall over the lines until all have ended, keeps their records, and gives them.
+/// Serves the matches of a hall over the lines, from this moment on, until all have ended, keeps their records, and gives
+/// them.
 pub(crate) fn play_hall<N: Network, C: Clock>(
     alloc: Global,
-    network: &mut N,
     hall: Hall<N::Log>,
+    desk: Desk<'_, N>,
     out: &mut HallOut,
-    lines: &mut [StreamLine<N::Stream>],
+    lines: &mut [HallLine<N::Stream>],
     clock: &mut C,
     matches: usize,
     serving: &Serving<'_>,
+    since: u64,
 ) -> Result<Answer, ServingFault>
     requires lines { length lines.old ≤ lines_in_all }
     requires clock { C.told clock.old [] }
@@ -39,20 +42,33 @@ pub(crate) fn play_hall<N: Network, C: Clock>(
         HasRun starts events hall.state out.old →
         HaveRecords starts answer.text.items) }
 {
-    let desk = Desk::new(network, serving);
     let mut recorded = RecordedHall::new(alloc, hall, desk, matches)?;
-    let rounds = begin_bound(&mut recorded, serving);
-    run_hall(&mut recorded, lines, out, clock, rounds)?;
-    answer_of(alloc, &recorded, matches)
+    let rounds = begin_bound(&mut recorded, serving, since);
+    let run = run_hall(&mut recorded, lines, out, clock, rounds);
+    let lost = recorded.has_lost();
+    let (hall, mut desk) = recorded.into_parts();
+    match run {
+        Ok(()) => answer_of(alloc, &hall, matches, lost),
+        Err(fault) => {
+            if matches!(fault, ServingFault::Rounds) {
+                desk.tell_unfinished(&hall);
+            }
+            Err(fault)
+        }
+    }
 }
 
-/// Sets how long the matches may take, and returns the most rounds.
-fn begin_bound<W: Log, A: Archive>(recorded: &mut RecordedHall<W, A>, serving: &Serving<'_>) -> u64
+/// Sets how long the matches may take from this moment on, and returns the most rounds.
+fn begin_bound<W: Log, A: Archive>(
+    recorded: &mut RecordedHall<W, A>,
+    serving: &Serving<'_>,
+    since: u64,
+) -> u64
     ensures { recorded.new.hall ≡ recorded.old.hall }
 {
     match serving.keeping.minutes {
         Some(minutes) => {
-            recorded.stop_at(minutes.saturating_mul(60_000));
+            recorded.stop_at(since.saturating_add(minutes.saturating_mul(60_000)));
             u64::MAX
         }
         None => serving.rounds,
@@ -62,7 +78,7 @@ fn begin_bound<W: Log, A: Archive>(recorded: &mut RecordedHall<W, A>, serving: &
 /// Serves the matches over the lines until all have ended.
 fn run_hall<S: Read + Write + Drop, C: Clock, W: Log, A: Archive>(
     recorded: &mut RecordedHall<W, A>,
-    lines: &mut [StreamLine<S>],
+    lines: &mut [HallLine<S>],
     out: &mut HallOut,
     clock: &mut C,
     rounds: u64,
@@ -93,19 +109,20 @@ fn fault_of<W: Log, A: Archive>(recorded: &RecordedHall<W, A>, error: ServeError
     }
 }
 
-/// The records of the matches, all of which have ended. The status says whether each that is to be kept was.
-fn answer_of<W: Log, A: Archive>(
+/// The records of the matches of a hall, all of which have ended. The status says whether one that is to be kept was lost.
+fn answer_of<W: Log>(
     alloc: Global,
-    recorded: &RecordedHall<W, A>,
+    hall: &Hall<W>,
     matches: usize,
+    lost: bool,
 ) -> Result<Answer, ServingFault>
     ensures { IfOk result (λ answer. (starts : List AbstractTable) →
         length starts ≡ matches →
-        HasEnded starts recorded.now.hall.state →
+        HasEnded starts hall.now.state →
         HaveRecords starts answer.text.items) }
 {
-    let text = records_of(alloc, recorded.hall(), matches)?;
-    let status = if recorded.has_lost() {
+    let text = records_of(alloc, hall, matches)?;
+    let status = if lost {
         Status::Device
     } else {
         Status::Success

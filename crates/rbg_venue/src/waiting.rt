@@ -1,32 +1,22 @@
 //! The players of a hall are waited for.
-ghost use Rattle.std.specs.Prelude.{◌≤◌, length, IfOk};
-ghost use Rattle.rbg_hall.specs.Limits.{lines_in_all};
 
-use rbg_floor::Table;
+use crate::door::Guest;
+use crate::lines::HallLine;
 use rbg_hall::LINES;
 use rbg_keeping::{Serving, ServingFault};
 use rbg_network::{Hosting, Network, News, StreamLine, gather};
-use std::alloc::Global;
+use std::alloc::{AllocError, Global};
+use std::io::{Read, Write};
 
-/// How many players the tables have together.
-pub(crate) fn players_of(tables: &[Table]) -> usize {
-    let mut players: usize = 0;
-    for table in tables {
-        players = players.saturating_add(table.game.players());
-    }
-    players
-}
-
-/// Waits until that many players have connected to the port, of which a hall has lines for 128.
-pub(crate) fn accept_lines<N: Network>(
+/// Waits until that many players have connected to the port, of which a hall has lines for 128. Returns where others can
+/// connect too.
+pub(crate) fn accept_guests<N: Network>(
     alloc: Global,
     network: &mut N,
     port: u16,
     players: usize,
     serving: &Serving<'_>,
-) -> Result<Vec<StreamLine<N::Stream>>, ServingFault>
-    ensures { IfOk result (λ lines. length lines.items ≤ lines_in_all) }
-{
+) -> Result<(Vec<Guest<N::Stream>>, N::Listener), ServingFault> {
     if players > LINES {
         return Err(ServingFault::Config);
     }
@@ -39,7 +29,24 @@ pub(crate) fn accept_lines<N: Network>(
         wait: hosting.wait,
         quiet: true,
     };
-    Ok(gather(alloc, network, &mut listener, players, silent)?)
+    let connections = gather(alloc, network, &mut listener, players, silent)?;
+    Ok((guests_of(alloc, connections)?, listener))
+}
+
+/// The guests of these connections, who have said nothing.
+fn guests_of<S: Read + Write + Drop>(
+    alloc: Global,
+    connections: Vec<StreamLine<S>>,
+) -> Result<Vec<Guest<S>>, AllocError> {
+    let mut guests = Vec::with_capacity(alloc, connections.len())?;
+    for (index, line) in connections.into_iter().enumerate() {
+        guests.push(Guest {
+            line,
+            said: Vec::new(alloc),
+            connection: index.saturating_add(1),
+        })?;
+    }
+    Ok(guests)
 }
 
 /// The news of how long the matches may take.
@@ -52,15 +59,14 @@ fn most_of(serving: &Serving<'_>) -> News<'static> {
     }
 }
 
-/// Reports which connections took nothing of what was left for them after the end. Connections are numbered from 1.
+/// Reports which connections took nothing of what was left for them after the end.
 pub(crate) fn tell_stalled<N: Network>(
     network: &mut N,
     hosting: Hosting,
-    lines: &[StreamLine<N::Stream>],
+    lines: &[HallLine<N::Stream>],
 ) {
-    for (index, line) in lines.iter().enumerate() {
-        if line.has_stalled() {
-            let connection = index.saturating_add(1);
+    for line in lines {
+        if let Some(connection) = line.stalled() {
             hosting.tell(network, &News::ConnectionTookNothing { connection });
         }
     }

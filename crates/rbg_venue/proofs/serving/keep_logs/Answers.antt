@@ -3,8 +3,8 @@ use Rattle.std.proofs.Common.{ap, ◌∙◌}
 use Rattle.rbg_floor.specs.Failing.{HeldHall}
 use Rattle.rbg_venue.proofs.serving.keep_logs.Goals as goal
 
-pub loop-index-preserved : goal.loop-index-preserved
-loop-index-preserved g c = record {
-  state = ap (λ (one : HeldHall _). one.state) c.keep.ensures ∙ c.loop-index.invariant.state;
-  failed = ap (λ (one : HeldHall _). one.failed) c.keep.ensures ∙ c.loop-index.invariant.failed;
+pub loop-description-preserved : goal.loop-description-preserved
+loop-description-preserved g c = record {
+  state = ap (λ (one : HeldHall _). one.state) c.keep.ensures ∙ c.loop-description.invariant.state;
+  failed = ap (λ (one : HeldHall _). one.failed) c.keep.ensures ∙ c.loop-description.invariant.failed;
 }
