@@ -1,2 +1,3 @@
 -- Lemmas, by topic.
 mod RecordLemmas
+mod Resuming
