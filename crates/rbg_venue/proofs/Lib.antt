@@ -1,3 +1,3 @@
 -- Lemmas, by topic.
 mod RecordLemmas
-mod Resuming
+mod ResumingLemmas

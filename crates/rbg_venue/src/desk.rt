@@ -172,11 +172,11 @@ impl<N: Network> Drop for Desk<'_, N> {
 impl<'a, N: Network> Archive for Desk<'a, N> {
     ghost kept = { λ _ _. Unit {0} };
 
-    fn keep(&mut self, number: u64, record: &[u8]) -> Result<(), ArchiveFailure> {
+    fn keep(&mut self, number: u64, bytes: &[u8]) -> Result<(), ArchiveFailure> {
         let Some(directory) = self.serving.keeping.records else {
             return Ok(());
         };
-        match self.network.keep_record(directory, number, record) {
+        match self.network.keep_record(directory, number, bytes) {
             Ok(()) => Ok(()),
             Err(_) => Err(ArchiveFailure),
         }
