@@ -11,8 +11,8 @@ use Rattle.rbg_refereeing.specs.Matches.{IsScriptsMatch, IsNoMatch}
 use Rattle.rbg_refereeing.specs.declared.error.RefereeingError.{RefereeingError}
 use Rattle.rbg_refereeing.specs.declared.error.RefereeingError.TheVariants.{Load, Script, Memory}
 use Rattle.rbg_rules.specs.Meaning.{AbstractGame}
-use Rattle.rbg_tokens.specs.Limits.{longest_text}
-use Rattle.rbg_tokens.specs.declared.error.TextError.TheVariants.{TooLong, Memory as TextMemory}
+use Rattle.rbg_macro.specs.TextLimits.{longest_text}
+use Rattle.rbg_macro.specs.declared.text_error.TextError.TheVariants.{TooLong, Memory as TextMemory}
 use Rattle.rbg_tasks.specs.declared.task.Command.{Command}
 use Rattle.rbg_tasks.specs.declared.task.Command.TheVariants.{Referee}
 use Rattle.rbg_answering.specs.Answers.{IsGamesAnswer, IsTaskAnswer, form_line}

@@ -5,7 +5,7 @@ use Rattle.rbg_console.specs.Files.{KnownFiles, IsFileReading}
 use Rattle.rbg_console.specs.Inputs.{most_input, IsReading}
 use Rattle.rbg_console.specs.declared.input.Input.{Input}
 use Rattle.rbg_console.specs.declared.input.Input.TheVariants.{Whole, TooLong, Device}
-use Rattle.rbg_tokens.specs.Limits.{longest_text}
+use Rattle.rbg_macro.specs.TextLimits.{longest_text}
 use Rattle.rbg_tasks.specs.declared.task.Command.{Command}
 use Rattle.rbg_tasks.specs.declared.task.Command.TheVariants.{Check, Referee, Replay, Migrate, Moves}
 use Rattle.rbg_answering.specs.declared.task.Task.{Task}

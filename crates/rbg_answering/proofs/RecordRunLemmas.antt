@@ -11,7 +11,7 @@ use Rattle.rbg_refereeing.specs.Matches.IsNoInput.{no_mark, no_match}
 use Rattle.rbg_refereeing.specs.Runs.IsReadersAnswer.{whole as whole_input, too_long as long_reader}
 use Rattle.rbg_refereeing.specs.declared.error.RefereeingError.{RefereeingError}
 use Rattle.rbg_refereeing.specs.declared.error.RefereeingError.TheVariants.{Load, Script, Memory}
-use Rattle.rbg_tokens.specs.Limits.{longest_text}
+use Rattle.rbg_macro.specs.TextLimits.{longest_text}
 use Rattle.rbg_answering.specs.Recorded.{IsRecorded}
 use Rattle.rbg_answering.specs.RecordRuns.IsRecordedAnswer.{recorded, unplayed, failed}
 use Rattle.rbg_answering.specs.RecordRuns.{IsRecordedAnswer}

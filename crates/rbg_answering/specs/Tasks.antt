@@ -3,7 +3,7 @@ use Rattle.std.specs.Global.{Global}
 use Rattle.std.specs.Prelude.{◌≡◌, ℕ, ◌<◌, ◌≤◌, List, [], length, Option, Some, None, Vec}
 use Rattle.rbg_console.specs.Files.{KnownFiles, MayBe}
 use Rattle.rbg_console.specs.Inputs.{most_input, IsAll, IsAbove}
-use Rattle.rbg_tokens.specs.Limits.{longest_text}
+use Rattle.rbg_macro.specs.TextLimits.{longest_text}
 use Rattle.rbg_tasks.specs.Tasks.{NamedTask}
 use Rattle.rbg_tasks.specs.declared.task.Command.{Command}
 use Rattle.rbg_tasks.specs.declared.task.Command.TheVariants.{Check, Referee, Replay, Migrate, Moves}

@@ -15,9 +15,9 @@ use crate::lines::answer_form;
 use crate::loading::{answer_unloaded, load_read};
 use rbg_console::Status;
 use rbg_game::LoadError;
+use rbg_macro::TextError;
 use rbg_refereeing::{Answer, answer_fault, answer_refused, answer_script, referee_texts};
 use rbg_tasks::Command;
-use rbg_tokens::TextError;
 use std::alloc::{AllocError, Global};
 
 /// Answers a task: with what it asks for, or with the line of what is wrong with its description, its script or its

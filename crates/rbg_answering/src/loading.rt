@@ -1,13 +1,13 @@
 //! The game of what was read of a description, or the line of its refusal.
 ghost use Rattle.std.specs.Prelude.{ℕ, List, IfOk, IfErr};
 ghost use Rattle.rbg_game.specs.Loading.{IsRefused, Loads};
-ghost use Rattle.rbg_tokens.specs.Limits.{longest_text};
+ghost use Rattle.rbg_macro.specs.TextLimits.{longest_text};
 ghost use Rattle.rbg_answering.specs.Tasks.{IsReadOf};
 ghost use Rattle.rbg_answering.specs.internal.Parts.{SaysUnloaded};
 
 use rbg_game::{Game, LoadError, load};
+use rbg_macro::TextError;
 use rbg_refereeing::{Answer, answer_refused};
-use rbg_tokens::TextError;
 use std::alloc::{AllocError, Global};
 
 /// The game of a description. Where there is more than a text may have, it is refused as too long.

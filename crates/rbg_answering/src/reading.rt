@@ -2,15 +2,15 @@
 ghost use Rattle.std.specs.Prelude.{◌≡◌, ℕ, [], List, Option, IfOk};
 ghost use Rattle.rbg_console.specs.Files.{KeepsFiles};
 ghost use Rattle.rbg_console.specs.Inputs.{most_input};
-ghost use Rattle.rbg_tokens.specs.Limits.{longest_text};
+ghost use Rattle.rbg_macro.specs.TextLimits.{longest_text};
 ghost use Rattle.rbg_tasks.specs.Tasks.{file_task};
 ghost use Rattle.rbg_answering.specs.Tasks.{IsReadOf};
 ghost use Rattle.rbg_answering.specs.internal.Parts.{Gives, IsOnRecord, IsReadFor, IsReadIn, IsReadInput};
 
 use crate::Task;
 use rbg_console::{Files, Input, MAX_INPUT, read_input, read_record};
+use rbg_macro::MAX_TEXT;
 use rbg_tasks::{Command, FileTask};
-use rbg_tokens::MAX_TEXT;
 use std::alloc::{AllocError, Global};
 use std::io::Read;
 

@@ -10,7 +10,7 @@ use rbg_explain::{
     push_positions, push_vertices,
 };
 use rbg_game::LoadedGame;
-use rbg_tokens::Tokens;
+use rbg_macro::Tokens;
 use std::alloc::{AllocError, Global};
 use std::io;
 

@@ -6,7 +6,7 @@ use crate::reading::{Read, load_text, refuse};
 use crate::report::Report;
 use rbg_console::{Status, match_words};
 use rbg_game::LoadError;
-use rbg_tokens::TextError;
+use rbg_macro::TextError;
 use rbg_workbench::{Reader, Reading};
 use std::alloc::{AllocError, Global};
 

@@ -4,7 +4,7 @@ use crate::report::Report;
 use rbg_console::{Files, Input, Status, read_input};
 use rbg_explain::explain;
 use rbg_game::{LoadError, LoadedGame, load_with_layout};
-use rbg_tokens::{MAX_TEXT, TextError, Tokens, tokens};
+use rbg_macro::{MAX_TEXT, TextError, Tokens, tokens};
 use std::alloc::{AllocError, Global};
 use std::io;
 

@@ -6,7 +6,7 @@ ghost use Rattle.rbg_console.specs.Files.{MayBe};
 use crate::fault::Fault;
 use rbg_console::{Files, Input};
 use rbg_game::LoadError;
-use rbg_tokens::{MAX_TEXT, TextError};
+use rbg_macro::{MAX_TEXT, TextError};
 use std::alloc::Global;
 
 /// The text of the description that a file has.

@@ -2,8 +2,8 @@
 
 use crate::diagnostic::{Diagnostic, Severity};
 use crate::telling::{Telling, line_and_column};
+use rbg_macro::TextLine;
 use rbg_passages::Excerpt;
-use rbg_tokens::TextLine;
 use std::alloc::{AllocError, Global};
 
 /// A file's name, and its text.

@@ -1,7 +1,7 @@
 //! What an author is told, as bytes that are added to an output, and the line and the column of a place.
 
+use rbg_macro::{TextLine, Token};
 use rbg_passages::{Excerpt, push_action};
-use rbg_tokens::{TextLine, Token};
 use std::alloc::{AllocError, Global};
 use std::fmt::Display;
 use std::io::Write;

@@ -1,6 +1,6 @@
 //! What is found among tokens.
 
-use rbg_tokens::{Symbol, Token};
+use rbg_macro::{Symbol, Token};
 
 /// The index of the first token that is this symbol.
 pub(crate) fn index_of(tokens: &[Token<'_>], symbol: Symbol) -> Option<usize> {

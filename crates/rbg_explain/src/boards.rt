@@ -4,8 +4,8 @@ use crate::among::{before_first, count_names, has_text, is_at};
 use crate::sections::nth_name;
 use rbg_board::BoardError;
 use rbg_game::limits::MAX_VERTICES;
+use rbg_macro::{Symbol, Token};
 use rbg_suggest::behind_head;
-use rbg_tokens::{Symbol, Token};
 
 /// The token at which a refused board is shown. The board is one that is spelt right.
 pub(crate) fn board_place<'a>(error: &BoardError, board: &'a [Token<'a>]) -> Option<Token<'a>> {

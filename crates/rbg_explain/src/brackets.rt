@@ -1,7 +1,7 @@
 //! Brackets of a text: the ones that stay open, and the calls of macros.
 
 use crate::among::{before_first, count_names};
-use rbg_tokens::{Symbol, Token};
+use rbg_macro::{Symbol, Token};
 
 /// The last opening bracket of these tokens that isn't closed among them.
 pub(crate) fn open_bracket<'a>(tokens: &'a [Token<'a>]) -> Option<Token<'a>> {

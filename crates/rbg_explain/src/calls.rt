@@ -2,7 +2,7 @@
 
 use crate::among::{before_first, has_text, is_at};
 use rbg_diagnostics::{Diagnostic, Telling};
-use rbg_tokens::{Symbol, Token, count_line_feeds};
+use rbg_macro::{Symbol, Token, count_line_feeds};
 use std::alloc::{AllocError, Global};
 
 /// The numbers of the lines of these offsets, which are in order of the text, each once.

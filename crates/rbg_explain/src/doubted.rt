@@ -7,7 +7,7 @@ use rbg_base::Position;
 use rbg_diagnostics::{Diagnostic, Telling, line_and_column};
 use rbg_doubts::{Doubt, doubts};
 use rbg_game::Game;
-use rbg_tokens::{Symbol, Token};
+use rbg_macro::{Symbol, Token};
 use std::alloc::{AllocError, Global};
 
 /// Adds the doubts of a game whose rules have these actions.

@@ -7,9 +7,8 @@ use crate::sections::{expanded, nth_name, section_tokens};
 use rbg_board::BoardError;
 use rbg_game::limits::{MAX_DIRECTIONS, MAX_PIECES, MAX_PLAYERS, MAX_POSITIONS, MAX_VARIABLES};
 use rbg_game::{GameError, LoadError, Thing};
-use rbg_macro::{SectionKind, Source};
+use rbg_macro::{SectionKind, Source, Token, Tokens};
 use rbg_passages::actions;
-use rbg_tokens::{Token, Tokens};
 use std::alloc::{AllocError, Global};
 
 /// The place of a refusal: the exact one, or else that of the section.

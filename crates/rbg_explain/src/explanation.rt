@@ -13,11 +13,10 @@ use rbg_console::Refusal;
 use rbg_diagnostics::{Diagnostic, File, Severity, Telling, push_diagnostics};
 use rbg_game::LoadError;
 use rbg_lint::{is_balanced, push_unbalanced};
-use rbg_macro::MacroError;
+use rbg_macro::{MacroError, Token, Tokens};
 use rbg_origins::unroll;
 use rbg_suggest::misspelt_section;
 use rbg_syntax::SyntaxError;
-use rbg_tokens::{Token, Tokens};
 use std::alloc::{AllocError, Global};
 
 /// A text that is refused: its bytes, its tokens where it can be cut into them, and why.

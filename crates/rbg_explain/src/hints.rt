@@ -2,8 +2,8 @@
 
 use crate::among::is_at;
 use crate::spot::Spot;
+use rbg_macro::{Symbol, Token, TokenKind};
 use rbg_syntax::Expectation;
-use rbg_tokens::{Symbol, Token, TokenKind};
 
 impl<'a> Spot<'a> {
     /// Whether the token stands in a section that lists names with bounds.

@@ -2,8 +2,7 @@
 
 use crate::sections::{cut, expanded};
 use rbg_diagnostics::{Diagnostic, Telling, line_and_column};
-use rbg_macro::{Section, Source};
-use rbg_tokens::{Symbol, Token};
+use rbg_macro::{Section, Source, Symbol, Token};
 use std::alloc::{AllocError, Global};
 
 /// The most `~` that are tried.

@@ -4,9 +4,8 @@ use crate::among::start_of;
 use crate::sections::{expanded, section_tokens};
 use rbg_diagnostics::{Telling, line_and_column};
 use rbg_game::Layout;
-use rbg_macro::SectionKind;
+use rbg_macro::{SectionKind, Token, Tokens};
 use rbg_passages::actions;
-use rbg_tokens::{Token, Tokens};
 use std::alloc::{AllocError, Global};
 
 /// Adds a line for each position of the rules: its number, the line and the column of its action, and the action. The

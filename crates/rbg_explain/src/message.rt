@@ -9,11 +9,13 @@ use rbg_board::BoardError;
 use rbg_diagnostics::{Telling, line_and_column};
 use rbg_game::limits::{MAX_BOUND, MAX_NESTED_PATTERNS, MAX_VERTICES};
 use rbg_game::{GameError, LoadError};
-use rbg_macro::{MAX_JOINED, MAX_KEPT, MAX_LEVEL, MAX_READ, MacroError, SectionKind};
+use rbg_macro::{
+    MAX_JOINED, MAX_KEPT, MAX_LEVEL, MAX_READ, MAX_TEXT, MacroError, SectionKind, Symbol,
+    TextError, Token,
+};
 use rbg_origins::{Origin, Unrolled};
 use rbg_suggest::{kind_of, shown_at};
 use rbg_syntax::{Expectation, SyntaxError};
-use rbg_tokens::{MAX_TEXT, Symbol, TextError, Token};
 use std::alloc::{AllocError, Global};
 
 /// What is known of the calls from which the refusal's token comes.

@@ -6,10 +6,9 @@ use crate::spot::{Spot, head_name};
 use rbg_diagnostics::{Diagnostic, Telling, line_and_column};
 use rbg_game::{GameError, LoadError};
 use rbg_lint::relate_bracket;
-use rbg_macro::MacroError;
+use rbg_macro::{MacroError, Symbol, Token};
 use rbg_suggest::{NameKind, kind_of};
 use rbg_syntax::{Expectation, SyntaxError};
-use rbg_tokens::{Symbol, Token};
 use std::alloc::{AllocError, Global};
 
 /// Adds to a fault which bracket isn't closed, where a name was given first, what a parameter hides, the macro in whose body the place is and where

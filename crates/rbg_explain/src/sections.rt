@@ -1,7 +1,8 @@
 //! The tokens of a description's sections, with the macros expanded.
 
-use rbg_macro::{MacroError, Section, SectionKind, Source, expand};
-use rbg_tokens::{TextError, Token, Tokens, tokens};
+use rbg_macro::{
+    MacroError, Section, SectionKind, Source, TextError, Token, Tokens, expand, tokens,
+};
 use std::alloc::{AllocError, Global};
 
 /// The tokens of a text, or None where it can't be cut into tokens.

@@ -2,7 +2,7 @@
 
 use crate::among::{before_first, from_last, index_of, is_at};
 use crate::brackets::{CallForm, call_form, open_bracket, parameter_count, stays_open};
-use rbg_tokens::{Symbol, Token, TokenKind};
+use rbg_macro::{Symbol, Token, TokenKind};
 
 /// The names of the sections.
 const SECTIONS: [&str; 5] = ["players", "pieces", "variables", "board", "rules"];

@@ -4,8 +4,8 @@ use crate::exact::find_place;
 use crate::sections::cut;
 use crate::spot::Spot;
 use rbg_game::{LoadError, load_with_layout};
+use rbg_macro::{Symbol, Token, Tokens};
 use rbg_origins::{Origin, Unrolled};
-use rbg_tokens::{Symbol, Token, Tokens};
 use std::alloc::{AllocError, Global};
 
 /// A description whose macros are written out, with its tokens.

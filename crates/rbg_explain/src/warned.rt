@@ -10,11 +10,10 @@ use rbg_base::Position;
 use rbg_diagnostics::{Diagnostic, Severity, Telling};
 use rbg_game::Game;
 use rbg_lint::{Look, push_warnings};
-use rbg_macro::{SectionKind, Source};
+use rbg_macro::{SectionKind, Source, Symbol, Token, Tokens};
 use rbg_origins::unroll;
 use rbg_passages::actions;
 use rbg_rules::Action;
-use rbg_tokens::{Symbol, Token, Tokens};
 use rbg_warnings::{Thing, Warning, warnings};
 use std::alloc::{AllocError, Global};
 

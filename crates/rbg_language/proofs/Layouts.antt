@@ -2,9 +2,9 @@
 use Rattle.rbg_base.proofs.Common.{◌≡◌, ℕ, List, map, sym, ap, ◌∙◌}
 use Rattle.std.proofs.lemmas.Simd.{map-map}
 use Rattle.rbg_language.specs.Formatting.{HasSameTokens, spelled_as, spelling_of}
-use Rattle.rbg_tokens.specs.Text.{HasTokens}
-use Rattle.rbg_tokens.specs.Token.{Lexeme, lexeme_of}
-use Rattle.rbg_tokens.specs.declared.token.Token.{Token}
+use Rattle.rbg_macro.specs.Text.{HasTokens}
+use Rattle.rbg_macro.specs.Token.{Lexeme, lexeme_of}
+use Rattle.rbg_macro.specs.declared.token.Token.{Token}
 
 -- what tokens of the code spell
 spelled : (xs : List Token) (ts : List Lexeme) → map lexeme_of xs ≡ ts → map spelling_of ts ≡ map spelled_as xs

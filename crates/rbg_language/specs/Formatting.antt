@@ -1,9 +1,9 @@
 -- What stays of a text where its layout is changed.
 use Rattle.std.specs.Prelude.{ℕ, List, map, ◌≡◌}
-use Rattle.rbg_tokens.specs.Text.{HasTokens}
-use Rattle.rbg_tokens.specs.Token.{Lexeme}
-use Rattle.rbg_tokens.specs.declared.token.Token.{Token}
-use Rattle.rbg_tokens.specs.declared.token.TokenKind.{TokenKind}
+use Rattle.rbg_macro.specs.Text.{HasTokens}
+use Rattle.rbg_macro.specs.Token.{Lexeme}
+use Rattle.rbg_macro.specs.declared.token.Token.{Token}
+use Rattle.rbg_macro.specs.declared.token.TokenKind.{TokenKind}
 
 -- a token's kind and its bytes
 abbrev pub spelling_of : Lexeme → TokenKind × List ℕ

@@ -8,8 +8,7 @@ use crate::kinds::{Kind, Kinds, Needed};
 use crate::sections::{Body, Step, push_written, written_steps};
 use crate::walking::{Inside, Walk};
 use crate::words::{Word, push_words, word_bytes};
-use rbg_macro::SectionKind;
-use rbg_tokens::{Symbol, TokenKind};
+use rbg_macro::{SectionKind, Symbol, TokenKind};
 use std::alloc::{AllocError, Global};
 
 /// What a word is to the macros of its text.

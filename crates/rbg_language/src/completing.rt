@@ -5,8 +5,7 @@ use crate::definitions::{Definition, SECTIONS, definition_around};
 use crate::kinds::{Kind, Needed};
 use crate::walking::{Inside, Walk};
 use crate::words::{Word, first_behind, is_word, word_bytes};
-use rbg_macro::SectionKind;
-use rbg_tokens::{Symbol, TokenKind};
+use rbg_macro::{SectionKind, Symbol, TokenKind};
 use std::alloc::{AllocError, Global};
 
 /// The generators of boards.

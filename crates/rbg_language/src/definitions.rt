@@ -1,8 +1,7 @@
 //! The definitions of a text: its sections and macros, by the indices of their words.
 
 use crate::words::{Word, is_word, word_bytes};
-use rbg_macro::SectionKind;
-use rbg_tokens::{Symbol, TokenKind};
+use rbg_macro::{SectionKind, Symbol, TokenKind};
 use std::alloc::AllocError;
 
 /// The sections that there are.

@@ -2,9 +2,10 @@
 
 use crate::sections::{Body, push_expanded};
 use crate::words::Word;
-use rbg_macro::{MacroError, Section, SectionKind, Source, expand};
+use rbg_macro::{
+    MacroError, Section, SectionKind, Source, TextError, Token, Tokens, expand, tokens,
+};
 use rbg_passages::actions;
-use rbg_tokens::{TextError, Token, Tokens, tokens};
 use std::alloc::{AllocError, Global};
 
 /// Adds the expanded sections of a text, and says whether its macros can be expanded.

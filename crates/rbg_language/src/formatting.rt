@@ -3,7 +3,7 @@ ghost use Rattle.std.specs.Prelude.{◌≡◌, IfOk, IfSome, IsTrue, map};
 ghost use Rattle.rbg_language.specs.Formatting.{HasSameTokens, spelled_as};
 
 use rbg_base::is_name_part;
-use rbg_tokens::{TextError, Token, tokens};
+use rbg_macro::{TextError, Token, tokens};
 use std::alloc::{AllocError, Global};
 
 /// The most brackets for which spaces stand before a line.

@@ -7,8 +7,7 @@ use crate::finding::{Found, Target, found_at, kind_word};
 use crate::kinds::{Kind, Kinds};
 use crate::printing::Printing;
 use crate::words::{Span, Word, bytes_at, index_around, word_bytes};
-use rbg_macro::{SectionKind, Source};
-use rbg_tokens::{Symbol, Token, TokenKind, count_line_feeds};
+use rbg_macro::{SectionKind, Source, Symbol, Token, TokenKind, count_line_feeds};
 use std::alloc::{AllocError, Global};
 
 /// The most bytes that are shown of an expansion.

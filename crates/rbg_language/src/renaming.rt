@@ -7,8 +7,7 @@ use crate::finding::{Found, Target, found_at, is_same};
 use crate::kinds::Kinds;
 use crate::words::{Span, bytes_at, word_bytes};
 use rbg_base::is_name;
-use rbg_macro::Source;
-use rbg_tokens::{Symbol, Token, TokenKind};
+use rbg_macro::{Source, Symbol, Token, TokenKind};
 use std::alloc::{AllocError, Global};
 
 /// What becomes of a wish for another name.

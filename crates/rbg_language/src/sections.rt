@@ -2,8 +2,7 @@
 
 use crate::definitions::Definition;
 use crate::words::{Word, bytes_at, index_of_start};
-use rbg_macro::{Section, SectionKind, Source};
-use rbg_tokens::{Token, TokenKind};
+use rbg_macro::{Section, SectionKind, Source, Token, TokenKind};
 use std::alloc::{AllocError, Global};
 
 /// A word of a section: its kind, and the word of the text that it came from.

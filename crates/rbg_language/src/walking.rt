@@ -1,7 +1,7 @@
 //! A walk over words that shows what must stand at each place.
 
 use crate::kinds::Needed;
-use rbg_tokens::{Symbol, TokenKind};
+use rbg_macro::{Symbol, TokenKind};
 use std::alloc::{AllocError, Global};
 
 /// What the words inside brackets are.

@@ -1,6 +1,6 @@
 //! The words of a text: its tokens, also where some bytes begin none.
 
-use rbg_tokens::{MAX_TEXT, TextError, Token, TokenKind, tokens};
+use rbg_macro::{MAX_TEXT, TextError, Token, TokenKind, tokens};
 use std::alloc::{AllocError, Global};
 
 /// A part of a text, by its offsets.

@@ -1,9 +1,9 @@
 //! Brackets in the bodies of macros, each looked at by itself.
 
 use rbg_diagnostics::{Diagnostic, Severity, Telling, line_and_column};
+use rbg_macro::{Symbol, Token, TokenKind};
 use rbg_origins::{Definition, definitions};
 use rbg_suggest::behind_head;
-use rbg_tokens::{Symbol, Token, TokenKind};
 use std::alloc::{AllocError, Global};
 
 /// What is wrong with the brackets among some tokens.

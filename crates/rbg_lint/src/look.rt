@@ -4,8 +4,8 @@ use crate::parameters::push_parameters;
 use crate::signs::push_signs;
 use crate::stars::push_stars;
 use rbg_diagnostics::{Diagnostic, Severity};
+use rbg_macro::Token;
 use rbg_origins::{Origin, Unrolled};
-use rbg_tokens::Token;
 use std::alloc::{AllocError, Global};
 
 /// A text, and the same with its macros written out.

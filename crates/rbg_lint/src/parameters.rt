@@ -2,9 +2,9 @@
 
 use crate::look::{Look, new_warning};
 use rbg_diagnostics::{Diagnostic, Telling};
+use rbg_macro::{Symbol, Token};
 use rbg_origins::{Definition, definitions, index_of};
 use rbg_suggest::kind_of;
-use rbg_tokens::{Symbol, Token};
 use std::alloc::{AllocError, Global};
 
 /// Adds the parameters that their macros never use, and those that hide a name.

@@ -2,7 +2,7 @@
 
 use crate::look::{Look, new_warning};
 use rbg_diagnostics::{Diagnostic, Telling};
-use rbg_tokens::{Symbol, Token};
+use rbg_macro::{Symbol, Token};
 use std::alloc::{AllocError, Global};
 
 /// Adds what is found of signs in the sections, where macros are written out.

@@ -2,9 +2,9 @@
 
 use crate::look::{Look, new_warning};
 use rbg_diagnostics::{Diagnostic, Telling};
+use rbg_macro::{Symbol, Token};
 use rbg_origins::Origin;
 use rbg_suggest::behind_head;
-use rbg_tokens::{Symbol, Token};
 use std::alloc::{AllocError, Global};
 
 /// The most calls, one inside the other, that are followed.

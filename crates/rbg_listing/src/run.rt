@@ -5,8 +5,8 @@ ghost use Rattle.rbg_listing.specs.Runs.{IsFilesMoves, IsMovesRun};
 use crate::answer::{answer_moves, refuse};
 use rbg_console::{Files, Input, Status};
 use rbg_game::LoadError;
+use rbg_macro::{MAX_TEXT, TextError};
 use rbg_refereeing::{Answer, answer_device, write_answer};
-use rbg_tokens::{MAX_TEXT, TextError};
 use std::alloc::{AllocError, Global};
 use std::io::Write;
 

@@ -1,6 +1,6 @@
 //! The definitions of a text: its sections and its macros.
 
-use rbg_tokens::{Symbol, Token};
+use rbg_macro::{Symbol, Token};
 use std::alloc::{AllocError, Global};
 
 /// The names of the sections.

@@ -1,7 +1,7 @@
 //! Tokens while macros are expanded.
 
 use crate::unrolled::Origin;
-use rbg_tokens::{Token, TokenKind};
+use rbg_macro::{Token, TokenKind};
 use std::alloc::{AllocError, Global};
 
 /// A token while macros are expanded.

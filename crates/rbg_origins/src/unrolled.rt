@@ -2,7 +2,7 @@
 
 use crate::definition::{Definition, definitions};
 use crate::unroller::Unroller;
-use rbg_tokens::Token;
+use rbg_macro::Token;
 use std::alloc::{AllocError, Global};
 
 /// Where a token of an expanded section comes from.

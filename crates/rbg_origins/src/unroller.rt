@@ -3,8 +3,7 @@
 use crate::definition::Definition;
 use crate::item::{Arguments, Item};
 use crate::unrolled::{Origin, Unrolled};
-use rbg_macro::{MAX_KEPT, MAX_READ};
-use rbg_tokens::{Symbol, Token};
+use rbg_macro::{MAX_KEPT, MAX_READ, Symbol, Token};
 use std::alloc::{AllocError, Global};
 
 /// The most tokens that are kept: those that a description may have, and the heads of five sections.

@@ -3,7 +3,7 @@ use Rattle.std.proofs.Common.{◌≡◌, ℕ, suc, ◌+◌, ◌-◌, ◌<◌, �
 use Rattle.std.proofs.lemmas.Bool.{true≢false}
 use Rattle.std.proofs.lemmas.List.{take_rest, length-drop, map-append}
 use Rattle.std.proofs.Math.Seq.{drop-cons, drop-drop}
-use Rattle.rbg_tokens.specs.declared.token.Token.{Token}
+use Rattle.rbg_macro.specs.declared.token.Token.{Token}
 use Rattle.rbg_passages.specs.Actions.{AreCut, action, none, IsPart, single, to_player, to_nobody, pattern, braces, open_braces, change, open_change, between, marks_pattern}
 
 -- an action with so many further tokens

@@ -1,10 +1,10 @@
 -- How the tokens of rules are cut into actions.
 use Rattle.std.specs.Prelude.{◌≡◌, ◌≢◌, ℕ, ◌+◌, ◌<◌, ◌||◌, Bool, true, false, List, [], ◌∷◌, length, take, drop, slice_get, Some, All}
-use Rattle.rbg_tokens.specs.Kinds.{is_name_kind, is_symbol}
-use Rattle.rbg_tokens.specs.declared.token.Token.{Token}
-use Rattle.rbg_tokens.specs.declared.token.TokenKind.{TokenKind}
-use Rattle.rbg_tokens.specs.declared.token.TokenKind.TheVariants.{Symbol}
-use Rattle.rbg_tokens.specs.declared.token.Symbol.TheVariants.{DoubleArrow, Arrow, OpenBracket, CloseBracket, OpenBrace, CloseBrace, Comma, Question, Exclamation}
+use Rattle.rbg_macro.specs.Kinds.{is_name_kind, is_symbol}
+use Rattle.rbg_macro.specs.declared.token.Token.{Token}
+use Rattle.rbg_macro.specs.declared.token.TokenKind.{TokenKind}
+use Rattle.rbg_macro.specs.declared.token.TokenKind.TheVariants.{Symbol}
+use Rattle.rbg_macro.specs.declared.token.Symbol.TheVariants.{DoubleArrow, Arrow, OpenBracket, CloseBracket, OpenBrace, CloseBrace, Comma, Question, Exclamation}
 
 -- what begins an action that is a single token: a shift, or the switch to the keeper
 abbrev pub is_single : TokenKind → Bool

@@ -1,11 +1,11 @@
 //! The actions that the tokens of rules spell, in order of their positions.
 ghost use Rattle.std.specs.Prelude.{◌≡◌, ◌<◌, IfOk, IfSome, IfNone, OnOk, All, map, true, if◌then◌else◌, ◌++◌, ◌∷◌, []};
-ghost use Rattle.rbg_tokens.specs.declared.token.Token.{Token as AbstractToken};
-ghost use Rattle.rbg_tokens.specs.declared.token.TokenKind.TheVariants.{Symbol as OfSymbol};
-ghost use Rattle.rbg_tokens.specs.declared.token.Symbol.TheVariants.{OpenBrace, Arrow};
+ghost use Rattle.rbg_macro.specs.declared.token.Token.{Token as AbstractToken};
+ghost use Rattle.rbg_macro.specs.declared.token.TokenKind.TheVariants.{Symbol as OfSymbol};
+ghost use Rattle.rbg_macro.specs.declared.token.Symbol.TheVariants.{OpenBrace, Arrow};
 ghost use Rattle.rbg_passages.specs.Actions.{AreCut, EndsChange, EndsOn, IsFirst, IsPart, ends_change, is_change, is_single as is_single_kind, marks_pattern};
 
-use rbg_tokens::{Symbol, Token, TokenKind};
+use rbg_macro::{Symbol, Token, TokenKind};
 use std::alloc::{AllocError, Global};
 
 /// The tokens of each action, in order of the positions. The bracket that closes an assignment list or an off, and what

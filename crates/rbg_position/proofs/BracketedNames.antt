@@ -2,11 +2,11 @@
 use Rattle.rbg_base.proofs.Common.{◌≡◌, ℕ, ◌+◌, ◌&&◌, Bool, true, false, cond, List, [], ◌∷◌, ◌++◌, length, map, filter, refl, sym, ap, ◌∙◌, append_assoc, flat_map, enumerate_from}
 use Rattle.std.proofs.lemmas.List.{take_at, map-append, length-append}
 use Rattle.rbg_grammar.proofs.Common.{IsRow, IsEdge, edge, IsVertex, vertex, IsRectangle, four, IsHexagon, six, IsGraph, vertices, IsGenerated, generated, IsBoard, rectangular, hexagonal, graphic, Phrase, IsSymbol, symbol, IsName, name, IsWord, word, Repeated, done, again, After, after, separated, Listed, nothing, listed, Within, within, WithComma, with_comma, SpeltName, SpeltEdge, SpeltVertex, SpeltBoard, rectangle, hexagon, graph}
-use Rattle.rbg_tokens.proofs.Common.{is_name_kind, Lexeme}
-use Rattle.rbg_tokens.specs.declared.token.Symbol.{Symbol}
-use Rattle.rbg_tokens.specs.declared.token.Symbol.TheVariants as symbols
-use Rattle.rbg_tokens.specs.declared.token.TokenKind.{TokenKind}
-use Rattle.rbg_tokens.specs.declared.token.TokenKind.TheVariants as kinds
+use Rattle.rbg_macro.proofs.TextCommon.{is_name_kind, Lexeme}
+use Rattle.rbg_macro.specs.declared.token.Symbol.{Symbol}
+use Rattle.rbg_macro.specs.declared.token.Symbol.TheVariants as symbols
+use Rattle.rbg_macro.specs.declared.token.TokenKind.{TokenKind}
+use Rattle.rbg_macro.specs.declared.token.TokenKind.TheVariants as kinds
 use Rattle.rbg_position.specs.Laws.{names_in_brackets}
 use Rattle.rbg_position.specs.Sections.{Indexed, leave_open, kinds_before, names_piece}
 use Rattle.rbg_position.specs.internal.Walking.{is_inside_behind}

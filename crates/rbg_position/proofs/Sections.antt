@@ -2,10 +2,10 @@
 use Rattle.rbg_base.proofs.Common.{◌≡◌, ℕ, ◌+◌, ◌≤◌, ◌&&◌, ◌⊎◌, inl, inr, Bool, true, false, cond, List, [], ◌∷◌, ◌++◌, length, map, take, filter, slice_get, Option, Some, None, if◌then◌else◌, refl, sym, ap, ◌∙◌, append_assoc, zero-add, arith, flat_map, count_by, enumerate_from, last_or, filter-append, sum_by-append, slice_get_within, get_or_from_slice_get}
 use Rattle.std.proofs.lemmas.List.{append-nil, take_more, length-take-le, map-append, flat_map_more}
 use Rattle.rbg_rules.specs.Meaning.{AbstractGame}
-use Rattle.rbg_tokens.proofs.Common.{is_name_kind, Lexeme}
-use Rattle.rbg_tokens.specs.declared.token.Symbol.TheVariants.{OpenBracket, CloseBracket}
-use Rattle.rbg_tokens.specs.declared.token.TokenKind.{TokenKind}
-use Rattle.rbg_tokens.specs.declared.token.TokenKind.TheVariants.{Symbol}
+use Rattle.rbg_macro.proofs.TextCommon.{is_name_kind, Lexeme}
+use Rattle.rbg_macro.specs.declared.token.Symbol.TheVariants.{OpenBracket, CloseBracket}
+use Rattle.rbg_macro.specs.declared.token.TokenKind.{TokenKind}
+use Rattle.rbg_macro.specs.declared.token.TokenKind.TheVariants.{Symbol}
 use Rattle.rbg_position.specs.Sections.{Indexed, kinds_before, is_bracket, is_opening, leave_open, names_piece, vertex_at, name_of, space_between, written_of}
 use Rattle.rbg_position.specs.internal.Walking.{is_inside_behind}
 

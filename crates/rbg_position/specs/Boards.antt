@@ -1,9 +1,9 @@
 -- The section of the board among the tokens of a text, and the text with another one in its place.
 use Rattle.std.specs.Prelude.{◌≡◌, ℕ, ◌+◌, ◌-◌, ◌<◌, ◌≤◌, true, false, List, ◌++◌, length, take, drop, slice_get, Some, codes}
-use Rattle.rbg_tokens.specs.Kinds.{is_symbol}
-use Rattle.rbg_tokens.specs.declared.token.Symbol.TheVariants as symbols
-use Rattle.rbg_tokens.specs.Text.{HasTokens}
-use Rattle.rbg_tokens.specs.Token.{Lexeme}
+use Rattle.rbg_macro.specs.Kinds.{is_symbol}
+use Rattle.rbg_macro.specs.declared.token.Symbol.TheVariants as symbols
+use Rattle.rbg_macro.specs.Text.{HasTokens}
+use Rattle.rbg_macro.specs.Token.{Lexeme}
 
 -- `#board` stands here.
 pub record BeginsBoard (tokens : List Lexeme) (at : ℕ) : Type 0 where

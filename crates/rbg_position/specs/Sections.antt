@@ -7,12 +7,12 @@ use Rattle.rbg_macro.specs.Expansion.{HasSections}
 use Rattle.rbg_macro.specs.Sections.{SectionTokens}
 use Rattle.rbg_macro.specs.declared.source.SectionKind.TheVariants.{Board}
 use Rattle.rbg_rules.specs.Meaning.{AbstractGame}
-use Rattle.rbg_tokens.specs.Kinds.{is_name_kind}
-use Rattle.rbg_tokens.specs.Text.{HasTokens}
-use Rattle.rbg_tokens.specs.Token.{Lexeme}
-use Rattle.rbg_tokens.specs.declared.token.Symbol.TheVariants.{OpenBracket, CloseBracket, CloseBrace, Comma, Colon}
-use Rattle.rbg_tokens.specs.declared.token.TokenKind.{TokenKind}
-use Rattle.rbg_tokens.specs.declared.token.TokenKind.TheVariants.{Name, Symbol}
+use Rattle.rbg_macro.specs.Kinds.{is_name_kind}
+use Rattle.rbg_macro.specs.Text.{HasTokens}
+use Rattle.rbg_macro.specs.Token.{Lexeme}
+use Rattle.rbg_macro.specs.declared.token.Symbol.TheVariants.{OpenBracket, CloseBracket, CloseBrace, Comma, Colon}
+use Rattle.rbg_macro.specs.declared.token.TokenKind.{TokenKind}
+use Rattle.rbg_macro.specs.declared.token.TokenKind.TheVariants.{Name, Symbol}
 
 -- a token with its index
 abbrev pub Indexed : Type 0

@@ -4,8 +4,8 @@ ghost use Rattle.rbg_grammar.specs.Sections.{same_kind};
 ghost use Rattle.rbg_grammar.specs.Spells.{HasSection};
 ghost use Rattle.rbg_macro.specs.Expansion.{HasSections};
 ghost use Rattle.rbg_macro.specs.declared.source.SectionKind.TheVariants.{Board};
-ghost use Rattle.rbg_tokens.specs.Kinds.{is_name_kind};
-ghost use Rattle.rbg_tokens.specs.Token.{Lexeme};
+ghost use Rattle.rbg_macro.specs.Kinds.{is_name_kind};
+ghost use Rattle.rbg_macro.specs.Token.{Lexeme};
 ghost use Rattle.rbg_position.specs.Sections.{ExpandsBoard, name_of, section_text, space_between};
 ghost use Rattle.rbg_position.specs.internal.Walking.{
   IsSectionAt,
@@ -15,9 +15,8 @@ ghost use Rattle.rbg_position.specs.internal.Walking.{
 };
 
 use rbg_base::{Memory, Piece};
-use rbg_macro::{Section, SectionKind, Source, expand};
+use rbg_macro::{Section, SectionKind, Source, Symbol, TokenKind, Tokens, expand};
 use rbg_rules::Game;
-use rbg_tokens::{Symbol, TokenKind, Tokens};
 use std::alloc::Global;
 
 /// The section of the board, in which these pieces stand on the vertices. Its macros are expanded.

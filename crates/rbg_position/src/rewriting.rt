@@ -1,14 +1,14 @@
 //! The text with another section of its board.
 ghost use Rattle.std.specs.Prelude.{◌≡◌, ◌↔◌, ◌+◌, ◌<◌, ◌≤◌, ◌++◌, ℕ, IfNone, IfOk, IfSome, IsTrue, codes, drop, length, map, take, true};
-ghost use Rattle.rbg_tokens.specs.Kinds.{is_symbol};
-ghost use Rattle.rbg_tokens.specs.declared.token.Symbol.TheVariants as symbols;
-ghost use Rattle.rbg_tokens.specs.Text.{HasTokens};
-ghost use Rattle.rbg_tokens.specs.Token.{lexeme_of};
+ghost use Rattle.rbg_macro.specs.Kinds.{is_symbol};
+ghost use Rattle.rbg_macro.specs.declared.token.Symbol.TheVariants as symbols;
+ghost use Rattle.rbg_macro.specs.Text.{HasTokens};
+ghost use Rattle.rbg_macro.specs.Token.{lexeme_of};
 ghost use Rattle.rbg_position.specs.Boards.{BeginsBoard, IsBoardSection, IsRewritten};
 ghost use Rattle.rbg_position.specs.internal.Missing.{HasNoBoard};
 
 use rbg_base::Memory;
-use rbg_tokens::{Symbol, Token, TokenKind, Tokens};
+use rbg_macro::{Symbol, Token, TokenKind, Tokens};
 use std::alloc::Global;
 
 /// The text with this section in place of that of its board, or None if it has no such section.

@@ -4,8 +4,8 @@ use Rattle.std.proofs.Common.{◌<◌, ◌≤◌, ℕ, List, Option, Result, Ok,
 use Rattle.rbg_console.specs.declared.status.Status.{Status}
 use Rattle.rbg_game.specs.Loading.{IsRefused}
 use Rattle.rbg_game.specs.declared.error.LoadError.TheVariants.{Text}
-use Rattle.rbg_tokens.specs.Limits.{longest_text}
-use Rattle.rbg_tokens.specs.declared.error.TextError.TheVariants.{TooLong}
+use Rattle.rbg_macro.specs.TextLimits.{longest_text}
+use Rattle.rbg_macro.specs.declared.text_error.TextError.TheVariants.{TooLong}
 use Rattle.rbg_refereeing.specs.declared.answer.Answer.{Answer}
 use Rattle.rbg_refereeing.specs.Runs.{IsRunOf, WritesAnswer}
 use Rattle.rbg_refereeing.specs.Runs.IsRunOf.{answered, no_memory}

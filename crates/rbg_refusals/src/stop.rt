@@ -3,9 +3,9 @@
 use rbg_base::Memory;
 use rbg_floor::HallError;
 use rbg_game::LoadError;
+use rbg_macro::TextError;
 use rbg_match::MatchError;
 use rbg_moves::Over;
-use rbg_tokens::TextError;
 use rbg_wire::WireError;
 use std::alloc::AllocFailed;
 

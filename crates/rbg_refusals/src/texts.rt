@@ -7,9 +7,8 @@ use crate::telling::Telling;
 use rbg_auto::{Expr, Steps, compact, compile};
 use rbg_base::Position;
 use rbg_game::{Game, load, load_with_layout};
-use rbg_macro::{MacroError, Section, Source, expand};
+use rbg_macro::{MacroError, Section, Source, Tokens, expand, tokens};
 use rbg_show::show;
-use rbg_tokens::{Tokens, tokens};
 use std::alloc::Global;
 use std::io::Write;
 

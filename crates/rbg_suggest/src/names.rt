@@ -1,7 +1,7 @@
 //! The names of a description, by their kinds.
 
 use crate::distance::{Nearest, Search};
-use rbg_tokens::{Symbol, Token};
+use rbg_macro::{Symbol, Token};
 use std::alloc::{AllocError, Global};
 
 /// What a name may be.

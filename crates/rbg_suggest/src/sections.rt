@@ -1,7 +1,7 @@
 //! Misspelt names of sections.
 
 use crate::distance::Search;
-use rbg_tokens::{Symbol, Token};
+use rbg_macro::{Symbol, Token};
 use std::alloc::{AllocError, Global};
 
 /// The head of a macro whose name is like that of a section, as `Rules`.

@@ -9,7 +9,7 @@ use rbg_base::number_of_decimal;
 use rbg_console::{Files, Input};
 use rbg_drawing::{BOARD_SCRIPT, BOARD_STYLE, push_game};
 use rbg_game::LoadedGame;
-use rbg_tokens::MAX_TEXT;
+use rbg_macro::MAX_TEXT;
 use rbg_web::{Method, Reply, Request, Site, Status};
 use rbg_wire::{after_text, cut_at, write_number};
 use std::alloc::{AllocError, Global};

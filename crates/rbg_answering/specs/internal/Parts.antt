@@ -15,7 +15,7 @@ use Rattle.rbg_record.specs.declared.error.RecordError.{RecordError}
 use Rattle.rbg_record.specs.declared.error.RecordError.TheVariants.{Form, Over, Memory}
 use Rattle.rbg_refereeing.specs.Answers.{refused_line}
 use Rattle.rbg_refereeing.specs.Runs.{device_line}
-use Rattle.rbg_tokens.specs.Limits.{longest_text}
+use Rattle.rbg_macro.specs.TextLimits.{longest_text}
 use Rattle.rbg_tasks.specs.declared.task.Command.{Command}
 use Rattle.rbg_tasks.specs.declared.task.Command.TheVariants.{Check, Referee, Replay, Migrate, Moves}
 use Rattle.rbg_answering.specs.declared.task.Task.{Task}

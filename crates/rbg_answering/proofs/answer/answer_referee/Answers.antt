@@ -3,8 +3,8 @@ use Rattle.std.proofs.Common.{◌≡◌, subst}
 use Rattle.rbg_console.specs.declared.status.Status.TheVariants.{Refused}
 use Rattle.rbg_game.specs.declared.error.LoadError.TheVariants.{Text}
 use Rattle.rbg_refereeing.specs.Answers.{refused_line}
-use Rattle.rbg_tokens.specs.Limits.{longest_text}
-use Rattle.rbg_tokens.specs.declared.error.TextError.TheVariants.{TooLong}
+use Rattle.rbg_macro.specs.TextLimits.{longest_text}
+use Rattle.rbg_macro.specs.declared.text_error.TextError.TheVariants.{TooLong}
 use Rattle.rbg_answering.specs.Tasks.{IsReadOf}
 use Rattle.rbg_tasks.specs.declared.task.Command.TheVariants.{Referee}
 use Rattle.rbg_answering.specs.internal.Parts.{AnswersWhole}

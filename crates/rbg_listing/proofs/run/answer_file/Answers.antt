@@ -2,8 +2,8 @@
 use Rattle.rbg_base.proofs.Common.{subst, IfOk-weaker}
 use Rattle.rbg_console.specs.Files.{IsFileReading}
 use Rattle.rbg_game.specs.declared.error.LoadError.TheVariants.{Text}
-use Rattle.rbg_tokens.specs.Limits.{longest_text}
-use Rattle.rbg_tokens.specs.declared.error.TextError.TheVariants.{TooLong}
+use Rattle.rbg_macro.specs.TextLimits.{longest_text}
+use Rattle.rbg_macro.specs.declared.text_error.TextError.TheVariants.{TooLong}
 use Rattle.rbg_listing.specs.Answers.{IsMovesAnswer}
 use Rattle.rbg_listing.specs.Answers.IsMovesAnswer.{refused}
 use Rattle.rbg_listing.specs.Runs.IsFilesMoves.{of_file}

@@ -1,6 +1,6 @@
 -- What is cut behind the tokens so far follows what was found.
 use Rattle.std.proofs.Common.{List, length, drop, map, ◌-◌, ◌++◌}
-use Rattle.rbg_tokens.specs.declared.token.Token.{Token}
+use Rattle.rbg_macro.specs.declared.token.Token.{Token}
 use Rattle.rbg_passages.specs.Actions.{AreCut}
 use Rattle.rbg_passages.proofs.rule_actions.actions.Given as goal
 

@@ -1,6 +1,6 @@
 -- One token more is written.
 use Rattle.std.proofs.Common.{inl, inr}
-use Rattle.rbg_tokens.specs.Token.{lexeme_of}
+use Rattle.rbg_macro.specs.Token.{lexeme_of}
 use Rattle.rbg_position.proofs.Sections.{Counts, counts_within, token_written}
 use Rattle.rbg_position.proofs.board.put_section.Goals.{then-is_piece, else-is_piece}
 use Rattle.rbg_position.proofs.board.put_section.Goals as goal

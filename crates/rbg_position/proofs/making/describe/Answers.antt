@@ -1,7 +1,7 @@
 -- A step that fails says why there is no description.
 use Rattle.std.proofs.Common.{◌≡◌, ℕ, ◌++◌, List, codes, sym, subst, ◌∙◌, Option, Some, None, IfSome, IfNone, Vec, Global}
 use Rattle.rbg_game.specs.Loading.{Loads}
-use Rattle.rbg_tokens.proofs.Common.{HasTokens, Lexeme}
+use Rattle.rbg_macro.proofs.TextCommon.{HasTokens, Lexeme}
 use Rattle.rbg_rules.specs.Meaning.{AbstractGame, AbstractPlace}
 use Rattle.rbg_position.specs.Boards.{IsRewritten}
 use Rattle.rbg_position.specs.Positions.{game_at, IsTextAt}

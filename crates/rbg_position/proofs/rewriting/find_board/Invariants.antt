@@ -1,6 +1,6 @@
 -- No `#board` stands before this index.
 use Rattle.std.proofs.Common.{ℕ, ◌<◌, map}
-use Rattle.rbg_tokens.specs.Token.{lexeme_of}
+use Rattle.rbg_macro.specs.Token.{lexeme_of}
 use Rattle.rbg_position.specs.Boards.{BeginsBoard}
 use Rattle.rbg_position.proofs.rewriting.find_board.Given as goal
 

@@ -1,6 +1,6 @@
 -- The next `#` is found, or there is none.
 use Rattle.rbg_base.proofs.Common.{sym, ◌∙◌, arith, length, length-map}
-use Rattle.rbg_tokens.specs.Token.{lexeme_of}
+use Rattle.rbg_macro.specs.Token.{lexeme_of}
 use Rattle.rbg_position.proofs.Tokens.{no_hash_more, token_within}
 use Rattle.rbg_position.proofs.rewriting.find_end.Goals as goal
 

@@ -1,7 +1,7 @@
 -- No `#` stands before this index.
 use Rattle.std.proofs.Common.{◌≡◌, ℕ, ◌+◌, ◌<◌, ◌≤◌, false, map, slice_get, Some}
-use Rattle.rbg_tokens.proofs.Common.{is_symbol, Lexeme, lexeme_of}
-use Rattle.rbg_tokens.specs.declared.token.Symbol.TheVariants as symbols
+use Rattle.rbg_macro.proofs.TextCommon.{is_symbol, Lexeme, lexeme_of}
+use Rattle.rbg_macro.specs.declared.token.Symbol.TheVariants as symbols
 use Rattle.rbg_position.proofs.rewriting.find_end.Given as goal
 
 abbrev pub invariant-loop-end : goal.invariant-loop-end

@@ -1,7 +1,7 @@
 -- The section of the board is found, or there is none.
 use Rattle.rbg_base.proofs.Common.{◌≡◌, ℕ, ◌+◌, ◌-◌, ◌<◌, List, ◌++◌, length, get_or, map, take, drop, sym, ap, subst, ◌∙◌, arith, get_or_default, length-map}
-use Rattle.rbg_tokens.proofs.Common.{HasTokens, Lexeme, lexeme_of}
-use Rattle.rbg_tokens.specs.declared.token.Token.{Token}
+use Rattle.rbg_macro.proofs.TextCommon.{HasTokens, Lexeme, lexeme_of}
+use Rattle.rbg_macro.specs.declared.token.Token.{Token}
 use Rattle.rbg_position.specs.Boards.{BeginsBoard, IsBoardSection, IsRewritten}
 use Rattle.rbg_position.proofs.Tokens.{at_token, token_within}
 use Rattle.rbg_position.proofs.rewriting.rewritten.Goals as goal
