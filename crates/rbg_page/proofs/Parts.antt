@@ -2,7 +2,7 @@
 use Rattle.std.proofs.Common.{◌≡◌, ℕ, Bool, List, [], ◌∷◌, ◌++◌, length, codes, refl, Vec, Global}
 use Rattle.rbg_rules.specs.Meaning.{AbstractGame, AbstractPlace}
 use Rattle.rbg_game.specs.declared.layout.Layout.{Layout}
-use Rattle.rbg_numbering.specs.NameTables.{bytes_of}
+use Rattle.rbg_game.specs.NameTables.{bytes_of}
 use Rattle.rbg_page.specs.declared.drawing.Spot.{Spot}
 use Rattle.rbg_page.specs.declared.head.TheConstants.{HEAD}
 use Rattle.rbg_page.specs.declared.tail.TheConstants.{STYLES, SCRIPTS, END}

@@ -1,6 +1,6 @@
 -- The rows of a board.
 use Rattle.rbg_base.proofs.Common.{◌≡◌, ℕ, Bool, ◌+◌, ◌<◌, List, [], ◌++◌, max, length, take, get_or, slice_get, Some, refl, ap, sym, ◌∙◌, arith, Vec, Global, take_more, length-map, get_or-map, get_or_from_slice_get}
-use Rattle.rbg_numbering.specs.NameTables.{bytes_of}
+use Rattle.rbg_game.specs.NameTables.{bytes_of}
 use Rattle.std.proofs.lemmas.List.Recursion.{max_push}
 use Rattle.rbg_page.specs.declared.drawing.Spot.{Spot}
 use Rattle.rbg_page.specs.Boards.{is_marked, label_text, labels_text, numbered_text, spot_from, vertex_text, vertices_text, widest}

@@ -3,7 +3,7 @@ use Rattle.std.specs.Prelude.{ℕ, Bool, ◌+◌, ◌-◌, ◌==◌, max, nat_lt
 use Rattle.std.specs.Prelude.{Vec}
 use Rattle.std.specs.Global.{Global}
 use Rattle.std.specs.List.{flat_map, enumerate_from, list_any}
-use Rattle.rbg_numbering.specs.NameTables.{bytes_of}
+use Rattle.rbg_game.specs.NameTables.{bytes_of}
 use Rattle.rbg_game.specs.declared.layout.Layout.{Layout}
 use Rattle.rbg_game.specs.declared.layout.Layout.TheVariants.{Rectangle, Hexagon, Graph}
 use Rattle.rbg_page.specs.declared.drawing.Spot.{Spot}

@@ -1,6 +1,6 @@
 //! How a board is drawn, and the calls that write the drawing at the end of a list of bytes.
 ghost use Rattle.std.specs.Prelude.{◌≡◌, ◌<◌, ◌++◌, OnOk, All, length};
-ghost use Rattle.rbg_numbering.specs.NameTables.{bytes_of};
+ghost use Rattle.rbg_game.specs.NameTables.{bytes_of};
 ghost use Rattle.rbg_page.specs.Boards.{drawing_text, frame_text, graph_text, is_marked, label_text, labels_text, mark_text, rows_text, size_text, spot_from, spot_text, vertex_text, vertices_text, widest};
 
 use crate::texts::{put_escaped, put_field};

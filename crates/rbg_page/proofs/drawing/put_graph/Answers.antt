@@ -1,7 +1,7 @@
 -- The parts of the text, one after the other.
 use Rattle.std.proofs.Common.{[], ◌∷◌, length, codes}
 use Rattle.rbg_page.specs.Boards.{frame_text, labels_text, vertices_text}
-use Rattle.rbg_numbering.specs.NameTables.{bytes_of}
+use Rattle.rbg_game.specs.NameTables.{bytes_of}
 use Rattle.rbg_page.proofs.Parts.{graph_is}
 use Rattle.rbg_page.proofs.Writing.{joined3}
 use Rattle.rbg_page.proofs.drawing.put_graph.Goals as goal

@@ -1,6 +1,6 @@
 -- The text so far is that of the names so far.
 use Rattle.std.proofs.Common.{◌≡◌, ◌++◌, take}
-use Rattle.rbg_numbering.specs.NameTables.{bytes_of}
+use Rattle.rbg_game.specs.NameTables.{bytes_of}
 use Rattle.rbg_page.specs.Boards.{labels_text}
 use Rattle.rbg_page.proofs.drawing.put_labels.Given as goal
 
