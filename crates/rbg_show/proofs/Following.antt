@@ -16,7 +16,7 @@ use Rattle.rbg_show.specs.Following.Follows.{head, made, refused}
 use Rattle.rbg_show.specs.Following.Stops.{behind_end, no_move, mark, not_legal, keeper, heavy}
 use Rattle.rbg_show.specs.Lines.{HasNoMessage, IsLine, IsOther, IsSilent, SaysMessage}
 use Rattle.rbg_show.specs.Moving.{MakesNone, MakesOne, MeetsHeavy, TiresKeeper}
-use Rattle.rbg_playthrough.specs.Playing.{Playing}
+use Rattle.rbg_moves.specs.Playing.{Playing}
 use Rattle.rbg_show.specs.Readings.{AreReadings, IsSaid, lead_of}
 use Rattle.rbg_show.specs.internal.Standing.{HasReadings, IsMessageShown, IsMoveShown, KeepsLine, StopsMessage, StopsMove, standing_of}
 use Rattle.rbg_show.specs.internal.Stopping.{IsNoMove, stop_of_unsettled}

@@ -12,7 +12,7 @@ use Rattle.rbg_show.specs.Endings.{EndsWith, ended_text, stopped_text, unsettled
 use Rattle.rbg_show.specs.Following.{AreLinesOf, FollowsList, IsBare, IsLineEnd, Standing, Stops, StopsAtEnd, StopsAtLine, StopsBehind, StopsLine, first_standing, outcome_of}
 use Rattle.rbg_show.specs.Following.EndsWell.{settled, at_limit}
 use Rattle.rbg_show.specs.Following.FollowsLines.{none, more}
-use Rattle.rbg_playthrough.specs.Playing.{Playing}
+use Rattle.rbg_moves.specs.Playing.{Playing}
 use Rattle.rbg_show.specs.Showing.{IsShown}
 use Rattle.rbg_show.specs.Showing.IsShown.{whole, at_line, at_end}
 use Rattle.rbg_show.specs.Moving.{Settles}

@@ -8,7 +8,7 @@ use Rattle.rbg_show.specs.declared.reading.Reading.{Reading}
 use Rattle.rbg_show.specs.Moving.{CanMakeNone, IsHeavyAt, IsOfMover, KeeperMoves, Makes, MakesFirst, MakesNone, MakesOne, MeetsHeavy, Settles, TiresKeeper, Waits}
 use Rattle.rbg_show.specs.Moving.IsHeavyAt.{to_try, to_find}
 use Rattle.rbg_show.specs.Moving.Waits.{longer}
-use Rattle.rbg_playthrough.specs.Playing.{Playing}
+use Rattle.rbg_moves.specs.Playing.{Playing}
 use Rattle.rbg_show.specs.internal.Trying.{IsHeavyReading, TellsMade, TellsMoved, TellsOne}
 
 -- the move of a reading, from its pairs

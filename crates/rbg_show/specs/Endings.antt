@@ -4,7 +4,7 @@ use Rattle.rbg_wire.specs.declared.outcome.Outcome.{Outcome}
 use Rattle.rbg_wire.specs.declared.outcome.Outcome.TheVariants.{Finished, Time, Refusals, Gone, Heavy}
 use Rattle.rbg_show.specs.declared.stop.Stop.{Stop}
 use Rattle.rbg_show.specs.declared.stop.Stop.TheVariants.{NotLegal, NoMove, Mark, BehindEnd, Heavy as HeavyQuestion, Keeper, Memory}
-use Rattle.rbg_playthrough.specs.Playing.{Playing, mover_text}
+use Rattle.rbg_moves.specs.Playing.{Playing, mover_text}
 
 -- the name of a player, or its number where the game has no such player
 unfoldable pub who_text : List (List ℕ) → ℕ → List ℕ

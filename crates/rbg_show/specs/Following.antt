@@ -15,7 +15,7 @@ use Rattle.rbg_show.specs.declared.stop.Stop.TheVariants.{NotLegal, NoMove, Mark
 use Rattle.rbg_show.specs.Endings.{ended_text}
 use Rattle.rbg_show.specs.Lines.{IsEnd, IsOther, IsSilent, HasNoMessage, SaysMessage}
 use Rattle.rbg_show.specs.Moving.{MakesNone, MakesOne, MeetsHeavy, Settles, SettlesHeavy, TiresKeeper}
-use Rattle.rbg_playthrough.specs.Playing.{Playing}
+use Rattle.rbg_moves.specs.Playing.{Playing}
 use Rattle.rbg_show.specs.Readings.{AreReadings, IsSaid, lead_of}
 
 -- Where one stands in a list: where the game stands, what stands before the pairs of a move if the first line of a

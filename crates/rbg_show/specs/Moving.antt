@@ -3,8 +3,8 @@ use Rattle.std.specs.Prelude.{◌≡◌, ◌≢◌, ℕ, ◌<◌, ◌⊎◌, Lis
 use Rattle.rbg_rules.specs.Meaning.{IsLegal, Finished, IsHeavyToFind, IsHeavyToTry}
 use Rattle.rbg_moves.specs.Limits.{most_keeper_moves}
 use Rattle.rbg_show.specs.declared.reading.Reading.{Reading}
-use Rattle.rbg_playthrough.specs.Moving.{Moves}
-use Rattle.rbg_playthrough.specs.Playing.{Playing}
+use Rattle.rbg_moves.specs.Moving.{Moves}
+use Rattle.rbg_moves.specs.Playing.{Playing}
 
 -- The reading names no player but the one who is to move.
 abbrev pub IsOfMover : Playing → Reading → Type 0

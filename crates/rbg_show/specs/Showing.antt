@@ -5,7 +5,7 @@ use Rattle.rbg_show.specs.declared.showing.Shown.{Shown}
 use Rattle.rbg_show.specs.declared.stop.Stop.{Stop}
 use Rattle.rbg_show.specs.Endings.{EndsWith, stopped_text, unsettled_text}
 use Rattle.rbg_show.specs.Following.{FollowsList, StopsAtEnd, StopsAtLine, first_standing}
-use Rattle.rbg_playthrough.specs.Playing.{Playing}
+use Rattle.rbg_moves.specs.Playing.{Playing}
 
 -- What is shown is whole, and then the list is followed whole; or it is not, and then a line of the list stops, or what
 -- comes behind the last one. The last line of the text tells which, with the number of the line and why it stops.

@@ -2,12 +2,12 @@
 ghost use Rattle.std.specs.Prelude.{◌++◌, ◌≢◌, None, OnOk};
 ghost use Rattle.rbg_wire.specs.Writing.{Appends};
 ghost use Rattle.rbg_show.specs.declared.stop.Stop.TheVariants.{Memory as NoMemory};
-ghost use Rattle.rbg_playthrough.specs.Playing.{mover_text};
+ghost use Rattle.rbg_moves.specs.Playing.{mover_text};
 ghost use Rattle.rbg_show.specs.Endings.{ended_text, ending_text, ending_words, reason_text, stopped_text, who_text};
 
 use crate::stop::Stop;
 use rbg_base::{Memory, Player};
-use rbg_playthrough::Playthrough;
+use rbg_moves::Playthrough;
 use rbg_rules::Game;
 use rbg_wire::{Outcome, write_number};
 

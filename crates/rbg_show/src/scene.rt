@@ -5,7 +5,7 @@ ghost use Rattle.rbg_moves.specs.Limits.{most_keeper_moves};
 ghost use Rattle.rbg_show.specs.declared.stop.Stop.TheVariants.{Memory as NoMemory};
 ghost use Rattle.rbg_show.specs.Endings.{EndsWith, ended_text, stopped_text};
 ghost use Rattle.rbg_show.specs.internal.Standing.{TellsLimit};
-ghost use Rattle.rbg_playthrough.specs.Moving.{Moves};
+ghost use Rattle.rbg_moves.specs.Moving.{Moves};
 ghost use Rattle.rbg_show.specs.Moving.{IsHeavyAt, MeetsHeavy, Settles, SettlesHeavy, TiresKeeper};
 ghost use Rattle.rbg_wire.specs.declared.outcome.Outcome.TheVariants.{Heavy as HeavyEnd};
 ghost use Rattle.rbg_show.specs.internal.Trying.{IsHeavyPairs, IsHeavyReading, TellsFirst, TellsKeeper, TellsMade, TellsMoved, TellsOne};
@@ -14,8 +14,7 @@ use crate::reading::Reading;
 use crate::sheet::Sheet;
 use crate::stop::Stop;
 use rbg_base::{Memory, Move, Pair, Player};
-use rbg_moves::Unsettled;
-use rbg_playthrough::Playthrough;
+use rbg_moves::{Playthrough, Unsettled};
 use rbg_wire::Outcome;
 
 /// A game that is followed, and what is written of it.

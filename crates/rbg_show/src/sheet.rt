@@ -9,7 +9,7 @@ use crate::signs::Signs;
 use crate::stop::Stop;
 use rbg_base::{Piece, Player, Variable};
 use rbg_game::{Game, Layout};
-use rbg_playthrough::Playthrough;
+use rbg_moves::Playthrough;
 use rbg_wire::{Outcome, write_number};
 use std::alloc::{AllocError, Global};
 

@@ -13,8 +13,7 @@ use crate::scene::Scene;
 use crate::sheet::Sheet;
 use crate::stop::Stop;
 use rbg_game::LoadedGame;
-use rbg_moves::{PlayedGame, Unsettled};
-use rbg_playthrough::Playthrough;
+use rbg_moves::{PlayedGame, Playthrough, Unsettled};
 use rbg_wire::{Outcome, cut_at};
 use std::alloc::{AllocError, Global};
 

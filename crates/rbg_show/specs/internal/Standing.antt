@@ -13,7 +13,7 @@ use Rattle.rbg_show.specs.declared.stop.Stop.TheVariants.{NotLegal, NoMove, Mark
 use Rattle.rbg_show.specs.Endings.{EndsWith, ended_text, stopped_text, unsettled_text}
 use Rattle.rbg_show.specs.Following.{BeginsWithMark, EndsWell, Follows, FollowsLines, FollowsList, IsBare, Standing, StopsAtEnd, StopsAtLine, StopsBehind, StopsLine, outcome_of}
 use Rattle.rbg_show.specs.Moving.{MakesNone, MakesOne, MeetsHeavy, TiresKeeper}
-use Rattle.rbg_playthrough.specs.Playing.{Playing}
+use Rattle.rbg_moves.specs.Playing.{Playing}
 use Rattle.rbg_show.specs.Readings.{AreReadings, IsSaid}
 
 -- where one stands

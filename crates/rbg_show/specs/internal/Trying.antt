@@ -3,8 +3,8 @@ use Rattle.std.specs.Prelude.{◌≡◌, ◌≢◌, ℕ, ◌⊎◌, List, Bool, 
 use Rattle.rbg_rules.specs.Meaning.{Finished, IsHeavyToTry}
 use Rattle.rbg_show.specs.declared.reading.Reading.{Reading}
 use Rattle.rbg_show.specs.Moving.{CanMakeNone, IsOfMover, KeeperMoves, Makes, MakesFirst, MakesNone, MakesOne}
-use Rattle.rbg_playthrough.specs.Moving.{Moves}
-use Rattle.rbg_playthrough.specs.Playing.{Playing}
+use Rattle.rbg_moves.specs.Moving.{Moves}
+use Rattle.rbg_moves.specs.Playing.{Playing}
 
 -- Whether these pairs were a move. If not, nothing has changed.
 abbrev pub TellsMoved : List (ℕ × ℕ) → (from to : Playing) → Bool → Type 0

@@ -2,7 +2,7 @@
 use Rattle.std.proofs.Common.{◌≡◌, None}
 use Rattle.rbg_rules.specs.Meaning.{AbstractGame, start_of}
 use Rattle.rbg_show.specs.Following.{Standing, first_standing}
-use Rattle.rbg_playthrough.specs.Playing.{Playing}
+use Rattle.rbg_moves.specs.Playing.{Playing}
 use Rattle.rbg_show.proofs.Lists.{list_shown}
 use Rattle.rbg_show.proofs.showing.show.Goals as goal
 

@@ -1,6 +1,6 @@
 use Rattle.std.proofs.Common.{subst, IfNone}
 use Rattle.rbg_rules.specs.Meaning.{AbstractPlace, Legal}
-use Rattle.rbg_playthrough.proofs.playthrough.Playthrough.try_pairs.Goals as goal
+use Rattle.rbg_moves.proofs.playthrough.Playthrough.try_pairs.Goals as goal
 
 -- No place is reached by the pairs, so they are no legal move.
 pub returns-in-None-clause-illegal : goal.returns-in-None-clause-illegal

@@ -2,12 +2,16 @@
 ghost use Rattle.std.specs.Prelude.{◌≡◌, ◌⊎◌, ◌<◌, Err, None, Some, length, slice_get, IfOk, IfSome, IfNone, IsTrue, OnOk, OnErr};
 ghost use Rattle.rbg_rules.specs.Meaning.{IsHeavyToFind, IsHeavyToTry, start_of, AbstractPlace, Legal, IsLegal, Finished, IsGame, IsPlaceOf};
 ghost use Rattle.rbg_moves.specs.Limits.{most_keeper_moves};
-ghost use Rattle.rbg_playthrough.specs.Playing.{mover_text};
-ghost use Rattle.rbg_playthrough.specs.Moving.{Moves, moved_to};
+ghost use Rattle.rbg_moves.specs.Playing.{mover_text};
+ghost use Rattle.rbg_moves.specs.Moving.{Moves, moved_to};
 
-use rbg_base::{Memory, Pair, Piece, Player, Variable};
-use rbg_moves::{MAX_KEEPER_MOVES, Move, Over, Place, PlayedGame, Workspace};
+use crate::place::Place;
+use crate::played::PlayedGame;
+use crate::settling::MAX_KEEPER_MOVES;
+use crate::workspace::Workspace;
+use rbg_base::{Memory, Move, Pair, Piece, Player, Variable};
 use rbg_rules::Game;
+use rbg_search::Over;
 use std::alloc::Global;
 use std::marker::Model;
 
@@ -23,7 +27,7 @@ pub struct Playthrough<'a> {
 }
 
 impl<'a> Model for Playthrough<'a> {
-    ghost use Rattle.rbg_playthrough.specs.Playing.{Playing, coded_playing};
+    ghost use Rattle.rbg_moves.specs.Playing.{Playing, coded_playing};
 
     ghost Value = { Playing };
 

@@ -2,7 +2,7 @@
 use Rattle.std.specs.Prelude.{◌≡◌, ◌==◌, ℕ, ◌+◌, min, if◌then◌else◌, List}
 use Rattle.rbg_rules.specs.Meaning.{AbstractPlace, Legal}
 use Rattle.rbg_moves.specs.Limits.{most_keeper_moves}
-use Rattle.rbg_playthrough.specs.Playing.{Playing}
+use Rattle.rbg_moves.specs.Playing.{Playing}
 
 -- how many moves the keeper has made in a row after a move from here
 abbrev pub in_a_row_after : Playing → ℕ
