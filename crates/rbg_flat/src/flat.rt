@@ -1,8 +1,8 @@
 //! A flat part that is being found, by sets of vertices.
 ghost use Rattle.std.specs.Prelude.{◌≡◌, ◌≢◌, ℕ, ◌+◌, ◌*◌, ◌/◌, ◌<◌, ◌≤◌, ◌↔◌, ◌⊎◌, ◌^◌, length, IfOk, IfSome, IfNone, OnOk, IsTrue, false};
 ghost use Rattle.rbg_rules.specs.Meaning.{IsGame, IsStart, IsNumbered, IsPatternAt, positions_of, AbstractGame, AbstractState, IsStateOf, Start};
-ghost use Rattle.rbg_leaps.specs.Leaps.{IsLeap, EndsAcross};
-ghost use Rattle.rbg_leaps.specs.Origin.{start_of};
+ghost use Rattle.rbg_shifts.specs.Leaps.{IsLeap, EndsAcross};
+ghost use Rattle.rbg_shifts.specs.Origin.{start_of};
 ghost use Rattle.rbg_flat.specs.Candidates.{MayEnd};
 ghost use Rattle.rbg_flat.specs.Chains.{Holds};
 ghost use Rattle.rbg_flat.specs.Paths.{ArePathsOf, IsStill};
@@ -24,8 +24,8 @@ use crate::sets::Sets;
 use crate::setting::Setting;
 use crate::words::{lowest, unit_word, without};
 use rbg_base::{Memory, Pair, Position, Vertex};
-use rbg_leaps::Origin;
 use rbg_rules::Game;
+use rbg_shifts::Origin;
 use rbg_state::SemiState;
 use std::alloc::Global;
 

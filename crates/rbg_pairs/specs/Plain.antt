@@ -1,7 +1,7 @@
 -- Pairs at positions that are no shifts.
 use Rattle.std.specs.Prelude.{◌≡◌, ◌≢◌, ◌↔◌, ℕ, ◌≤◌, List, length, AllPairs, Contains}
 use Rattle.rbg_rules.specs.Meaning.{Expression}
-use Rattle.rbg_leaps.specs.Leaps.{IsShiftAt}
+use Rattle.rbg_shifts.specs.Leaps.{IsShiftAt}
 
 -- So many of the pairs are at positions that are no shifts.
 pub record HasPlain (rules : Expression) (pairs : List (ℕ × ℕ)) (many : ℕ) : Type 0 where

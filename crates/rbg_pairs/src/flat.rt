@@ -12,8 +12,8 @@ use crate::queue::Queue;
 use rbg_auto::{Glance, Steps};
 use rbg_base::{Direction, Memory, Pair, Piece, Position, Vertex};
 use rbg_flat::is_shift;
-use rbg_leaps::Origin;
 use rbg_rules::Game;
+use rbg_shifts::Origin;
 use rbg_state::{SemiState, Trial};
 use std::alloc::Global;
 

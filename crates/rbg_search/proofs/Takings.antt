@@ -3,7 +3,7 @@ use Rattle.rbg_base.proofs.Common.{◌≡◌, ℕ, ◌+◌, ◌*◌, ◌≤◌, 
 use Rattle.std.proofs.lemmas.List.{length-append}
 use Rattle.rbg_rules.specs.Meaning.{shift, Expression, IsNumbered, IsModifierAt, IsPatternAt, is_modifier, inside, Start, beginning, after, AbstractGame, AbstractState, Question, reach, pattern}
 use Rattle.rbg_rules.proofs.PositionLemmas.{one_stands}
-use Rattle.rbg_leaps.specs.Leaps.{IsShiftAt}
+use Rattle.rbg_shifts.specs.Leaps.{IsShiftAt}
 use Rattle.rbg_flat.proofs.Common.{IsCandidate, HasCandidates}
 use Rattle.rbg_search.proofs.Common.{Passes, trying, finding, listing, asking, GoesOn, ComesTo, begins, by_pattern, by_modifier, HasPart, CountsPairs, most_pairs_of, Over, IsSpent, IsSpentButOne}
 use Rattle.rbg_pairs.proofs.Common.{at_vertex, IsReached, IsPart, HasPlain}

@@ -1,6 +1,6 @@
 use Rattle.std.proofs.Common.{◌≡◌, true, false, sym, ◌∙◌, subst}
 use Rattle.rbg_rules.specs.Meaning.{AbstractGame}
-use Rattle.rbg_leaps.specs.Leaps.{IsShiftAt}
+use Rattle.rbg_shifts.specs.Leaps.{IsShiftAt}
 use Rattle.rbg_pairs.proofs.Plains.{plain_more, plain_same}
 use Rattle.rbg_pairs.proofs.flat.one_more.Goals as goal
 
