@@ -2,7 +2,7 @@
 ghost use Rattle.std.specs.Prelude.{◌≡◌, ℕ, List, IfErr, IfOk};
 ghost use Rattle.rbg_game.specs.Loading.{IsRefused, Loads};
 ghost use Rattle.rbg_rules.specs.Meaning.{IsPlaceOf, AbstractGame};
-ghost use Rattle.rbg_same.specs.Same.{IsNarrow};
+ghost use Rattle.rbg_position.specs.Same.{IsNarrow};
 ghost use Rattle.rbg_macro.specs.Text.{HasTokens};
 ghost use Rattle.rbg_position.specs.internal.Texts.{IsNoBeginning, IsNoText};
 ghost use Rattle.rbg_position.specs.Positions.{BeginsAs, IsDescription, IsPosition, game_at};
@@ -13,11 +13,11 @@ use crate::board::board_section;
 use crate::comparing::pieces_of;
 use crate::error::PositionError;
 use crate::rewriting::rewritten;
+use crate::same_game::is_game_with;
 use rbg_game::{Game, LoadError, load};
 use rbg_macro::Tokens;
 use rbg_moves::{Place, PlayedGame};
 use rbg_page::tell;
-use rbg_same::is_game_with;
 use std::alloc::Global;
 
 /// The description of the place to which a record of the game of a text leads: the text with the board as it stands

@@ -1,6 +1,6 @@
 -- One variable more holds the same, or another number.
 use Rattle.rbg_position.specs.Refusals.StandsOtherwise.{value}
-use Rattle.rbg_same.proofs.Items.{same_more}
+use Rattle.rbg_position.proofs.Items.{same_more}
 use Rattle.rbg_position.proofs.comparing.compare_values.Goals as goal
 
 pub returns-then-here-there-clause-otherwise : goal.returns-then-here-there-clause-otherwise

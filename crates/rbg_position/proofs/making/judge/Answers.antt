@@ -1,7 +1,7 @@
 -- The other game is the wanted one, or it isn't.
 use Rattle.rbg_base.proofs.Common.{◌≡◌, ◌≢◌, ℕ, List, Bool, false, IsTrue, sym, subst, ◌∙◌, false≢true}
 use Rattle.rbg_rules.specs.Meaning.{AbstractGame}
-use Rattle.rbg_same.specs.Same.{IsNarrow, game_with}
+use Rattle.rbg_position.specs.Same.{IsNarrow, game_with}
 use Rattle.rbg_position.specs.declared.error.PositionError.TheVariants.{Memory}
 use Rattle.rbg_position.specs.internal.Texts.IsNoText.{other_game, no_memory}
 use Rattle.rbg_base.proofs.Errors.{passed_on}
