@@ -10,7 +10,7 @@ use Rattle.rbg_archive.specs.Archives.{KeptRecord}
 use Rattle.rbg_archive.specs.Recorded.{AreAllKept, AreKept, RecordedLacks, RecordedSteps}
 use Rattle.rbg_archive.specs.declared.recorded.RecordedHall.{RecordedHall}
 use Rattle.rbg_archive.specs.internal.Noting.{OnlyTells}
-use Rattle.rbg_archive.proofs.Noting.{after_event, told_keeps}
+use Rattle.rbg_archive.proofs.KeptLemmas.{after_event, told_keeps}
 use Rattle.rbg_archive.proofs.Staying.{as_many_tables}
 
 module _ {W A : Type 0} (told : W → List ℕ → Type 0) (kept : A → List KeptRecord → Type 0) where

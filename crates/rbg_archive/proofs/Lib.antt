@@ -1,5 +1,5 @@
 -- Lemmas, by topic.
 mod Handling
-mod Noting
-mod Serving
+mod KeptLemmas
+mod ServedLemmas
 mod Staying

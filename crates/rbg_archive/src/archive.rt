@@ -17,8 +17,8 @@ pub trait Archive: Drop {
     ghost kept: { Self → List KeptRecord → Type 0 };
 
     /// Keeps the record of the match of this number.
-    fn keep(&mut self, number: u64, record: &[u8]) -> Result<(), ArchiveFailure>
-        ensures ok { OnOk result (KeepsRecord kept self.old self.new number record.now) }
+    fn keep(&mut self, number: u64, bytes: &[u8]) -> Result<(), ArchiveFailure>
+        ensures ok { OnOk result (KeepsRecord kept self.old self.new number bytes.now) }
         ensures err { OnErr result (KeepsNothing kept self.old self.new) };
 
     /// The match of this number has begun.
