@@ -1,0 +1,3 @@
+-- What calls from C answer.
+pub mod Results
+pub mod Opening
