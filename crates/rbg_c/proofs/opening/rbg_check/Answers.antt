@@ -8,4 +8,4 @@ pub returns-in-Ok : goal.returns-in-Ok
 returns-in-Ok c = is_game c.in-Ok.ensures.game refl
 
 pub returns-else-is_memory : goal.returns-else-is_memory
-returns-else-is_memory c = refused c.in-Err.ensures.refused (λ lost. false≢true (c.if-is_memory.ensures.1 lost)) c.layer.ensures
+returns-else-is_memory c = refused c.in-Err.ensures.refused (λ lost. false≢true (c.if-is_memory.ensures.1 lost)) c.layer.ensures.number
