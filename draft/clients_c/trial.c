@@ -1,0 +1,137 @@
+/* Calls the library in every way that the header allows, by chance, and compares what two copies of a state tell:
+   trial FILE CALLS SEED. It is to be quiet under valgrind and AddressSanitizer. */
+#include <rbg.h>
+
+#include <inttypes.h>
+#include <stdio.h>
+#include <stdlib.h>
+#include <string.h>
+
+enum { HANDLES = 5, PAIRS = 200, ITEMS = 4096 };
+
+static uint64_t seed;
+
+static uint64_t chance(uint64_t below) {
+  seed ^= seed << 13, seed ^= seed >> 7, seed ^= seed << 17;
+  return seed % below;
+}
+
+static void check(int holds, const char *what) {
+  if (!holds) {
+    fprintf(stderr, "wrong: %s\n", what);
+    exit(1);
+  }
+}
+
+static uint8_t text[1 << 20];
+static size_t text_length;
+static rbg_state states[HANDLES];
+static uint64_t counts[32];
+
+/* One call, good or bad. */
+static rbg_result call(rbg_state *state, rbg_state *other) {
+  uint64_t key = 0, count = 0, needed = 0, made = 0;
+  uint32_t player = 0;
+  rbg_pair pairs[PAIRS + 8];
+  memset(pairs, 0, sizeof pairs);
+  switch (chance(16)) {
+  case 0: { /* a text that is cut, or spoilt, or whole */
+    static uint8_t spoilt[1 << 20];
+    size_t length = chance(4) ? text_length : chance(text_length + 1);
+    memcpy(spoilt, text, text_length);
+    if (chance(2))
+      spoilt[chance(text_length)] = (uint8_t)chance(256);
+    return rbg_open(spoilt, length, other);
+  }
+  case 1:
+    if (chance(4) == 0)
+      rbg_free(state);
+    return RBG_OK;
+  case 2:
+    return state == other ? RBG_OK : rbg_copy(state, other);
+  case 3:
+    return rbg_player(state, &player);
+  case 4:
+    return rbg_moves_made(state, &made);
+  case 5: { /* a move that is made and undone leads back */
+    rbg_result result = rbg_find_moves(state, &count);
+    if (result != RBG_OK || count == 0)
+      return result;
+    uint64_t before = 0, after = 0;
+    check(rbg_key(state, &before) == RBG_OK, "key");
+    result = rbg_make_found(state, chance(count));
+    if (result != RBG_OK)
+      return result;
+    check(rbg_undo(state) == RBG_OK, "undo");
+    check(rbg_key(state, &after) == RBG_OK && before == after, "undone key");
+    return RBG_OK;
+  }
+  case 6: {
+    uint16_t board[ITEMS];
+    return rbg_board(state, board, chance(2) ? ITEMS : chance(80), &needed);
+  }
+  case 7: {
+    uint32_t values[ITEMS];
+    return rbg_values(state, values, chance(2) ? ITEMS : chance(8), &needed);
+  }
+  case 8: {
+    uint64_t scores[ITEMS];
+    return rbg_scores(state, scores, chance(2) ? ITEMS : chance(4), &needed);
+  }
+  case 9: /* a move by its pairs does what the move by its index does */
+  case 10: {
+    rbg_result result = rbg_find_moves(state, &count);
+    if (result != RBG_OK || count == 0)
+      return result;
+    uint64_t index = chance(count), one = 0, two = 0;
+    check(rbg_move(state, index, pairs, PAIRS, &needed) == RBG_OK, "move");
+    rbg_state copy = RBG_NO_STATE;
+    check(rbg_copy(state, &copy) == RBG_OK, "copy");
+    check(rbg_make(&copy, pairs, needed) == RBG_OK, "make");
+    check(rbg_make_found(state, index) == RBG_OK, "make found");
+    check(rbg_key(state, &one) == RBG_OK && rbg_key(&copy, &two) == RBG_OK && one == two, "two ways to one place");
+    rbg_free(&copy);
+    return RBG_OK;
+  }
+  case 11:
+    return rbg_move(state, chance(64), pairs, chance(PAIRS), &needed);
+  case 12:
+    return rbg_make_found(state, chance(2) ? chance(64) : ~chance(64));
+  case 13: { /* pairs by chance, also none and too many */
+    size_t length = chance(PAIRS + 8);
+    for (size_t i = 0; i < length; i++)
+      pairs[i] = (rbg_pair){(uint32_t)chance(100), chance(3) ? (uint32_t)chance(200) : (uint32_t)~chance(9)};
+    return rbg_make(state, pairs, length);
+  }
+  case 14:
+    return rbg_undo(state);
+  default:
+    return rbg_key(state, &key);
+  }
+}
+
+int main(int argc, char **argv) {
+  if (argc != 4) {
+    fprintf(stderr, "usage: trial FILE CALLS SEED\n");
+    return 2;
+  }
+  FILE *file = fopen(argv[1], "rb");
+  if (!file) {
+    perror(argv[1]);
+    return 2;
+  }
+  text_length = fread(text, 1, sizeof text, file);
+  fclose(file);
+  seed = strtoull(argv[3], NULL, 10) | 1;
+  for (int64_t left = atoll(argv[2]); left > 0; left--) {
+    rbg_result result = call(&states[chance(HANDLES)], &states[chance(HANDLES)]);
+    check(result < 32, "an answer that the header has");
+    counts[result]++;
+  }
+  for (int i = 0; i < HANDLES; i++)
+    rbg_free(&states[i]);
+  for (int i = 0; i < 32; i++)
+    if (counts[i])
+      printf("%d %" PRIu64 "\n", i, counts[i]);
+  return 0;
+}

@@ -1,0 +1,51 @@
+//! The numbers of results, as the header has them.
+ghost use Rattle.std.specs.Prelude.{◌≡◌};
+ghost use Rattle.rbg_c.specs.Calls.{number_of};
+ghost use Rattle.rbg_c.specs.Opening.{IsNumberOf};
+
+use rbg_ask::Refusal;
+use rbg_game::LoadError;
+
+pub(crate) const OK: u32 = 0;
+pub(crate) const EMPTY: u32 = 1;
+pub(crate) const MEMORY: u32 = 2;
+pub(crate) const OVER: u32 = 3;
+pub(crate) const KEEPER: u32 = 4;
+pub(crate) const ILLEGAL: u32 = 5;
+pub(crate) const START: u32 = 6;
+pub(crate) const SMALL: u32 = 7;
+pub(crate) const RANGE: u32 = 8;
+const TEXT: u32 = 16;
+const MACRO: u32 = 17;
+const SYNTAX: u32 = 18;
+const GAME: u32 = 19;
+
+/// The number of a refusal.
+pub(crate) fn number(refusal: Refusal) -> u32
+    ensures { result ≡ number_of refusal }
+{
+    match refusal {
+        Refusal::Long => RANGE,
+        Refusal::Form => RANGE,
+        Refusal::Illegal => ILLEGAL,
+        Refusal::Start => START,
+        Refusal::Over => OVER,
+        Refusal::Keeper => KEEPER,
+        Refusal::Memory => MEMORY,
+    }
+}
+
+/// The number of the layer that refuses a description; another one where memory ran out.
+pub(crate) fn layer(error: &LoadError) -> u32
+    ensures { IsNumberOf error.now result }
+{
+    if error.is_memory() {
+        return MEMORY;
+    }
+    match error {
+        LoadError::Text(_) => TEXT,
+        LoadError::Macro(_) => MACRO,
+        LoadError::Syntax(_) => SYNTAX,
+        LoadError::Game(_) => GAME,
+    }
+}
