@@ -40,7 +40,7 @@ SECONDS := 600
 # The requests for memory of the first match that `make try` refuses, one in each of ten runs.
 REFUSED := 1 2 5 10 20 50 100 150 200 300
 
-.PHONY: help run demo games play clients hall tournament slurm crash storm page editor compare refusals doctests links docs install try build bench test parts check fmt clean
+.PHONY: help run demo games play clients hall tournament slurm crash storm page editor imported compare refusals doctests links docs install lib library try build bench test parts check fmt clean
 
 help:
 	@echo 'make run      referees the first match of README.md (crates/rbg_manager/stdin), with no proof'
@@ -55,11 +55,14 @@ help:
 	@echo 'make storm    tries ./rbg from outside: clocks, logs, disks, floods, and 1000 matches and 100 halls through a proxy that disturbs; SHORT=yes, and WHAT names parts (after make build, with gcc)'
 	@echo 'make page     plays a match of chess, hex, abalone and reversi, makes a page of each, and takes pictures by a browser if there is one (after make build)'
 	@echo 'make editor   talks with ./rbg_author lsp as editors do, with EDITS=10000 random edits of the games (after make build)'
+	@echo 'make imported compares boards that ./rbg_author import writes as graphs with their geometry, BOARDS=500 random ones, and comments (after make build)'
 	@echo 'make compare  compares ./rbg with the interpreter of tools/slow, on stored cases and N=10000 others of SEED=1 (after make build)'
 	@echo 'make refusals refuses each request for memory in turn, and checks each answer (after make build, with gcc)'
 	@echo 'make doctests runs the examples in the comments of the clients and tools (after make build)'
 	@echo 'make links    checks that what the pages link and name is there, and that what make docs makes is up to date'
 	@echo 'make docs     makes the page of all commands, the manual pages and the completions, from the sources'
+	@echo 'make lib      proves the library for programs in C, and leaves librbg.a, librbg.so and rbg.pc beside include/rbg.h (with gcc)'
+	@echo 'make library  counts chess and calls the library in all ways from C, alone, under valgrind and AddressSanitizer (after make lib)'
 	@echo 'make install  copies ./rbg, ./rbg_author, their manual pages and completions below PREFIX=/usr/local (after make build)'
 	@echo 'make try      runs the stored runs, ten with a request for memory refused, and the tests, with no proof; make -j4 try runs four at once'
 	@echo 'make build    proves the programs and what they stand on, LANES crates at once, and leaves them as ./rbg and ./rbg_author'
@@ -112,8 +115,21 @@ storm:
 
 page:
 	@test -x ./rbg && test -x ./rbg_author || { echo 'make page needs ./rbg and ./rbg_author: run make build first'; exit 1; }
+	@python3 tools/page/contrast.py
 	@python3 tools/page/page.py
 	@if python3 -c 'import sys; sys.path.insert(0, "tools/page"); import browser; sys.exit(not browser.is_there())'; then python3 tools/page/wrong.py && python3 tools/page/playing.py; else echo 'no game is played by clicks: there is no chromium with its driver'; fi
+
+# The library for programs in C, and its trials. TEXTS says how many texts are spoilt by chance, CALLS how many calls are
+# made by chance.
+TEXTS := 10000
+CALLS := 1000000
+lib:
+	@cd crates/rbg_c && $(RT) lib
+	@python3 tools/library --prefix $(PREFIX)
+
+library:
+	@test -f librbg.a && test -f librbg.so || { echo 'make library needs librbg.a: run make lib first'; exit 1; }
+	@TEXTS=$(TEXTS) CALLS=$(CALLS) python3 clients/c/trials.py $(call data,chess tictactoe)
 
 play:
 	@test -x ./rbg_author || { echo 'make play needs ./rbg_author: run make build first'; exit 1; }
@@ -125,6 +141,12 @@ AUTHOR_PROGRAM := ./rbg_author
 editor:
 	$(call needs,$(AUTHOR_PROGRAM))
 	@python3 tools/editor/editor.py --program $(AUTHOR_PROGRAM) --count $(EDITS)
+
+# How many boards of the paper's language `make imported` makes by chance.
+BOARDS := 500
+imported:
+	$(call needs,$(AUTHOR_PROGRAM))
+	@python3 tools/imported/imported.py --program $(AUTHOR_PROGRAM) --count $(BOARDS) --seed $(SEED)
 
 compare:
 	$(call needs,$(RBG))

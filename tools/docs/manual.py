@@ -6,7 +6,7 @@ from tables import Command, Option, Program
 STATUSES = [
     ("0", "done"),
     ("1", "the description is refused, or something can't be counted or shown"),
-    ("2", "a script or a record is refused, or there are warnings with --strict"),
+    ("2", "a script or a record is refused, there are warnings with --strict, or import can't rewrite something"),
     ("3", "a file, a connection or the output failed, a match didn't end in its time, or a player gave up"),
     ("4", "out of memory"),
     ("64", "the command line is wrong: standard error says how, and nothing is printed"),

@@ -2,7 +2,7 @@
 """Talks with `rbg_author lsp` as editors do: each request once with the answer that is wanted, the layout of all games that
 ship, and edits by chance, after each of which the faults and warnings are told; now and then something is asked of the
 text in between, and a second document with the whole text has to have the same faults and warnings. It prints how long
-an answer took.
+an answer took, and the longest one for chess and for the slowest game.
 
     editor.py --program ./rbg_author --count 10000
 """
@@ -77,12 +77,26 @@ class Times:
 
     def __init__(self) -> None:
         self.all: list[float] = []
+        self.by_game: dict[str, list[float]] = {}
 
-    def add(self, seconds: float) -> None:
+    def add(self, seconds: float, game: str) -> None:
         self.all.append(1000 * seconds)
+        self.by_game.setdefault(game, []).append(1000 * seconds)
 
-    def most(self) -> float:
-        return max(self.all, default=0.0)
+    def most(self, game: str | None = None) -> float:
+        """The greatest, of all games or of one.
+
+        >>> times = Times()
+        >>> times.add(0.5, "chess"), times.add(0.75, "go")
+        (None, None)
+        >>> times.most("chess"), times.most(), times.slowest(), times.most("hex")
+        (500.0, 750.0, 'go', 0.0)
+        """
+        return max(self.all if game is None else self.by_game.get(game, []), default=0.0)
+
+    def slowest(self) -> str:
+        """The game that has the greatest."""
+        return max(self.by_game, key=self.most, default="")
 
     def __str__(self) -> str:
         ordered = sorted(self.all) or [0.0]
@@ -99,9 +113,9 @@ def edits_by_chance(talk: Talk, game: Path, count: int, seed: int, told: Times, 
         start, end, new = edit(chance, text)
         found, took = talk.change(URI, version, [change(text, start, end, new)])
         text = text[:start] + new + text[end:]
-        told.add(took)
+        told.add(took, game.stem)
         if chance.random() < 0.3:
-            asked.add(ask_by_chance(talk, chance, text))
+            asked.add(ask_by_chance(talk, chance, text), game.stem)
         if chance.random() < 0.05:
             if talk.open(OTHER, text) != [at_other(it) for it in found]:
                 raise Failed(f"{game.name}, seed {seed}, version {version}: another text than was sent")
@@ -121,7 +135,7 @@ def main() -> int:
     parser.add_argument("--count", type=int, default=10000, help="how many random edits are made")
     parser.add_argument("--seed", type=int, default=1)
     parser.add_argument("--game", help="makes edits of this game alone")
-    parser.add_argument("--within", type=float, help="fails if an edit is answered after more milliseconds")
+    parser.add_argument("--within", type=float, help="fails if an edit of chess, or of GAME, is answered after more milliseconds")
     words = parser.parse_args()
     program = words.program.absolute()
     try:
@@ -137,13 +151,17 @@ def main() -> int:
             edits_by_chance(talk, game, min(AT_ONCE, words.count - turn), words.seed + turn, told, asked)
         if talk.end() != 0:
             raise Failed("the end after shutdown")
-        if words.within is not None and told.most() > words.within:
-            raise Failed(f"an edit was answered after {told.most():.1f} ms")
+        timed = words.game or "chess"
+        if words.within is not None and told.most(timed) > words.within:
+            raise Failed(f"an edit of {timed} was answered after {told.most(timed):.1f} ms")
     except Failed as failure:
         print(f"failed: {failure}")
         return 1
     print(f"{len(told.all)} edits were answered: {told}")
     print(f"{len(asked.all)} other requests: {asked}")
+    for game in dict.fromkeys([timed, told.slowest()]):
+        count = len(told.by_game.get(game, []))
+        print(f"{game}: {count} edits, most {told.most(game):.1f} ms; other requests, most {asked.most(game):.1f} ms")
     return 0
 
 

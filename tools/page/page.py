@@ -87,7 +87,7 @@ def page_of(game: pathlib.Path, record: str) -> str:
         ["./rbg_author", "page", str(game)], input=record, capture_output=True, text=True
     )
     if made.returncode != 0:
-        sys.exit(f"{game}: {made.stdout}")
+        sys.exit(f"{game}: {made.stderr}")
     return made.stdout
 
 

@@ -43,6 +43,7 @@ def main():
             (b"GET / HTTP/1.1\r\n" + host + b"Content-Length: 99999999999999999999999\r\n\r\n", "400"),
             (b"POST /ask HTTP/1.1\r\n" + host + b"Transfer-Encoding: chunked\r\n\r\n0\r\n\r\n", "400"),
             (b"POST /record HTTP/1.1\r\n" + host + b"Content-Length: 6\r\n\r\nplace\n", "400"),
+            (b"POST /position HTTP/1.1\r\n" + host + b"Content-Length: 6\r\n\r\nplace\n", "400"),
             (b"GET / HTTP/1.1\r\n\r\n", "403"),
             (b"GET / HTTP/1.1\r\nHost: localhost:%d\r\n\r\n" % port, "403"),
             (b"GET / HTTP/1.1\r\nHost: 127.0.0.1:%d0\r\n\r\n" % port, "403"),

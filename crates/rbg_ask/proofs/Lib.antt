@@ -8,5 +8,5 @@ mod Mixing
 mod Counted
 pub mod Faults
 mod OutOfMemory
-mod Matches
+pub mod Matches
 pub mod Tallies

@@ -5,6 +5,7 @@ ghost use Rattle.rbg_ask.specs.Chance.{AreTallied, IsUnmoved, IsUnplayed, counte
 ghost use Rattle.rbg_ask.specs.Limits.{IsCount};
 ghost use Rattle.rbg_ask.specs.internal.Moving.{IsPlayedTo, MovesOn};
 
+use crate::chosen::Chosen;
 use crate::refusal::Refusal;
 use crate::tally::{Ending, Played, Tally, count_in};
 use rand_core::{Rng, SeedableRng};
@@ -32,12 +33,31 @@ pub fn play_matches(
     ensures unplayed { IfErr result (IsUnplayed game.now from.now) }
 {
     let mut chance = Pcg32::seed_from_u64(seed);
+    let mut chosen = Chosen::counted();
     let mut tallies = Vec::new(alloc);
     for _ in 0..count {
-        let played = play_match(game, from, &mut chance, workspace)?;
+        let played = play_match(game, from, &mut chance, &mut chosen, workspace)?;
         count_in(played, &mut tallies)?;
     }
     Ok(tallies)
+}
+
+/// Plays a match by chance from a place, and adds what is chosen. A seed always gives the same match, the first one of
+/// `play_matches`.
+pub fn play_seeded(
+    game: &PlayedGame,
+    from: &Place,
+    seed: u64,
+    chosen: &mut Chosen,
+    workspace: &mut Workspace,
+) -> Result<Played, Refusal>
+    requires { IsPlaceOf game.now from.now }
+    ensures ends { IfOk result (λ played.
+        IsPlayedTo game.now from.now (scores_of played.ending) played.moves) }
+    ensures unplayed { IfErr result (IsUnplayed game.now from.now) }
+{
+    let mut chance = Pcg32::seed_from_u64(seed);
+    play_match(game, from, &mut chance, chosen, workspace)
 }
 
 /// Plays a match by chance from a place.
@@ -45,6 +65,7 @@ fn play_match(
     game: &PlayedGame,
     from: &Place,
     chance: &mut Pcg32,
+    chosen: &mut Chosen,
     workspace: &mut Workspace,
 ) -> Result<Played, Refusal>
     requires { IsPlaceOf game.now from.now }
@@ -54,7 +75,7 @@ fn play_match(
 {
     let mut place = workspace.copy_of(from)?;
     for moves in 0..MAX_PLAYED {
-        if !move_on(game, &mut place, chance, workspace)? {
+        if !move_on(game, &mut place, chance, chosen, workspace)? {
             let scores = game.scores(&place);
             workspace.keep(place);
             return Ok(Played {
@@ -75,6 +96,7 @@ fn move_on(
     game: &PlayedGame,
     place: &mut Place,
     chance: &mut Pcg32,
+    chosen: &mut Chosen,
     workspace: &mut Workspace,
 ) -> Result<bool, Refusal>
     requires { IsPlaceOf game.now place.old }
@@ -90,6 +112,7 @@ fn move_on(
     }
     let index = choose(count, chance);
     game.make_move(place, moves.get(index))?;
+    chosen.add(count, moves.get(index))?;
     game.settle(place, workspace)?;
     workspace.keep_moves(moves);
     Ok(true)

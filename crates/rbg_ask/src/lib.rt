@@ -4,6 +4,7 @@
 
 mod answer_writer;
 mod chance;
+mod chosen;
 mod keys;
 mod names_writer;
 mod ordering;
@@ -19,7 +20,8 @@ pub use answer_writer::{
     put_scores, write_board, write_matches, write_moves, write_refusal, write_standing,
     write_values,
 };
-pub use chance::{MAX_PLAYED, play_matches};
+pub use chance::{MAX_PLAYED, play_matches, play_seeded};
+pub use chosen::Chosen;
 pub use names_writer::write_names;
 pub use question::{MAX_COUNT, Question};
 pub use question_reader::read_question;
@@ -27,4 +29,4 @@ pub use rbg_moves::Unsettled;
 pub use refusal::Refusal;
 pub use session::{MAX_LINE, Session};
 pub use standing::Standing;
-pub use tally::{Ending, Tally};
+pub use tally::{Ending, Played, Tally, count_in};

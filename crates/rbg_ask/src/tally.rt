@@ -19,7 +19,7 @@ pub enum Ending {
 
 /// A match that was played by chance.
 #[derive(Drop)]
-pub(crate) struct Played {
+pub struct Played {
     /// How it ended.
     pub ending: Ending,
     /// How many moves the players made.
@@ -91,7 +91,7 @@ fn count_one(index: usize, moves: u64, tallies: &mut [Tally])
 }
 
 /// Counts one more match.
-pub(crate) fn count_in(played: Played, tallies: &mut Vec<Tally>) -> Result<(), Memory>
+pub fn count_in(played: Played, tallies: &mut Vec<Tally>) -> Result<(), Memory>
     requires few { played.moves ≤ most_played }
     requires small { All IsSmall tallies.old.items }
     ensures { OnOk result (CountsIn (scores_of played.ending) played.moves

@@ -1,9 +1,10 @@
 //! The program for authors of games: why a description is refused, what its game has, how many sequences of moves, how
 //! matches by chance end, how the board looks after each move of a match, the page of a match, the description of a
-//! place, and a page on which a game is played.
+//! place, a description of the paper's language as this one spells it, and a page on which a game is played.
 #![tactic(auto)]
 
 mod explain;
+mod import;
 mod listing;
 mod lsp;
 mod moves;

@@ -10,7 +10,7 @@ use rbg_game::{Layout, LoadedGame};
 use rbg_moves::{Over, Place, PlayedGame, Unsettled};
 use rbg_page::{PageError, tell};
 use rbg_rules::{Action, Game};
-use rbg_wire::{write_number, write_pairs};
+use rbg_wire::{after_text, cut_number, read_pairs, write_number, write_pairs};
 use std::alloc::{AllocError, Global};
 
 /// The most moves that are printed.
@@ -88,6 +88,74 @@ fn moves_first(alloc: Global, game: &PlayedGame, layout: &Layout) -> Result<Repo
     }
 }
 
+/// Whether a text begins as what `rbg moves` prints of an opening.
+pub(crate) fn is_listing(text: &[u8]) -> bool {
+    text.starts_with(b"move ") || text.starts_with(b"made ") || text.starts_with(b"finished")
+}
+
+/// The moves that `rbg moves` lists of a game's opening, as they are told to people. The keeper's moves are left out, and
+/// other lines stay.
+pub(crate) fn told_listing(
+    alloc: Global,
+    loaded: LoadedGame,
+    listing: &[u8],
+) -> Result<Report, AllocError> {
+    let LoadedGame { game, layout } = loaded;
+    let game = PlayedGame::new(alloc, game)?;
+    let mut place = game.start()?;
+    let mut workspace = game.workspace();
+    match game.settle(&mut place, &mut workspace) {
+        Ok(()) => told_lines(alloc, &game, &layout, &place, listing),
+        Err(Unsettled::Memory) => Err(AllocError),
+        Err(_) => over(alloc),
+    }
+}
+
+/// The lines of a listing, with each move told, up to one that isn't legal at the place.
+fn told_lines(
+    alloc: Global,
+    game: &PlayedGame,
+    layout: &Layout,
+    place: &Place,
+    listing: &[u8],
+) -> Result<Report, AllocError>
+    requires { IsPlaceOf game.now place.now }
+{
+    let told = Told {
+        game: game.as_game(),
+        layout,
+        pieces: place.state.pieces(),
+    };
+    let mut text = Vec::new(alloc);
+    let mut status = Status::Success;
+    for (index, line) in listing.split(|byte| *byte == b'\n').enumerate() {
+        if !is_right(game, place, line)? {
+            text.extend_from_slice(b"line ")?;
+            write_number(index.saturating_add(1) as u64, &mut text)?;
+            text.extend_from_slice(b": no legal move of the opening\n")?;
+            status = Status::Refused;
+            break;
+        }
+        told.push_line(line, &mut text)?;
+    }
+    Ok(Report { text, status })
+}
+
+/// Whether a line of a listing is no move, or one that is legal at the place.
+fn is_right(game: &PlayedGame, place: &Place, line: &[u8]) -> Result<bool, AllocError>
+    requires { IsPlaceOf game.now place.now }
+{
+    let Some(pairs) = listed_in(line) else {
+        return Ok(true);
+    };
+    let mut workspace = game.workspace();
+    match game.try_move(place, &pairs, &mut workspace) {
+        Ok(to) => Ok(to.is_some()),
+        Err(Over::Memory) => Err(AllocError),
+        Err(_) => Ok(false),
+    }
+}
+
 /// The legal moves of a place.
 fn moves_at(
     alloc: Global,
@@ -129,6 +197,18 @@ struct Told<'a> {
 }
 
 impl Told<'_> {
+    /// Writes a line of a listing, with its move told.
+    fn push_line(&self, line: &[u8], text: &mut Vec<u8>) -> Result<(), AllocError> {
+        if line.is_empty() || line.starts_with(b"made ") {
+            return Ok(());
+        }
+        if let Some(pairs) = listed_in(line) {
+            return self.push_move(pairs.as_slice(), text);
+        }
+        text.extend_from_slice(line)?;
+        text.extend_from_slice(b"\n")
+    }
+
     /// A line for each move.
     fn report(&self, alloc: Global, moves: &[Move], is_cut: bool) -> Result<Report, AllocError> {
         let mut text = Vec::new(alloc);
@@ -216,6 +296,13 @@ impl Told<'_> {
             Ok(())
         }
     }
+}
+
+/// The move that a line `move <player> <pairs>` lists.
+fn listed_in(line: &[u8]) -> Option<Move> {
+    let behind = after_text(b"move ", line)?;
+    let (_, pairs) = cut_number(behind)?;
+    read_pairs(pairs).ok()
 }
 
 /// The piece that a pair puts, if it puts one.

@@ -1,18 +1,60 @@
-//! What `page` prints of a game and a record.
+//! What `page` prints of a game and a match.
 
 use crate::reading::{Read, load_text, read_text, unreadable};
 use crate::report::Report;
-use rbg_console::{Files, Input, Status, read_record_input};
+use rbg_console::{Files, Input, Note, Status, read_record_input};
 use rbg_drawing::push_game;
 use rbg_game::LoadedGame;
 use rbg_moves::PlayedGame;
 use rbg_page::{PageError, page};
+use rbg_workbench::{Recorded, record_text};
 use std::alloc::{AllocError, Global};
 use std::io;
 
-/// The page of the record that the input holds, of a match of the game that the file describes. Both are read before
-/// either is looked into.
+/// The page of the match that the input tells, of the game that the file describes. Both are read before either is looked
+/// into. Why there is no page is told, and nothing is printed, since what is printed mostly goes to a file.
 pub(crate) fn page_file<F: Files, R: io::Read>(
+    alloc: Global,
+    files: &mut F,
+    file: &str,
+    input: &mut R,
+) -> Result<Report, AllocError> {
+    match page_of(alloc, files, file, input) {
+        Ok(report) => Ok(without_fault(alloc, files, report)),
+        Err(_) => {
+            tell(files, "out of memory");
+            Ok(nothing(alloc, Status::Memory))
+        }
+    }
+}
+
+/// Tells a text to whoever runs the program.
+fn tell<F: Files>(files: &mut F, text: &str) {
+    files.tell(&Note::Words { text });
+}
+
+/// Nothing to print.
+fn nothing(alloc: Global, status: Status) -> Report {
+    Report {
+        text: Vec::new(alloc),
+        status,
+    }
+}
+
+/// A page, or nothing to print where the report says why there is none, which is told then.
+fn without_fault<F: Files>(alloc: Global, files: &mut F, report: Report) -> Report {
+    if matches!(report.status, Status::Success) {
+        return report;
+    }
+    match str::from_utf8(report.text.as_slice()) {
+        Ok(text) => tell(files, text),
+        Err(_) => tell(files, "no page: the reason is no text of UTF-8"),
+    }
+    nothing(alloc, report.status)
+}
+
+/// The page, or what is said where there is none.
+fn page_of<F: Files, R: io::Read>(
     alloc: Global,
     files: &mut F,
     file: &str,
@@ -20,7 +62,7 @@ pub(crate) fn page_file<F: Files, R: io::Read>(
 ) -> Result<Report, AllocError> {
     match read_text(alloc, files, file)? {
         Read::Found(text) => match read_record_input(alloc, files, input)? {
-            Input::Whole(record) => page_texts(alloc, file, &text, Some(record)),
+            Input::Whole(moves) => page_texts(alloc, file, &text, Some(moves)),
             Input::TooLong => page_texts(alloc, file, &text, None),
             Input::Device => unreadable(alloc, "standard input"),
         },
@@ -28,20 +70,39 @@ pub(crate) fn page_file<F: Files, R: io::Read>(
     }
 }
 
-/// The same of the texts. There is no record where it is too long.
+/// The same of the texts. There are no moves where their text is too long.
 fn page_texts(
     alloc: Global,
     file: &str,
     text: &[u8],
-    record: Option<Vec<u8>>,
+    moves: Option<Vec<u8>>,
 ) -> Result<Report, AllocError> {
     match load_text(alloc, file, text)? {
         Read::Found(loaded) => {
             let mut described = Vec::new(alloc);
             push_game(&loaded, 1, file, text, &mut described)?;
-            page_record(alloc, loaded, &described, record)
+            page_moves(alloc, loaded, text, &described, moves)
         }
         Read::Other(report) => Ok(report),
+    }
+}
+
+/// The page of what tells the moves: a record, a script or a list.
+fn page_moves(
+    alloc: Global,
+    loaded: LoadedGame,
+    text: &[u8],
+    described: &[u8],
+    moves: Option<Vec<u8>>,
+) -> Result<Report, AllocError> {
+    let Some(moves) = moves else {
+        return refused(alloc, PageError::Form { line: 0 });
+    };
+    match record_text(alloc, text, moves)? {
+        Recorded::Record(record) => page_record(alloc, loaded, described, &record),
+        Recorded::Form { line } => refused(alloc, PageError::Form { line }),
+        Recorded::Bad { line } => refused(alloc, PageError::Bad { line }),
+        Recorded::Over { line } => refused(alloc, PageError::Over { line }),
     }
 }
 
@@ -49,14 +110,11 @@ fn page_record(
     alloc: Global,
     loaded: LoadedGame,
     described: &[u8],
-    record: Option<Vec<u8>>,
+    record: &[u8],
 ) -> Result<Report, AllocError> {
-    let Some(record) = record else {
-        return refused(alloc, PageError::Form { line: 0 });
-    };
     let LoadedGame { game, layout } = loaded;
     let game = PlayedGame::new(alloc, game)?;
-    match page(alloc, &game, &layout, described, &record) {
+    match page(alloc, &game, &layout, described, record) {
         Ok(text) => Ok(Report {
             text,
             status: Status::Success,

@@ -1,13 +1,14 @@
 //! The page that `play` is to serve, as words name it, and what reads the file for it.
 
 use crate::explain::check_text;
+use crate::position::position_texts;
 use crate::program::{author_command, file_of};
 use crate::reading::{Read, load_text, refuse};
 use crate::report::Report;
 use rbg_console::{Status, match_words};
 use rbg_game::LoadError;
 use rbg_tokens::TextError;
-use rbg_workbench::{Reader, Reading};
+use rbg_workbench::{Described, Reader, Reading};
 use std::alloc::{AllocError, Global};
 
 /// The page on which the game of a file is played.
@@ -41,6 +42,20 @@ impl Reader for AuthorReader {
         match load_text(alloc, file, text)? {
             Read::Found(loaded) => Ok(Reading::Game { loaded, notes }),
             Read::Other(_) => Ok(Reading::Refused { notes }),
+        }
+    }
+
+    fn describe(
+        &mut self,
+        alloc: Global,
+        file: &str,
+        text: &[u8],
+        record: &[u8],
+    ) -> Result<Described, AllocError> {
+        let Report { text, status } = position_texts(alloc, file, text, Some(record))?;
+        match status {
+            Status::Success => Ok(Described::Text(text)),
+            _ => Ok(Described::Nothing { reason: text }),
         }
     }
 

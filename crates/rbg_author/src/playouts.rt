@@ -1,39 +1,123 @@
-//! What `playouts` prints of a game: how matches that are played by chance end.
+//! What `playouts` prints of a game: how matches that are played by chance end; and the records of some of them.
 ghost use Rattle.rbg_ask.specs.Limits.{IsCount};
 
-use crate::reading::{Read, read_game};
+use crate::reading::{Read, load_text, read_text};
 use crate::report::Report;
-use rbg_console::{Files, Status};
+use rbg_console::{Files, Status, fill_file};
 use rbg_game::Game;
-use rbg_playouts::{PlayedGame, Refusal, playouts};
+use rbg_playouts::{Matches, PlayedGame, Refusal, moves_of, playouts, put_details};
+use rbg_workbench::{Recorded, record_text};
 use std::alloc::{AllocError, Global};
+
+/// The matches that are wanted.
+#[derive(Clone, Copy)]
+pub(crate) struct Wanted<'a> {
+    pub seed: u64,
+    pub count: u64,
+    /// The folder for a record of each way of ending.
+    pub records: Option<&'a str>,
+}
 
 /// What is told of so many matches by chance of the game that the file describes.
 pub(crate) fn playouts_file<F: Files>(
     alloc: Global,
     files: &mut F,
     file: &str,
-    seed: u64,
-    count: u64,
+    wanted: Wanted<'_>,
 ) -> Result<Report, AllocError>
-    requires { IsCount count }
+    requires { IsCount wanted.count }
 {
-    match read_game(alloc, files, file)? {
-        Read::Found(loaded) => playouts_game(alloc, loaded.game, seed, count),
+    match read_text(alloc, files, file)? {
+        Read::Found(text) => playouts_text(alloc, files, file, &text, wanted),
         Read::Other(report) => Ok(report),
     }
 }
 
-fn playouts_game(alloc: Global, game: Game, seed: u64, count: u64) -> Result<Report, AllocError>
-    requires { IsCount count }
+fn playouts_text<F: Files>(
+    alloc: Global,
+    files: &mut F,
+    file: &str,
+    text: &[u8],
+    wanted: Wanted<'_>,
+) -> Result<Report, AllocError>
+    requires { IsCount wanted.count }
+{
+    match load_text(alloc, file, text)? {
+        Read::Found(loaded) => playouts_game(alloc, files, text, loaded.game, wanted),
+        Read::Other(report) => Ok(report),
+    }
+}
+
+fn playouts_game<F: Files>(
+    alloc: Global,
+    files: &mut F,
+    text: &[u8],
+    game: Game,
+    wanted: Wanted<'_>,
+) -> Result<Report, AllocError>
+    requires { IsCount wanted.count }
 {
     let game = PlayedGame::new(alloc, game)?;
-    match playouts(alloc, &game, seed, count) {
-        Ok(text) => Ok(Report {
-            text,
-            status: Status::Success,
-        }),
+    match playouts(alloc, &game, wanted.seed, wanted.count) {
+        Ok(made) => told(alloc, files, text, &game, wanted, made),
         Err(refusal) => no_playouts(alloc, refusal),
+    }
+}
+
+/// The lines of matches, once their records are kept.
+fn told<F: Files>(
+    alloc: Global,
+    files: &mut F,
+    described: &[u8],
+    game: &PlayedGame,
+    wanted: Wanted<'_>,
+    made: Matches,
+) -> Result<Report, AllocError> {
+    let Matches {
+        text,
+        tallies,
+        survey,
+    } = made;
+    let mut lines = text;
+    put_details(game.as_game(), wanted.count, &tallies, &survey, &mut lines)?;
+    let mut status = Status::Success;
+    if let Some(folder) = wanted.records {
+        for seed in &survey.seeds {
+            if !keep_record(alloc, files, described, game, folder, *seed)? {
+                status = Status::Device;
+            }
+        }
+    }
+    Ok(Report {
+        text: lines,
+        status,
+    })
+}
+
+/// Keeps the record of the match of a seed in a folder. Tells whether it could.
+fn keep_record<F: Files>(
+    alloc: Global,
+    files: &mut F,
+    text: &[u8],
+    game: &PlayedGame,
+    folder: &str,
+    seed: u64,
+) -> Result<bool, AllocError> {
+    let name = format!(in alloc; "{folder}/seed-{seed}.record")?;
+    let Ok(moves) = moves_of(alloc, game, seed) else {
+        return Err(AllocError);
+    };
+    match record_text(alloc, text, moves)? {
+        Recorded::Record(record) => Ok(fill(alloc, files, name.as_str(), &record)),
+        _ => Ok(false),
+    }
+}
+
+/// Creates a file of these bytes. Tells whether it could.
+fn fill<F: Files>(alloc: Global, files: &mut F, name: &str, bytes: &[u8]) -> bool {
+    match files.create_file(alloc, name) {
+        Ok(file) => fill_file(alloc, files, name, file, bytes).is_ok(),
+        Err(_) => false,
     }
 }
 

@@ -33,7 +33,7 @@ pub(crate) fn position_file<F: Files>(
 }
 
 /// The same of the texts. There is no record where it is too long.
-fn position_texts(
+pub(crate) fn position_texts(
     alloc: Global,
     file: &str,
     text: &[u8],

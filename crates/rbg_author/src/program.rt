@@ -2,12 +2,13 @@
 ghost use Rattle.rbg_ask.specs.Limits.{IsCount};
 
 use crate::explain::{Lists, check_file, explain_file};
+use crate::import::import_file;
 use crate::lsp::serve_editor;
 use crate::moves::moves_file;
 use crate::page::page_file;
 use crate::perft::perft;
 use crate::play::no_network;
-use crate::playouts::playouts_file;
+use crate::playouts::{Wanted, playouts_file};
 use crate::position::position_file;
 use crate::reading::{Read, read_game};
 use crate::report::{Report, print};
@@ -63,8 +64,12 @@ fn answer<F: Files, R: io::Read, W: Write>(
     match matches.subcommand() {
         Some(("perft", words)) => perft_of(alloc, words, files, output),
         Some(("playouts", words)) => {
-            let seed = words.get_one::<u64>("seed").unwrap_or(USUAL_SEED);
-            playouts_file(alloc, files, file_of(words), seed, count_of(words))
+            let wanted = Wanted {
+                seed: words.get_one::<u64>("seed").unwrap_or(USUAL_SEED),
+                count: count_of(words),
+                records: words.get_str("record"),
+            };
+            playouts_file(alloc, files, file_of(words), wanted)
         }
         Some(("show", words)) => {
             let only_last = words.get_flag("last");
@@ -75,6 +80,7 @@ fn answer<F: Files, R: io::Read, W: Write>(
             check_file(alloc, files, input, file_of(words), strict)
         }
         Some(("lsp", _)) => serve_editor(alloc, files, input, output),
+        Some(("import", words)) => import_file(alloc, files, input, file_of(words)),
         Some(("page", words)) => page_file(alloc, files, file_of(words), input),
         Some(("moves", words)) => moves_file(alloc, files, file_of(words), words.get_str("RECORD")),
         // (the program serves it before it comes here)
@@ -204,7 +210,7 @@ const COMMANDS: &[CommandWords] = &[
     },
     CommandWords {
         name: "playouts",
-        about: "Plays matches by chance: how many moves they have, the mean score of each player, and how they end",
+        about: "Plays matches by chance: how long they are, the mean score of each player, and how they end",
         arguments: &[
             GAME,
             Argument {
@@ -217,7 +223,13 @@ const COMMANDS: &[CommandWords] = &[
                 name: "seed",
                 kind: Kind::Named("SEED", None),
                 value: Value::AnyNumber,
-                help: "The number that the moves by chance depend on, 0 to 18446744073709551615 [default: 1]",
+                help: "The seed of the first match, 0 to 18446744073709551615; each other one has the next [default: 1]",
+            },
+            Argument {
+                name: "record",
+                kind: Kind::Named("DIR", None),
+                value: Value::Text,
+                help: "Keeps a record of one match of each way of ending in this folder, as DIR/seed-SEED.record",
             },
         ],
     },
@@ -249,7 +261,7 @@ const COMMANDS: &[CommandWords] = &[
     },
     CommandWords {
         name: "page",
-        about: "Makes a page for a browser of the record on standard input, with the board after each move",
+        about: "Makes a page for a browser of the record, the script or the moves on standard input, with the board after each",
         arguments: &[GAME],
     },
     CommandWords {
@@ -269,6 +281,11 @@ const COMMANDS: &[CommandWords] = &[
         name: "position",
         about: "Prints the description with the board as it stands after the moves of a record, or says why not",
         arguments: &[GAME, RECORD],
+    },
+    CommandWords {
+        name: "import",
+        about: "Prints a description of the paper's language as this one spells it, or says by line what it can't rewrite",
+        arguments: &[GAME_OR_INPUT],
     },
     CommandWords {
         name: "lsp",

@@ -14,11 +14,11 @@ const RbgBoard = (() => {
   const CHESS = { k: 0, g: 0, q: 1, r: 2, u: 2, b: 3, n: 4, p: 5, king: 0, queen: 1, rook: 2, bishop: 3, knight: 4, pawn: 5 };
   const NAMED = { queen: 0x265B, king: 0x265A, rook: 0x265C, bishop: 0x265D, knight: 0x265E, pawn: 0x265F, arrow: 0x2715, cross: 0x2715, ring: 0x25CB, wall: 0x25A6, crown: 0x265B, castle: 0x2612, block: 0x25A6 };
   const COLOURS = {
-    white: '#fbfbf6', black: '#2b2b2b', red: '#c8382b', blue: '#2f62b5', green: '#2f8a3f', yellow: '#f0c330', gold: '#f0c330',
+    white: '#fbfbf6', black: '#2b2b2b', red: '#c8382b', blue: '#2f62b5', green: '#2c8439', yellow: '#f0c330', gold: '#f0c330',
     orange: '#e07f1f', purple: '#7b3fa0', violet: '#7b3fa0', pink: '#e58bb1', brown: '#7a4a24', grey: '#8a8a8a', gray: '#8a8a8a', silver: '#c8c8c8',
     cross: '#2f62b5', ring: '#c8382b', x: '#2f62b5', o: '#c8382b',
   };
-  const SPARE = ['#fbfbf6', '#2b2b2b', '#c8382b', '#2f62b5', '#2f8a3f', '#f0c330', '#7b3fa0', '#e07f1f'];
+  const SPARE = ['#fbfbf6', '#2b2b2b', '#c8382b', '#2f62b5', '#2c8439', '#f0c330', '#7b3fa0', '#e07f1f'];
   const words = text => text.split(' ').filter(word => word !== '');
 
   /* The lines that tell a game, and behind the line `text` its description. */
@@ -301,9 +301,10 @@ const RbgBoard = (() => {
     });
   };
 
+  /* Whether white can be read better on a colour than black. */
   const isDark = colour => {
     const [red, green, blue] = [1, 3, 5].map(at => parseInt(colour.slice(at, at + 2), 16) / 255).map(part => part <= 0.03928 ? part / 12.92 : ((part + 0.055) / 1.055) ** 2.4);
-    return 0.2126 * red + 0.7152 * green + 0.0722 * blue < 0.35;
+    return 0.2126 * red + 0.7152 * green + 0.0722 * blue < 0.18;
   };
 
   const coloursOf = game => {

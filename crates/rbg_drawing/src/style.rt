@@ -2,9 +2,9 @@
 
 /// The style of a board, in light and dark.
 pub const BOARD_STYLE: &[u8] =
-    b":root { color-scheme: light dark; --page: #fff; --ink: #222; --soft: #666; --rule: #ccc; --light: #f0e2c4; --dark: #d3b083; --line: #84714c; --mark: #c8341f; --can: #1d6fd1; --now: #f6c94f; --changed: #f2a65a; }
+    b":root { color-scheme: light dark; --page: #fff; --ink: #222; --soft: #666; --rule: #ccc; --light: #f0e2c4; --dark: #d3b083; --line: #84714c; --mark: #c8341f; --ring: #a82a17; --can: #1a5fb4; --now: #f6c94f; --changed: #f2a65a; }
 @media (prefers-color-scheme: dark) {
-  :root { --page: #16181c; --ink: #e4e4e4; --soft: #a0a0a0; --rule: #444; --light: #8d7d60; --dark: #6b5a40; --line: #2e2719; --mark: #ff8a75; --can: #7db8ff; --now: #b98d12; --changed: #a8632a; }
+  :root { --page: #16181c; --ink: #e4e4e4; --soft: #a0a0a0; --rule: #444; --light: #8d7d60; --dark: #6b5a40; --line: #2e2719; --mark: #ff8a75; --ring: #ffe1da; --can: #d6eaff; --now: #b98d12; --changed: #a8632a; }
 }
 .board { display: block; width: 100%; overflow: visible; user-select: none; touch-action: manipulation; }
 .board .cell { fill: var(--light); stroke: var(--line); stroke-width: .2; }
@@ -16,7 +16,7 @@ pub const BOARD_STYLE: &[u8] =
 .board .chosen .cell { fill: var(--now); }
 .board .can .cell { stroke: var(--can); stroke-width: .6; }
 .board .can { cursor: pointer; }
-.board .hint .cell { stroke: var(--mark); stroke-width: 1; }
+.board .hint .cell { stroke: var(--ring); stroke-width: 1; }
 .board .dot { fill: none; pointer-events: none; }
 .board .can .dot { fill: var(--can); stroke: #fff; stroke-width: .2; }
 .board .held .dot { display: none; }
@@ -26,5 +26,5 @@ pub const BOARD_STYLE: &[u8] =
 .board .sign { text-anchor: middle; dominant-baseline: central; font-family: 'DejaVu Sans', 'Segoe UI Symbol', 'Noto Sans Symbols 2', system-ui, sans-serif; }
 .board .name { font-size: 2.6px; text-anchor: middle; dominant-baseline: central; fill: var(--soft); stroke: var(--page); stroke-width: .5; paint-order: stroke; font-family: system-ui, sans-serif; }
 .board g:focus { outline: none; }
-.board g:focus-visible .cell { stroke: var(--mark); stroke-width: 1.1; }
+.board g:focus-visible .cell { stroke: var(--ring); stroke-width: 1.1; }
 ";

@@ -12,7 +12,7 @@ use crate::traced::{Flat, PartFault};
 use rbg_console::Refusal;
 use rbg_diagnostics::{Diagnostic, File, Severity, Telling, push_diagnostics};
 use rbg_game::LoadError;
-use rbg_lint::{is_balanced, push_unbalanced};
+use rbg_lint::{is_balanced, is_balanced_around, is_section_balanced, push_unbalanced};
 use rbg_macro::MacroError;
 use rbg_origins::unroll;
 use rbg_suggest::misspelt_section;
@@ -117,11 +117,12 @@ fn push_macro_faults(
     error: &MacroError,
     found: &mut Vec<Diagnostic>,
 ) -> Result<(), AllocError> {
-    if matches!(error, MacroError::ArgumentCount { .. }) {
+    if let MacroError::ArgumentCount { at } = error {
         push_unbalanced(alloc, refused.text, tokens.as_slice(), found)?;
-    }
-    if !found.is_empty() {
-        return Ok(());
+        // what is wrong with brackets elsewhere doesn't reach the call
+        if !found.is_empty() && !is_balanced_around(alloc, tokens.as_slice(), *at)? {
+            return Ok(());
+        }
     }
     match error {
         MacroError::ArgumentCount { at } | MacroError::Depth { at } => {
@@ -168,8 +169,8 @@ fn push_traced_faults(
     }
 }
 
-/// Adds the faults of a text whose macros are written out: those of brackets in the bodies of macros, or else those of
-/// its sections.
+/// Adds the faults of a text whose macros are written out: those of brackets in the bodies of macros and of the sections
+/// that they don't reach, or else those of its sections.
 fn push_flat_faults(
     alloc: Global,
     refused: &Refused<'_>,
@@ -184,7 +185,7 @@ fn push_flat_faults(
         push_unbalanced(alloc, refused.text, slice_of(refused.tokens), found)?;
     }
     if !found.is_empty() {
-        return Ok(());
+        return push_balanced_parts(alloc, refused, flat, found);
     }
     match refused.error {
         LoadError::Syntax(SyntaxError::Expected { .. } | SyntaxError::TooDeep { .. }) => {
@@ -228,6 +229,34 @@ fn push_parts(
         }
     }
     Ok(())
+}
+
+/// Adds the fault of each section in which nothing is wrong with brackets, beside those of the brackets in macros.
+fn push_balanced_parts(
+    alloc: Global,
+    refused: &Refused<'_>,
+    flat: Flat<'_>,
+    found: &mut Vec<Diagnostic>,
+) -> Result<(), AllocError> {
+    for sections in SYNTAX_PARTS {
+        if are_sections_balanced(alloc, flat, sections)? {
+            push_parts(alloc, refused, flat, &[sections], found)?;
+        }
+    }
+    Ok(())
+}
+
+fn are_sections_balanced(
+    alloc: Global,
+    flat: Flat<'_>,
+    sections: &[&str],
+) -> Result<bool, AllocError> {
+    for section in sections {
+        if !is_section_balanced(alloc, flat.tokens, section)? {
+            return Ok(false);
+        }
+    }
+    Ok(true)
 }
 
 /// Whether two refusals are those of one layer.

@@ -17,34 +17,50 @@ enum BracketFault<'a> {
     Mismatched(Token<'a>, Token<'a>),
 }
 
-/// The first thing that is wrong with the brackets among some tokens.
-fn first_fault<'a>(
+/// What is wrong with the brackets among some tokens: each one that closes none, and then each one that stays open. What
+/// follows a bracket of the wrong kind isn't told.
+fn bracket_faults<'a>(
     alloc: Global,
     tokens: &'a [Token<'a>],
-) -> Result<Option<BracketFault<'a>>, AllocError> {
+) -> Result<Vec<BracketFault<'a>>, AllocError> {
     let mut open = Vec::new(alloc);
-    find_fault(tokens, &mut open)
+    let mut faults = Vec::new(alloc);
+    if push_closing(tokens, &mut open, &mut faults)? {
+        push_open(&open, &mut faults)?;
+    }
+    Ok(faults)
 }
 
-/// The first thing that is wrong with the brackets among some tokens, where none is open before.
-fn find_fault<'a>(
+/// Adds what is wrong with the brackets that are closed among some tokens, where none is open before. Whether no bracket
+/// closes one of another kind is returned; those that stay open are left in the list of the open ones.
+fn push_closing<'a>(
     tokens: &'a [Token<'a>],
     open: &mut Vec<Token<'a>>,
-) -> Result<Option<BracketFault<'a>>, AllocError> {
+    faults: &mut Vec<BracketFault<'a>>,
+) -> Result<bool, AllocError> {
     for token in tokens {
         if token.kind.opens() {
             open.push(*token)?;
         } else if token.kind.closes() {
             match open.pop() {
-                None => return Ok(Some(BracketFault::Unopened(*token))),
+                None => faults.push(BracketFault::Unopened(*token))?,
                 Some(last) if closing_of(last.kind) != closing_of(token.kind) => {
-                    return Ok(Some(BracketFault::Mismatched(last, *token)));
+                    faults.push(BracketFault::Mismatched(last, *token))?;
+                    return Ok(false);
                 }
                 Some(_) => {}
             }
         }
     }
-    Ok(open.pop().map(BracketFault::Open))
+    Ok(true)
+}
+
+/// Adds that brackets stay open.
+fn push_open<'a>(open: &[Token<'a>], faults: &mut Vec<BracketFault<'a>>) -> Result<(), AllocError> {
+    for token in open {
+        faults.push(BracketFault::Open(*token))?;
+    }
+    Ok(())
 }
 
 /// The bracket that closes one of such a kind.
@@ -59,15 +75,53 @@ fn closing_of(kind: TokenKind) -> &'static str {
 /// Whether the brackets of each section of a description without macros are closed as they should be.
 pub fn is_balanced(alloc: Global, tokens: &[Token<'_>]) -> Result<bool, AllocError> {
     for section in ["players", "pieces", "variables", "board", "rules"] {
-        let body = behind_head(tokens, section.as_bytes());
-        if first_fault(alloc, body)?.is_some() {
+        if !is_section_balanced(alloc, tokens, section)? {
             return Ok(false);
         }
     }
     Ok(true)
 }
 
-/// Adds the faults of the brackets in the bodies of macros: of each body the first one.
+/// The same of one section.
+pub fn is_section_balanced(
+    alloc: Global,
+    tokens: &[Token<'_>],
+    section: &str,
+) -> Result<bool, AllocError> {
+    are_balanced(alloc, behind_head(tokens, section.as_bytes()))
+}
+
+/// Whether nothing is wrong with the brackets among some tokens.
+fn are_balanced(alloc: Global, tokens: &[Token<'_>]) -> Result<bool, AllocError> {
+    let faults = bracket_faults(alloc, tokens)?;
+    Ok(faults.is_empty())
+}
+
+/// Whether nothing is wrong with the brackets of the section or the macro in whose body the token at an offset stands.
+pub fn is_balanced_around(
+    alloc: Global,
+    tokens: &[Token<'_>],
+    at: usize,
+) -> Result<bool, AllocError> {
+    let definitions = definitions(alloc, tokens)?;
+    for definition in &definitions {
+        if holds_offset(definition.body, at) {
+            return are_balanced(alloc, definition.body);
+        }
+    }
+    Ok(false)
+}
+
+fn holds_offset(tokens: &[Token<'_>], at: usize) -> bool {
+    for token in tokens {
+        if token.at == at {
+            return true;
+        }
+    }
+    false
+}
+
+/// Adds the faults of the brackets in the bodies of macros.
 pub fn push_unbalanced(
     alloc: Global,
     text: &[u8],
@@ -83,17 +137,18 @@ pub fn push_unbalanced(
     Ok(())
 }
 
-/// Adds the first fault of the brackets in a body.
+/// Adds the faults of the brackets in a body.
 fn push_body(
     alloc: Global,
     text: &[u8],
     definition: &Definition<'_>,
     found: &mut Vec<Diagnostic>,
 ) -> Result<(), AllocError> {
-    match first_fault(alloc, definition.body)? {
-        Some(fault) => push_fault(alloc, text, definition, fault, found),
-        None => Ok(()),
+    let faults = bracket_faults(alloc, definition.body)?;
+    for fault in &faults {
+        push_fault(alloc, text, definition, *fault, found)?;
     }
+    Ok(())
 }
 
 /// Adds a fault of the brackets in a body.

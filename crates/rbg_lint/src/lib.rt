@@ -9,5 +9,7 @@ mod parameters;
 mod signs;
 mod stars;
 
-pub use brackets::{is_balanced, push_unbalanced, relate_bracket};
+pub use brackets::{
+    is_balanced, is_balanced_around, is_section_balanced, push_unbalanced, relate_bracket,
+};
 pub use look::{Look, push_warnings};

@@ -2,10 +2,14 @@
 //! their descriptions with.
 #![tactic(auto)]
 
+mod details;
 mod playing;
 mod summary_writer;
 mod sums;
+mod survey;
 
-pub use playing::{play_from_start, playouts};
-pub use rbg_ask::{MAX_COUNT, Refusal};
+pub use details::put_details;
+pub use playing::{Matches, moves_of, playouts};
+pub use rbg_ask::{Ending, MAX_COUNT, Refusal, Tally};
 pub use rbg_moves::PlayedGame;
+pub use survey::Survey;

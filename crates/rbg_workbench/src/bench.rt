@@ -1,7 +1,7 @@
 //! The bench: a game's file, the game that it held last, and a session of questions about it.
 
 use crate::page::{BODY, END, HEAD};
-use crate::reading::{Reader, Reading};
+use crate::reading::{Described, Reader, Reading};
 use crate::recording::record_of;
 use crate::script::PLAY_SCRIPT;
 use rbg_ask::{Session, Unsettled};
@@ -142,7 +142,8 @@ impl<'a, F: Files + Drop, R: Reader + Drop> Bench<'a, F, R> {
             }
             (Method::Post, "/ask") => self.answer_questions(request, text),
             (Method::Post, "/record") => self.push_record(request.body, text),
-            (_, "/" | "/state" | "/game" | "/ask" | "/record") => {
+            (Method::Post, "/position") => self.push_position(request.body, text),
+            (_, "/" | "/state" | "/game" | "/ask" | "/record" | "/position") => {
                 Ok(Reply::plain(Status::NoMethod))
             }
             _ => Ok(Reply::plain(Status::NotFound)),
@@ -192,6 +193,31 @@ impl<'a, F: Files + Drop, R: Reader + Drop> Bench<'a, F, R> {
                 Ok(Reply::plain(Status::Done))
             }
             None => Ok(Reply::plain(Status::Malformed)),
+        }
+    }
+
+    /// Appends the description of the place to which a script leads, or why there is none.
+    fn push_position(&mut self, script: &[u8], text: &mut Vec<u8>) -> Result<Reply, AllocError> {
+        match record_of(self.alloc, &self.good, script)? {
+            Some(record) => self.push_described(&record, text),
+            None => Ok(Reply::plain(Status::Malformed)),
+        }
+    }
+
+    /// Appends the description of the place after the moves of a record, or why there is none.
+    fn push_described(&mut self, record: &[u8], text: &mut Vec<u8>) -> Result<Reply, AllocError> {
+        match self
+            .reader
+            .describe(self.alloc, self.file, &self.good, record)?
+        {
+            Described::Text(described) => {
+                text.extend_from_slice(&described)?;
+                Ok(Reply::plain(Status::Done))
+            }
+            Described::Nothing { reason } => {
+                text.extend_from_slice(&reason)?;
+                Ok(Reply::plain(Status::NotFound))
+            }
         }
     }
 }

@@ -2,6 +2,7 @@
 #![tactic(auto)]
 
 mod bench;
+mod listed;
 mod page;
 mod playing;
 mod reading;
@@ -10,4 +11,5 @@ mod script;
 
 pub use bench::Bench;
 pub use playing::play;
-pub use reading::{Reader, Reading};
+pub use reading::{Described, Reader, Reading};
+pub use recording::{Recorded, record_text};

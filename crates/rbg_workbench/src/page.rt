@@ -73,7 +73,7 @@ details { color: var(--soft); }
 <p id='problem' role='status'></p>
 <p id='lost' hidden>The program has ended: nothing answers.</p>
 <pre id='notes' data-kind='quiet'></pre>
-<div class='bar'><button id='save'>Save the record</button><label class='file'>Open a record<input id='file' type='file' aria-label='Open a record or a list of moves'></label></div>
+<div class='bar'><button id='save'>Save the record</button><button id='save-position'>Save the position</button><label class='file'>Open a record<input id='file' type='file' aria-label='Open a record or a list of moves'></label></div>
 <details><summary>Keys</summary><p>Tab or b leads to the board. There the arrows go from square to square, and Enter chooses. Elsewhere the arrows undo and redo. u: undo, r: redo, h: a hint, Home: from the beginning, End: the last move, Escape: takes a choice back, + and -: the size.</p></details>
 <details><summary>The rules as they are written</summary><pre id='rules'></pre></details>
 </div>

@@ -487,10 +487,18 @@ const RbgPlay = (() => {
     setTimeout(() => URL.revokeObjectURL(link.href), 10000);
   };
 
+  const shortName = () => game.file.split('/').pop().replace(/[.]rbg$/, '');
+
   const saveRecord = async () => {
     const { status, text } = await post('/record', script());
-    if (status === 200) save(game.file.split('/').pop().replace(/[.]rbg$/, '') + '.record', text);
+    if (status === 200) save(shortName() + '.record', text);
     else get('problem').textContent = 'no record: ' + text;
+  };
+
+  const savePosition = async () => {
+    const { status, text } = await post('/position', script());
+    if (status === 200) save(shortName() + '_' + at + '.rbg', text);
+    else get('problem').textContent = text.trim() || 'no position';
   };
 
   /* The players' moves of a record, a script or a list of moves. */
@@ -579,6 +587,7 @@ const RbgPlay = (() => {
     get('nearer').onclick = () => zoomBy(1.25);
     get('farther').onclick = () => zoomBy(0.8);
     get('save').onclick = saveRecord;
+    get('save-position').onclick = savePosition;
     get('file').onchange = async () => { const [file] = get('file').files; if (file) open(file.name, await file.text()); get('file').value = ''; };
     document.ondragover = event => event.preventDefault();
     document.ondrop = async event => { event.preventDefault(); const [file] = event.dataTransfer.files; if (file) open(file.name, await file.text()); };

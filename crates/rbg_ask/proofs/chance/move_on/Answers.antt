@@ -27,6 +27,10 @@ pub returns-in_err-make_move-clause-unmoved : goal.returns-in_err-make_move-clau
 returns-in_err-make_move-clause-unmoved c =
     passed_on c.from_residual-in_err-make_move.result Memory _ c.from_residual-in_err-make_move.ensures.1 no_memory
 
+pub returns-in_err-add-clause-unmoved : goal.returns-in_err-add-clause-unmoved
+returns-in_err-add-clause-unmoved c =
+    passed_on c.from_residual-in_err-add.result Memory _ c.from_residual-in_err-add.ensures.1 no_memory
+
 pub returns-in_err-settle-clause-unmoved : goal.returns-in_err-settle-clause-unmoved
 returns-in_err-settle-clause-unmoved c =
     passed_on c.from_residual-in_err-settle.result (refusal_of_unsettled c.in_err-settle.field-0.0) _ c.from_residual-in_err-settle.ensures.1

@@ -1,0 +1,118 @@
+/* Calls the library in every way that the header allows, by chance, and compares what two copies of a state tell:
+   trial FILE CALLS SEED. It is to be quiet under valgrind and AddressSanitizer. */
+#include <rbg.h>
+
+#include <inttypes.h>
+#include <stdio.h>
+#include <stdlib.h>
+#include <string.h>
+
+enum { HANDLES = 5 };
+
+static uint64_t seed;
+
+static uint64_t chance(uint64_t below) {
+  seed ^= seed << 13, seed ^= seed >> 7, seed ^= seed << 17;
+  return seed % below;
+}
+
+static void check(int holds, const char *what) {
+  if (!holds) {
+    fprintf(stderr, "wrong: %s\n", what);
+    exit(1);
+  }
+}
+
+static uint8_t text[1 << 20];
+static size_t text_length;
+static rbg_state states[HANDLES];
+static uint64_t counts[32];
+
+/* One call, good or bad. */
+static rbg_result call(rbg_state *state, rbg_state *other) {
+  uint64_t key = 0, count = 0, made = 0;
+  uint32_t player = 0;
+  switch (chance(12)) {
+  case 0: { /* a text that is cut, or spoilt, or whole */
+    static uint8_t spoilt[1 << 20];
+    size_t length = chance(4) ? text_length : chance(text_length + 1);
+    memcpy(spoilt, text, text_length);
+    if (chance(2))
+      spoilt[chance(text_length)] = (uint8_t)chance(256);
+    return rbg_open(spoilt, length, other);
+  }
+  case 1:
+    if (chance(4) == 0)
+      rbg_free(state);
+    return RBG_OK;
+  case 2:
+    return state == other ? RBG_OK : rbg_copy(state, other);
+  case 3:
+    return rbg_player(state, &player);
+  case 4:
+    return rbg_moves_made(state, &made);
+  case 5:
+  case 6: { /* a move that is made and undone leads back */
+    rbg_result result = rbg_find_moves(state, &count);
+    if (result != RBG_OK || count == 0)
+      return result;
+    uint64_t before = 0, after = 0, more = 0;
+    check(rbg_key(state, &before) == RBG_OK && rbg_moves_made(state, &made) == RBG_OK, "key");
+    result = rbg_make_found(state, chance(count));
+    if (result != RBG_OK)
+      return result;
+    check(rbg_moves_made(state, &more) == RBG_OK && more == made + 1, "one more move");
+    check(rbg_undo(state) == RBG_OK, "undo");
+    check(rbg_key(state, &after) == RBG_OK && before == after, "undone key");
+    return RBG_OK;
+  }
+  case 7:
+  case 8: { /* a copy goes the same way */
+    rbg_result result = rbg_find_moves(state, &count);
+    if (result != RBG_OK || count == 0)
+      return result;
+    uint64_t index = chance(count), one = 0, two = 0, again = 0;
+    rbg_state copy = RBG_NO_STATE;
+    check(rbg_copy(state, &copy) == RBG_OK, "copy");
+    check(rbg_make_found(&copy, index) == RBG_ILLEGAL, "moves that were not found");
+    check(rbg_find_moves(&copy, &again) == RBG_OK && again == count, "as many moves");
+    check(rbg_make_found(&copy, index) == RBG_OK, "make");
+    check(rbg_make_found(state, index) == RBG_OK, "make");
+    check(rbg_key(state, &one) == RBG_OK && rbg_key(&copy, &two) == RBG_OK && one == two, "one place");
+    rbg_free(&copy);
+    return RBG_OK;
+  }
+  case 9:
+    return rbg_make_found(state, chance(2) ? chance(64) : ~chance(64));
+  case 10:
+    return rbg_undo(state);
+  default:
+    return rbg_key(state, &key);
+  }
+}
+
+int main(int argc, char **argv) {
+  if (argc != 4) {
+    fprintf(stderr, "usage: trial FILE CALLS SEED\n");
+    return 2;
+  }
+  FILE *file = fopen(argv[1], "rb");
+  if (!file) {
+    perror(argv[1]);
+    return 2;
+  }
+  text_length = fread(text, 1, sizeof text, file);
+  fclose(file);
+  seed = strtoull(argv[3], NULL, 10) | 1;
+  for (int64_t left = atoll(argv[2]); left > 0; left--) {
+    rbg_result result = call(&states[chance(HANDLES)], &states[chance(HANDLES)]);
+    check(result < 32, "an answer that the header has");
+    counts[result]++;
+  }
+  for (int i = 0; i < HANDLES; i++)
+    rbg_free(&states[i]);
+  for (int i = 0; i < 32; i++)
+    if (counts[i])
+      printf("%d %" PRIu64 "\n", i, counts[i]);
+  return 0;
+}

@@ -1,0 +1,41 @@
+-- The numbers of results, as the header has them.
+use Rattle.std.specs.Prelude.{◌≡◌, ℕ}
+use Rattle.rbg_ask.specs.declared.refusal.Refusal.{Refusal}
+use Rattle.rbg_ask.specs.declared.refusal.Refusal.TheVariants as refusals
+use Rattle.rbg_game.specs.declared.error.LoadError.{LoadError}
+use Rattle.rbg_game.specs.declared.error.LoadError.TheVariants as errors
+
+abbrev pub ok : ℕ
+ok = 0
+
+abbrev pub empty : ℕ
+empty = 1
+
+abbrev pub memory : ℕ
+memory = 2
+
+abbrev pub start : ℕ
+start = 6
+
+-- the number of a refusal
+abbrev pub number_of : Refusal → ℕ
+number_of refusals.Long = 8
+number_of refusals.Form = 8
+number_of refusals.Illegal = 5
+number_of refusals.Start = start
+number_of refusals.Over = 3
+number_of refusals.Keeper = 4
+number_of refusals.Memory = memory
+
+-- the number of the layer that refuses a description
+abbrev pub layer_of : LoadError → ℕ
+layer_of (errors.Text cause) = 16
+layer_of (errors.Macro cause) = 17
+layer_of (errors.Syntax cause) = 18
+layer_of (errors.Game cause) = 19
+
+-- The number is that of a refusal of which this holds.
+pub record Refuses (P : Refusal → Type 0) (result : ℕ) : Type 0 where
+  pub refusal : Refusal
+  pub why : P refusal
+  pub is : result ≡ number_of refusal

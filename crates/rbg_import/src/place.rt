@@ -1,0 +1,58 @@
+//! Places of a board's cells, and the ways from one to the next.
+ghost use Rattle.std.specs.Prelude.{◌≡◌, ◌+◌, ◌==◌};
+ghost use Rattle.rbg_import.specs.Geometry.{leads as leads_along};
+
+/// Where a cell of a board stands.
+#[derive(Clone, Copy)]
+pub(crate) struct Place {
+    /// The cell of its row, from 0.
+    pub x: usize,
+    /// The row of its layer, from 0.
+    pub y: usize,
+    /// The layer, from 0.
+    pub z: usize,
+}
+
+/// A way from a cell to the next one.
+#[derive(Clone, Copy)]
+pub(crate) enum Way {
+    RowBefore,
+    RowBehind,
+    CellBefore,
+    CellBehind,
+    LayerBefore,
+    LayerBehind,
+}
+
+/// The ways, in the order in which a board names its directions. A board without layers has the first four.
+pub(crate) const WAYS: [Way; 6] = [
+    Way::RowBefore,
+    Way::RowBehind,
+    Way::CellBefore,
+    Way::CellBehind,
+    Way::LayerBefore,
+    Way::LayerBehind,
+];
+
+impl Way {
+    /// Whether the way leads from one place to the other.
+    pub fn leads(self, from: Place, to: Place) -> bool
+        ensures { result ≡ leads_along self from to }
+    {
+        match self {
+            Way::RowBefore => follows(to.y, from.y) && from.x == to.x && from.z == to.z,
+            Way::RowBehind => follows(from.y, to.y) && from.x == to.x && from.z == to.z,
+            Way::CellBefore => follows(to.x, from.x) && from.y == to.y && from.z == to.z,
+            Way::CellBehind => follows(from.x, to.x) && from.y == to.y && from.z == to.z,
+            Way::LayerBefore => follows(to.z, from.z) && from.x == to.x && from.y == to.y,
+            Way::LayerBehind => follows(from.z, to.z) && from.x == to.x && from.y == to.y,
+        }
+    }
+}
+
+/// Whether the second number is the next one behind the first.
+fn follows(before: usize, behind: usize) -> bool
+    ensures { result ≡ behind == before + 1 }
+{
+    before < behind && behind - before == 1
+}
