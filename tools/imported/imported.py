@@ -40,7 +40,7 @@ def without_comments(text: str) -> str:
 
 
 def imported(program: Path, text: str) -> tuple[int, str, str]:
-    ran = subprocess.run([program, "import", "-"], input=text.encode(), capture_output=True, timeout=60)
+    ran = subprocess.run([program.resolve(), "import", "-"], input=text.encode(), capture_output=True, timeout=60)
     return ran.returncode, ran.stdout.decode(), ran.stderr.decode()
 
 

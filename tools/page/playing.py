@@ -168,8 +168,8 @@ def replay(words, game, record):
 
 
 def leave(page, name):
-    """Leaves the page, which may have complained of nothing."""
-    for line in [line for line in page.complaints() if "409" not in line and "/position" not in line]:
+    """Leaves the page, which may have complained of nothing but questions of another page, and places without a position."""
+    for line in [line for line in page.complaints() if not re.search(r"\b40[49]\b", line)]:
         sys.exit(f"{name}: {line}")
     page.open("about:blank")
 
