@@ -62,7 +62,7 @@ help:
 	@echo 'make links    checks that what the pages link and name is there, and that what make docs makes is up to date'
 	@echo 'make docs     makes the page of all commands, the manual pages and the completions, from the sources'
 	@echo 'make lib      proves the library for programs in C, and leaves librbg.a, librbg.so and rbg.pc beside include/rbg.h (with gcc)'
-	@echo 'make library  counts chess and calls the library in all ways from C, alone, under valgrind and AddressSanitizer (after make lib)'
+	@echo 'make library  calls the library in all ways from C, also under valgrind and AddressSanitizer, and lets players in C, C++, Rust and Python play each other (after make lib and make build, with gcc, g++ and rustc)'
 	@echo 'make install  copies ./rbg, ./rbg_author, their manual pages and completions below PREFIX=/usr/local (after make build)'
 	@echo 'make try      runs the stored runs, ten with a request for memory refused, and the tests, with no proof; make -j4 try runs four at once'
 	@echo 'make build    proves the programs and what they stand on, LANES crates at once, and leaves them as ./rbg and ./rbg_author'
@@ -119,17 +119,18 @@ page:
 	@python3 tools/page/page.py
 	@if python3 -c 'import sys; sys.path.insert(0, "tools/page"); import browser; sys.exit(not browser.is_there())'; then python3 tools/page/wrong.py && python3 tools/page/playing.py; else echo 'no game is played by clicks: there is no chromium with its driver'; fi
 
-# The library for programs in C, and its trials. TEXTS says how many texts are spoilt by chance, CALLS how many calls are
-# made by chance.
+# The library for programs in C, and its trials: TEXTS texts are spoilt by chance, and CALLS calls are made by chance.
 TEXTS := 10000
 CALLS := 1000000
 lib:
 	@cd crates/rbg_c && $(RT) lib
-	@python3 tools/library --prefix $(PREFIX)
+	@RT='$(RT)' tools/library --prefix $(PREFIX)
 
 library:
-	@test -f librbg.a && test -f librbg.so || { echo 'make library needs librbg.a: run make lib first'; exit 1; }
+	$(call needs,$(RBG))
+	@RT='$(RT)' tools/library --prefix $(PREFIX)
 	@TEXTS=$(TEXTS) CALLS=$(CALLS) python3 clients/c/trials.py $(call data,chess tictactoe)
+	@python3 clients/languages.py --rbg $(RBG) $(call data,tictactoe breakthrough)
 
 play:
 	@test -x ./rbg_author || { echo 'make play needs ./rbg_author: run make build first'; exit 1; }
@@ -164,6 +165,7 @@ refusals:
 
 doctests:
 	$(call needs,./rbg)
+	$(call needs,./rbg_author)
 	@tools/doctests
 
 links:
@@ -218,4 +220,4 @@ fmt:
 	@for crate in $(CRATES); do (cd $$crate && $(RT) fmt) || exit 1; done
 
 clean:
-	rm -rf $(addsuffix /out,$(CRATES)) out rbg rbg_author
+	rm -rf $(addsuffix /out,$(CRATES)) out rbg rbg_author librbg.a librbg.so rbg.pc

@@ -8,7 +8,7 @@ import time
 from pathlib import Path
 from typing import Any, Optional
 
-CLIENT = Path(__file__).resolve().with_name("rbg_player.py")
+CLIENT = Path(__file__).resolve().with_name("player.py")
 PATIENCE = 60  # seconds in which a match has to end, if nothing else is said
 TRIES = 5  # how many ports are tried
 

@@ -137,7 +137,9 @@ def main() -> int:
     parser.add_argument("--memory", type=int, default=16, help="the most megabytes of a referee")
     parser.add_argument("--storm", metavar="SEED", help="this storm between alone, as it is named where one goes wrong")
     words = parser.parse_args()
-    signal.signal(signal.SIGHUP, signal.SIG_DFL)  # what is ignored here, as under nohup, is ignored by each referee too
+    # what is ignored here, as under nohup or in a shell's background, is ignored by each referee too
+    signal.signal(signal.SIGHUP, signal.SIG_DFL)
+    signal.signal(signal.SIGINT, signal.default_int_handler)
     size = Size(words)
     results = []
     with tempfile.TemporaryDirectory(prefix="rbg-storm-") as folder:

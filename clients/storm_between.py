@@ -3,6 +3,7 @@ the players were sent, whoever loses by its own fault is one who had a harm, and
 
 import random
 import socket
+import time
 from pathlib import Path
 from typing import NamedTuple
 
@@ -76,8 +77,10 @@ def storm_match(trial: Trial, games: list[Stored], seed: str, rubbish: int) -> s
     limits = ["--turn", str(TURN), "--refusals", str(chance.choice(REFUSALS)), "--minutes", "5"]
     try:
         with Served(trial, ["serve", str(played.game), *limits, "--log", str(log)]) as served:
-            for _ in range(chance.choice([0, 0, 0, 1, 3])):
+            strays = chance.choice([0, 0, 0, 1, 3])
+            for _ in range(strays):
                 stray(served.port, chance)
+            time.sleep(0.3 if strays else 0)  # a seat is free again once the referee has seen that its stray left
             proxy = Proxy(loop, served.port, weathers, chance)
             seen = [Seen(Player(loop, proxy.port, played.moves), weather) for weather in weathers]
             end_of(served, loop, seen)

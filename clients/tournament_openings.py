@@ -6,11 +6,14 @@ commas between them; what stands after // is a remark.
 """
 
 import random
+import sys
 from pathlib import Path
 from typing import Iterator, Optional, Sequence
 
-from rbg_rules import Refused, Rules
 from tournament_files import Fault
+
+sys.path.insert(0, str(Path(__file__).resolve().parent / "python"))
+import rbg as rules  # noqa: E402
 
 Opening = list[tuple[int, str]]  # the player and the pairs of each move
 
@@ -61,24 +64,21 @@ def openings_of(text: str) -> list[list[str]]:
     return [[" ".join(move.split()) for move in line.split(",")] for line in lines if line]
 
 
-def with_players(rules: Rules, moves: Sequence[str]) -> Opening:
-    """An opening with the player of each move, if its moves are legal and play goes on after them. The place stays."""
+def with_players(game: rules.Game, moves: Sequence[str]) -> Opening:
+    """An opening with the player of each move, if its moves are legal and play goes on after them."""
+    state = game.state()
     made: Opening = []
-    try:
-        for pairs in moves:
-            if rules.finished:
-                raise Fault("play is over before its end")
-            player = rules.player
-            try:
-                rules.make(pairs)
-            except Refused as refused:
-                raise Fault(f"its move {len(made) + 1}, {pairs!r}, is refused: {refused}") from None
-            made.append((player, pairs))
-        if rules.finished:
-            raise Fault("play is over after it")
-    finally:
-        if made:
-            rules.back(len(made))
+    for pairs in moves:
+        if state.is_over:
+            raise Fault("play is over before its end")
+        player = state.player
+        try:
+            state.make(pairs)
+        except rules.Refused as refused:
+            raise Fault(f"its move {len(made) + 1}, {pairs!r}, is refused: {refused.word}") from None
+        made.append((player, pairs))
+    if state.is_over:
+        raise Fault("play is over after it")
     return made
 
 
@@ -93,7 +93,7 @@ def files_of(names: Sequence[Path]) -> list[Path]:
 def read_openings(rbg: str, game: Path, names: Sequence[Path]) -> list[str]:
     """The openings of a game in these files and folders, each as a line of the file that a tournament keeps."""
     lines = []
-    with Rules(str(game), rbg) as rules:
+    with rules.Game.load(game, rbg, library=False) as played:
         for file in files_of(names):
             try:
                 wanted = openings_of(file.read_text())
@@ -103,7 +103,7 @@ def read_openings(rbg: str, game: Path, names: Sequence[Path]) -> list[str]:
                 raise Fault(f"{file} has no openings") from None
             for number, moves in enumerate(wanted, 1):
                 try:
-                    lines.append(line_of(with_players(rules, moves)))
+                    lines.append(line_of(with_players(played, moves)))
                 except Fault as fault:
                     raise Fault(f"opening {number} of {file}: {fault}") from None
     return lines
@@ -135,13 +135,10 @@ def shares_of(endings: Sequence[tuple[Optional[list[int]], int]], players: int) 
     return [each / matches for each in taken]
 
 
-def walk(rules: Rules, plies: int, chance: random.Random) -> list[str]:
-    """Moves by chance; fewer where play ends. They stay made."""
-    made: list[str] = []
-    while len(made) < plies and not rules.finished:
-        made.append(chance.choice(rules.moves()))
-        rules.make(made[-1])
-    return made
+def walk(state: rules.State, plies: int, chance: random.Random) -> None:
+    """Makes moves by chance; fewer where play ends."""
+    while len(state.history) < plies and not state.is_over:
+        state.make(chance.choice(state.moves()))
 
 
 def make_openings(
@@ -153,19 +150,17 @@ def make_openings(
     chance = random.Random(seed)
     seen: set[tuple] = set()
     found = 0
-    with Rules(str(game), rbg) as rules:
-        players = len(rules.names()["players"])
+    with rules.Game.load(game, rbg, library=False) as played:
         for number in range(100 * count):
-            made = walk(rules, plies, chance)
-            place = rules.player, *rules.board(), -1, *rules.values()
-            if not rules.finished and place not in seen:
+            state = played.state()
+            walk(state, plies, chance)
+            place = state.player, *state.board, -1, *state.values.values()
+            if not state.is_over and place not in seen:
                 seen.add(place)
-                shares = shares_of(rules.playouts(number, playouts), players) if playouts else []
+                shares = shares_of(state.playouts(playouts, number), len(played.players)) if playouts else []
                 if all(abs(share - 0.5) <= balance for share in shares):
                     found += 1
-                    yield ", ".join(made) + " //" * bool(shares) + "".join(f" {share:.2f}" for share in shares)
+                    yield ", ".join(state.history) + " //" * bool(shares) + "".join(f" {share:.2f}" for share in shares)
             if found == count:
                 return
-            if made:
-                rules.back(len(made))
     raise Fault(f"only {found} of {count} openings were found in {100 * count} tries: there may be no more")

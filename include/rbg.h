@@ -1,15 +1,18 @@
 /* The proved rules of Regular Boardgames, for programs in C.
 
    A description of a game is opened once. It gives a state: a place of play, with the places before it. States are
-   copied, moves are found and made, and made moves are undone. No call prints, reads a file, or waits.
+   copied, moves are found and made, made moves are undone, and matches are played on by chance. No call prints, reads a
+   file, or waits.
 
    Each call keeps these rules, and asks these of its caller:
 
    - A handle (rbg_state) is zero before its first call: `rbg_state s = RBG_NO_STATE;`. Nobody but the library writes
      to it afterwards, and it isn't copied by `=`: rbg_copy makes a copy. rbg_free lets its state go. A handle that
      holds no state may be given to each call, which then answers RBG_EMPTY; to be freed twice does no harm.
-   - No pointer is NULL, also where the length behind it is 0. Pointers of one call don't overlap.
-   - A call that fails leaves the state as it was.
+   - No pointer is NULL, also where the length after it is 0. Pointers of one call don't overlap.
+   - A buffer comes with its room: how many items it can take. The call stores in *needed how many there are, and puts
+     them at its beginning. Where they are more than its room, the call answers RBG_SMALL, and the buffer is as before.
+   - A call that fails leaves its states as they were.
    - A handle is used by the thread that made it. Other threads open games of their own.
    - malloc, realloc and free come from one allocator, as in each usual program. No call is made from a signal handler.
      A call may use some 100 kB of stack.
@@ -34,8 +37,10 @@ enum {
   RBG_MEMORY = 2,  /* a request for memory was refused */
   RBG_OVER = 3,    /* a question about a place is above the limits of the language */
   RBG_KEEPER = 4,  /* the keeper would make more than 1,000 moves in a row */
-  RBG_ILLEGAL = 5, /* there is no move of this index, or the moves were not found before */
+  RBG_ILLEGAL = 5, /* the move isn't legal; there is no move of this index, or the moves were not found before */
   RBG_START = 6,   /* there is no move to undo */
+  RBG_SMALL = 7,   /* a buffer has too little room */
+  RBG_RANGE = 8,   /* a number is out of its range */
   RBG_TEXT = 16,   /* a description has bytes that are no text of the language */
   RBG_MACRO = 17,  /* its macros are wrong */
   RBG_SYNTAX = 18, /* its syntax is wrong */
@@ -48,6 +53,14 @@ typedef struct rbg_state {
 } rbg_state;
 #define RBG_NO_STATE {0}
 
+/* A modifier of a move: the vertex on which it is applied, and its position in the rules. A move is 1 to 200 of them,
+   as in messages. */
+typedef struct rbg_pair {
+  uint32_t vertex;
+  uint32_t position;
+} rbg_pair;
+enum { RBG_MOST_PAIRS = 200 };
+
 /* ---- descriptions and states */
 
 /* Whether a text is the description of a game, and if it isn't, which layer refuses it. */
@@ -56,6 +69,10 @@ rbg_result rbg_check(const uint8_t *text, size_t length);
 /* Opens the game of a description, and stores the state to which the keeper's first moves lead. A state that the handle
    held is let go, if the call succeeds. */
 rbg_result rbg_open(const uint8_t *text, size_t length, rbg_state *state);
+
+/* The same, but the state is where the rules begin: no move of the keeper is made. A match is followed from there by
+   rbg_hear. */
+rbg_result rbg_begin(const uint8_t *text, size_t length, rbg_state *state);
 
 /* Lets a state go. */
 void rbg_free(rbg_state *state);
@@ -75,16 +92,48 @@ rbg_result rbg_moves_made(rbg_state *state, uint64_t *made);
 /* The key of the place: 64 bits that are equal for equal places, and hardly ever for others. `rbg ask` tells the same. */
 rbg_result rbg_key(rbg_state *state, uint64_t *key);
 
+/* The number of the piece on each vertex; what each variable holds, of which the first are the players' scores; and
+   these scores alone. */
+rbg_result rbg_board(rbg_state *state, uint16_t *pieces, size_t room, uint64_t *needed);
+rbg_result rbg_values(rbg_state *state, uint32_t *values, size_t room, uint64_t *needed);
+rbg_result rbg_scores(rbg_state *state, uint64_t *scores, size_t room, uint64_t *needed);
+
+/* The name of a player, a piece or a variable, by its kind and its index from 0: bytes, with no zero byte after them.
+   RBG_RANGE where there is none. */
+enum { RBG_PLAYERS = 0, RBG_PIECES = 1, RBG_VARIABLES = 2 };
+rbg_result rbg_name(rbg_state *state, uint32_t kind, uint64_t index, uint8_t *name, size_t room, uint64_t *needed);
+
 /* ---- moves */
 
 /* Finds the legal moves, and stores how many they are. They stay found until a move is made or undone. */
 rbg_result rbg_find_moves(rbg_state *state, uint64_t *count);
 
-/* Makes the move of this index, and the keeper's moves behind it. */
+/* The pairs of the move of this index, from 0, among those that were found. */
+rbg_result rbg_move(rbg_state *state, uint64_t index, rbg_pair *pairs, size_t room, uint64_t *needed);
+
+/* Makes the move of this index, and the keeper's moves after it. */
 rbg_result rbg_make_found(rbg_state *state, uint64_t index);
 
-/* Undoes the last move of a player, with the keeper's moves behind it. */
+/* Makes the move of these pairs, if it is legal, and the keeper's moves after it. */
+rbg_result rbg_make(rbg_state *state, const rbg_pair *pairs, size_t length);
+
+/* Makes the move of these pairs, if it is legal, as a referee passes it on: the keeper's moves are passed on too, so
+   none is made after it. None of the moves so far can be undone then. */
+rbg_result rbg_hear(rbg_state *state, const rbg_pair *pairs, size_t length);
+
+/* Undoes the last move of a player, with the keeper's moves after it. */
 rbg_result rbg_undo(rbg_state *state);
+
+/* ---- chance */
+
+/* Plays so many matches by chance from here, 1 to 1,000,000, and tells how they ended: for each ending a row of how many
+   matches ended so, and each player's score. A match that isn't finished after 10,000 moves is stopped, and has no row.
+   A seed always gives the same matches. The state is as before; room for (players + 1) * count numbers is always enough. */
+rbg_result rbg_playouts(rbg_state *state, uint64_t seed, uint64_t count, uint64_t *rows, size_t room, uint64_t *needed);
+
+/* Makes `to` a copy of `from` on which moves were made by chance, at most so many, until play is finished, and stores how
+   many. They can be undone there. A state that `to` held is let go, if the call succeeds. */
+rbg_result rbg_play_on(rbg_state *from, rbg_state *to, uint64_t seed, uint64_t most, uint64_t *made);
 
 #ifdef __cplusplus
 }

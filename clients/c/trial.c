@@ -28,18 +28,89 @@ static size_t text_length;
 static rbg_state states[HANDLES];
 static uint64_t counts[32];
 
+/* A buffer of just this room, so that a byte too many would be seen. */
+static void *room_for(size_t room, size_t size) {
+  void *buffer = malloc(room * size + 1);
+  check(buffer != NULL, "memory");
+  memset(buffer, 0x5a, room * size + 1);
+  return buffer;
+}
+
+/* What a state has, into a buffer of any room. */
+static rbg_result tell(rbg_state *state) {
+  size_t room = chance(24);
+  uint64_t needed = 0;
+  rbg_result result;
+  void *buffer;
+  switch (chance(5)) {
+  case 0:
+    result = rbg_board(state, buffer = room_for(room, 2), room, &needed);
+    break;
+  case 1:
+    result = rbg_values(state, buffer = room_for(room, 4), room, &needed);
+    break;
+  case 2:
+    result = rbg_scores(state, buffer = room_for(room, 8), room, &needed);
+    break;
+  case 3:
+    result = rbg_name(state, (uint32_t)chance(4), chance(6), buffer = room_for(room, 1), room, &needed);
+    break;
+  default:
+    result = rbg_move(state, chance(12), buffer = room_for(room, sizeof(rbg_pair)), room, &needed);
+  }
+  check(result != RBG_OK || needed <= room, "room");
+  check(result != RBG_SMALL || (needed > room && ((char *)buffer)[0] == 0x5a), "a buffer that is too small");
+  free(buffer);
+  return result;
+}
+
+/* A move by its pairs: one that is legal, or nearly, or any. The keeper's moves follow it or don't. */
+static rbg_result pairs_made(rbg_state *state) {
+  size_t length = chance(8) ? chance(4) : chance(300);
+  uint64_t count = 0, needed = length;
+  rbg_pair *pairs = room_for(length, sizeof(rbg_pair));
+  for (size_t i = 0; i < length; i++)
+    pairs[i].vertex = (uint32_t)chance(10), pairs[i].position = chance(9) ? (uint32_t)chance(40) : ~0u;
+  if (chance(2) && rbg_find_moves(state, &count) == RBG_OK && count > 0)
+    if (rbg_move(state, chance(count), pairs, length, &needed) == RBG_OK && chance(4) == 0 && needed > 0)
+      pairs[chance(needed)].position++;
+  needed = needed < length ? needed : length;
+  rbg_result result = chance(4) ? rbg_make(state, pairs, needed) : rbg_hear(state, pairs, needed);
+  free(pairs);
+  return result;
+}
+
+/* Matches by chance: the same seed gives the same matches. */
+static rbg_result played(rbg_state *state, rbg_state *other) {
+  uint64_t count = chance(8) ? chance(4) : 1000001, room = chance(16), seed_of = chance(1000), needed = 0, again = 0, made = 0;
+  if (chance(2))
+    return state == other ? RBG_OK : rbg_play_on(state, other, seed_of, chance(12), &made);
+  uint64_t *rows = room_for(room, 8), *more = room_for(room, 8);
+  rbg_result result = rbg_playouts(state, seed_of, count, rows, room, &needed);
+  check(rbg_playouts(state, seed_of, count, more, room, &again) == result && again == needed, "the same matches");
+  check(memcmp(rows, more, room * 8) == 0, "the same rows");
+  free(rows), free(more);
+  return result;
+}
+
 /* One call, good or bad. */
 static rbg_result call(rbg_state *state, rbg_state *other) {
   uint64_t key = 0, count = 0, made = 0;
   uint32_t player = 0;
-  switch (chance(12)) {
+  switch (chance(15)) {
+  case 12:
+    return tell(state);
+  case 13:
+    return pairs_made(state);
+  case 14:
+    return played(state, other);
   case 0: { /* a text that is cut, or spoilt, or whole */
     static uint8_t spoilt[1 << 20];
     size_t length = chance(4) ? text_length : chance(text_length + 1);
     memcpy(spoilt, text, text_length);
     if (chance(2))
       spoilt[chance(text_length)] = (uint8_t)chance(256);
-    return rbg_open(spoilt, length, other);
+    return chance(4) ? rbg_open(spoilt, length, other) : rbg_begin(spoilt, length, other);
   }
   case 1:
     if (chance(4) == 0)

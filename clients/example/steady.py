@@ -13,24 +13,8 @@ import sys
 import time
 from pathlib import Path
 
-sys.path.insert(0, str(Path(__file__).resolve().parent.parent))
-from rbg_player import Follower, Stream, play  # noqa: E402
-
-
-class Steady(Follower):
-    """Chooses by the moves that were made, the keeper's too."""
-
-    def __init__(self, seed, slow, program):
-        super().__init__(self.choose_by_moves, program)
-        self.seed, self.slow, self.made = seed, slow, []
-
-    def move(self, match):
-        self.made = match.moves
-        return super().move(match)
-
-    def choose_by_moves(self, rules, left_ms):
-        time.sleep(self.slow)
-        return chosen(self.seed, self.made, rules.moves())
+sys.path.insert(0, str(Path(__file__).resolve().parent.parent / "python"))
+import rbg  # noqa: E402
 
 
 def chosen(seed, made, moves):
@@ -49,9 +33,15 @@ def main():
     parser.add_argument("--rbg", default="./rbg")
     parser.add_argument("--slow", type=float, default=0.0, metavar="MS", help="milliseconds to wait before each move")
     words = parser.parse_args()
-    match = play(Stream(words.port), Steady(words.seed, words.slow / 1000, words.rbg))
-    print(match.end)
-    return 0 if match.end else 3
+
+    def choose(state, clock):
+        """Chooses by the moves that were made, the keeper's too."""
+        time.sleep(words.slow / 1000)
+        return chosen(words.seed, state.game.heard, state.moves())
+
+    outcome = rbg.play(words.port, choose, program=words.rbg, library=False)
+    print(outcome.end)
+    return 0 if outcome.end else 3
 
 
 if __name__ == "__main__":

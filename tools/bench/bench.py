@@ -239,7 +239,7 @@ def built(run):
     place.mkdir(parents=True)
     shutil.copy(HERE / "forms" / "Invariants.txt", place / "Invariants.antt")
     with open(copy / "crates.txt", "a") as listed:
-        listed.write("bench: rbg_base rbg_game rbg_rules rbg_state rbg_auto rbg_leaps anyhow\n")
+        listed.write("bench: rbg_base rbg_game rbg_rules rbg_state rbg_auto rbg_shifts anyhow\n")
     with open(crate / "stdin", "w") as given:
         given.write("0 0 0 0 0\n" + texts.CHANGES)
     with open(crate / "stdin") as given:

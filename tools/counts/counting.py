@@ -78,13 +78,11 @@ def compare():
 
 
 class Seen:
-    """What `./rbg ask` says of a place: the pieces, who is to move (0 where play is finished), and the variables."""
+    """What `./rbg ask` says of a state: the pieces, who is to move (0 where play is finished), and the variables."""
 
-    def __init__(self, rules):
-        names = rules.names()
-        self.board = [names["pieces"][number] for number in rules.board()]
-        self.player, self.scores = rules.player, rules.scores
-        self.values = dict(zip(names["variables"], rules.values()))
+    def __init__(self, state):
+        self.board = [state.game.pieces[number] for number in state.board]
+        self.player, self.scores, self.values = state.player, state.scores, state.values
 
     def fits(self, game, place):
         """Whether a place of the game's own program has the same board, player to move and values."""
@@ -96,15 +94,14 @@ class Seen:
         )
 
 
-def follow_match(game, rules, choose):
+def follow_match(game, state, choose):
     """Plays a match in both, and compares each place on the way. How many places there were."""
-    place, places, seen = game.START, 1, Seen(rules)
+    place, places, seen = game.START, 1, Seen(state)
     assert seen.fits(game, place)
     while seen.player:
-        moves, following = rules.moves(), game.moves(place)
+        moves, following = state.moves(), game.moves(place)
         assert len(moves) == len(following), (place, len(moves), len(following))
-        rules.make(choose(moves))
-        seen = Seen(rules)
+        seen = Seen(state.make(choose(moves)))
         place = next((other for other in following if seen.fits(game, other)), None)
         assert place is not None, seen.board
         places += 1
@@ -115,13 +112,13 @@ def follow_match(game, rules, choose):
 
 def follow(name, matches, choose):
     """Plays matches in `./rbg ask` and in the game's own program."""
-    sys.path.insert(0, str(TOP / "clients"))
-    from rbg_rules import Rules
+    sys.path.insert(0, str(TOP / "clients/python"))
+    from rbg import Game
 
     game, places = importlib.import_module(name), 0
-    for _ in range(matches):
-        with Rules(str(STORED / f"data/{name}.rbg"), os.environ.get("RBG", str(TOP / "rbg"))) as rules:
-            places += follow_match(game, rules, choose)
+    with Game.load(STORED / f"data/{name}.rbg", os.environ.get("RBG", str(TOP / "rbg")), library=False) as rules:
+        for _ in range(matches):
+            places += follow_match(game, rules.state(), choose)
     print(f"{name}: {places} places are the same in both")
 
 

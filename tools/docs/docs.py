@@ -10,6 +10,7 @@
 import argparse
 import re
 import sys
+from functools import cache
 from pathlib import Path
 
 sys.dont_write_bytecode = True
@@ -38,6 +39,23 @@ def groups(listed: str) -> list[tuple[str, list[str]]]:
     return [it for it in found if it[1]]
 
 
+def used(listed: str) -> dict[str, list[str]]:
+    """The crates that each one uses, without those below another of them.
+
+    >>> used("low: std\\nmiddle: low\\nhigh: low middle\\n")
+    {'low': [], 'middle': ['low'], 'high': ['middle']}
+    """
+    lines = [line.partition("#")[0].partition(":") for line in listed.splitlines()]
+    uses = {name.split()[0]: names.split() for name, _, names in lines if name.strip()}
+    uses = {name: [it for it in names if it in uses] for name, names in uses.items()}
+
+    @cache
+    def below(name: str) -> frozenset[str]:
+        return frozenset(deep for it in uses[name] for deep in (it, *below(it)))
+
+    return {name: [it for it in names if not any(it in below(other) for other in names)] for name, names in uses.items()}
+
+
 def told(name: str) -> tuple[str, str]:
     """What a crate holds, and what is proved of it, as its README says."""
     parts = (ROOT / "crates" / name / "README.md").read_text().split("\n\n")
@@ -45,14 +63,27 @@ def told(name: str) -> tuple[str, str]:
     return parts[1].strip(), proved
 
 
-def table(of: str) -> str:
-    """The table of what the crates hold, or of what is proved of them."""
-    at = ["holds", "proved"].index(of)
-    lines = [f"| Crate | {['Holds', 'Its contracts say'][at]} |", "|---|---|"]
+def held() -> str:
+    """The table of what the crates hold, and of what they use."""
+    listed = (ROOT / "crates.txt").read_text()
+    uses = used(listed)
+    lines = ["| Crate | Holds | Uses |", "|---|---|---|"]
+    for title, names in groups(listed):
+        lines += [f"| **{title}** | | |"]
+        lines += [f"| [{it}](../crates/{it}/README.md) | {told(it)[0]} | {', '.join(uses[it])} |" for it in names]
+    return "\n".join(lines) + "\n"
+
+
+def proved() -> str:
+    """The table of what is proved of the crates."""
+    lines = ["| Crate | Its contracts say |", "|---|---|"]
     for title, names in groups((ROOT / "crates.txt").read_text()):
-        rows = [f"| [{it}](../crates/{it}/README.md) | {told(it)[at]} |" for it in names if told(it)[at]]
+        rows = [f"| [{it}](../crates/{it}/README.md) | {told(it)[1]} |" for it in names if told(it)[1]]
         lines += [f"| **{title}** | |", *rows] if rows else []
     return "\n".join(lines) + "\n"
+
+
+TABLES = {"holds": held, "proved": proved}
 
 
 def made() -> dict[Path, str]:
@@ -66,7 +97,7 @@ def made() -> dict[Path, str]:
         files[share / f"zsh/site-functions/_{program.name}"] = completions.for_zsh(program)
         files[share / f"fish/vendor_completions.d/{program.name}.fish"] = completions.for_fish(program)
     for page in (ROOT / "docs/ARCHITECTURE.md", ROOT / "docs/PROVED.md"):
-        files[page] = MADE.sub(lambda it: it[1] + table(it[2]) + it[3], page.read_text())
+        files[page] = MADE.sub(lambda it: it[1] + TABLES[it[2]]() + it[3], page.read_text())
     return files
 
 

@@ -1,4 +1,4 @@
-"""The commands of both programs, as the tables in the sources of rbg_words, rbg_commands and rbg_author have them."""
+"""The commands of both programs, as the tables in the sources of rbg_console, rbg_cli and rbg_author have them."""
 
 import re
 from dataclasses import dataclass
@@ -6,9 +6,9 @@ from pathlib import Path
 from typing import Any, Iterator
 
 ROOT = Path(__file__).resolve().parents[2]
-SHARED = "crates/rbg_words/src/argument.rt"
+SHARED = "crates/rbg_console/src/argument.rt"
 # Each program, with the file that has its commands.
-SOURCES = {"rbg": "crates/rbg_commands/src/commands.rt", "rbg_author": "crates/rbg_author/src/program.rt"}
+SOURCES = {"rbg": "crates/rbg_cli/src/command_line.rt", "rbg_author": "crates/rbg_author/src/program.rt"}
 TOKEN = re.compile(r'\s+|//[^\n]*|("(?:[^"\\]|\\.)*")|([A-Za-z_]\w*(?:::\w+)*)|(\d[\d_]*)|([{}()\[\],:&])')
 
 

@@ -9,8 +9,8 @@ import pathlib
 import re
 import sys
 
-STYLE = pathlib.Path("crates/rbg_drawing/src/style.rt")
-SCRIPT = pathlib.Path("crates/rbg_drawing/src/script.rt")
+STYLE = pathlib.Path("crates/rbg_view/src/style.rt")
+SCRIPT = pathlib.Path("crates/rbg_view/src/script.rt")
 # the colours of texts, and of frames, each with those that lie below them
 TEXTS = {"ink": ["page"], "soft": ["page"], "mark": ["page"]}
 FRAMES = {"can": ["light", "dark", "changed"], "ring": ["light", "dark", "changed"], "edges": ["page"]}

@@ -11,8 +11,8 @@ import sys
 from layouts import TOP, UNIT, layout
 from looks import LOOKS
 
-sys.path.insert(0, str(TOP / "clients"))
-from rbg_rules import Rules
+sys.path.insert(0, str(TOP / "clients/python"))
+from rbg import Game  # noqa: E402
 
 DATA = TOP / "crates/rbg_games/data"
 TO = TOP / "docs/games"
@@ -122,12 +122,11 @@ def picture(game, look):
     path = DATA / f"{game}.rbg"
     board = layout(path, look.slanted)
     moves = [line for line in (DATA / f"{game}.moves").read_text().splitlines() if line and not line.startswith("//")]
-    with Rules(str(path), str(TOP / "rbg")) as rules:
-        names = rules.names()
+    with Game.load(path, str(TOP / "rbg"), library=False) as rules:
+        state = rules.state()
         for move in moves[: look.moves]:
-            rules.make(move)
-        pieces = [names["pieces"][piece] for piece in rules.board()]
-        values = dict(zip(names["variables"], rules.values()))
+            state.make(move)
+        pieces, values = [rules.pieces[piece] for piece in state.board], state.values
     width, height = number(board.width), number(board.height)
     parts = [
         f'<svg xmlns="http://www.w3.org/2000/svg" viewBox="0 0 {width} {height}" width="{width}" height="{height}" '

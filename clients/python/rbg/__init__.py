@@ -1,4 +1,4 @@
-"""The rules of board games, asked of the referee `rbg`, and players for its matches.
+"""The rules of board games, over the library `librbg.so` or the referee `rbg`, and players for its matches.
 
 >>> import random, rbg
 >>> with rbg.Game.load("crates/rbg_games/data/tictactoe.rbg") as game:
@@ -15,10 +15,11 @@ A player for a match of `rbg serve` is a function that chooses a move:
 
 from rbg.aec import Environment
 from rbg.backend import Refused
-from rbg.game import Ending, Game, State, Tried
+from rbg.game import Game, State
 from rbg.playing import Clock, Outcome, play
 from rbg.spiel import Actions, SpielGame, SpielState
 from rbg.thinking import Thinker
+from rbg.told import Ending, Place, Tried
 
 __all__ = [
     "Actions",
@@ -27,6 +28,7 @@ __all__ = [
     "Environment",
     "Game",
     "Outcome",
+    "Place",
     "Refused",
     "SpielGame",
     "SpielState",

@@ -10,9 +10,10 @@ goes on that was stopped.
 import select
 import socket
 import time
-from typing import Callable, NamedTuple, Optional
+from typing import Callable, NamedTuple, Optional, Union
 
-from rbg.game import Game, Move, State
+from rbg.game import Game, State
+from rbg.told import Move
 
 QUIET = 0.005  # seconds in which nothing comes before a move is said
 
@@ -42,7 +43,7 @@ class Outcome(NamedTuple):
     refused: Optional[int]  # for which reason a move was refused, after which nothing more was said
 
 
-Choose = Callable[[State, Clock], Move]
+Choose = Callable[[State, Clock], Optional[Move]]  # None says nothing
 
 
 class Stream:
@@ -80,8 +81,8 @@ class Stream:
 class Seat:
     """What a player has heard of its match."""
 
-    def __init__(self, program: Optional[str]):
-        self.program = program
+    def __init__(self, program: Optional[str], library: Union[str, bool, None] = None):
+        self.program, self.library = program, library
         self.player, self.game = 0, None  # type: tuple[int, Optional[Game]]
         self.turn: Optional[float] = None
         self.began = 0.0  # when the last move was heard
@@ -95,7 +96,7 @@ class Seat:
         if letter == b"W":
             self.player = int(text.split()[0])
         elif letter == b"G":
-            self.game = Game.read(text, self.program)
+            self.game = Game.read(text, self.program, self.library)
         elif letter == b"L":
             self.turn = int(text.split()[0]) / 1000
         elif letter == b"M" and self.game is not None:
@@ -124,10 +125,16 @@ class Seat:
 
 
 def play(
-    port: int, choose: Choose, *, host: str = "127.0.0.1", match: Optional[int] = None, program: Optional[str] = None
+    port: int,
+    choose: Choose,
+    *,
+    host: str = "127.0.0.1",
+    match: Optional[int] = None,
+    program: Optional[str] = None,
+    library: Union[str, bool, None] = None,
 ) -> Outcome:
     """Plays a match to its end. `match` is its number in a hall. A move is chosen only after all that has come is heard."""
-    stream, seat = Stream(host, port), Seat(program)
+    stream, seat = Stream(host, port), Seat(program, library)
     if match is not None:
         stream.say("H%d" % match)
     try:

@@ -20,7 +20,8 @@ Moves are numbered as they are met, so a table of actions grows: `num_distinct_a
 
 from typing import Any, Iterable, Optional
 
-from rbg.game import Game, Move, State
+from rbg.game import Game, State
+from rbg.told import Move
 
 try:
     import numpy

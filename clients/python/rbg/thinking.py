@@ -13,8 +13,9 @@ import random
 import time
 from typing import Optional
 
-from rbg.game import Move, State
+from rbg.game import State
 from rbg.playing import Clock
+from rbg.told import Move
 
 MOST = 256  # so many matches are played after each move at once, at most
 

@@ -1,8 +1,8 @@
 //! What `explain` and `check` print of a game.
 
+use crate::game_files::{Loaded, Read, load_with_tokens, read_source};
 use crate::listing::listing;
 use crate::opening::push_opening;
-use crate::reading::{Loaded, Read, load_with_tokens, read_source};
 use crate::report::Report;
 use rbg_console::{Files, Status};
 use rbg_explain::{
@@ -10,7 +10,7 @@ use rbg_explain::{
     push_positions, push_vertices,
 };
 use rbg_game::LoadedGame;
-use rbg_tokens::Tokens;
+use rbg_macro::Tokens;
 use std::alloc::{AllocError, Global};
 use std::io;
 

@@ -1,14 +1,14 @@
 //! What `import` prints of a text of the paper's language.
 
-use crate::reading::{Read, read_source};
+use crate::game_files::{Read, read_source};
 use crate::report::Report;
 use rbg_console::{Files, Note, Status};
-use rbg_import::{Fault, Imported, import};
-use rbg_tokens::TextLine;
+use rbg_import::{ImportFault, Imported, import};
+use rbg_macro::TextLine;
 use std::alloc::{AllocError, Global};
 use std::io;
 
-/// The text of a file as this language spells it. What can't be rewritten is told by line, and then nothing is printed.
+/// The text of a file as this language spells it. What can't be rewritten is reported by line, and then nothing is printed.
 pub(crate) fn import_file<F: Files, R: io::Read>(
     alloc: Global,
     files: &mut F,
@@ -33,7 +33,7 @@ fn import_text<F: Files>(
             status: Status::Success,
         }),
         Imported::Faults(faults) => {
-            tell_faults(alloc, files, file, text, &faults)?;
+            report_faults(alloc, files, file, text, &faults)?;
             Ok(Report {
                 text: Vec::new(alloc),
                 status: Status::BadInput,
@@ -42,13 +42,13 @@ fn import_text<F: Files>(
     }
 }
 
-/// Tells each thing that can't be rewritten, with its line and its column.
-fn tell_faults<F: Files>(
+/// Reports each thing that can't be rewritten, with its line and its column.
+fn report_faults<F: Files>(
     alloc: Global,
     files: &mut F,
     file: &str,
     text: &[u8],
-    faults: &[Fault],
+    faults: &[ImportFault],
 ) -> Result<(), AllocError> {
     for fault in faults {
         let words = fault_words(alloc, file, text, fault)?;
@@ -61,7 +61,7 @@ fn fault_words(
     alloc: Global,
     file: &str,
     text: &[u8],
-    fault: &Fault,
+    fault: &ImportFault,
 ) -> Result<String, AllocError> {
     let at = fault.at.min(text.len());
     let line = TextLine::of(text, at);

@@ -4,6 +4,7 @@
 #![tactic(auto)]
 
 mod explain;
+mod game_files;
 mod import;
 mod listing;
 mod lsp;
@@ -15,7 +16,6 @@ mod play;
 mod playouts;
 mod position;
 mod program;
-mod reading;
 mod report;
 mod show;
 

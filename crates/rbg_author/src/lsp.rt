@@ -25,7 +25,7 @@ pub(crate) fn serve_editor<F: Files, R: io::Read, W: Write>(
 ) -> Result<Report, AllocError> {
     let end = serve(alloc, &Explained, input, output)?;
     if let End::Broken(error) = end {
-        tell(alloc, files, error)?;
+        report_broken(alloc, files, error)?;
     }
     Ok(Report {
         text: Vec::new(alloc),
@@ -33,8 +33,12 @@ pub(crate) fn serve_editor<F: Files, R: io::Read, W: Write>(
     })
 }
 
-/// Tells why the input isn't made of messages.
-fn tell<F: Files>(alloc: Global, files: &mut F, error: FramingError) -> Result<(), AllocError> {
+/// Reports why the input isn't made of messages.
+fn report_broken<F: Files>(
+    alloc: Global,
+    files: &mut F,
+    error: FramingError,
+) -> Result<(), AllocError> {
     let text = format!(in alloc; "lsp: {error}")?;
     files.tell(&Note::Words { text: &text });
     Ok(())

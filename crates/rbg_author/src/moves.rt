@@ -1,15 +1,15 @@
-//! What `moves` prints of a game, or of a game and a record: the legal moves, as they are told to people.
+//! What `moves` prints of a game, or of a game and a record: the legal moves, as people read them.
 ghost use Rattle.rbg_rules.specs.Meaning.{IsPlaceOf};
 
+use crate::game_files::{Read, load_text, read_text, unreadable};
 use crate::page::refused;
-use crate::reading::{Read, load_text, read_text, unreadable};
 use crate::report::Report;
 use rbg_base::{Move, Pair, Piece, Vertex};
 use rbg_console::{Files, Input, Status, read_record};
 use rbg_game::{Layout, LoadedGame};
 use rbg_moves::{Over, Place, PlayedGame, Unsettled};
-use rbg_page::{PageError, tell};
 use rbg_rules::{Action, Game};
+use rbg_view::{PageError, follow_record};
 use rbg_wire::{after_text, cut_number, read_pairs, write_number, write_pairs};
 use std::alloc::{AllocError, Global};
 
@@ -72,8 +72,8 @@ fn moves_after(
     layout: &Layout,
     bytes: &[u8],
 ) -> Result<Report, AllocError> {
-    match tell(alloc, game, bytes) {
-        Ok(telling) => moves_at(alloc, game, layout, telling.last_place()),
+    match follow_record(alloc, game, bytes) {
+        Ok(followed) => moves_at(alloc, game, layout, followed.last_place()),
         Err(error) => refused(alloc, error),
     }
 }
@@ -93,9 +93,9 @@ pub(crate) fn is_listing(text: &[u8]) -> bool {
     text.starts_with(b"move ") || text.starts_with(b"made ") || text.starts_with(b"finished")
 }
 
-/// The moves that `rbg moves` lists of a game's opening, as they are told to people. The keeper's moves are left out, and
+/// The moves that `rbg moves` lists of a game's opening, as people read them. The keeper's moves are left out, and
 /// other lines stay.
-pub(crate) fn told_listing(
+pub(crate) fn readable_listing(
     alloc: Global,
     loaded: LoadedGame,
     listing: &[u8],
@@ -105,14 +105,14 @@ pub(crate) fn told_listing(
     let mut place = game.start()?;
     let mut workspace = game.workspace();
     match game.settle(&mut place, &mut workspace) {
-        Ok(()) => told_lines(alloc, &game, &layout, &place, listing),
+        Ok(()) => readable_lines(alloc, &game, &layout, &place, listing),
         Err(Unsettled::Memory) => Err(AllocError),
         Err(_) => over(alloc),
     }
 }
 
-/// The lines of a listing, with each move told, up to one that isn't legal at the place.
-fn told_lines(
+/// The lines of a listing, with each move as people read it, up to one that isn't legal at the place.
+fn readable_lines(
     alloc: Global,
     game: &PlayedGame,
     layout: &Layout,
@@ -121,7 +121,7 @@ fn told_lines(
 ) -> Result<Report, AllocError>
     requires { IsPlaceOf game.now place.now }
 {
-    let told = Told {
+    let writer = MoveWriter {
         game: game.as_game(),
         layout,
         pieces: place.state.pieces(),
@@ -136,7 +136,7 @@ fn told_lines(
             status = Status::Refused;
             break;
         }
-        told.push_line(line, &mut text)?;
+        writer.push_line(line, &mut text)?;
     }
     Ok(Report { text, status })
 }
@@ -167,12 +167,12 @@ fn moves_at(
 {
     match game.list_moves(place, MOST) {
         Ok(listed) => {
-            let told = Told {
+            let writer = MoveWriter {
                 game: game.as_game(),
                 layout,
                 pieces: place.state.pieces(),
             };
-            told.report(alloc, &listed.moves, listed.cut)
+            writer.report(alloc, &listed.moves, listed.cut)
         }
         Err(Over::Memory) => Err(AllocError),
         Err(_) => over(alloc),
@@ -187,17 +187,17 @@ fn over(alloc: Global) -> Result<Report, AllocError> {
     })
 }
 
-/// A place whose moves are told.
+/// Writes the moves of a place as people read them.
 #[derive(Clone, Copy)]
-struct Told<'a> {
+struct MoveWriter<'a> {
     game: &'a Game,
     layout: &'a Layout,
     /// What stands on the vertices.
     pieces: &'a [Piece],
 }
 
-impl Told<'_> {
-    /// Writes a line of a listing, with its move told.
+impl MoveWriter<'_> {
+    /// Writes a line of a listing, with its move as people read it.
     fn push_line(&self, line: &[u8], text: &mut Vec<u8>) -> Result<(), AllocError> {
         if line.is_empty() || line.starts_with(b"made ") {
             return Ok(());
@@ -300,8 +300,8 @@ impl Told<'_> {
 
 /// The move that a line `move <player> <pairs>` lists.
 fn listed_in(line: &[u8]) -> Option<Move> {
-    let behind = after_text(b"move ", line)?;
-    let (_, pairs) = cut_number(behind)?;
+    let after = after_text(b"move ", line)?;
+    let (_, pairs) = cut_number(after)?;
     read_pairs(pairs).ok()
 }
 
@@ -316,7 +316,7 @@ fn put_by(game: &Game, pair: &Pair) -> Option<Piece> {
     }
 }
 
-/// Whether one of the pairs behind the first puts a piece on the vertex.
+/// Whether one of the pairs after the first puts a piece on the vertex.
 fn is_changed_again(pairs: &[Pair], vertex: Vertex, game: &Game) -> bool {
     for pair in pairs.iter().skip(1) {
         if pair.vertex == vertex && put_by(game, pair).is_some() {

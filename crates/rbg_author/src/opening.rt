@@ -3,8 +3,8 @@ ghost use Rattle.rbg_rules.specs.Meaning.{IsPlaceOf};
 
 use rbg_explain::{Diagnostic, Severity};
 use rbg_game::Game;
+use rbg_macro::{Symbol, Token};
 use rbg_moves::{Over, Place, PlayedGame, Unsettled, Workspace};
-use rbg_tokens::{Symbol, Token};
 use std::alloc::{AllocError, Global};
 
 /// How the opening goes.

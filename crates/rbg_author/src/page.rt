@@ -1,18 +1,17 @@
 //! What `page` prints of a game and a match.
 
-use crate::reading::{Read, load_text, read_text, unreadable};
+use crate::game_files::{Read, load_text, read_text, unreadable};
 use crate::report::Report;
 use rbg_console::{Files, Input, Note, Status, read_record_input};
-use rbg_drawing::push_game;
 use rbg_game::LoadedGame;
 use rbg_moves::PlayedGame;
-use rbg_page::{PageError, page};
-use rbg_workbench::{Recorded, record_text};
+use rbg_view::{PageError, page, push_game};
+use rbg_workbench::{TextRecord, record_text};
 use std::alloc::{AllocError, Global};
 use std::io;
 
-/// The page of the match that the input tells, of the game that the file describes. Both are read before either is looked
-/// into. Why there is no page is told, and nothing is printed, since what is printed mostly goes to a file.
+/// The page of the match that the input holds, of the game that the file describes. Both are read before either is looked
+/// into. Why there is no page is reported, and nothing is printed, since what is printed mostly goes to a file.
 pub(crate) fn page_file<F: Files, R: io::Read>(
     alloc: Global,
     files: &mut F,
@@ -22,14 +21,14 @@ pub(crate) fn page_file<F: Files, R: io::Read>(
     match page_of(alloc, files, file, input) {
         Ok(report) => Ok(without_fault(alloc, files, report)),
         Err(_) => {
-            tell(files, "out of memory");
+            write_note(files, "out of memory");
             Ok(nothing(alloc, Status::Memory))
         }
     }
 }
 
-/// Tells a text to whoever runs the program.
-fn tell<F: Files>(files: &mut F, text: &str) {
+/// Reports a text to whoever runs the program.
+fn write_note<F: Files>(files: &mut F, text: &str) {
     files.tell(&Note::Words { text });
 }
 
@@ -41,14 +40,14 @@ fn nothing(alloc: Global, status: Status) -> Report {
     }
 }
 
-/// A page, or nothing to print where the report says why there is none, which is told then.
+/// A page, or nothing to print where the report says why there is none, which is reported then.
 fn without_fault<F: Files>(alloc: Global, files: &mut F, report: Report) -> Report {
     if matches!(report.status, Status::Success) {
         return report;
     }
     match str::from_utf8(report.text.as_slice()) {
-        Ok(text) => tell(files, text),
-        Err(_) => tell(files, "no page: the reason is no text of UTF-8"),
+        Ok(text) => write_note(files, text),
+        Err(_) => write_note(files, "no page: the reason is no text of UTF-8"),
     }
     nothing(alloc, report.status)
 }
@@ -87,7 +86,7 @@ fn page_texts(
     }
 }
 
-/// The page of what tells the moves: a record, a script or a list.
+/// The page of what holds the moves: a record, a script or a list.
 fn page_moves(
     alloc: Global,
     loaded: LoadedGame,
@@ -99,10 +98,10 @@ fn page_moves(
         return refused(alloc, PageError::Form { line: 0 });
     };
     match record_text(alloc, text, moves)? {
-        Recorded::Record(record) => page_record(alloc, loaded, described, &record),
-        Recorded::Form { line } => refused(alloc, PageError::Form { line }),
-        Recorded::Bad { line } => refused(alloc, PageError::Bad { line }),
-        Recorded::Over { line } => refused(alloc, PageError::Over { line }),
+        TextRecord::Record(record) => page_record(alloc, loaded, described, &record),
+        TextRecord::Form { line } => refused(alloc, PageError::Form { line }),
+        TextRecord::Bad { line } => refused(alloc, PageError::Bad { line }),
+        TextRecord::Over { line } => refused(alloc, PageError::Over { line }),
     }
 }
 

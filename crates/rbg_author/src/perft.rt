@@ -4,9 +4,16 @@ use crate::report::Report;
 use rbg_console::{Status, write_text};
 use rbg_game::Game;
 use rbg_moves::Unsettled;
-use rbg_perft::{CountError, Counts, Extent, PlayedGame, Workspace, count_from_start};
+use rbg_questions::{CountError, Counts, Extent, PlayedGame, Workspace, count_from_start};
 use std::alloc::{AllocError, Global};
 use std::io::Write;
+
+/// What is counted: the sequences of up to so many moves, and whether the ends of play too.
+#[derive(Clone, Copy)]
+pub(crate) struct Counted {
+    pub depth: u8,
+    pub extent: Extent,
+}
 
 /// A line `DEPTH SEQUENCES ENDED` for each depth from 1 on: how many sequences of that many moves of the players there
 /// are from the beginning of play, and after how many of them play is finished. Where the ends aren't asked for, it is
@@ -14,27 +21,26 @@ use std::io::Write;
 /// What is returned is still to be written, the last line: where a number isn't found, the word that says why, and else
 /// `searched OPENINGS PAIRS`: how many openings the searches took up, and how many pairs of a position and a vertex they
 /// took.
-pub fn perft<W: Write>(
+pub(crate) fn perft<W: Write>(
     alloc: Global,
     game: Game,
-    depth: u8,
-    extent: Extent,
+    counted: Counted,
     output: &mut W,
 ) -> Result<Report, AllocError> {
     let game = PlayedGame::new(alloc, game)?;
     let mut workspace = Workspace::new(alloc);
-    count_all(alloc, &game, depth, extent, &mut workspace, output)
+    count_all(alloc, &game, counted, &mut workspace, output)
 }
 
 /// Counts the sequences of each number of moves up to a depth.
 fn count_all<W: Write>(
     alloc: Global,
     game: &PlayedGame,
-    depth: u8,
-    extent: Extent,
+    counted: Counted,
     workspace: &mut Workspace,
     output: &mut W,
 ) -> Result<Report, AllocError> {
+    let Counted { depth, extent } = counted;
     for moves in 1..=depth {
         match count_from_start(game, moves, extent, workspace) {
             Ok(counts) => {

@@ -1,13 +1,13 @@
 //! The page that `play` is to serve, as words name it, and what reads the file for it.
 
 use crate::explain::check_text;
+use crate::game_files::{Read, load_text, refuse};
 use crate::position::position_texts;
 use crate::program::{author_command, file_of};
-use crate::reading::{Read, load_text, refuse};
 use crate::report::Report;
 use rbg_console::{Status, match_words};
 use rbg_game::LoadError;
-use rbg_tokens::TextError;
+use rbg_macro::TextError;
 use rbg_workbench::{Described, Reader, Reading};
 use std::alloc::{AllocError, Global};
 

@@ -1,12 +1,12 @@
 //! What `playouts` prints of a game: how matches that are played by chance end; and the records of some of them.
-ghost use Rattle.rbg_ask.specs.Limits.{IsCount};
+ghost use Rattle.rbg_questions.specs.Limits.{IsCount};
 
-use crate::reading::{Read, load_text, read_text};
+use crate::game_files::{Read, load_text, read_text};
 use crate::report::Report;
 use rbg_console::{Files, Status, fill_file};
 use rbg_game::Game;
-use rbg_playouts::{Matches, PlayedGame, Refusal, moves_of, playouts, put_details};
-use rbg_workbench::{Recorded, record_text};
+use rbg_questions::{Matches, PlayedGame, Refusal, moves_of, playouts, put_details};
+use rbg_workbench::{TextRecord, record_text};
 use std::alloc::{AllocError, Global};
 
 /// The matches that are wanted.
@@ -18,7 +18,14 @@ pub(crate) struct Wanted<'a> {
     pub records: Option<&'a str>,
 }
 
-/// What is told of so many matches by chance of the game that the file describes.
+/// A game, and the text that describes it.
+#[derive(Clone, Copy)]
+struct DescribedGame<'a> {
+    text: &'a [u8],
+    game: &'a PlayedGame,
+}
+
+/// What is printed of so many matches by chance of the game that the file describes.
 pub(crate) fn playouts_file<F: Files>(
     alloc: Global,
     files: &mut F,
@@ -59,17 +66,19 @@ fn playouts_game<F: Files>(
 {
     let game = PlayedGame::new(alloc, game)?;
     match playouts(alloc, &game, wanted.seed, wanted.count) {
-        Ok(made) => told(alloc, files, text, &game, wanted, made),
+        Ok(made) => {
+            let described = DescribedGame { text, game: &game };
+            matches_report(alloc, files, described, wanted, made)
+        }
         Err(refusal) => no_playouts(alloc, refusal),
     }
 }
 
 /// The lines of matches, once their records are kept.
-fn told<F: Files>(
+fn matches_report<F: Files>(
     alloc: Global,
     files: &mut F,
-    described: &[u8],
-    game: &PlayedGame,
+    described: DescribedGame<'_>,
     wanted: Wanted<'_>,
     made: Matches,
 ) -> Result<Report, AllocError> {
@@ -79,11 +88,17 @@ fn told<F: Files>(
         survey,
     } = made;
     let mut lines = text;
-    put_details(game.as_game(), wanted.count, &tallies, &survey, &mut lines)?;
+    put_details(
+        described.game.as_game(),
+        wanted.count,
+        &tallies,
+        &survey,
+        &mut lines,
+    )?;
     let mut status = Status::Success;
     if let Some(folder) = wanted.records {
         for seed in &survey.seeds {
-            if !keep_record(alloc, files, described, game, folder, *seed)? {
+            if !keep_record(alloc, files, described, folder, *seed)? {
                 status = Status::Device;
             }
         }
@@ -94,26 +109,25 @@ fn told<F: Files>(
     })
 }
 
-/// Keeps the record of the match of a seed in a folder. Tells whether it could.
+/// Keeps the record of the match of a seed in a folder. Returns whether it could.
 fn keep_record<F: Files>(
     alloc: Global,
     files: &mut F,
-    text: &[u8],
-    game: &PlayedGame,
+    described: DescribedGame<'_>,
     folder: &str,
     seed: u64,
 ) -> Result<bool, AllocError> {
     let name = format!(in alloc; "{folder}/seed-{seed}.record")?;
-    let Ok(moves) = moves_of(alloc, game, seed) else {
+    let Ok(moves) = moves_of(alloc, described.game, seed) else {
         return Err(AllocError);
     };
-    match record_text(alloc, text, moves)? {
-        Recorded::Record(record) => Ok(fill(alloc, files, name.as_str(), &record)),
+    match record_text(alloc, described.text, moves)? {
+        TextRecord::Record(record) => Ok(fill(alloc, files, name.as_str(), &record)),
         _ => Ok(false),
     }
 }
 
-/// Creates a file of these bytes. Tells whether it could.
+/// Creates a file of these bytes. Returns whether it could.
 fn fill<F: Files>(alloc: Global, files: &mut F, name: &str, bytes: &[u8]) -> bool {
     match files.create_file(alloc, name) {
         Ok(file) => fill_file(alloc, files, name, file, bytes).is_ok(),

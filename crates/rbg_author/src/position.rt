@@ -1,17 +1,17 @@
 //! What `position` prints of a game and a record.
 ghost use Rattle.rbg_game.specs.Loading.{Loads};
-ghost use Rattle.rbg_tokens.specs.Text.{HasTokens};
+ghost use Rattle.rbg_macro.specs.Text.{HasTokens};
 
+use crate::game_files::{Read, read_text, refuse, unreadable};
 use crate::page::refused;
-use crate::reading::{Read, read_text, refuse, unreadable};
 use crate::report::Report;
 use rbg_console::{Files, Input, Status, read_record};
 use rbg_game::{LoadError, LoadedGame, load_with_layout};
+use rbg_macro::{Tokens, tokens};
 use rbg_moves::PlayedGame;
-use rbg_page::PageError;
 use rbg_position::{PositionError, position};
 use rbg_rules::Game;
-use rbg_tokens::{Tokens, tokens};
+use rbg_view::PageError;
 use std::alloc::{AllocError, Global};
 
 /// The description of a file with the board as it stands after the moves of the record of another file. Both are read

@@ -1,23 +1,24 @@
 //! What the author's program does with its words and the file that they name.
-ghost use Rattle.rbg_ask.specs.Limits.{IsCount};
+ghost use Rattle.rbg_questions.specs.Limits.{IsCount};
 
 use crate::explain::{Lists, check_file, explain_file};
+use crate::game_files::{Read, read_game};
 use crate::import::import_file;
 use crate::lsp::serve_editor;
 use crate::moves::moves_file;
 use crate::page::page_file;
-use crate::perft::perft;
+use crate::perft::{Counted, perft};
 use crate::play::no_network;
 use crate::playouts::{Wanted, playouts_file};
 use crate::position::position_file;
-use crate::reading::{Read, read_game};
 use crate::report::{Report, print};
 use crate::show::show_file;
 use clap::{ArgMatches, Command};
-use rbg_console::{Files, Status, WordsError, match_words};
-use rbg_perft::Extent;
-use rbg_playouts::MAX_COUNT;
-use rbg_words::{Argument, CommandWords, GAME, Kind, RECORD, Value, add_commands};
+use rbg_console::{
+    Argument, CommandWords, Files, GAME, Kind, RECORD, Status, Value, WordsError, add_commands,
+    match_words,
+};
+use rbg_questions::{Extent, MAX_COUNT};
 use std::alloc::{AllocError, Global};
 use std::io::{self, Write};
 
@@ -85,7 +86,7 @@ fn answer<F: Files, R: io::Read, W: Write>(
         Some(("moves", words)) => moves_file(alloc, files, file_of(words), words.get_str("RECORD")),
         // (the program serves it before it comes here)
         Some(("play", _)) => no_network(alloc),
-        Some(("position", words)) => {
+        Some(("position" | "setup", words)) => {
             let record = words.get_str("RECORD").unwrap_or("");
             position_file(alloc, files, file_of(words), record)
         }
@@ -114,7 +115,13 @@ fn perft_of<F: Files, W: Write>(
     } else {
         Extent::Ends
     };
-    perft_file(alloc, files, file_of(words), depth, extent, output)
+    perft_file(
+        alloc,
+        files,
+        file_of(words),
+        Counted { depth, extent },
+        output,
+    )
 }
 
 /// The file that words name.
@@ -180,13 +187,13 @@ const COMMANDS: &[CommandWords] = &[
         ],
     },
     CommandWords {
-        name: "check",
+        name: "lint",
         about: "Warns of what is probably not meant in the description",
         arguments: CHECK,
     },
     CommandWords {
-        name: "lint",
-        about: "The same as check",
+        name: "check",
+        about: "The same as lint, by its name of version 0",
         arguments: CHECK,
     },
     CommandWords {
@@ -210,7 +217,7 @@ const COMMANDS: &[CommandWords] = &[
     },
     CommandWords {
         name: "playouts",
-        about: "Plays matches by chance: how long they are, the mean score of each player, and how they end",
+        about: "Plays random matches: how long they are, the mean score of each player, and how they end",
         arguments: &[
             GAME,
             Argument {
@@ -278,8 +285,13 @@ const COMMANDS: &[CommandWords] = &[
         ],
     },
     CommandWords {
+        name: "setup",
+        about: "Prints the description with the board as it is after the moves of a record, or says why not",
+        arguments: &[GAME, RECORD],
+    },
+    CommandWords {
         name: "position",
-        about: "Prints the description with the board as it stands after the moves of a record, or says why not",
+        about: "The same as setup, by its name of version 0",
         arguments: &[GAME, RECORD],
     },
     CommandWords {
@@ -296,7 +308,7 @@ const COMMANDS: &[CommandWords] = &[
 
 pub(crate) fn author_command<'a>(alloc: Global) -> Result<Command<'a>, AllocError> {
     let program = Command::new(alloc, "rbg_author")
-        .version("0.1.0")
+        .version("1.0.0")
         .about("Help for authors of games of Regular Boardgames")
         .subcommand_required(true);
     add_commands(alloc, program, COMMANDS)
@@ -306,12 +318,11 @@ fn perft_file<F: Files, W: Write>(
     alloc: Global,
     files: &mut F,
     file: &str,
-    depth: u8,
-    extent: Extent,
+    counted: Counted,
     output: &mut W,
 ) -> Result<Report, AllocError> {
     match read_game(alloc, files, file)? {
-        Read::Found(loaded) => perft(alloc, loaded.game, depth, extent, output),
+        Read::Found(loaded) => perft(alloc, loaded.game, counted, output),
         Read::Other(report) => Ok(report),
     }
 }

@@ -10,7 +10,7 @@ pub struct Report {
     pub status: Status,
 }
 
-/// Writes what a task gave, or that memory ran out, and returns the status. What is wrong with words is told, and nothing
+/// Writes what a task gave, or that memory ran out, and returns the status. What is wrong with words is reported, and nothing
 /// is written.
 pub fn print<F: Files, W: Write>(
     files: &mut F,

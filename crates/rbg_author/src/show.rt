@@ -1,17 +1,17 @@
 //! What `show` prints of a game and a list of moves.
 
-use crate::moves::{is_listing, told_listing};
-use crate::reading::{Read, load_text, read_text, unreadable};
+use crate::game_files::{Read, load_text, read_text, unreadable};
+use crate::moves::{is_listing, readable_listing};
 use crate::report::Report;
 use rbg_console::{Files, Input, MAX_INPUT, Status, read_input};
 use rbg_game::LoadedGame;
-use rbg_show::show;
+use rbg_view::show;
 use std::alloc::{AllocError, Global};
 use std::io;
 
 /// The moves that the input lists, each with the board after it, of the game that the file describes. With `only_last`
 /// only the last of them is shown. What `rbg moves` prints of an opening is no list of moves that follow one another: each
-/// of them is told by what it changes.
+/// of them is shown by what it changes.
 pub(crate) fn show_file<F: Files, R: io::Read>(
     alloc: Global,
     files: &mut F,
@@ -36,7 +36,7 @@ fn show_moves(
     only_last: bool,
 ) -> Result<Report, AllocError> {
     match load_text(alloc, file, text)? {
-        Read::Found(loaded) if is_listing(moves) => told_listing(alloc, loaded, moves),
+        Read::Found(loaded) if is_listing(moves) => readable_listing(alloc, loaded, moves),
         Read::Found(loaded) => show_loaded(alloc, loaded, moves, only_last),
         Read::Other(report) => Ok(report),
     }

@@ -19,8 +19,8 @@ use Rattle.libc.specs.Heap.{chunk, chunk_start}
 use Rattle.core.specs.Ptr.{points_to}
 use Rattle.std_alloc.specs.Box.Ownership.{box_owns}
 use Rattle.rbg_c.specs.Held.{held}
-use Rattle.rbg_states.specs.States.{AbstractState}
-use Rattle.rbg_states.specs.contracts.state.State.{the_row as Row}
+use Rattle.rbg_c.specs.States.{AbstractState}
+use Rattle.rbg_c.specs.contracts.state.State.{the_row as Row}
 use Rattle.rbg_c.specs.contracts.handle.Handle as handle
 
 abbrev pub one : Val → Val

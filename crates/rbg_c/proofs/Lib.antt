@@ -1,3 +1,9 @@
+mod Found
+mod Mixing
+mod Places
 mod Handles
 mod Kept
 mod Values
+mod Filled
+mod ByChance
+mod Unmade

@@ -1,6 +1,6 @@
 -- What calls from C do with the state that a handle holds.
 use Rattle.std.specs.Prelude.{◌≡◌, ℕ, Option, None, Some}
-use Rattle.rbg_states.specs.States.{AbstractState}
+use Rattle.rbg_c.specs.States.{AbstractState}
 use Rattle.rbg_c.specs.Results.{ok, empty}
 
 -- What a call does with the state of a handle.

@@ -4,8 +4,8 @@ use base.Fml.{Fml, feq}
 use denote.RawPtr.{Ptr, null_ptr}
 use Rattle.libc.specs.Heap.{chunk}
 use Rattle.std.specs.Box.Ownership.{box_owns}
-use Rattle.rbg_states.specs.States.{AbstractState}
-use Rattle.rbg_states.specs.contracts.state.State.{the_row}
+use Rattle.rbg_c.specs.States.{AbstractState}
+use Rattle.rbg_c.specs.contracts.state.State.{the_row}
 
 -- The pointer is null where there is no state. Else it owns the state, and the right to free its block.
 abbrev pub held : Ptr → Option AbstractState → Fml

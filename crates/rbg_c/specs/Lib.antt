@@ -1,5 +1,12 @@
+-- What a state of a game is, and where moves lead it.
+pub mod States
+pub mod Codes
+pub mod Stepping
 -- What C holds, and what the calls from C do.
 pub mod Results
 pub mod Held
 pub mod Calls
 pub mod Opening
+pub mod Filling
+pub mod Names
+pub mod Playouts

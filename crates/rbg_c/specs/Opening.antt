@@ -1,11 +1,11 @@
 -- What becomes of a handle in which a game is opened, and of one that gets a copy.
 use Rattle.std.specs.Prelude.{◌≡◌, ◌≢◌, ℕ, List, Option, None, Some}
-use Rattle.rbg_rules.specs.Meaning.{AbstractGame, AbstractPlace}
+use Rattle.rbg_rules.specs.Meaning.{AbstractGame}
 use Rattle.rbg_moves.specs.Settling.{Settles}
 use Rattle.rbg_game.specs.Loading.{Loads, IsMemory, IsRefused}
 use Rattle.rbg_game.specs.declared.error.LoadError.{LoadError}
-use Rattle.rbg_ask.specs.Sessions.{beginning_of}
-use Rattle.rbg_states.specs.States.{AbstractState, beginning_at}
+use Rattle.rbg_questions.specs.Sessions.{beginning_of}
+use Rattle.rbg_c.specs.States.{AbstractState, beginning_at}
 use Rattle.rbg_c.specs.Results.{ok, empty, memory, layer_of}
 
 -- What is said of a text.
@@ -35,6 +35,13 @@ pub data Opens (text : List ℕ) (before after : Option AbstractState) (result :
       Opens text before after result
   no_game : Checks text result → result ≢ ok → after ≡ before → Opens text before after result
   not_begun : {game : AbstractGame} → Loads text game → result ≢ ok → after ≡ before → Opens text before after result
+
+-- What becomes of a handle in which the game of a text is opened where its rules begin.
+--   begun: the state there is kept. The keeper's first moves aren't made.
+--   no_beginning: the text is no game's, or memory ran out.
+pub data Begins (text : List ℕ) (before after : Option AbstractState) (result : ℕ) : Type 0 where
+  begun : {game : AbstractGame} → Loads text game → Keeps (beginning_at game (beginning_of game)) before after result → Begins text before after result
+  no_beginning : Checks text result → result ≢ ok → after ≡ before → Begins text before after result
 
 -- What becomes of a handle that gets a copy of what another one holds.
 --   nothing: that one holds nothing, and all is as before.

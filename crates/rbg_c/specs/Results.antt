@@ -1,7 +1,7 @@
 -- The numbers of results, as the header has them.
 use Rattle.std.specs.Prelude.{◌≡◌, ℕ}
-use Rattle.rbg_ask.specs.declared.refusal.Refusal.{Refusal}
-use Rattle.rbg_ask.specs.declared.refusal.Refusal.TheVariants as refusals
+use Rattle.rbg_questions.specs.declared.refusal.Refusal.{Refusal}
+use Rattle.rbg_questions.specs.declared.refusal.Refusal.TheVariants as refusals
 use Rattle.rbg_game.specs.declared.error.LoadError.{LoadError}
 use Rattle.rbg_game.specs.declared.error.LoadError.TheVariants as errors
 
@@ -14,14 +14,23 @@ empty = 1
 abbrev pub memory : ℕ
 memory = 2
 
+abbrev pub illegal : ℕ
+illegal = 5
+
 abbrev pub start : ℕ
 start = 6
 
+abbrev pub small : ℕ
+small = 7
+
+abbrev pub range : ℕ
+range = 8
+
 -- the number of a refusal
 abbrev pub number_of : Refusal → ℕ
-number_of refusals.Long = 8
-number_of refusals.Form = 8
-number_of refusals.Illegal = 5
+number_of refusals.Long = range
+number_of refusals.Form = range
+number_of refusals.Illegal = illegal
 number_of refusals.Start = start
 number_of refusals.Over = 3
 number_of refusals.Keeper = 4

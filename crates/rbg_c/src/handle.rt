@@ -2,11 +2,11 @@
 ghost use Rattle.std.specs.Prelude.{◌≡◌, Option, None, Some};
 ghost use Rattle.std.specs.Coded.{coded_option};
 ghost use Rattle.std.specs.Option.{MatchOption};
-ghost use Rattle.rbg_states.specs.Codes.{coded_state};
-ghost use Rattle.rbg_states.specs.States.{AbstractState};
+ghost use Rattle.rbg_c.specs.Codes.{coded_state};
+ghost use Rattle.rbg_c.specs.States.{AbstractState};
 
 use crate::loose::Loose;
-use rbg_states::State;
+use crate::state::State;
 use std::alloc::Global;
 use std::marker::Model;
 use std::mem::replace;

@@ -1,11 +1,21 @@
-//! The library for programs in C. The header `include/rbg.h` says what each call does.
+//! The library for programs in C: the states of a game as values, and the calls of include/rbg.h.
 #![tactic(auto)]
 
 mod asking;
+mod chance;
+mod filling;
 mod handle;
+mod keys;
 mod loose;
+mod naming;
 mod opening;
+mod pairs;
 mod playing;
+mod playouts;
 mod results;
+mod state;
+mod stepping;
 
 pub use handle::Handle;
+pub use pairs::ModifierPair;
+pub use state::State;

@@ -1,12 +1,12 @@
 //! Calls that check a description, open its game, copy a state and let one go.
 ghost use Rattle.std.specs.Prelude.{◌≡◌, None};
-ghost use Rattle.rbg_states.specs.States.{beginning_at};
-ghost use Rattle.rbg_c.specs.Opening.{Checks, Copies, Keeps, Opens};
+ghost use Rattle.rbg_c.specs.States.{beginning_at};
+ghost use Rattle.rbg_c.specs.Opening.{Begins, Checks, Copies, Keeps, Opens};
 
 use crate::handle::Handle;
 use crate::results::{EMPTY, MEMORY, OK, layer, number};
+use crate::state::State;
 use rbg_game::load;
-use rbg_states::State;
 use std::alloc::Global;
 
 /// `rbg_check`: whether a text is the description of a game, and if it isn't, which layer refuses it.
@@ -34,6 +34,25 @@ pub extern "C" fn rbg_open(alloc: Global, text: &[u8], state: &mut Handle) -> u3
         Ok(game) => match State::open(alloc, game) {
             Ok(opened) => keep(alloc, opened, state),
             Err(refusal) => number(refusal),
+        },
+        Err(error) => {
+            if error.is_memory() {
+                return MEMORY;
+            }
+            layer(&error)
+        }
+    }
+}
+
+/// `rbg_begin`: the state where the rules of a description begin.
+#[unsafe(no_mangle)]
+pub extern "C" fn rbg_begin(alloc: Global, text: &[u8], state: &mut Handle) -> u32
+    ensures { Begins text.now state.old.value state.new.value result }
+{
+    match load(alloc, text) {
+        Ok(game) => match State::begin(alloc, game) {
+            Ok(begun) => keep(alloc, begun, state),
+            Err(_) => MEMORY,
         },
         Err(error) => {
             if error.is_memory() {
@@ -80,7 +99,7 @@ fn copy_to(alloc: Global, state: &State, to: &mut Handle) -> u32
 }
 
 /// Keeps a state in a handle. The one that was there is let go.
-fn keep(alloc: Global, state: State, handle: &mut Handle) -> u32
+pub(crate) fn keep(alloc: Global, state: State, handle: &mut Handle) -> u32
     ensures { Keeps state handle.old.value handle.new.value result }
 {
     match Box::new(alloc, state) {

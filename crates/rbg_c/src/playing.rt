@@ -1,13 +1,17 @@
 //! Calls that find moves, make them and undo them.
-ghost use Rattle.std.specs.Prelude.{◌≡◌, []};
-ghost use Rattle.rbg_ask.specs.internal.Places.{IsUnlisted};
-ghost use Rattle.rbg_states.specs.States.{FindsMoves, MakesFound, Undoes};
-ghost use Rattle.rbg_states.specs.Stepping.{IsUnmadeAt};
+ghost use Rattle.std.specs.Prelude.{◌≡◌, [], IfErr, OnErr, OnOk};
+ghost use Rattle.rbg_questions.specs.internal.Places.{IsUnfollowed, IsUnlisted, IsUnmade};
+ghost use Rattle.rbg_c.specs.States.{FindsMoves, Hears, IsFoundAt, Makes, MakesFound, Undoes};
+ghost use Rattle.rbg_c.specs.Stepping.{IsNoMove, IsUnmadeAt};
 ghost use Rattle.rbg_c.specs.Calls.{Calls};
-ghost use Rattle.rbg_c.specs.Results.{Refuses, start};
+ghost use Rattle.rbg_c.specs.Filling.{FetchesSome};
+ghost use Rattle.rbg_c.specs.Results.{Refuses, illegal, start};
 
 use crate::handle::Handle;
+use crate::pairs::{ModifierPair, fill_found, move_of};
 use crate::results::{EMPTY, OK, START, number};
+use crate::state::State;
+use rbg_questions::Refusal;
 use std::alloc::Global;
 
 /// `rbg_find_moves`: finds the legal moves, and tells how many they are.
@@ -52,6 +56,97 @@ pub extern "C" fn rbg_make_found(alloc: Global, state: &mut Handle, index: u64) 
             state.put(held);
             number(refusal)
         }
+    }
+}
+
+/// `rbg_move`: the pairs of one of the moves that were found.
+#[unsafe(no_mangle)]
+pub extern "C" fn rbg_move(
+    alloc: Global,
+    state: &mut Handle,
+    index: u64,
+    pairs: &mut [ModifierPair],
+    needed: &mut u64,
+) -> u32
+    ensures { FetchesSome (λ told found. IsFoundAt told index found) illegal state.old.value
+        state.new.value pairs.old pairs.new needed.new result }
+{
+    let Some(held) = state.take(alloc) else {
+        return EMPTY;
+    };
+    let result = fill_found(&held, index, pairs, needed);
+    state.put(held);
+    result
+}
+
+/// `rbg_make`: makes the move of these pairs.
+#[unsafe(no_mangle)]
+pub extern "C" fn rbg_make(alloc: Global, state: &mut Handle, pairs: &[ModifierPair]) -> u32
+    ensures { Calls (λ old new. Makes old pairs.now new)
+        (λ old why. Refuses (IsNoMove (IsUnmade old.game old.place pairs.now) pairs.now) why)
+        state.old.value state.new.value result }
+{
+    let Some(mut held) = state.take(alloc) else {
+        return EMPTY;
+    };
+    match make(&mut held, pairs) {
+        Ok(()) => {
+            state.put(held);
+            OK
+        }
+        Err(refusal) => {
+            state.put(held);
+            number(refusal)
+        }
+    }
+}
+
+/// Makes the move of these pairs.
+fn make(state: &mut State, pairs: &[ModifierPair]) -> Result<(), Refusal>
+    ensures made { OnOk result (Makes state.old pairs.now state.new) }
+    ensures refused { IfErr result
+        (IsNoMove (IsUnmade state.old.game state.old.place pairs.now) pairs.now) }
+    ensures kept { OnErr result (state.new ≡ state.old) }
+{
+    match move_of(pairs) {
+        Some(found) => state.make(&found),
+        None => Err(Refusal::Illegal),
+    }
+}
+
+/// `rbg_hear`: makes the move of these pairs, with no move of the keeper after it.
+#[unsafe(no_mangle)]
+pub extern "C" fn rbg_hear(alloc: Global, state: &mut Handle, pairs: &[ModifierPair]) -> u32
+    ensures { Calls (λ old new. Hears old pairs.now new)
+        (λ old why. Refuses (IsNoMove (IsUnfollowed old.game old.place pairs.now) pairs.now)
+        why)
+        state.old.value state.new.value result }
+{
+    let Some(mut held) = state.take(alloc) else {
+        return EMPTY;
+    };
+    match hear(&mut held, pairs) {
+        Ok(()) => {
+            state.put(held);
+            OK
+        }
+        Err(refusal) => {
+            state.put(held);
+            number(refusal)
+        }
+    }
+}
+
+/// Makes the move of these pairs, with no move of the keeper after it.
+fn hear(state: &mut State, pairs: &[ModifierPair]) -> Result<(), Refusal>
+    ensures heard { OnOk result (Hears state.old pairs.now state.new) }
+    ensures refused { IfErr result
+        (IsNoMove (IsUnfollowed state.old.game state.old.place pairs.now) pairs.now) }
+    ensures kept { OnErr result (state.new ≡ state.old) }
+{
+    match move_of(pairs) {
+        Some(found) => state.hear(&found),
+        None => Err(Refusal::Illegal),
     }
 }
 

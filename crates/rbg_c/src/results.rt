@@ -3,7 +3,7 @@ ghost use Rattle.std.specs.Prelude.{◌≡◌, ◌≢◌};
 ghost use Rattle.rbg_c.specs.Results.{layer_of, number_of};
 
 use rbg_game::LoadError;
-use rbg_states::Refusal;
+use rbg_questions::Refusal;
 
 pub(crate) const OK: u32 = 0;
 
@@ -15,11 +15,13 @@ const OVER: u32 = 3;
 
 const KEEPER: u32 = 4;
 
-const ILLEGAL: u32 = 5;
+pub(crate) const ILLEGAL: u32 = 5;
 
 pub(crate) const START: u32 = 6;
 
-const LINE: u32 = 8;
+pub(crate) const SMALL: u32 = 7;
+
+pub(crate) const RANGE: u32 = 8;
 
 const TEXT: u32 = 16;
 
@@ -35,8 +37,8 @@ pub(crate) fn number(refusal: Refusal) -> u32
     ensures some { result ≢ 0 }
 {
     match refusal {
-        Refusal::Long => LINE,
-        Refusal::Form => LINE,
+        Refusal::Long => RANGE,
+        Refusal::Form => RANGE,
         Refusal::Illegal => ILLEGAL,
         Refusal::Start => START,
         Refusal::Over => OVER,

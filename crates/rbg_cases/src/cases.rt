@@ -35,11 +35,11 @@ pub fn bytes_named<'t>(texts: &'t [Text<'_>], name: &[u8]) -> Option<&'t [u8]> {
 #[derive(Drop)]
 pub struct Stream {
     pub bytes: Vec<u8>,
-    /// Whether the stream ends behind its bytes. Else nothing more comes.
+    /// Whether the stream ends after its bytes. Else nothing more comes.
     pub ends: bool,
 }
 
-/// What standard input gives behind its bytes.
+/// What standard input gives after its bytes.
 #[derive(Clone, Copy)]
 pub enum Behind {
     End,
@@ -97,7 +97,7 @@ enum Setting {
     Sent,
     /// What it prints can't be written.
     OutputFails,
-    /// What its standard input gives behind its bytes.
+    /// What its standard input gives after its bytes.
     Behind(Behind),
     /// How many of its lines are shown, from the end.
     Last(usize),
@@ -348,7 +348,7 @@ fn setting_of(line: &[u8]) -> Option<Setting> {
     }
 }
 
-/// What stands before the first space, and what stands behind it.
+/// What stands before the first space, and what stands after it.
 fn cut_at_space(fields: &[u8]) -> Option<(&[u8], &[u8])> {
     for (index, byte) in fields.iter().enumerate() {
         if *byte == b' ' {

@@ -7,19 +7,19 @@
 //! | `case NAME` | a case begins; what follows is its standard input |
 //! | `words WORD ..` | the words of the case's command line, with single spaces between them |
 //! | `author` | the case runs `rbg_author`, else it runs `rbg` |
-//! | `news` | what the case tells on standard error is shown too, each line behind `news: ` |
-//! | `logs` | what the logs of the case hold is shown too, each line behind `log: `, with their game files and the records that are kept, behind `game: ` and the record's name; a new log is full at 1,000 bytes |
-//! | `sent` | what each connection of the case was sent is shown too, each line behind `sent NUMBER: `; a zero byte, which ends a line too, is shown as `\0` |
+//! | `news` | what the case tells on standard error is shown too, each line after `news: ` |
+//! | `logs` | what the logs of the case hold is shown too, each line after `log: `, with their game files and the records that are kept, after `game: ` and the record's name; a new log is full at 1,000 bytes |
+//! | `sent` | what each connection of the case was sent is shown too, each line after `sent NUMBER: `; a zero byte, which ends a line too, is shown as `\0` |
 //! | `clock MOMENT ..` | each clock of the case tells these moments, with single spaces between them, and then the last one again and again; without this line it tells 0 |
 //! | `last COUNT` | of what the case prints only this many lines are shown, the last ones |
-//! | `input endless` | behind its bytes the case's standard input gives zero bytes without end |
-//! | `input fails` | behind its bytes the case's standard input fails |
+//! | `input endless` | after its bytes the case's standard input gives zero bytes without end |
+//! | `input fails` | after its bytes the case's standard input fails |
 //! | `output fails` | what the case prints can't be written |
-//! | `made NAME` | the bytes of a file that the case has made are shown too, behind a line `made NAME` |
+//! | `made NAME` | the bytes of a file that the case has made are shown too, after a line `made NAME` |
 //! | `file NAME` | a file of the case begins; what follows is its bytes. Where there is one NAME.held, another process holds the log NAME |
 //! | `no memory for NAME` | where the case reads this file, memory is refused |
 //! | `stream` | what comes over a connection of the case begins; what follows is its bytes, and then nothing comes |
-//! | `stream that ends` | the same, but behind its bytes the stream ends |
+//! | `stream that ends` | the same, but after its bytes the stream ends |
 //! | `text NAME` | a text begins, which later lines can use; what follows is its bytes |
 //! | `\|TEXT` | adds the text and a line feed |
 //! | `+TEXT` | adds the text |
@@ -28,7 +28,7 @@
 //! | `%HEX` | adds these bytes |
 //! | `;TEXT`, or nothing | nothing |
 //!
-//! A file that a case has made is there for the cases behind it.
+//! A file that a case has made is there for the cases after it.
 //!
 //! For each case a line `case NAME` is printed, then what the program prints, what it tells, the file that it has made, and
 //! `status STATUS`. Where a line is not of this form, `cases LINE` is printed, and no case is run.
@@ -41,6 +41,7 @@ mod streams;
 use crate::cases::{Case, CasesError, Program, Text, bytes_named, read_cases};
 use crate::network::{MemoryNetwork, push_lines};
 use crate::streams::{CaseInput, CaseOutput};
+use rbg_cli::Devices;
 use rbg_console::{Files, Input, MAX_INPUT, MemoryFiles, Note, Status, read_bytes, read_input};
 use std::alloc::{AllocError, Global};
 use std::io::{self, ErrorKind, Write};
@@ -54,7 +55,7 @@ struct CaseFiles<'a> {
     /// The files for which there is no memory.
     lacking: &'a [&'a [u8]],
     made: &'a mut MemoryFiles,
-    /// What was told, each line behind `news: `.
+    /// What was told, each line after `news: `.
     told: Vec<u8>,
 }
 
@@ -123,31 +124,6 @@ fn last_lines(text: &[u8], count: usize) -> &[u8] {
     text
 }
 
-/// Runs the case's program. Returns its status.
-fn run_program(
-    alloc: Global,
-    case: &Case<'_>,
-    made: &mut MemoryFiles,
-    output: &mut CaseOutput,
-    told: &mut Vec<u8>,
-) -> Result<Status, AllocError> {
-    let mut files = CaseFiles {
-        alloc,
-        files: case.files.as_slice(),
-        lacking: case.lacking.as_slice(),
-        made,
-        told: Vec::new(alloc),
-    };
-    let status = match case.program {
-        Program::Rbg => run_rbg(alloc, case, &mut files, output, told)?,
-        Program::RbgAuthor => run_author(alloc, case, &mut files, output),
-    };
-    if case.news {
-        told.extend_from_slice(files.told.as_slice())?;
-    }
-    Ok(status)
-}
-
 /// What comes over a case's standard input.
 fn input_of<'a>(case: &'a Case<'_>) -> CaseInput<'a> {
     CaseInput {
@@ -156,31 +132,12 @@ fn input_of<'a>(case: &'a Case<'_>) -> CaseInput<'a> {
     }
 }
 
-/// Runs `rbg` on a network in memory. Returns its status.
-fn run_rbg(
-    alloc: Global,
-    case: &Case<'_>,
-    files: &mut CaseFiles<'_>,
-    output: &mut CaseOutput,
-    told: &mut Vec<u8>,
-) -> Result<Status, AllocError> {
-    let mut network = MemoryNetwork::new(
-        alloc,
-        case.streams.as_slice(),
-        case.files.as_slice(),
-        case.moments.as_slice(),
-    );
-    let mut input = input_of(case);
-    let status = rbg_program::run(
-        alloc,
-        case.words.as_slice(),
-        files,
-        &mut network,
-        &mut input,
-        output,
-    );
-    add_told(case, &network, told)?;
-    Ok(status)
+/// What takes a case's standard output.
+fn output_of(alloc: Global, case: &Case<'_>) -> CaseOutput {
+    CaseOutput {
+        printed: Vec::new(alloc),
+        fails: case.output_fails,
+    }
 }
 
 /// Adds what is to be shown of a case's network.
@@ -201,15 +158,85 @@ fn add_told(
     Ok(())
 }
 
+/// Runs the case's program, and adds what is shown of it. Returns its status.
+fn run_program(
+    alloc: Global,
+    case: &Case<'_>,
+    made: &mut MemoryFiles,
+    shown: &mut Vec<u8>,
+) -> Result<Status, AllocError> {
+    let files = CaseFiles {
+        alloc,
+        files: case.files.as_slice(),
+        lacking: case.lacking.as_slice(),
+        made,
+        told: Vec::new(alloc),
+    };
+    match case.program {
+        Program::Rbg => run_rbg(alloc, case, files, shown),
+        Program::RbgAuthor => run_author(alloc, case, files, shown),
+    }
+}
+
+/// Runs `rbg` on a network in memory. Returns its status.
+fn run_rbg(
+    alloc: Global,
+    case: &Case<'_>,
+    files: CaseFiles<'_>,
+    shown: &mut Vec<u8>,
+) -> Result<Status, AllocError> {
+    let network = MemoryNetwork::new(
+        alloc,
+        case.streams.as_slice(),
+        case.files.as_slice(),
+        case.moments.as_slice(),
+    );
+    let mut devices = Devices {
+        files,
+        network,
+        input: input_of(case),
+        output: output_of(alloc, case),
+    };
+    run_on(alloc, case, &mut devices, shown)
+}
+
+/// Runs `rbg` on these devices. Returns its status.
+fn run_on(
+    alloc: Global,
+    case: &Case<'_>,
+    devices: &mut Devices<CaseFiles<'_>, MemoryNetwork<'_>, CaseInput<'_>, CaseOutput>,
+    shown: &mut Vec<u8>,
+) -> Result<Status, AllocError> {
+    let status = rbg_cli::run(alloc, case.words.as_slice(), devices);
+    shown.extend_from_slice(last_lines(devices.output.printed.as_slice(), case.shown))?;
+    add_told(case, &devices.network, shown)?;
+    add_news(case, &devices.files, shown)?;
+    Ok(status)
+}
+
 /// Runs `rbg_author`. Returns its status.
 fn run_author(
     alloc: Global,
     case: &Case<'_>,
-    files: &mut CaseFiles<'_>,
-    output: &mut CaseOutput,
-) -> Status {
+    files: CaseFiles<'_>,
+    shown: &mut Vec<u8>,
+) -> Result<Status, AllocError> {
+    let mut files = files;
     let mut input = input_of(case);
-    rbg_author::run(alloc, case.words.as_slice(), files, &mut input, output)
+    let mut output = output_of(alloc, case);
+    let words = case.words.as_slice();
+    let status = rbg_author::run(alloc, words, &mut files, &mut input, &mut output);
+    shown.extend_from_slice(last_lines(output.printed.as_slice(), case.shown))?;
+    add_news(case, &files, shown)?;
+    Ok(status)
+}
+
+/// Adds what the files of a case were told, if it is to be shown.
+fn add_news(case: &Case<'_>, files: &CaseFiles<'_>, told: &mut Vec<u8>) -> Result<(), AllocError> {
+    if case.news {
+        told.extend_from_slice(files.told.as_slice())?;
+    }
+    Ok(())
 }
 
 /// Adds the bytes of a file that was made, if there is one of this name.
@@ -233,14 +260,7 @@ fn run_case(
     output.extend_from_slice(b"case ")?;
     output.extend_from_slice(case.name)?;
     output.push(b'\n')?;
-    let mut written = CaseOutput {
-        printed: Vec::new(alloc),
-        fails: case.output_fails,
-    };
-    let mut told = Vec::new(alloc);
-    let status = run_program(alloc, case, made, &mut written, &mut told)?;
-    output.extend_from_slice(last_lines(written.printed.as_slice(), case.shown))?;
-    output.extend_from_slice(told.as_slice())?;
+    let status = run_program(alloc, case, made, output)?;
     if let Some(name) = &case.made {
         push_made(name.as_str(), made, output)?;
     }

@@ -1,7 +1,7 @@
 //! A network in memory. A stream never waits.
 
 use crate::cases::{Stream, Text, bytes_named};
-use rbg_program::{Clock, Log, LogFailure, Network, News, Pause};
+use rbg_cli::{Clock, Log, LogFailure, Network, News, Pause};
 use std::alloc::{AllocError, Global};
 use std::cell::RefCell;
 use std::io::{self, ErrorKind, Read, Write};
@@ -36,7 +36,7 @@ pub struct MemoryNetwork<'a> {
     logs: Vec<Channel>,
     /// The game files that were written, one after the other.
     games: Vec<u8>,
-    /// The records that were kept, each line behind the name of its file.
+    /// The records that were kept, each line after the name of its file.
     kept: Vec<u8>,
     /// What the streams of the case were sent, in the order in which they were connected.
     sent: Vec<Channel>,
@@ -73,7 +73,7 @@ impl<'a> MemoryNetwork<'a> {
         self.told.as_slice()
     }
 
-    /// Appends what the game files, the logs and the records hold, each line behind `game: `, `log: ` or the record's name.
+    /// Appends what the game files, the logs and the records hold, each line after `game: `, `log: ` or the record's name.
     pub fn add_logs(&self, output: &mut Vec<u8>) -> Result<(), AllocError> {
         push_lines(b"game: ", self.games.as_slice(), output)?;
         for log in &self.logs {
@@ -95,7 +95,7 @@ impl<'a> MemoryNetwork<'a> {
         format!(in self.alloc; "{directory}/{number}.record")
     }
 
-    /// Appends what each connection was sent, each line behind `sent` and its number.
+    /// Appends what each connection was sent, each line after `sent` and its number.
     pub fn add_sent(&self, output: &mut Vec<u8>) -> Result<(), AllocError> {
         for (index, channel) in self.sent.iter().enumerate() {
             if let Ok(bytes) = channel.try_borrow() {
@@ -140,7 +140,7 @@ impl<'a> MemoryNetwork<'a> {
     }
 }
 
-/// Appends each line behind this head.
+/// Appends each line after this head.
 pub fn push_lines(head: &[u8], lines: &[u8], output: &mut Vec<u8>) -> Result<(), AllocError> {
     for line in lines.split_inclusive(|byte| *byte == b'\n') {
         output.extend_from_slice(head)?;
@@ -149,7 +149,7 @@ pub fn push_lines(head: &[u8], lines: &[u8], output: &mut Vec<u8>) -> Result<(),
     Ok(())
 }
 
-/// Appends a line behind its head. A zero byte is spelt `\0`, and ends a line too.
+/// Appends a line after its head. A zero byte is spelt `\0`, and ends a line too.
 fn push_sent(head: &[u8], line: &[u8], output: &mut Vec<u8>) -> Result<(), AllocError> {
     output.extend_from_slice(head)?;
     match line.strip_suffix(b"\0".as_slice()) {

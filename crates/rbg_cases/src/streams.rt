@@ -3,7 +3,7 @@
 use crate::cases::Behind;
 use std::io::{self, ErrorKind, Read, Write};
 
-/// Standard input: bytes, and what it gives behind them.
+/// Standard input: bytes, and what it gives after them.
 #[derive(Drop)]
 pub struct CaseInput<'a> {
     pub bytes: &'a [u8],

@@ -13,8 +13,8 @@ use Rattle.rbg_macro.specs.Names.{section_name}
 use Rattle.rbg_syntax.specs.Names.{part_name}
 use Rattle.rbg_syntax.specs.declared.error.SyntaxError.{SyntaxError}
 use Rattle.rbg_syntax.specs.declared.error.SyntaxError.TheVariants as phrases
-use Rattle.rbg_tokens.specs.declared.error.TextError.{TextError}
-use Rattle.rbg_tokens.specs.declared.error.TextError.TheVariants as texts
+use Rattle.rbg_macro.specs.declared.text_error.TextError.{TextError}
+use Rattle.rbg_macro.specs.declared.text_error.TextError.TheVariants as texts
 
 unfoldable pub text_refusal : TextError → List ℕ
 text_refusal texts.TooLong = codes "text 1 TooLong"

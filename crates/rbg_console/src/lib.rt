@@ -1,6 +1,9 @@
-//! What the programs share: their words, the files and the input that they read, and what they say of a description.
+//! What the programs share: reading and writing, files and new ones, words, statuses, counts, printed refusals, and
+//! command lines as tables, from which both programs' commands are made.
 #![tactic(auto)]
 
+mod argument;
+mod command;
 mod command_line;
 mod counts;
 mod files;
@@ -13,6 +16,8 @@ mod refusal;
 mod status;
 mod system;
 
+pub use argument::{Argument, GAME, Kind, RECORD, Value};
+pub use command::{CommandWords, add_commands};
 pub use command_line::{WordsError, match_words, write_words};
 pub use counts::count_line;
 pub use files::{Files, fill_file, read_bytes};

@@ -13,9 +13,8 @@ ghost use Rattle.rbg_console.specs.Refusals.{
 
 use rbg_board::BoardError;
 use rbg_game::{GameError, LoadError};
-use rbg_macro::MacroError;
+use rbg_macro::{MacroError, TextError};
 use rbg_syntax::SyntaxError;
-use rbg_tokens::TextError;
 use std::fmt::{self, Formatter};
 
 /// A refusal. Its text is `<layer> <number> <name>`, and then the place or thing where there is one.

@@ -1,11 +1,9 @@
 //! The place of a refused board among the tokens of its section.
 
-use crate::among::{before_first, count_names, has_text, is_at};
-use crate::sections::nth_name;
 use rbg_board::BoardError;
 use rbg_game::limits::MAX_VERTICES;
-use rbg_suggest::behind_head;
-use rbg_tokens::{Symbol, Token};
+use rbg_lint::{after_head, before_first, count_names, has_text, is_at, nth_name};
+use rbg_macro::{Symbol, Token};
 
 /// The token at which a refused board is shown. The board is one that is spelt right.
 pub(crate) fn board_place<'a>(error: &BoardError, board: &'a [Token<'a>]) -> Option<Token<'a>> {
@@ -34,7 +32,7 @@ fn empty_row<'a>(board: &'a [Token<'a>]) -> Option<Token<'a>> {
 /// How many cells a row has, counted from 0, in a description without macros; how many the row has by which it is measured,
 /// and whether that is the first one.
 pub(crate) fn row_lengths(tokens: &[Token<'_>], row: usize) -> Option<(usize, usize, bool)> {
-    let board = behind_head(tokens, b"board");
+    let board = after_head(tokens, b"board");
     let is_rectangle = board.get(1)?.text == b"rectangle".as_slice();
     let other = if is_rectangle { 0 } else { row.checked_sub(1)? };
     Some((
@@ -170,7 +168,7 @@ fn unknown_target<'a>(board: &'a [Token<'a>]) -> Option<Token<'a>> {
     None
 }
 
-/// The direction behind so many directions, at its first use.
+/// The direction after so many directions, at its first use.
 pub(crate) fn nth_direction<'a>(board: &'a [Token<'a>], count: usize) -> Option<Token<'a>> {
     if is_graph(board) {
         nth_edge_name(board, count)
@@ -186,7 +184,7 @@ fn is_graph(board: &[Token<'_>]) -> bool {
     }
 }
 
-/// The name of an edge behind so many other names of edges.
+/// The name of an edge after so many other names of edges.
 fn nth_edge_name<'a>(board: &'a [Token<'a>], count: usize) -> Option<Token<'a>> {
     let mut left = count;
     for (index, token) in board.iter().enumerate() {

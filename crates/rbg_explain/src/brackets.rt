@@ -1,7 +1,7 @@
 //! Brackets of a text: the ones that stay open, and the calls of macros.
 
-use crate::among::{before_first, count_names};
-use rbg_tokens::{Symbol, Token};
+use rbg_lint::{before_first, count_names};
+use rbg_macro::{Symbol, Token};
 
 /// The last opening bracket of these tokens that isn't closed among them.
 pub(crate) fn open_bracket<'a>(tokens: &'a [Token<'a>]) -> Option<Token<'a>> {
@@ -15,7 +15,7 @@ pub(crate) fn open_bracket<'a>(tokens: &'a [Token<'a>]) -> Option<Token<'a>> {
     None
 }
 
-/// Whether the first token opens a bracket that isn't closed, where so many that are closed behind it weren't opened yet.
+/// Whether the first token opens a bracket that isn't closed, where so many that are closed after it weren't opened yet.
 /// Counts it among these.
 pub(crate) fn stays_open(tokens: &[Token<'_>], closed: &mut usize) -> bool {
     match tokens.first() {
@@ -43,7 +43,7 @@ pub(crate) enum CallForm {
     Arguments(usize),
 }
 
-/// What the tokens behind the name of a macro are to its call.
+/// What the tokens after the name of a macro are to its call.
 pub(crate) fn call_form(tokens: &[Token<'_>]) -> CallForm {
     match tokens {
         [first, inside @ ..] if first.is(Symbol::OpenParenthesis) => form_inside(inside),
@@ -75,7 +75,7 @@ fn form_inside(inside: &[Token<'_>]) -> CallForm {
     CallForm::Open
 }
 
-/// How many parameters the head of a macro has behind its name.
+/// How many parameters the head of a macro has after its name.
 pub(crate) fn parameter_count(tokens: &[Token<'_>]) -> usize {
     count_names(before_first(tokens, Symbol::Equals))
 }

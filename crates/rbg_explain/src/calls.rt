@@ -1,8 +1,7 @@
 //! Where a macro is called in a text.
 
-use crate::among::{before_first, has_text, is_at};
-use rbg_diagnostics::{Diagnostic, Telling};
-use rbg_tokens::{Symbol, Token, count_line_feeds};
+use rbg_lint::{Diagnostic, MessageWriter, before_first, has_text, is_at};
+use rbg_macro::{Symbol, Token, count_line_feeds};
 use std::alloc::{AllocError, Global};
 
 /// The numbers of the lines of these offsets, which are in order of the text, each once.
@@ -48,14 +47,14 @@ fn push_all_calls(
 ) -> Result<(), AllocError> {
     for index in 0..tokens.len() {
         if is_at(tokens, index, Symbol::Hash) {
-            let behind = tokens.get(index.saturating_add(1)..).unwrap_or(&[]);
-            push_calls_among(body(behind, name), name, found)?;
+            let after = tokens.get(index.saturating_add(1)..).unwrap_or(&[]);
+            push_calls_among(body(after, name), name, found)?;
         }
     }
     Ok(())
 }
 
-/// The body of the definition behind a `#`, from its `=`. None where a parameter of this name hides the macro.
+/// The body of the definition after a `#`, from its `=`. None where a parameter of this name hides the macro.
 fn body<'a>(tokens: &'a [Token<'a>], hidden: &[u8]) -> &'a [Token<'a>] {
     let definition = before_first(tokens, Symbol::Hash);
     let head = before_first(definition, Symbol::Equals);
@@ -105,32 +104,32 @@ pub(crate) fn relate_calls(
 fn call_words(alloc: Global, text: &[u8], calls: &[usize]) -> Result<Vec<u8>, AllocError> {
     let lines = lines_of(alloc, text, calls)?;
     let mut words = Vec::new(alloc);
-    let mut told = Telling::new(alloc, &mut words);
-    tell_lines(&mut told, &lines);
-    told.end()?;
+    let mut writer = MessageWriter::new(alloc, &mut words);
+    write_lines(&mut writer, &lines);
+    writer.end()?;
     Ok(words)
 }
 
-/// Tells the lines of calls, if there are any.
-fn tell_lines(told: &mut Telling<'_>, lines: &[usize]) {
+/// Writes the lines of calls, if there are any.
+fn write_lines(writer: &mut MessageWriter<'_>, lines: &[usize]) {
     match lines {
         [] => {}
-        [line] => told.number("called on line ", *line, ""),
+        [line] => writer.number("called on line ", *line, ""),
         [first, others @ ..] => {
-            told.number("called on lines ", *first, "");
-            tell_others(told, others);
+            writer.number("called on lines ", *first, "");
+            write_others(writer, others);
         }
     }
 }
 
-/// Tells the lines of calls behind the first one.
-fn tell_others(told: &mut Telling<'_>, lines: &[usize]) {
+/// Writes the lines of calls after the first one.
+fn write_others(writer: &mut MessageWriter<'_>, lines: &[usize]) {
     match lines {
         [] => {}
-        [line] => told.number(" and ", *line, ""),
+        [line] => writer.number(" and ", *line, ""),
         [line, others @ ..] => {
-            told.number(", ", *line, "");
-            told.number(" and ", others.len(), " more");
+            writer.number(", ", *line, "");
+            writer.number(" and ", others.len(), " more");
         }
     }
 }

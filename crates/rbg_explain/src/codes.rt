@@ -2,9 +2,8 @@
 
 use rbg_board::BoardError;
 use rbg_game::{GameError, LoadError};
-use rbg_macro::MacroError;
+use rbg_macro::{MacroError, TextError};
 use rbg_syntax::SyntaxError;
-use rbg_tokens::TextError;
 
 /// The word for the kind of a refusal.
 pub(crate) fn code_of(error: &LoadError) -> &'static str {

@@ -1,10 +1,10 @@
-//! All that an author is told of a text, as values.
+//! All that is reported to an author of a text, as values.
 
 use crate::explanation::faults;
 use crate::warned::game_warnings;
-use rbg_diagnostics::Diagnostic;
 use rbg_game::{LoadError, load_with_layout};
-use rbg_tokens::{TextError, Tokens, tokens};
+use rbg_lint::Diagnostic;
+use rbg_macro::{TextError, Tokens, tokens};
 use std::alloc::{AllocError, Global};
 
 /// The faults of a text, or the warnings of the game that it describes. Those that are printed of it are made of these.

@@ -1,14 +1,35 @@
 //! What is doubtful in the rules of a game, in words.
 
-use crate::among::index_of;
-use crate::sections::nth_name;
 use crate::warned::{push_new, warning_at};
-use rbg_base::Position;
-use rbg_diagnostics::{Diagnostic, Telling, line_and_column};
-use rbg_doubts::{Doubt, doubts};
+use rbg_base::{Position, Variable};
 use rbg_game::Game;
-use rbg_tokens::{Symbol, Token};
+use rbg_lint::{Diagnostic, Doubt, MessageWriter, doubts, index_of, line_and_column, nth_name};
+use rbg_macro::{Symbol, Token};
 use std::alloc::{AllocError, Global};
+
+/// A text, the game that it describes, and the actions of its rules.
+#[derive(Clone, Copy)]
+struct Described<'a> {
+    text: &'a [u8],
+    game: &'a Game,
+    actions: &'a [&'a [Token<'a>]],
+}
+
+impl<'a> Described<'a> {
+    /// The tokens of the action at a position.
+    fn action(&self, position: Position) -> &'a [Token<'a>] {
+        self.actions.get(index_at(position)).copied().unwrap_or(&[])
+    }
+
+    /// The greatest number that a variable holds.
+    fn bound(&self, variable: Variable) -> u32 {
+        if (variable as usize) < self.game.variables() {
+            self.game.bound(variable)
+        } else {
+            0
+        }
+    }
+}
 
 /// Adds the doubts of a game whose rules have these actions.
 pub(crate) fn push_doubts(
@@ -18,18 +39,21 @@ pub(crate) fn push_doubts(
     game: &Game,
     found: &mut Vec<Diagnostic>,
 ) -> Result<(), AllocError> {
+    let described = Described {
+        text,
+        game,
+        actions,
+    };
     for doubt in &doubts(alloc, game)? {
-        push_doubt(alloc, text, actions, game, *doubt, found)?;
+        push_doubt(alloc, described, *doubt, found)?;
     }
     Ok(())
 }
 
-/// Adds a doubt of a game whose rules have these actions.
+/// Adds a doubt.
 fn push_doubt(
     alloc: Global,
-    text: &[u8],
-    actions: &[&[Token<'_>]],
-    game: &Game,
+    described: Described<'_>,
     doubt: Doubt,
     found: &mut Vec<Diagnostic>,
 ) -> Result<(), AllocError> {
@@ -39,30 +63,16 @@ fn push_doubt(
             variable,
             value,
         } => {
-            let bound = if (variable as usize) < game.variables() {
-                game.bound(variable)
-            } else {
-                0
-            };
-            push_never(
-                alloc,
-                actions.get(index_at(position)).copied().unwrap_or(&[]),
-                bound,
-                value,
-                found,
-            )
+            let bound = described.bound(variable);
+            push_never(alloc, described.action(position), bound, value, found)
         }
-        Doubt::NoValue { position } => push_no_value(
-            alloc,
-            actions.get(index_at(position)).copied().unwrap_or(&[]),
-            found,
-        ),
+        Doubt::NoValue { position } => push_no_value(alloc, described.action(position), found),
         Doubt::GoesBack { position, off } => {
-            let back = actions.get(index_at(off)).copied().unwrap_or(&[]);
+            let back = described.action(off);
             push_going_back(
                 alloc,
-                text,
-                actions.get(index_at(position)).copied().unwrap_or(&[]),
+                described.text,
+                described.action(position),
                 back,
                 found,
             )
@@ -96,18 +106,18 @@ fn push_never(
         return Ok(());
     };
     let mut warning = warning_at(alloc, "NeverValid", shown);
-    let mut told = Telling::new(alloc, &mut warning.message);
+    let mut writer = MessageWriter::new(alloc, &mut warning.message);
     match value {
         Some(value) => {
-            told.text("the value is ");
-            told.shown(&value);
-            told.named(", but ", variable.text, " holds numbers from 0 to ");
-            told.shown(&bound);
+            writer.text("the value is ");
+            writer.shown(&value);
+            writer.named(", but ", variable.text, " holds numbers from 0 to ");
+            writer.shown(&bound);
         }
-        None => told.text(NO_VALUE),
+        None => writer.text(NO_VALUE),
     }
-    told.text(", so this assignment is never valid");
-    told.end()?;
+    writer.text(", so this assignment is never valid");
+    writer.end()?;
     push_new(found, warning)
 }
 
@@ -121,14 +131,14 @@ fn push_no_value(
         return Ok(());
     };
     let mut warning = warning_at(alloc, "NeverValid", *token);
-    let mut told = Telling::new(alloc, &mut warning.message);
-    told.text(NO_VALUE);
-    told.text(", so this comparison is never valid");
-    told.end()?;
+    let mut writer = MessageWriter::new(alloc, &mut warning.message);
+    writer.text(NO_VALUE);
+    writer.text(", so this comparison is never valid");
+    writer.end()?;
     push_new(found, warning)
 }
 
-/// Adds that the keeper goes back behind a `->>`, and puts a piece there.
+/// Adds that the keeper goes back after a `->>`, and puts a piece there.
 fn push_going_back(
     alloc: Global,
     text: &[u8],
@@ -140,10 +150,10 @@ fn push_going_back(
         return Ok(());
     };
     let mut warning = warning_at(alloc, "KeeperGoesBack", *token);
-    let mut told = Telling::new(alloc, &mut warning.message);
-    told.text("behind this `->>` the keeper goes back in the rules without another switch,");
-    told.place(" and puts a piece at ", line_and_column(text, back.at), "");
-    told.text(": to end play, write `->> {}`");
-    told.end()?;
+    let mut writer = MessageWriter::new(alloc, &mut warning.message);
+    writer.text("behind this `->>` the keeper goes back in the rules without another switch,");
+    writer.place(" and puts a piece at ", line_and_column(text, back.at), "");
+    writer.text(": to end play, write `->> {}`");
+    writer.end()?;
     push_new(found, warning)
 }

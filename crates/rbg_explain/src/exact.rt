@@ -1,15 +1,13 @@
 //! The places of refusals, also of those that name none: of a board, and of too many things.
 
-use crate::among::{count_names, offset_of, start_of};
 use crate::boards::{board_place, nth_direction};
 use crate::place::place_of;
-use crate::sections::{expanded, nth_name, section_tokens};
 use rbg_board::BoardError;
 use rbg_game::limits::{MAX_DIRECTIONS, MAX_PIECES, MAX_PLAYERS, MAX_POSITIONS, MAX_VARIABLES};
 use rbg_game::{GameError, LoadError, Thing};
-use rbg_macro::{SectionKind, Source};
-use rbg_passages::actions;
-use rbg_tokens::{Token, Tokens};
+use rbg_lint::{count_names, expanded, nth_name, offset_of, section_tokens, start_of};
+use rbg_macro::{SectionKind, Source, Token, Tokens};
+use rbg_warnings::actions;
 use std::alloc::{AllocError, Global};
 
 /// The place of a refusal: the exact one, or else that of the section.
@@ -106,7 +104,7 @@ fn further_action_of(alloc: Global, rules: &[Token<'_>]) -> Result<Option<usize>
     }
 }
 
-/// The name behind so many names of a section.
+/// The name after so many names of a section.
 fn further_name(
     alloc: Global,
     source: &Source<'_>,

@@ -6,18 +6,16 @@ use crate::joined::relate_joins;
 use crate::meant::meant_name;
 use crate::message::{Known, Message};
 use crate::notes::relate_notes;
-use crate::sections::cut;
 use crate::spot::Spot;
 use crate::traced::{Flat, PartFault};
 use rbg_console::Refusal;
-use rbg_diagnostics::{Diagnostic, File, Severity, Telling, push_diagnostics};
 use rbg_game::LoadError;
-use rbg_lint::{is_balanced, is_balanced_around, is_section_balanced, push_unbalanced};
-use rbg_macro::MacroError;
-use rbg_origins::unroll;
-use rbg_suggest::misspelt_section;
+use rbg_lint::{
+    Diagnostic, File, MessageWriter, Severity, cut, is_balanced, is_balanced_around,
+    is_section_balanced, misspelt_section, push_diagnostics, push_unbalanced, unroll,
+};
+use rbg_macro::{MacroError, Token, Tokens};
 use rbg_syntax::SyntaxError;
-use rbg_tokens::{Token, Tokens};
 use std::alloc::{AllocError, Global};
 
 /// A text that is refused: its bytes, its tokens where it can be cut into them, and why.
@@ -28,7 +26,7 @@ struct Refused<'a> {
     error: &'a LoadError,
 }
 
-/// What an author is told of a refused text: the file, the line and the column, what was expected and what stands
+/// What is reported to the author of a refused text: the file, the line and the column, what was expected and what stands
 /// there, the line itself with carets below the place, and the printed line of the refusal. The tokens are those of the
 /// text, where it can be cut into tokens.
 pub fn explain(
@@ -52,11 +50,11 @@ pub fn explain(
 
 /// Adds the printed line of a refusal.
 fn push_refusal(alloc: Global, output: &mut Vec<u8>, error: LoadError) -> Result<(), AllocError> {
-    let mut told = Telling::new(alloc, output);
-    told.text("refused ");
-    told.shown(&Refusal(error));
-    told.text("\n");
-    told.end()
+    let mut writer = MessageWriter::new(alloc, output);
+    writer.text("refused ");
+    writer.shown(&Refusal(error));
+    writer.text("\n");
+    writer.end()
 }
 
 /// The faults of a text that is refused. The tokens are those of the text, where it can be cut into tokens.
@@ -267,7 +265,7 @@ fn is_of_layer(left: &LoadError, right: &LoadError) -> bool {
     )
 }
 
-/// Adds the fault of a part of a description, if none is told at its place.
+/// Adds the fault of a part of a description, if none is reported at its place.
 fn push_part_fault(
     alloc: Global,
     refused: &Refused<'_>,
@@ -278,7 +276,7 @@ fn push_part_fault(
     let Some(trace) = flat.trace(fault.at) else {
         return Ok(());
     };
-    if is_told(found, trace.origin.at) {
+    if has_fault_at(found, trace.origin.at) {
         return Ok(());
     }
     let part = Refused {
@@ -289,8 +287,8 @@ fn push_part_fault(
     push_fault_at(alloc, &part, trace.origin.at, Known::Token(trace), found)
 }
 
-/// Whether a fault is told at an offset.
-fn is_told(found: &[Diagnostic], at: usize) -> bool {
+/// Whether a fault is reported at an offset.
+fn has_fault_at(found: &[Diagnostic], at: usize) -> bool {
     for fault in found {
         if fault.start == at {
             return true;
@@ -322,7 +320,7 @@ fn push_whole_fault(
         fault.start = head.at;
         fault.end = head.at.saturating_add(head.text.len());
     }
-    message.tell(alloc, &mut fault.message)?;
+    message.write(alloc, &mut fault.message)?;
     found.push(fault)?;
     Ok(())
 }
@@ -369,19 +367,19 @@ fn push_fault_at(
     };
     let code = code_of(refused.error);
     let mut fault = Diagnostic::new(alloc, Severity::Fault, code, start, message.width());
-    tell_fault(alloc, &mut fault, tokens, &message)?;
+    write_fault(alloc, &mut fault, tokens, &message)?;
     found.push(fault)?;
     Ok(())
 }
 
-/// Tells the message of a fault, where its token is joined, and what else is told of it.
-fn tell_fault(
+/// Writes the message of a fault, where its token is joined, and the other places that it is about.
+fn write_fault(
     alloc: Global,
     fault: &mut Diagnostic,
     tokens: &[Token<'_>],
     message: &Message<'_, '_>,
 ) -> Result<(), AllocError> {
-    message.tell(alloc, &mut fault.message)?;
+    message.write(alloc, &mut fault.message)?;
     if let Some(joined) = message.joined() {
         relate_joins(alloc, fault, message.text, tokens, joined)?;
     }

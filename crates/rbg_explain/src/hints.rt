@@ -1,9 +1,9 @@
 //! What is probably meant by a token that doesn't fit.
 
-use crate::among::is_at;
 use crate::spot::Spot;
+use rbg_lint::is_at;
+use rbg_macro::{Symbol, Token, TokenKind};
 use rbg_syntax::Expectation;
-use rbg_tokens::{Symbol, Token, TokenKind};
 
 impl<'a> Spot<'a> {
     /// Whether the token stands in a section that lists names with bounds.
@@ -37,7 +37,7 @@ impl<'a> Spot<'a> {
         }
     }
 
-    /// Whether the token is a comma behind another comma, or behind the bracket that opens a row.
+    /// Whether the token is a comma after another comma, or after the bracket that opens a row.
     fn is_hole(&self) -> bool {
         match self.last() {
             Some(last) => last.is(Symbol::Comma) || last.is(Symbol::OpenBracket),
@@ -48,7 +48,7 @@ impl<'a> Spot<'a> {
     /// What is said of a token by which a comment is probably meant.
     pub fn comment_words(&self) -> &'static str {
         let is_meant = match self.token.kind {
-            TokenKind::Symbol(Symbol::Slash) => is_at(self.behind(), 0, Symbol::Star),
+            TokenKind::Symbol(Symbol::Slash) => is_at(self.after(), 0, Symbol::Star),
             TokenKind::Symbol(Symbol::Semicolon) => self.index() == 0,
             _ => false,
         };

@@ -1,13 +1,18 @@
 //! Names and numbers that `~` has joined, and the `~` that joined them.
 
-use crate::sections::{cut, expanded};
-use rbg_diagnostics::{Diagnostic, Telling, line_and_column};
-use rbg_macro::{Section, Source};
-use rbg_tokens::{Symbol, Token};
+use rbg_lint::{Diagnostic, MessageWriter, cut, expanded, line_and_column};
+use rbg_macro::{Section, Source, Symbol, Token};
 use std::alloc::{AllocError, Global};
 
 /// The most `~` that are tried.
 const MOST_TRIED: usize = 100;
+
+/// A text that `~` has joined, and the offset at which it is.
+#[derive(Clone, Copy)]
+struct JoinedText<'a> {
+    at: usize,
+    text: &'a [u8],
+}
 
 /// The texts of the tokens that come from an offset, each once.
 fn texts_at<'a>(
@@ -45,7 +50,11 @@ pub(crate) fn relate_joins(
     tokens: &[Token<'_>],
     joined: &[u8],
 ) -> Result<(), AllocError> {
-    let found = joins_of(alloc, text, tokens, fault.start, joined)?;
+    let joined = JoinedText {
+        at: fault.start,
+        text: joined,
+    };
+    let found = joins_of(alloc, text, tokens, joined)?;
     match found.first() {
         Some(first) => fault.relate(*first, 1, join_words(alloc, text, &found)?),
         None => Ok(()),
@@ -55,47 +64,45 @@ pub(crate) fn relate_joins(
 /// Where the `~` stand that join a text.
 fn join_words(alloc: Global, text: &[u8], found: &[usize]) -> Result<Vec<u8>, AllocError> {
     let mut words = Vec::new(alloc);
-    let mut told = Telling::new(alloc, &mut words);
+    let mut writer = MessageWriter::new(alloc, &mut words);
     for (index, tilde) in found.iter().enumerate() {
-        told.text(if index == 0 {
+        writer.text(if index == 0 {
             "joined by `~` at "
         } else {
             " and "
         });
-        told.place("", line_and_column(text, *tilde), "");
+        writer.place("", line_and_column(text, *tilde), "");
     }
-    told.end()?;
+    writer.end()?;
     Ok(words)
 }
 
-/// The offsets of the `~` that join a text at an offset.
+/// The offsets of the `~` that join a text.
 fn joins_of(
     alloc: Global,
     text: &[u8],
     tokens: &[Token<'_>],
-    at: usize,
-    joined: &[u8],
+    joined: JoinedText<'_>,
 ) -> Result<Vec<usize>, AllocError> {
     let mut found = Vec::new(alloc);
     let mut variant = text.to_vec(alloc)?;
-    push_joins(alloc, &mut variant, tokens, at, joined, &mut found)?;
+    push_joins(alloc, &mut variant, tokens, joined, &mut found)?;
     Ok(found)
 }
 
-/// Adds the offsets of the `~` that join a text at an offset.
+/// Adds the offsets of the `~` that join a text.
 fn push_joins(
     alloc: Global,
     variant: &mut Vec<u8>,
     tokens: &[Token<'_>],
-    at: usize,
-    joined: &[u8],
+    joined: JoinedText<'_>,
     found: &mut Vec<usize>,
 ) -> Result<(), AllocError> {
     let mut tried = 0usize;
     for token in tokens {
         if token.is(Symbol::Tilde) && tried < MOST_TRIED {
             tried = tried.saturating_add(1);
-            if joins(alloc, variant, token.at, at, joined)? {
+            if joins(alloc, variant, token.at, joined)? {
                 found.push(token.at)?;
             }
         }
@@ -103,16 +110,15 @@ fn push_joins(
     Ok(())
 }
 
-/// Whether this text isn't at an offset where a space stands in place of a `~`, which stands again afterwards.
+/// Whether this joined text is missing where a space stands in place of a `~`, which stands again afterwards.
 fn joins(
     alloc: Global,
     text: &mut Vec<u8>,
     tilde: usize,
-    at: usize,
-    joined: &[u8],
+    joined: JoinedText<'_>,
 ) -> Result<bool, AllocError> {
     put_byte(text, tilde, b' ');
-    let differs = is_other_at(alloc, text.as_slice(), at, joined)?;
+    let differs = is_missing(alloc, text.as_slice(), joined)?;
     put_byte(text, tilde, b'~');
     Ok(differs)
 }
@@ -123,14 +129,14 @@ fn put_byte(text: &mut Vec<u8>, at: usize, new: u8) {
     }
 }
 
-/// Whether a text can be expanded, and this one isn't at an offset of it.
-fn is_other_at(alloc: Global, text: &[u8], at: usize, joined: &[u8]) -> Result<bool, AllocError> {
+/// Whether a text can be expanded, and a joined one isn't in it.
+fn is_missing(alloc: Global, text: &[u8], joined: JoinedText<'_>) -> Result<bool, AllocError> {
     let Some(tokens) = cut(alloc, text)? else {
         return Ok(false);
     };
     let Some(source) = expanded(alloc, &tokens)? else {
         return Ok(false);
     };
-    let texts = texts_at(alloc, &source, at)?;
-    Ok(!texts.contains(&joined))
+    let texts = texts_at(alloc, &source, joined.at)?;
+    Ok(!texts.contains(&joined.text))
 }

@@ -1,8 +1,7 @@
-//! What authors of games are told of a text: why it is refused, with the line and the place, where its positions and
+//! What is reported to authors of games: why it is refused, with the line and the place, where its positions and
 //! vertices are, and what they are warned of.
 #![tactic(auto)]
 
-mod among;
 mod boards;
 mod brackets;
 mod calls;
@@ -18,7 +17,6 @@ mod meant;
 mod message;
 mod notes;
 mod place;
-mod sections;
 mod spot;
 mod traced;
 mod warned;
@@ -27,5 +25,5 @@ mod words;
 pub use diagnosed::diagnostics;
 pub use explanation::explain;
 pub use listed::{push_positions, push_vertices};
-pub use rbg_diagnostics::{Diagnostic, File, Related, Severity, push_diagnostics, push_json};
+pub use rbg_lint::{Diagnostic, File, Related, Severity, push_diagnostics, push_json};
 pub use warned::game_warnings;

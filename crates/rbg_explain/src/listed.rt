@@ -1,12 +1,9 @@
 //! What a game's positions and vertices are: a line for each.
 
-use crate::among::start_of;
-use crate::sections::{expanded, section_tokens};
-use rbg_diagnostics::{Telling, line_and_column};
 use rbg_game::Layout;
-use rbg_macro::SectionKind;
-use rbg_passages::actions;
-use rbg_tokens::{Token, Tokens};
+use rbg_lint::{MessageWriter, expanded, line_and_column, section_tokens, start_of};
+use rbg_macro::{SectionKind, Token, Tokens};
+use rbg_warnings::actions;
 use std::alloc::{AllocError, Global};
 
 /// Adds a line for each position of the rules: its number, the line and the column of its action, and the action. The
@@ -32,19 +29,19 @@ fn push_actions(
     rules: &[Token<'_>],
 ) -> Result<(), AllocError> {
     let actions = actions(alloc, rules)?;
-    let mut told = Telling::new(alloc, output);
-    tell_actions(&mut told, text, &actions);
-    told.end()
+    let mut writer = MessageWriter::new(alloc, output);
+    write_actions(&mut writer, text, &actions);
+    writer.end()
 }
 
-/// Tells each action of the rules in a line.
-fn tell_actions(told: &mut Telling<'_>, text: &[u8], actions: &[&[Token<'_>]]) {
+/// Writes each action of the rules in a line.
+fn write_actions(writer: &mut MessageWriter<'_>, text: &[u8], actions: &[&[Token<'_>]]) {
     for (index, action) in actions.iter().enumerate() {
         let at = start_of(action).unwrap_or(0);
-        told.number("position ", index.saturating_add(1), " ");
-        told.place("", line_and_column(text, at), " ");
-        told.action(action);
-        told.text("\n");
+        writer.number("position ", index.saturating_add(1), " ");
+        writer.place("", line_and_column(text, at), " ");
+        writer.action(action);
+        writer.text("\n");
     }
 }
 
@@ -54,40 +51,40 @@ pub fn push_vertices(
     output: &mut Vec<u8>,
     layout: &Layout,
 ) -> Result<(), AllocError> {
-    let mut told = Telling::new(alloc, output);
-    tell_vertices(&mut told, layout);
-    told.end()
+    let mut writer = MessageWriter::new(alloc, output);
+    write_vertices(&mut writer, layout);
+    writer.end()
 }
 
-fn tell_vertices(told: &mut Telling<'_>, layout: &Layout) {
+fn write_vertices(writer: &mut MessageWriter<'_>, layout: &Layout) {
     match layout {
-        Layout::Rectangle { rows } => tell_rows(told, rows),
-        Layout::Hexagon { rows } => tell_rows(told, rows),
-        Layout::Graph { names } => tell_names(told, names),
+        Layout::Rectangle { rows } => write_rows(writer, rows),
+        Layout::Hexagon { rows } => write_rows(writer, rows),
+        Layout::Graph { names } => write_names(writer, names),
     }
 }
 
-fn tell_rows(told: &mut Telling<'_>, rows: &[usize]) {
+fn write_rows(writer: &mut MessageWriter<'_>, rows: &[usize]) {
     let mut vertex = 0usize;
     for (row, length) in rows.iter().enumerate() {
-        tell_row(told, vertex, row, *length);
+        write_row(writer, vertex, row, *length);
         vertex = vertex.saturating_add(*length);
     }
 }
 
-/// Tells the cells of a row, which begins with this vertex.
-fn tell_row(told: &mut Telling<'_>, vertex: usize, row: usize, length: usize) {
+/// Writes the cells of a row, which begins with this vertex.
+fn write_row(writer: &mut MessageWriter<'_>, vertex: usize, row: usize, length: usize) {
     for cell in 0..length {
-        told.number("vertex ", vertex.saturating_add(cell), "");
-        told.number(" row ", row, "");
-        told.number(" cell ", cell, "\n");
+        writer.number("vertex ", vertex.saturating_add(cell), "");
+        writer.number(" row ", row, "");
+        writer.number(" cell ", cell, "\n");
     }
 }
 
-fn tell_names(told: &mut Telling<'_>, names: &[Vec<u8>]) {
+fn write_names(writer: &mut MessageWriter<'_>, names: &[Vec<u8>]) {
     for (vertex, name) in names.iter().enumerate() {
-        told.number("vertex ", vertex, " ");
-        told.bytes(name);
-        told.text("\n");
+        writer.number("vertex ", vertex, " ");
+        writer.bytes(name);
+        writer.text("\n");
     }
 }

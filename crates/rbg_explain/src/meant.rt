@@ -4,9 +4,9 @@ use crate::message::Message;
 use crate::spot::Needed;
 use crate::traced::Trace;
 use rbg_game::{GameError, LoadError};
-use rbg_suggest::{NameKind, kind_of, nearest_macro, nearest_name};
+use rbg_lint::{NameKind, kind_of, nearest_macro, nearest_name};
+use rbg_macro::Token;
 use rbg_syntax::SyntaxError;
-use rbg_tokens::Token;
 use std::alloc::{AllocError, Global};
 
 /// The name that is probably meant in place of an unknown one.

@@ -6,14 +6,16 @@ use crate::spot::{Needed, Spot};
 use crate::traced::Trace;
 use crate::words::{expectation_words, head_words, most_of, needed_words};
 use rbg_board::BoardError;
-use rbg_diagnostics::{Telling, line_and_column};
 use rbg_game::limits::{MAX_BOUND, MAX_NESTED_PATTERNS, MAX_VERTICES};
 use rbg_game::{GameError, LoadError};
-use rbg_macro::{MAX_JOINED, MAX_KEPT, MAX_LEVEL, MAX_READ, MacroError, SectionKind};
-use rbg_origins::{Origin, Unrolled};
-use rbg_suggest::{kind_of, shown_at};
+use rbg_lint::{
+    MessageWriter, TokenOrigin, Unrolled, kind_of, line_and_column, stray_character_at,
+};
+use rbg_macro::{
+    MAX_JOINED, MAX_KEPT, MAX_LEVEL, MAX_READ, MAX_TEXT, MacroError, SectionKind, Symbol,
+    TextError, Token,
+};
 use rbg_syntax::{Expectation, SyntaxError};
-use rbg_tokens::{MAX_TEXT, Symbol, TextError, Token};
 use std::alloc::{AllocError, Global};
 
 /// What is known of the calls from which the refusal's token comes.
@@ -21,7 +23,7 @@ use std::alloc::{AllocError, Global};
 pub(crate) enum Known<'a> {
     Nothing,
     /// Where it is the name in a call, from which the text is expanded no further.
-    Call(&'a Unrolled, Origin),
+    Call(&'a Unrolled, TokenOrigin),
     /// What stands at the refusal's place where the macros are written out.
     Token(Trace<'a>),
 }
@@ -35,7 +37,7 @@ pub(crate) struct Message<'a, 'k> {
     /// What stands at the refusal's place.
     pub spot: Option<Spot<'a>>,
     pub known: Known<'k>,
-    /// Whether the section ends behind the refusal's place, where more of it is needed.
+    /// Whether the section ends after the refusal's place, where more of it is needed.
     pub has_ended: bool,
     /// The name that is probably meant.
     pub meant: Option<Vec<u8>>,
@@ -66,7 +68,7 @@ impl<'a, 'k> Message<'a, 'k> {
     /// The comma with which the section ends that begins here, where the macros are written out.
     fn last_comma(&self) -> Option<Trace<'k>> {
         let trace = self.trace()?;
-        let last = trace.spot.behind().last()?;
+        let last = trace.spot.after().last()?;
         if last.is(Symbol::Comma) {
             trace.flat.trace(last.at)
         } else {
@@ -97,27 +99,27 @@ impl<'a, 'k> Message<'a, 'k> {
     }
 
     /// Adds the refusal in words.
-    pub fn tell(&self, alloc: Global, output: &mut Vec<u8>) -> Result<(), AllocError> {
-        let mut told = Telling::new(alloc, output);
-        self.tell_error(&mut told);
+    pub fn write(&self, alloc: Global, output: &mut Vec<u8>) -> Result<(), AllocError> {
+        let mut writer = MessageWriter::new(alloc, output);
+        self.write_error(&mut writer);
         if let Some(name) = &self.meant {
-            self.tell_meant(&mut told, name);
+            self.write_meant(&mut writer, name);
         }
-        told.end()
+        writer.end()
     }
 
     /// Which name is probably meant, and by what, where that isn't what stands here.
-    fn tell_meant(&self, told: &mut Telling<'_>, name: &[u8]) {
+    fn write_meant(&self, writer: &mut MessageWriter<'_>, name: &[u8]) {
         match self.error {
             LoadError::Syntax(SyntaxError::MissingSection { .. }) => {
-                told.named("; did you mean it by ", name, "?");
+                writer.named("; did you mean it by ", name, "?");
             }
             LoadError::Syntax(_) => {
-                told.named("; did you mean ", name, " by ");
-                told.name(self.called_name());
-                told.text("?");
+                writer.named("; did you mean ", name, " by ");
+                writer.name(self.called_name());
+                writer.text("?");
             }
-            _ => told.named("; did you mean ", name, "?"),
+            _ => writer.named("; did you mean ", name, "?"),
         }
     }
 
@@ -132,12 +134,12 @@ impl<'a, 'k> Message<'a, 'k> {
         }
     }
 
-    fn tell_error(&self, told: &mut Telling<'_>) {
+    fn write_error(&self, writer: &mut MessageWriter<'_>) {
         match self.error {
-            LoadError::Text(error) => self.tell_text(told, error),
-            LoadError::Macro(error) => self.tell_macro(told, error),
-            LoadError::Syntax(error) => self.tell_syntax(told, error),
-            LoadError::Game(error) => self.tell_game(told, error),
+            LoadError::Text(error) => self.write_text(writer, error),
+            LoadError::Macro(error) => self.write_macro(writer, error),
+            LoadError::Syntax(error) => self.write_syntax(writer, error),
+            LoadError::Game(error) => self.write_game(writer, error),
         }
     }
 
@@ -151,7 +153,7 @@ impl<'a, 'k> Message<'a, 'k> {
         }
     }
 
-    /// Whether the refusal tells the token at its place.
+    /// Whether the refusal names the token at its place.
     fn is_of_token(&self) -> bool {
         matches!(
             self.error,
@@ -169,105 +171,109 @@ impl<'a, 'k> Message<'a, 'k> {
         match (self.spot, self.error) {
             (Some(spot), _) => spot.token.text.len(),
             (None, LoadError::Text(TextError::BadByte { at })) => {
-                shown_at(self.text, *at).bytes.len().max(1)
+                stray_character_at(self.text, *at).bytes.len().max(1)
             }
             (None, _) => 1,
         }
     }
 
-    fn tell_text(&self, told: &mut Telling<'_>, error: &TextError) {
+    fn write_text(&self, writer: &mut MessageWriter<'_>, error: &TextError) {
         match error {
-            TextError::TooLong => told.number("the text has more than ", MAX_TEXT, " bytes"),
-            TextError::ZeroByte => told.text("expected no zero byte in the text"),
-            TextError::BadByte { at } => self.tell_byte(told, *at),
-            TextError::Memory => told.text("out of memory"),
+            TextError::TooLong => writer.number("the text has more than ", MAX_TEXT, " bytes"),
+            TextError::ZeroByte => writer.text("expected no zero byte in the text"),
+            TextError::BadByte { at } => self.write_byte(writer, *at),
+            TextError::Memory => writer.text("out of memory"),
         }
     }
 
     /// What stands where no token begins.
-    fn tell_byte(&self, told: &mut Telling<'_>, at: usize) {
+    fn write_byte(&self, writer: &mut MessageWriter<'_>, at: usize) {
         if at == 0 && self.text.starts_with(b"\xef\xbb\xbf") {
-            told.text("expected a token, found a byte order mark");
+            writer.text("expected a token, found a byte order mark");
             return;
         }
-        let shown = shown_at(self.text, at);
-        told.text("expected a token, found ");
+        let shown = stray_character_at(self.text, at);
+        writer.text("expected a token, found ");
         match shown.number {
-            Some(number) if number < 0x80 => told.name(shown.bytes),
+            Some(number) if number < 0x80 => writer.name(shown.bytes),
             Some(number) => {
-                told.named("", shown.bytes, " (U+");
-                told.hexadecimal(number);
-                told.text(")");
+                writer.named("", shown.bytes, " (U+");
+                writer.hexadecimal(number);
+                writer.text(")");
             }
-            None => told.text("a byte that begins none"),
+            None => writer.text("a byte that begins none"),
         }
-        told.text(shown.meant);
+        writer.text(shown.meant);
     }
 
-    fn tell_macro(&self, told: &mut Telling<'_>, error: &MacroError) {
+    fn write_macro(&self, writer: &mut MessageWriter<'_>, error: &MacroError) {
         match error {
-            MacroError::BadDefinition { .. } => self.tell_head(told),
-            MacroError::Twice { .. } => self.tell_around(told, "a second macro has the name ", ""),
-            MacroError::ArgumentCount { .. } => self.tell_call(told),
+            MacroError::BadDefinition { .. } => self.write_head(writer),
+            MacroError::Twice { .. } => self.write_around(
+                writer,
+                "a second macro has the name ",
+                "",
+            ),
+            MacroError::ArgumentCount { .. } => self.write_call(writer),
             MacroError::Depth { .. } => {
-                self.tell_around(told, "the call of ", " is more than ");
-                told.number("", MAX_LEVEL, " levels deep");
+                self.write_around(writer, "the call of ", " is more than ");
+                writer.number("", MAX_LEVEL, " levels deep");
             }
             MacroError::TooManyTokens => {
-                told.number("the macros expand to more than ", MAX_KEPT, " tokens, or");
-                told.number(" more than ", MAX_READ, " are read");
+                writer.number("the macros expand to more than ", MAX_KEPT, " tokens, or");
+                writer.number(" more than ", MAX_READ, " are read");
                 if self.spot.is_some() {
-                    self.tell_around(told, ", at ", "");
+                    self.write_around(writer, ", at ", "");
                 }
             }
-            MacroError::BadJoin { .. } => told.number(
+            MacroError::BadJoin { .. } => writer.number(
                 "expected two tokens beside `~` that make a name or a number of at most ",
                 MAX_JOINED,
                 " bytes",
             ),
-            MacroError::Memory => told.text("out of memory"),
+            MacroError::Memory => writer.text("out of memory"),
         }
     }
 
-    /// Tells what was found, between these words.
-    fn tell_around(&self, told: &mut Telling<'_>, before: &str, behind: &str) {
-        told.text(before);
-        self.tell_found(told);
-        told.text(behind);
+    /// Writes what was found, between these words.
+    fn write_around(&self, writer: &mut MessageWriter<'_>, before: &str, after: &str) {
+        writer.text(before);
+        self.write_found(writer);
+        writer.text(after);
     }
 
-    /// Tells what was found: the token at the refusal's place, joined if `~` has joined it.
-    fn tell_found(&self, told: &mut Telling<'_>) {
+    /// Writes what was found: the token at the refusal's place, joined if `~` has joined it.
+    fn write_found(&self, writer: &mut MessageWriter<'_>) {
         match (self.trace(), self.spot) {
-            (Some(trace), _) if !self.has_ended => told.name(trace.text()),
-            (_, Some(spot)) => told.name(spot.token.text),
-            (_, None) => told.text("nothing"),
+            (Some(trace), _) if !self.has_ended => writer.name(trace.text()),
+            (_, Some(spot)) => writer.name(spot.token.text),
+            (_, None) => writer.text("nothing"),
         }
     }
 
-    /// How many parameters the macro has that is called here, and what stands behind its name.
+    /// How many parameters the macro has that is called here, and what stands after its name.
     fn call(&self) -> Option<(usize, CallForm)> {
         let spot = self.spot?;
         Some((spot.parameters()?, spot.call_form()))
     }
 
     /// What is wrong with the arguments of a call.
-    fn tell_call(&self, told: &mut Telling<'_>) {
+    fn write_call(&self, writer: &mut MessageWriter<'_>) {
         match self.call() {
             Some((wanted, CallForm::NoParenthesis)) => {
-                tell_arguments(told, "expected `(` and ", wanted);
-                self.tell_around(told, " behind the macro's name ", "");
+                write_arguments(writer, "expected `(` and ", wanted);
+                self.write_around(writer, " behind the macro's name ", "");
             }
             Some((_, CallForm::Open)) => {
-                self.tell_around(told, "expected a `)` behind the arguments of ", "");
+                self.write_around(writer, "expected a `)` behind the arguments of ", "");
             }
             Some((wanted, CallForm::Arguments(count))) if count != wanted => {
-                tell_arguments(told, "expected ", wanted);
-                self.tell_around(told, " of ", ", separated by `;`");
-                told.number(", found ", count, "");
+                write_arguments(writer, "expected ", wanted);
+                self.write_around(writer, " of ", ", separated by `;`");
+                writer.number(", found ", count, "");
             }
-            _ => self.tell_around(
-                told,
+            _ => self.write_around(
+                writer,
                 "expected a call of ",
                 " with as many arguments as it has parameters",
             ),
@@ -275,34 +281,34 @@ impl<'a, 'k> Message<'a, 'k> {
     }
 
     /// What is wrong with the head of a definition.
-    fn tell_head(&self, told: &mut Telling<'_>) {
+    fn write_head(&self, writer: &mut MessageWriter<'_>) {
         match self.spot {
-            None => told.text("expected a definition"),
+            None => writer.text("expected a definition"),
             Some(spot) if spot.starts_definition() => {
-                told.text("expected a whole head of a definition, found the end of the text");
+                writer.text("expected a whole head of a definition, found the end of the text");
             }
             Some(spot) => {
-                self.tell_mismatch(told, head_words(spot.definition()), spot.comment_words());
+                self.write_mismatch(writer, head_words(spot.definition()), spot.comment_words());
             }
         }
     }
 
     /// What was expected, and what was found in its place.
-    fn tell_mismatch(&self, told: &mut Telling<'_>, expected: &str, behind: &str) {
-        told.text("expected ");
-        told.text(expected);
-        self.tell_parameter(told);
-        self.tell_around(told, ", found ", behind);
+    fn write_mismatch(&self, writer: &mut MessageWriter<'_>, expected: &str, after: &str) {
+        writer.text("expected ");
+        writer.text(expected);
+        self.write_parameter(writer);
+        self.write_around(writer, ", found ", after);
     }
 
     /// In place of which parameter the token stands.
-    fn tell_parameter(&self, told: &mut Telling<'_>) {
+    fn write_parameter(&self, writer: &mut MessageWriter<'_>) {
         if let Some(parameter) = self.parameter() {
-            told.named(" in place of ", parameter.token.text, "");
+            writer.named(" in place of ", parameter.token.text, "");
             if let Some(head) = parameter.macro_name() {
-                told.named(" in the body of ", head.text, "");
+                writer.named(" in the body of ", head.text, "");
             }
-            told.place(" at ", line_and_column(self.text, parameter.token.at), "");
+            writer.place(" at ", line_and_column(self.text, parameter.token.at), "");
         }
     }
 
@@ -315,67 +321,67 @@ impl<'a, 'k> Message<'a, 'k> {
         self.spot?.beside(origin.place)
     }
 
-    fn tell_syntax(&self, told: &mut Telling<'_>, error: &SyntaxError) {
+    fn write_syntax(&self, writer: &mut MessageWriter<'_>, error: &SyntaxError) {
         match error {
-            SyntaxError::Expected { what, .. } => self.tell_expected(told, *what),
+            SyntaxError::Expected { what, .. } => self.write_expected(writer, *what),
             SyntaxError::MissingSection { which } => {
-                tell_section(told, "expected a section `#", *which);
+                write_section(writer, "expected a section `#", *which);
             }
             SyntaxError::SectionTwice { which } => {
-                tell_section(told, "a second section has the name `", *which);
+                write_section(writer, "a second section has the name `", *which);
             }
             SyntaxError::TooDeep { .. } => {
-                self.tell_around(told, "more than 128 brackets are open at ", "");
+                self.write_around(writer, "more than 128 brackets are open at ", "");
             }
-            SyntaxError::Memory => told.text("out of memory"),
+            SyntaxError::Memory => writer.text("out of memory"),
         }
     }
 
-    fn tell_expected(&self, told: &mut Telling<'_>, what: Expectation) {
+    fn write_expected(&self, writer: &mut MessageWriter<'_>, what: Expectation) {
         match (self.trace(), self.spot) {
-            (Some(trace), _) => self.tell_expected_at(told, what, trace.spot),
-            (None, Some(spot)) => self.tell_expected_at(told, what, spot),
-            (None, None) => self.tell_mismatch(told, expectation_words(what, None), ""),
+            (Some(trace), _) => self.write_expected_at(writer, what, trace.spot),
+            (None, Some(spot)) => self.write_expected_at(writer, what, spot),
+            (None, None) => self.write_mismatch(writer, expectation_words(what, None), ""),
         }
     }
 
     /// What was expected in place of a token, where the macros are written out if that is known.
-    fn tell_expected_at(&self, told: &mut Telling<'_>, what: Expectation, spot: Spot<'_>) {
+    fn write_expected_at(&self, writer: &mut MessageWriter<'_>, what: Expectation, spot: Spot<'_>) {
         let expected = expectation_words(what, Some(spot));
         if !self.has_ended {
-            self.tell_mismatch(told, expected, spot.hint(what));
+            self.write_mismatch(writer, expected, spot.hint(what));
             return;
         }
-        told.text("expected ");
-        told.text(expected);
-        told.text(if spot.token.is(Symbol::Comma) {
+        writer.text("expected ");
+        writer.text(expected);
+        writer.text(if spot.token.is(Symbol::Comma) {
             " behind this comma, found the end of the section"
         } else {
             ", found the end of the section"
         });
     }
 
-    fn tell_game(&self, told: &mut Telling<'_>, error: &GameError) {
+    fn write_game(&self, writer: &mut MessageWriter<'_>, error: &GameError) {
         match error {
-            GameError::UnknownName { .. } => self.tell_unknown(told),
-            GameError::SameName { .. } => self.tell_mismatch(told, "a new name", " again"),
-            GameError::Bound { .. } => self.tell_bound(told),
-            GameError::SwitchInPattern { .. } => self.tell_around(
-                told,
+            GameError::UnknownName { .. } => self.write_unknown(writer),
+            GameError::SameName { .. } => self.write_mismatch(writer, "a new name", " again"),
+            GameError::Bound { .. } => self.write_bound(writer),
+            GameError::SwitchInPattern { .. } => self.write_around(
+                writer,
                 "expected an action that may be in a pattern, found the switch ",
                 "",
             ),
-            GameError::PatternTooDeep { .. } => told.number(
+            GameError::PatternTooDeep { .. } => writer.number(
                 "more than ",
                 MAX_NESTED_PATTERNS,
                 " patterns are one inside the other",
             ),
             GameError::TooMany { what } => {
-                told.number("expected at most ", most_of(*what), " ");
-                told.text(what.name());
+                writer.number("expected at most ", most_of(*what), " ");
+                writer.text(what.name());
             }
-            GameError::Board { error } => self.tell_board(told, error),
-            GameError::Memory => told.text("out of memory"),
+            GameError::Board { error } => self.write_board(writer, error),
+            GameError::Memory => writer.text("out of memory"),
         }
     }
 
@@ -389,60 +395,64 @@ impl<'a, 'k> Message<'a, 'k> {
     }
 
     /// What was expected in place of a name, and of what kind the name is.
-    fn tell_unknown(&self, told: &mut Telling<'_>) {
-        told.text("expected ");
-        told.text(needed_words(self.needed()));
-        self.tell_parameter(told);
-        told.text(", found ");
+    fn write_unknown(&self, writer: &mut MessageWriter<'_>) {
+        writer.text("expected ");
+        writer.text(needed_words(self.needed()));
+        self.write_parameter(writer);
+        writer.text(", found ");
         if let Some(trace) = self.trace()
             && let Some(kind) = kind_of(trace.flat.tokens, trace.text())
         {
-            told.text("the ");
-            told.text(kind.words());
-            told.text(" ");
+            writer.text("the ");
+            writer.text(kind.words());
+            writer.text(" ");
         }
-        self.tell_found(told);
+        self.write_found(writer);
     }
 
     /// What is said of too great a number.
-    fn tell_bound(&self, told: &mut Telling<'_>) {
-        told.text("expected a bound of at most ");
-        told.shown(&MAX_BOUND);
-        told.text(", or in arithmetic a number of at most ");
-        told.shown(&i64::MAX);
-        self.tell_around(told, ", found ", "");
+    fn write_bound(&self, writer: &mut MessageWriter<'_>) {
+        writer.text("expected a bound of at most ");
+        writer.shown(&MAX_BOUND);
+        writer.text(", or in arithmetic a number of at most ");
+        writer.shown(&i64::MAX);
+        self.write_around(writer, ", found ", "");
     }
 
-    fn tell_board(&self, told: &mut Telling<'_>, error: &BoardError) {
+    fn write_board(&self, writer: &mut MessageWriter<'_>, error: &BoardError) {
         match error {
-            BoardError::SameDirection => self.tell_mismatch(told, "another direction", " again"),
-            BoardError::UnknownVertex => self.tell_mismatch(told, "the name of a vertex", ""),
-            BoardError::SameVertex => self.tell_mismatch(told, "a new name of a vertex", " again"),
-            BoardError::RowLength { row } => self.tell_row(told, *row),
+            BoardError::SameDirection => self.write_mismatch(writer, "another direction", " again"),
+            BoardError::UnknownVertex => self.write_mismatch(writer, "the name of a vertex", ""),
+            BoardError::SameVertex => self.write_mismatch(
+                writer,
+                "a new name of a vertex",
+                " again",
+            ),
+            BoardError::RowLength { row } => self.write_row(writer, *row),
             BoardError::TooManyVertices => {
-                told.number("expected at most ", MAX_VERTICES, " vertices");
+                writer.number("expected at most ", MAX_VERTICES, " vertices");
             }
             BoardError::NoCell => {
-                told.text("expected a cell, found a board or a row without one");
+                writer.text("expected a cell, found a board or a row without one");
             }
-            BoardError::Memory => told.text("out of memory"),
+            BoardError::Memory => writer.text("out of memory"),
         }
     }
 
     /// What is said of a row with a wrong length.
-    fn tell_row(&self, told: &mut Telling<'_>, row: usize) {
-        told.number("row ", row, ", counted from 0, has");
+    fn write_row(&self, writer: &mut MessageWriter<'_>, row: usize) {
+        writer.number("row ", row, ", counted from 0, has");
         match self.row_lengths(row) {
             Some((own, other, true)) => {
-                tell_cells(told, own);
-                told.number(", and row 0 has ", other, "");
+                write_cells(writer, own);
+                writer.number(", and row 0 has ", other, "");
             }
             Some((own, other, false)) => {
-                tell_cells(told, own);
-                told.number(", and the row before it ", other, "");
-                told.text(": the lengths of a hexagon's rows grow by one and then shrink by one");
+                write_cells(writer, own);
+                writer.number(", and the row before it ", other, "");
+                writer.text(": the lengths of a hexagon's rows grow by one and then shrink by one");
             }
-            None => told.text(" a length that doesn't fit"),
+            None => writer.text(" a length that doesn't fit"),
         }
     }
 
@@ -452,22 +462,22 @@ impl<'a, 'k> Message<'a, 'k> {
     }
 }
 
-/// Tells of so many cells.
-fn tell_cells(told: &mut Telling<'_>, count: usize) {
-    told.number(" ", count, if count == 1 { " cell" } else { " cells" });
+/// Writes how many cells there are.
+fn write_cells(writer: &mut MessageWriter<'_>, count: usize) {
+    writer.number(" ", count, if count == 1 { " cell" } else { " cells" });
 }
 
-/// Tells of so many arguments.
-fn tell_arguments(told: &mut Telling<'_>, before: &str, count: usize) {
-    told.number(before, count, " argument");
+/// Writes how many arguments there are.
+fn write_arguments(writer: &mut MessageWriter<'_>, before: &str, count: usize) {
+    writer.number(before, count, " argument");
     if count != 1 {
-        told.text("s");
+        writer.text("s");
     }
 }
 
-/// Tells the name of a section.
-fn tell_section(told: &mut Telling<'_>, before: &str, section: SectionKind) {
-    told.text(before);
-    told.text(section.name());
-    told.text("`");
+/// Writes the name of a section.
+fn write_section(writer: &mut MessageWriter<'_>, before: &str, section: SectionKind) {
+    writer.text(before);
+    writer.text(section.name());
+    writer.text("`");
 }

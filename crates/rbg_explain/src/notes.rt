@@ -3,13 +3,10 @@
 use crate::calls::relate_calls;
 use crate::message::{Known, Message};
 use crate::spot::{Spot, head_name};
-use rbg_diagnostics::{Diagnostic, Telling, line_and_column};
 use rbg_game::{GameError, LoadError};
-use rbg_lint::relate_bracket;
-use rbg_macro::MacroError;
-use rbg_suggest::{NameKind, kind_of};
+use rbg_lint::{Diagnostic, MessageWriter, NameKind, kind_of, line_and_column, relate_bracket};
+use rbg_macro::{MacroError, Symbol, Token};
 use rbg_syntax::{Expectation, SyntaxError};
-use rbg_tokens::{Symbol, Token};
 use std::alloc::{AllocError, Global};
 
 /// Adds to a fault which bracket isn't closed, where a name was given first, what a parameter hides, the macro in whose body the place is and where
@@ -23,10 +20,16 @@ pub(crate) fn relate_notes(
     if let Some(bracket) = unclosed_bracket(message) {
         relate_bracket(alloc, fault, message.text, bracket)?;
     } else if let Some(bracket) = list_start(message) {
-        relate_list(alloc, fault, message.text, bracket)?;
+        relate_place(alloc, fault, message.text, bracket, "the list begins at ")?;
     }
     if let Some(first) = first_of_name(message) {
-        relate_first(alloc, fault, message.text, first)?;
+        relate_place(
+            alloc,
+            fault,
+            message.text,
+            first,
+            "the name was given first at ",
+        )?;
     }
     if let Some(parameter) = message.parameter() {
         relate_hidden(alloc, fault, parameter, message)?;
@@ -59,10 +62,10 @@ fn unclosed_bracket(message: &Message<'_, '_>) -> Option<usize> {
     }
 }
 
-/// The offset of the bracket that isn't closed behind a call.
+/// The offset of the bracket that isn't closed after a call.
 fn open_call(spot: Spot<'_>) -> Option<usize> {
     if spot.is_open_call() {
-        Some(spot.bracket_behind()?.at)
+        Some(spot.bracket_after()?.at)
     } else {
         None
     }
@@ -90,35 +93,18 @@ fn first_of_name(message: &Message<'_, '_>) -> Option<usize> {
     Some(trace.flat.trace(found.at)?.origin.at)
 }
 
-/// Adds to a fault where the list begins in which it is.
-fn relate_list(
+/// Adds to a fault another place, with these words before its line and its column.
+fn relate_place(
     alloc: Global,
     fault: &mut Diagnostic,
     text: &[u8],
     at: usize,
+    before: &str,
 ) -> Result<(), AllocError> {
     let mut words = Vec::new(alloc);
-    let mut told = Telling::new(alloc, &mut words);
-    told.place("the list begins at ", line_and_column(text, at), "");
-    told.end()?;
-    fault.relate(at, 1, words)
-}
-
-/// Adds to a fault where its name was given first.
-fn relate_first(
-    alloc: Global,
-    fault: &mut Diagnostic,
-    text: &[u8],
-    at: usize,
-) -> Result<(), AllocError> {
-    let mut words = Vec::new(alloc);
-    let mut told = Telling::new(alloc, &mut words);
-    told.place(
-        "the name was given first at ",
-        line_and_column(text, at),
-        "",
-    );
-    told.end()?;
+    let mut writer = MessageWriter::new(alloc, &mut words);
+    writer.place(before, line_and_column(text, at), "");
+    writer.end()?;
     fault.relate(at, 1, words)
 }
 
@@ -134,11 +120,11 @@ fn relate_hidden(
         return Ok(());
     };
     let mut words = Vec::new(alloc);
-    let mut told = Telling::new(alloc, &mut words);
-    told.named("the parameter ", name, " hides the ");
-    told.text(kind.words());
-    told.text(" of its name");
-    told.end()?;
+    let mut writer = MessageWriter::new(alloc, &mut words);
+    writer.named("the parameter ", name, " hides the ");
+    writer.text(kind.words());
+    writer.text(" of its name");
+    writer.end()?;
     fault.relate(parameter.token.at, name.len(), words)
 }
 
@@ -155,14 +141,14 @@ fn relate_definition(
     message: &Message<'_, '_>,
 ) -> Result<(), AllocError> {
     let mut words = Vec::new(alloc);
-    let mut told = Telling::new(alloc, &mut words);
+    let mut writer = MessageWriter::new(alloc, &mut words);
     let (line, _) = line_and_column(message.text, head.at);
-    told.named("the macro ", head.text, "");
-    told.number(" is defined on line ", line, "");
+    writer.named("the macro ", head.text, "");
+    writer.number(" is defined on line ", line, "");
     if repeats(message) {
-        told.text(", and calls itself, or by way of other macros");
+        writer.text(", and calls itself, or by way of other macros");
     }
-    told.end()?;
+    writer.end()?;
     fault.relate(head.at, head.text.len(), words)
 }
 
@@ -186,9 +172,9 @@ fn relate_body(
     message: &Message<'_, '_>,
 ) -> Result<(), AllocError> {
     let mut words = Vec::new(alloc);
-    let mut told = Telling::new(alloc, &mut words);
-    told.named("in the body of the macro ", head.text, "");
-    told.end()?;
+    let mut writer = MessageWriter::new(alloc, &mut words);
+    writer.named("in the body of the macro ", head.text, "");
+    writer.end()?;
     fault.relate(head.at, head.text.len(), words)?;
     match message.call_of(head.text) {
         Some(call) => relate_call(alloc, fault, head, call, message),
@@ -205,12 +191,12 @@ fn relate_call(
     message: &Message<'_, '_>,
 ) -> Result<(), AllocError> {
     let mut words = Vec::new(alloc);
-    let mut told = Telling::new(alloc, &mut words);
-    told.place("called at ", line_and_column(message.text, call), "");
+    let mut writer = MessageWriter::new(alloc, &mut words);
+    writer.place("called at ", line_and_column(message.text, call), "");
     if is_same_name(message.error) {
-        told.named(": the macro stands in place of the name ", head.text, "");
+        writer.named(": the macro stands in place of the name ", head.text, "");
     }
-    told.end()?;
+    writer.end()?;
     fault.relate(call, head.text.len(), words)
 }
 

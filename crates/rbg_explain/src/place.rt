@@ -2,9 +2,8 @@
 
 use crate::spot::head_name;
 use rbg_game::{GameError, LoadError, Thing};
-use rbg_macro::{MacroError, SectionKind};
+use rbg_macro::{MacroError, SectionKind, TextError, Token};
 use rbg_syntax::SyntaxError;
-use rbg_tokens::{TextError, Token};
 
 /// The offset at which a refused text is shown: the place that the refusal names, or the name of the section that it
 /// is about.

@@ -1,11 +1,8 @@
 //! What stands around a token of a text.
 
-use crate::among::{before_first, from_last, index_of, is_at};
 use crate::brackets::{CallForm, call_form, open_bracket, parameter_count, stays_open};
-use rbg_tokens::{Symbol, Token, TokenKind};
-
-/// The names of the sections.
-const SECTIONS: [&str; 5] = ["players", "pieces", "variables", "board", "rules"];
+use rbg_lint::{before_first, from_last, index_of, is_at, is_section, rest_after_head};
+use rbg_macro::{Symbol, Token, TokenKind};
 
 /// A token of a text, and the text's tokens.
 #[derive(Clone, Copy)]
@@ -61,7 +58,7 @@ impl<'a> Spot<'a> {
     /// The last bracket that is open before this token, or at the end of the section that begins here.
     pub fn open_bracket(&self) -> Option<Token<'a>> {
         if self.token.is(Symbol::Hash) {
-            open_bracket(self.behind())
+            open_bracket(self.after())
         } else {
             open_bracket(self.definition())
         }
@@ -70,7 +67,7 @@ impl<'a> Spot<'a> {
     /// Whether the bracket that this token opens isn't closed before another one is, or the definition ends.
     pub fn is_unclosed(&self) -> bool {
         let mut further = 0usize;
-        for token in self.behind() {
+        for token in self.after() {
             if token.kind.opens() {
                 further = further.saturating_add(1);
             } else if token.kind.closes() {
@@ -83,9 +80,9 @@ impl<'a> Spot<'a> {
         true
     }
 
-    /// The last bracket that is open at the end of the definition, of those behind this token.
-    pub fn bracket_behind(&self) -> Option<Token<'a>> {
-        open_bracket(self.behind())
+    /// The last bracket that is open at the end of the definition, of those after this token.
+    pub fn bracket_after(&self) -> Option<Token<'a>> {
+        open_bracket(self.after())
     }
 
     /// The first token before this one that has its text, in the same section or else in the whole text.
@@ -99,7 +96,7 @@ impl<'a> Spot<'a> {
     /// The name in the head of the definition in which the token stands, or that begins here.
     pub fn head(&self) -> Option<Token<'a>> {
         if self.token.is(Symbol::Hash) {
-            self.behind().first().copied()
+            self.after().first().copied()
         } else {
             self.definition().get(1).copied()
         }
@@ -138,16 +135,16 @@ impl<'a> Spot<'a> {
         from_last(self.before, Symbol::Hash)
     }
 
-    /// The tokens behind this one in the same definition, or those of the definition that begins here.
-    pub fn behind(&self) -> &'a [Token<'a>] {
+    /// The tokens after this one in the same definition, or those of the definition that begins here.
+    pub fn after(&self) -> &'a [Token<'a>] {
         let first = self.before.len().saturating_add(1);
         let rest = self.tokens.get(first..).unwrap_or(&[]);
         before_first(rest, Symbol::Hash)
     }
 
-    /// What the tokens behind this one are to a call of the macro of its name.
+    /// What the tokens after this one are to a call of the macro of its name.
     pub fn call_form(&self) -> CallForm {
-        call_form(self.behind())
+        call_form(self.after())
     }
 
     /// Whether the arguments of the call don't end.
@@ -157,7 +154,7 @@ impl<'a> Spot<'a> {
 
     /// How many parameters the macro of the token's name has.
     pub fn parameters(&self) -> Option<usize> {
-        Some(parameter_count(behind_head(self.tokens, self.token.text)?))
+        Some(parameter_count(rest_after_head(self.tokens, self.token.text)?))
     }
 
     /// What is said of a comma between rows or vertices of a board.
@@ -256,7 +253,7 @@ impl<'a> Spot<'a> {
         &[]
     }
 
-    /// Whether the bracket at an index is no `(`, or one behind the name of a macro with parameters.
+    /// Whether the bracket at an index is no `(`, or one after the name of a macro with parameters.
     fn is_sought(&self, tokens: &[Token<'a>], index: usize) -> bool {
         if !is_at(tokens, index, Symbol::OpenParenthesis) {
             return true;
@@ -297,33 +294,10 @@ fn first_with<'a>(tokens: &'a [Token<'a>], text: &[u8]) -> Option<Token<'a>> {
 
 /// Whether a macro with parameters has this name.
 fn has_parameters(tokens: &[Token<'_>], name: &[u8]) -> bool {
-    match behind_head(tokens, name) {
+    match rest_after_head(tokens, name) {
         Some([bracket, ..]) => bracket.is(Symbol::OpenParenthesis),
         _ => false,
     }
-}
-
-/// The tokens behind the name in the first head of a definition that has this name.
-pub fn behind_head<'a>(tokens: &'a [Token<'a>], name: &[u8]) -> Option<&'a [Token<'a>]> {
-    for index in 0..tokens.len() {
-        if let Some([hash, head, behind @ ..]) = tokens.get(index..)
-            && hash.is(Symbol::Hash)
-            && head.text == name
-        {
-            return Some(behind);
-        }
-    }
-    None
-}
-
-/// Whether a name is that of a section.
-pub fn is_section(name: &[u8]) -> bool {
-    for section in SECTIONS {
-        if section.as_bytes() == name {
-            return true;
-        }
-    }
-    false
 }
 
 /// The name in the head of the definition with this name, counted from 0 among those of one name.

@@ -1,11 +1,10 @@
 //! Faults of a description whose macros are written out, where each token has the call that it came from.
 
 use crate::exact::find_place;
-use crate::sections::cut;
 use crate::spot::Spot;
 use rbg_game::{LoadError, load_with_layout};
-use rbg_origins::{Origin, Unrolled};
-use rbg_tokens::{Symbol, Token, Tokens};
+use rbg_lint::{TokenOrigin, Unrolled, cut};
+use rbg_macro::{Symbol, Token, Tokens};
 use std::alloc::{AllocError, Global};
 
 /// A description whose macros are written out, with its tokens.
@@ -21,7 +20,7 @@ pub(crate) struct Trace<'a> {
     pub flat: Flat<'a>,
     /// The token among those of the description.
     pub spot: Spot<'a>,
-    pub origin: Origin,
+    pub origin: TokenOrigin,
 }
 
 /// Why a part of a description is refused, and the offset of the fault there.

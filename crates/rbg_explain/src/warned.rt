@@ -1,21 +1,17 @@
 //! What an author is warned of, in words.
 
-use crate::among::index_of;
 use crate::boards::nth_direction;
 use crate::calls::calls_of;
 use crate::doubted::push_doubts;
-use crate::sections::{cut, expanded, nth_name, section_tokens};
-use crate::spot::is_section;
 use rbg_base::Position;
-use rbg_diagnostics::{Diagnostic, Severity, Telling};
 use rbg_game::Game;
-use rbg_lint::{Look, push_warnings};
-use rbg_macro::{SectionKind, Source};
-use rbg_origins::unroll;
-use rbg_passages::actions;
+use rbg_lint::{
+    Diagnostic, Look, MessageWriter, Severity, cut, expanded, index_of, is_section, nth_name,
+    push_warnings, section_tokens, unroll,
+};
+use rbg_macro::{SectionKind, Source, Symbol, Token, Tokens};
 use rbg_rules::Action;
-use rbg_tokens::{Symbol, Token, Tokens};
-use rbg_warnings::{Thing, Warning, warnings};
+use rbg_warnings::{NamedThing, Warning, actions, warnings};
 use std::alloc::{AllocError, Global};
 
 /// The warnings of the game that a text with these tokens describes.
@@ -62,11 +58,11 @@ fn push_warning(
     token: Token<'_>,
     words: [&str; 2],
 ) -> Result<(), AllocError> {
-    let [before, behind] = words;
+    let [before, after] = words;
     let mut warning = warning_at(alloc, code, token);
-    let mut told = Telling::new(alloc, &mut warning.message);
-    told.named(before, token.text, behind);
-    told.end()?;
+    let mut writer = MessageWriter::new(alloc, &mut warning.message);
+    writer.named(before, token.text, after);
+    writer.end()?;
     push_new(found, warning)
 }
 
@@ -167,15 +163,15 @@ fn push_too_great(
         return Ok(());
     };
     let mut warning = warning_at(alloc, "AboveBound", token);
-    let mut told = Telling::new(alloc, &mut warning.message);
-    told.text("the number is above ");
-    told.shown(&bound);
-    told.named(
+    let mut writer = MessageWriter::new(alloc, &mut warning.message);
+    writer.text("the number is above ");
+    writer.shown(&bound);
+    writer.named(
         ", the bound of ",
         token.text,
         ", so this assignment is never valid",
     );
-    told.end()?;
+    writer.end()?;
     push_new(found, warning)
 }
 
@@ -185,7 +181,7 @@ fn push_unused(
     found: &mut Vec<Diagnostic>,
     source: &Source<'_>,
     players: usize,
-    thing: Thing,
+    thing: NamedThing,
 ) -> Result<(), AllocError> {
     let tokens = section_tokens(alloc, source, section_of(thing))?;
     match named_token(&tokens, players, thing) {
@@ -195,41 +191,45 @@ fn push_unused(
 }
 
 /// The section that lists a thing.
-fn section_of(thing: Thing) -> SectionKind {
+fn section_of(thing: NamedThing) -> SectionKind {
     match thing {
-        Thing::Player { .. } => SectionKind::Players,
-        Thing::Piece { .. } => SectionKind::Pieces,
-        Thing::Variable { .. } => SectionKind::Variables,
-        Thing::Direction { .. } => SectionKind::Board,
+        NamedThing::Player { .. } => SectionKind::Players,
+        NamedThing::Piece { .. } => SectionKind::Pieces,
+        NamedThing::Variable { .. } => SectionKind::Variables,
+        NamedThing::Direction { .. } => SectionKind::Board,
     }
 }
 
 /// The name of a thing among the tokens of its section. The first variables are so many players.
-fn named_token<'a>(tokens: &'a [Token<'a>], players: usize, thing: Thing) -> Option<Token<'a>> {
+fn named_token<'a>(
+    tokens: &'a [Token<'a>],
+    players: usize,
+    thing: NamedThing,
+) -> Option<Token<'a>> {
     match thing {
-        Thing::Player { player } => nth_name(tokens, (player as usize).saturating_sub(1)),
-        Thing::Piece { piece } => nth_name(tokens, piece as usize),
-        Thing::Variable { variable } => {
+        NamedThing::Player { player } => nth_name(tokens, (player as usize).saturating_sub(1)),
+        NamedThing::Piece { piece } => nth_name(tokens, piece as usize),
+        NamedThing::Variable { variable } => {
             nth_name(tokens, (variable as usize).saturating_sub(players))
         }
-        Thing::Direction { direction } => nth_direction(tokens, direction as usize),
+        NamedThing::Direction { direction } => nth_direction(tokens, direction as usize),
     }
 }
 
-/// What is said of a thing, before its name and behind it.
-fn unused_words(thing: Thing) -> [&'static str; 2] {
+/// What is said of a thing, before its name and after it.
+fn unused_words(thing: NamedThing) -> [&'static str; 2] {
     match thing {
-        Thing::Player { .. } => ["no switch gives the turn to the player ", ""],
-        Thing::Piece { .. } => [
+        NamedThing::Player { .. } => ["no switch gives the turn to the player ", ""],
+        NamedThing::Piece { .. } => [
             "no vertex has the piece ",
             " at the beginning, and no off puts it",
         ],
-        Thing::Variable { .. } => ["the rules never name the variable ", ""],
-        Thing::Direction { .. } => ["the rules never write the direction ", ""],
+        NamedThing::Variable { .. } => ["the rules never name the variable ", ""],
+        NamedThing::Direction { .. } => ["the rules never write the direction ", ""],
     }
 }
 
-/// Adds each macro that is never called. Where a text joins tokens any name may be made, so none is told.
+/// Adds each macro that is never called. Where a text joins tokens any name may be made, so none is reported.
 fn push_uncalled(
     alloc: Global,
     tokens: &[Token<'_>],

@@ -3,10 +3,10 @@
 use crate::spot::{Needed, Spot};
 use rbg_game::Thing;
 use rbg_game::limits::{MAX_DIRECTIONS, MAX_PIECES, MAX_PLAYERS, MAX_POSITIONS, MAX_VARIABLES};
+use rbg_macro::{Symbol, Token};
 use rbg_syntax::Expectation;
-use rbg_tokens::{Symbol, Token};
 
-/// What fits behind the first tokens of a definition's head.
+/// What fits after the first tokens of a definition's head.
 pub(crate) fn head_words(head: &[Token<'_>]) -> &'static str {
     match head {
         [] => "`#`",

@@ -5,7 +5,7 @@ use Rattle.rbg_rules.specs.Meaning.{AbstractAction, shift, on, off, assignment, 
 use Rattle.rbg_rules.proofs.RunLemmas.{Runs_join}
 use Rattle.rbg_rules.proofs.PositionLemmas.{one_stands}
 use Rattle.rbg_rules.proofs.LocalityLemmas.{locality_law}
-use Rattle.rbg_leaps.specs.Leaps.{IsShiftAt, Leads, stay, go, IsLeap, EndsAcross}
+use Rattle.rbg_shifts.specs.Leaps.{IsShiftAt, Leads, stay, go, IsLeap, EndsAcross}
 use Rattle.rbg_flat.proofs.Common.{IsCandidate, MayEnd, at_vertex, Holds, IsMet, first, then, EndsMet, ChainLaw}
 
 -- An action that is applied and is no modifier is a shift, or it is none and leaves all as it is.

@@ -3,6 +3,7 @@ pub use Rattle.rbg_flat.specs.Candidates.{IsCandidate, MayEnd}
 pub use Rattle.rbg_flat.specs.Chains.{ChainLaw, EndsMet, Holds, IsMet, at_vertex, first, then}
 pub use Rattle.rbg_flat.specs.Ending.{IsDeadEnd}
 pub use Rattle.rbg_flat.specs.Found.{AreFound, HasCandidates, IsFound, most_candidates}
+pub use Rattle.rbg_flat.specs.Met.{CountsMet}
 pub use Rattle.rbg_flat.specs.Order.{IsBefore, IsLeast}
 pub use Rattle.rbg_flat.specs.Paths.{AreFacts, AreShown, IsComparisonAt, IsKind, IsStill, IsSureAt}
 pub use Rattle.rbg_flat.specs.declared.found.Word.{Word}
@@ -12,6 +13,7 @@ pub use Rattle.rbg_flat.specs.declared.paths.Kind.TheVariants.{Comparison, On, O
 pub use Rattle.rbg_flat.specs.internal.Begun.{IsBegun, Pairs}
 pub use Rattle.rbg_flat.specs.internal.Bits.{IsFilled, first_at, first_of, next, pairs_in, with_first}
 unfoldable pub use Rattle.rbg_flat.specs.internal.Bits.{bits, pairs_of}
+pub use Rattle.rbg_flat.specs.internal.Counted.{Counted}
 pub use Rattle.rbg_flat.specs.internal.Ending.{AreDead, IsDead, IsDeadTarget, IsFilledTarget}
 pub use Rattle.rbg_flat.specs.internal.Gathering.{Gathered, Gathers, IsBitOf, IsGone, IsKept, Keeps, Lists, PushesWord, at_position}
 pub use Rattle.rbg_flat.specs.internal.Leading.{AreOn, AreSizedFor, EndsFrom, EndsPast, IsAmong, IsAmongBits, IsOnBoard, IsPositionIn, IsTargetFor, LeadsFrom, LeadsPast, LearnsEnd}

@@ -3,8 +3,8 @@ use Rattle.rbg_base.proofs.Common.{rules, ◌≡◌, ◌≢◌, ℕ, ◌+◌, �
 use Rattle.std.proofs.Math.Nat.{le-mul_of_pos_right}
 use Rattle.std.proofs.lemmas.List.Quantifiers.{all_pairs_push}
 use Rattle.rbg_rules.specs.Meaning.{IsGame, IsModifierAt, positions_of, AbstractGame, AbstractState, IsStateOf, Start}
-use Rattle.rbg_leaps.proofs.Common.{AreTargetsFrom, IsLeap, EndsAcross}
-use Rattle.rbg_leaps.specs.declared.target.Target.{Target}
+use Rattle.rbg_shifts.proofs.Common.{AreTargetsFrom, IsLeap, EndsAcross}
+use Rattle.rbg_shifts.specs.declared.target.Target.{Target}
 use Rattle.rbg_flat.proofs.Common.{IsCandidate, at_vertex, Holds, IsMet, first, then, EndsMet, IsDeadEnd, AreDead, IsDead, IsDeadTarget, IsFilledTarget, IsAmong, IsToTry, IsInWord}
 use Rattle.rbg_flat.proofs.ChainLemmas.{candidate_of, met_of, met_end_of, end_of}
 use Rattle.rbg_flat.proofs.Leadings.{one_more, among_apart, among_first, among_second, none_among}

@@ -1,15 +1,13 @@
 -- What is found in the end.
 use Rattle.rbg_base.proofs.Common.{◌≡◌, ℕ, ◌+◌, ◌*◌, ◌/◌, ◌^◌, ◌<◌, ◌≤◌, ◌⊎◌, inl, inr, List, [], ◌++◌, Bool, true, false, length, get_or, refl, sym, ap, subst, ◌∙◌, arith, All, IsTrue, ◌↔◌, mul-le, div-mul-add, Contains-get_or, ℕ_discrete}
-use Rattle.std.proofs.lemmas.List.{length-append, length-map}
 use Rattle.rbg_rules.specs.Meaning.{AbstractAction, shift, on, off, assignment, comparison, switch, positive, negative, IsGame, HasAction, IsModifierAt, IsNumbered, is_modifier, positions_of, AbstractGame, AbstractState, Acts, Applies, Start}
 use Rattle.rbg_rules.proofs.PositionLemmas.{one_stands}
 use Rattle.rbg_state.proofs.Trying.{same_value}
-use Rattle.rbg_flat.proofs.Common.{IsFound, AreFound, HasCandidates, most_candidates, IsBegun, Lists, at_position, Gathers, Keeps, IsGone, IsKept, Gathered, AreOn, SetsOfVertices, IsMarked, IsOpen, ForgetsPlace, IsMetAt}
+use Rattle.rbg_flat.proofs.Common.{IsFound, AreFound, HasCandidates, most_candidates, IsBegun, Lists, at_position, Gathers, Keeps, IsGone, IsKept, Gathered, Counted, CountsMet, AreOn, SetsOfVertices, IsMarked, IsOpen, ForgetsPlace, IsMetAt}
+use Rattle.rbg_flat.proofs.Countings.{InRow, row_listed, row_apart, row_cases, row_earlier, row_here, counted_more, counted_all, counted_both, few_on}
 use Rattle.rbg_flat.proofs.ChainLemmas.{candidate_of, met_of}
-use Rattle.rbg_flat.proofs.Numberings.{HasNumber, few_pairs}
 use Rattle.rbg_flat.proofs.Lists.{lists_none, lists_same, lists_join, lists_map}
 use Rattle.rbg_flat.proofs.Steps.{all_marked}
-use Rattle.rbg_flat.proofs.Takings.{bit_decided}
 
 false_not_true : false ≡ true → ⊥
 false_not_true e = cc
@@ -32,22 +30,34 @@ module _ (game : AbstractGame) (numbered : IsNumbered game.rules) (s : AbstractS
       let same : modifies.action ≡ applies.action = one_stands game.rules numbered p modifies.action applies.action modifies.stands applies.stands in
       by_action applies.action applies.stands (sym (ap is_modifier same) ∙ modifies.modifies) applies.acts
 
+-- What was gathered was counted.
+pub counted_of : (game : AbstractGame) (s : AbstractState) (first now : SetsOfVertices) (found : List (ℕ × ℕ)) (count : ℕ) → Gathered game s first now found count → Counted first now count
+counted_of game s first now found count gathered = record { under = gathered.under; pairs = gathered.pairs; lists = gathered.lists; count_is = gathered.count_is }
+
+-- What was gathered, and what was met beside it, is all.
+pub rest_counted : (game : AbstractGame) (s : AbstractState) (first now : SetsOfVertices) (found : List (ℕ × ℕ)) (count rest : ℕ) → Gathered game s first now found count → CountsMet (IsMarked now) rest → CountsMet (IsMarked first) (count + rest)
+rest_counted game s first now found count rest gathered met = counted_both first now count rest (counted_of game s first now found count gathered) met
+
+-- Where nothing is open, what was met are the candidates.
+pub all_candidates : (game : AbstractGame) → IsGame game → (s : AbstractState) (first : SetsOfVertices) (f : Start) (ends : Bool) → IsBegun game s f (IsMarked first) (IsOpen first) ends → ((v p : ℕ) → ¬ IsOpen first v p) → (many : ℕ) → CountsMet (IsMarked first) many → HasCandidates game s f many
+all_candidates game lawful s first f ends is done many met = record {
+  pairs = met.pairs;
+  all = λ v p. (
+    λ there. candidate_of game lawful.numbered s f v p (is.sound v p ((met.all (v, p)).0 there)),
+    λ here. (met.all (v, p)).1 (all_marked game s f (IsMarked first) (IsOpen first) ends is done v p (met_of game lawful.numbered s f v p here)),
+  );
+  different = met.different;
+  count = met.count;
+}
+
 module _ (game : AbstractGame) (lawful : IsGame game) (s : AbstractState) (first : SetsOfVertices) (on_board : AreOn game first) where
   abbrev vertices : ℕ
   vertices = length game.board.first
 
   -- No more pairs than positions and vertices.
   module _ (now : SetsOfVertices) (pairs : List (ℕ × ℕ)) (lists : Lists (IsGone first now) pairs) where
-    within : All (HasNumber vertices (most_candidates game + vertices)) pairs
-    within i d below =
-        let q : ℕ × ℕ = get_or pairs i d in
-        let one = ((lists.all q).0 (Contains-get_or pairs i d below)).marked in
-        let vertex = on_board.vertex q.0 q.1 one in
-        let most : q.1 * vertices ≤ length (positions_of game.rules) * vertices = mul-le q.1 vertices (length (positions_of game.rules)) vertices (on_board.there q.0 q.1 one) (omega arith) in
-        record { vertex = vertex; from_one = on_board.from_one q.0 q.1 one; below = omega (arith, vertex, most) }
-
     pub few_gone : length pairs ≤ most_candidates game
-    few_gone = let few = few_pairs vertices (most_candidates game + vertices) pairs lists.different within in omega (arith, few)
+    few_gone = few_on game first on_board pairs lists.different (λ q there. ((lists.all q).0 there).marked)
 
   -- At first nothing is gathered.
   pub gathered_none : Gathered game s first first [] 0
@@ -68,57 +78,41 @@ module _ (game : AbstractGame) (lawful : IsGame game) (s : AbstractState) (first
       (forgets : ForgetsPlace now new place)
       (told : 0 < p → IsTrue keeps ↔ Keeps game s p)
     where
-      abbrev InRow : ℕ × ℕ → Type 0
-      InRow q = (q.1 ≡ p) × IsMetAt now place p q.0
+      so_counted : Counted first now count
+      so_counted = counted_of game s first now found count so_far
 
-      in_row : Lists InRow (at_position p row.vertices)
-      in_row = lists_map (λ (v : ℕ). (v, p)) (λ a b same. ap (λ (q : ℕ × ℕ). q.0) same) (IsMetAt now place p) InRow row.vertices row.lists
-          (λ q is. (q.0, is.1, λ i. (q.0, sym is.0 i)))
-          (λ v is. (refl, is))
+      in_row : Lists (InRow now place p) (at_position p row.vertices)
+      in_row = row_listed first now new place p parts so_far.under forgets row.vertices row.lists
 
-      apart : (q : ℕ × ℕ) → IsGone first now q → InRow q → ⊥
-      apart q gone is = gone.forgotten (subst (λ (k : ℕ). IsMarked now q.0 k) (sym is.0) is.1.marked)
+      apart : (q : ℕ × ℕ) → IsGone first now q → InRow now place p q → ⊥
+      apart = row_apart first now new place p parts so_far.under forgets
 
-      same_position : (q : ℕ × ℕ) → IsMarked now q.0 q.1 → q.1 * now.columns + q.0 / 64 ≡ place → q.1 ≡ p
-      same_position q was same = sym (div-mul-add q.1 now.columns (q.0 / 64) was.column) ∙ ap (λ (k : ℕ). k / now.columns) same ∙ sym parts
-
-      cases : (q : ℕ × ℕ) → IsGone first new q → IsGone first now q ⊎ InRow q
-      cases q gone = elim (bit_decided now.columns now.marks q.0 q.1) [
-        | inr never ↦ inl (record { marked = gone.marked; forgotten = never })
-        | inl was ↦ elim (ℕ_discrete (q.1 * now.columns + q.0 / 64) place) [
-          | yes same ↦
-              let at = same_position q was same in
-              inr (at, record { at = ap (λ (k : ℕ). k * now.columns + q.0 / 64) (sym at) ∙ same; marked = subst (λ (k : ℕ). IsMarked now q.0 k) at was })
-          | no other ↦ absurd (gone.forgotten (forgets.still q.0 q.1 other was))
-        ]
-      ]
+      cases : (q : ℕ × ℕ) → IsGone first new q → IsGone first now q ⊎ InRow now place p q
+      cases = row_cases first now new place p parts so_far.under forgets
 
       earlier : (q : ℕ × ℕ) → IsGone first now q → IsGone first new q
-      earlier q gone = record { marked = gone.marked; forgotten = λ is. gone.forgotten (forgets.only q.0 q.1 is) }
+      earlier = row_earlier first now new place p parts so_far.under forgets
 
-      here : (q : ℕ × ℕ) → InRow q → IsGone first new q
-      here q is = record {
-        marked = so_far.under q.0 q.1 (subst (λ (k : ℕ). IsMarked now q.0 k) (sym is.0) is.1.marked);
-        forgotten = λ still. forgets.gone q.0 p is.1.at (subst (λ (k : ℕ). IsMarked new q.0 k) is.0 still);
-      }
+      here : (q : ℕ × ℕ) → InRow now place p q → IsGone first new q
+      here = row_here first now new place p parts so_far.under forgets
 
-      some_position : (q : ℕ × ℕ) → InRow q → 0 < p
+      some_position : (q : ℕ × ℕ) → InRow now place p q → 0 < p
       some_position q is = on_board.from_one q.0 p (so_far.under q.0 p is.1.marked)
 
       with_row : keeps ≡ true → Lists (IsKept game s first new) found'
       with_row keep =
           subst (λ (xs : List (ℕ × ℕ)). Lists (IsKept game s first new) xs) (sym (row.kept keep))
-          (lists_join (IsKept game s first now) InRow (IsKept game s first new) found (at_position p row.vertices) so_far.kept in_row
+          (lists_join (IsKept game s first now) (InRow now place p) (IsKept game s first new) found (at_position p row.vertices) so_far.kept in_row
           (λ q kept is. apart q kept.gone is) kept_cases (λ q kept. record { gone = earlier q kept.gone; keeps = kept.keeps }) kept_here)
         where
-          kept_case : (q : ℕ × ℕ) → IsKept game s first new q → IsGone first now q ⊎ InRow q → IsKept game s first now q ⊎ InRow q
+          kept_case : (q : ℕ × ℕ) → IsKept game s first new q → IsGone first now q ⊎ InRow now place p q → IsKept game s first now q ⊎ InRow now place p q
           kept_case q kept (inl gone) = inl (record { gone = gone; keeps = kept.keeps })
           kept_case q kept (inr is) = inr is
 
-          kept_cases : (q : ℕ × ℕ) → IsKept game s first new q → IsKept game s first now q ⊎ InRow q
+          kept_cases : (q : ℕ × ℕ) → IsKept game s first new q → IsKept game s first now q ⊎ InRow now place p q
           kept_cases q kept = kept_case q kept (cases q kept.gone)
 
-          kept_here : (q : ℕ × ℕ) → InRow q → IsKept game s first new q
+          kept_here : (q : ℕ × ℕ) → InRow now place p q → IsKept game s first new q
           kept_here q is = record { gone = here q is; keeps = subst (λ (k : ℕ). Keeps game s k) (sym is.0) ((told (some_position q is)).0 keep) }
 
       without_row : keeps ≡ false → Lists (IsKept game s first new) found'
@@ -126,7 +120,7 @@ module _ (game : AbstractGame) (lawful : IsGame game) (s : AbstractState) (first
           subst (λ (xs : List (ℕ × ℕ)). Lists (IsKept game s first new) xs) (sym (row.left leave))
           (lists_same (IsKept game s first now) (IsKept game s first new) found so_far.kept (λ q kept. record { gone = earlier q kept.gone; keeps = kept.keeps }) kept_before)
         where
-          kept_case : (q : ℕ × ℕ) → IsKept game s first new q → IsGone first now q ⊎ InRow q → IsKept game s first now q
+          kept_case : (q : ℕ × ℕ) → IsKept game s first new q → IsGone first now q ⊎ InRow now place p q → IsKept game s first now q
           kept_case q kept (inl gone) = record { gone = gone; keeps = kept.keeps }
           kept_case q kept (inr is) = absurd (false_not_true (sym leave ∙ (told (some_position q is)).1 (subst (λ (k : ℕ). Keeps game s k) is.0 kept.keeps)))
 
@@ -138,19 +132,9 @@ module _ (game : AbstractGame) (lawful : IsGame game) (s : AbstractState) (first
       kept_then false is = without_row is
 
       pub gathered_more : Gathered game s first new found' (count + many)
-      gathered_more = record {
-        under = λ v r is. so_far.under v r (forgets.only v r is);
-        pairs = so_far.pairs ++ at_position p row.vertices;
-        lists = lists_join (IsGone first now) InRow (IsGone first new) so_far.pairs (at_position p row.vertices) so_far.lists in_row apart cases earlier here;
-        count_is =
-            let one = so_far.count_is in
-            let other = row.count in
-            let long = length-append so_far.pairs (at_position p row.vertices) in
-            let pair : ℕ → ℕ × ℕ = λ v. (v, p) in
-            let same : length (at_position p row.vertices) ≡ length row.vertices = length-map row.vertices pair in
-            omega (arith, one, other, long, same);
-        kept = kept_then keeps refl;
-      }
+      gathered_more =
+          let more = counted_more first now new place p count many parts so_counted row.vertices row.lists row.count forgets in
+          record { under = more.under; pairs = more.pairs; lists = more.lists; count_is = more.count_is; kept = kept_then keeps refl }
 
   -- The sum is a number of 64 bits.
   pub count_fits : (now : SetsOfVertices) (found : List (ℕ × ℕ)) (count many : ℕ) → Gathered game s first now found count → many ≤ 64 → count + many < 2 ^ 64
@@ -192,18 +176,7 @@ module _ (game : AbstractGame) (lawful : IsGame game) (s : AbstractState) (first
           }
 
       pub has_candidates : HasCandidates game s f count
-      has_candidates = record {
-        pairs = gathered.pairs;
-        all = λ v p. (
-          λ there. candidate_of game lawful.numbered s f v p (is.sound v p ((gathered.lists.all (v, p)).0 there).marked),
-          λ here. (gathered.lists.all (v, p)).1 (record {
-            marked = all_marked game s f (IsMarked first) (IsOpen first) ends is done v p (met_of game lawful.numbered s f v p here);
-            forgotten = none v p;
-          }),
-        );
-        different = gathered.lists.different;
-        count = sym gathered.count_is;
-      }
+      has_candidates = all_candidates game lawful s first f ends is done count (counted_all first now count none (counted_of game s first now found count gathered))
 
   pub few_gathered : (now : SetsOfVertices) (found : List (ℕ × ℕ)) (count : ℕ) → Gathered game s first now found count → count ≤ most_candidates game
   few_gathered now found count gathered =

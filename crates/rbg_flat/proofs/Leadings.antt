@@ -1,6 +1,6 @@
 -- Targets of leaps, one after another.
 use Rattle.rbg_base.proofs.Common.{◌≡◌, ℕ, ◌+◌, ◌<◌, ◌⊎◌, inl, inr, List, [], ◌∷◌, ◌++◌, length, get_or, take, sym, subst, arith, Contains, take_more, Contains-push, Contains-push_cases, Contains-append_left}
-use Rattle.rbg_leaps.specs.declared.target.Target.{Target}
+use Rattle.rbg_shifts.specs.declared.target.Target.{Target}
 use Rattle.rbg_flat.proofs.Common.{SetsOfVertices, IsInWord, Meets, IsAmong}
 use Rattle.rbg_flat.proofs.Meetings.{meets_both}
 

@@ -2,10 +2,10 @@
 use Rattle.rbg_base.proofs.Common.{◌≡◌, ℕ, ◌<◌, ◌≤◌, ◌⊎◌, inl, inr, List, [], ◌∷◌, ◌++◌, length, get_or, sym, subst, ◌∙◌, Contains, All, Contains-get_or}
 use Rattle.rbg_rules.specs.Meaning.{IsNumbered, positions_of, AbstractGame, Start, after, Follows, IsGame}
 use Rattle.rbg_rules.proofs.LocalityLemmas.{locality_law}
-use Rattle.rbg_leaps.specs.declared.target.Target.{Target}
-use Rattle.rbg_leaps.proofs.Common.{AreTargetsFrom, IsLeap, Leads, stay, go, row_words}
+use Rattle.rbg_shifts.specs.declared.target.Target.{Target}
+use Rattle.rbg_shifts.proofs.Common.{AreTargetsFrom, IsLeap, Leads, stay, go, row_words}
 use Rattle.rbg_board.specs.Graph.{IsClosed}
-use Rattle.rbg_leaps.proofs.ShiftLemmas.{follower_stands, action_within}
+use Rattle.rbg_shifts.proofs.ShiftLemmas.{follower_stands, action_within}
 use Rattle.rbg_flat.proofs.Common.{SetsOfVertices, HasBitAt, IsMarked, IsOpen, Meets, ClosesWord, IsAmong, IsTargetFor, IsPositionIn, AreOn, AreSizedFor}
 
 -- What follows stands in the rules.

@@ -24,6 +24,7 @@ pub mod FirstSwitches
 pub mod Having
 pub mod Gatherings
 pub mod Numberings
+pub mod Countings
 pub mod Finishings
 pub mod Stills
 mod Endings

@@ -4,7 +4,7 @@ use Rattle.rbg_rules.specs.Meaning.{AbstractAction, shift, on, off, comparison, 
 use Rattle.rbg_rules.specs.declared.rule.Action.{Action}
 use Rattle.rbg_rules.specs.declared.rule.Action.TheVariants.{Shift, On, Off, Assign, Compare, Switch, Positive, Negative}
 use Rattle.rbg_rules.proofs.PositionLemmas.{one_stands}
-use Rattle.rbg_leaps.proofs.ShiftLemmas.{action_within}
+use Rattle.rbg_shifts.proofs.ShiftLemmas.{action_within}
 use Rattle.rbg_flat.proofs.Common.{Facts, Kind, AreShown, IsKind, IsComparisonAt, IsSureAt, Keeps, ShowsFacts, HasNoPieces, HasPieces}
 use Rattle.rbg_flat.specs.declared.paths.Kind.TheVariants.{OnEither, Modifier, Pattern, On as OnOne, Comparison, Plain}
 

@@ -6,7 +6,7 @@ use Rattle.rbg_state.proofs.Trying.{same_value}
 use Rattle.rbg_rules.proofs.MoveLemmas.{applied_acts}
 use Rattle.rbg_rules.proofs.PositionLemmas.{one_stands}
 use Rattle.rbg_flat.specs.internal.Passing.{Passes, IsOneOf}
-use Rattle.rbg_leaps.proofs.Bits.{either_bit, first_bit, second_bit}
+use Rattle.rbg_shifts.proofs.Bits.{either_bit, first_bit, second_bit}
 
 -- One bit less is left: of its vertex it is told now.
 module _

@@ -3,8 +3,8 @@ use Rattle.rbg_base.proofs.Common.{◌≡◌, ℕ, ◌||◌, ◌+◌, ◌/◌, �
 use Rattle.rbg_rules.specs.Meaning.{IsGame, IsNumbered, positions_of, AbstractGame, after, Follows, Ends}
 use Rattle.rbg_rules.proofs.LocalityLemmas.{locality_law}
 use Rattle.rbg_auto.specs.Steps.{AreNext}
-use Rattle.rbg_leaps.specs.declared.target.Target.{Target}
-use Rattle.rbg_leaps.proofs.Common.{AreTargetsFrom, IsShiftAt, IsLeap, EndsAcross, Leads, stay, go}
+use Rattle.rbg_shifts.specs.declared.target.Target.{Target}
+use Rattle.rbg_shifts.proofs.Common.{AreTargetsFrom, IsShiftAt, IsLeap, EndsAcross, Leads, stay, go}
 use Rattle.rbg_base.proofs.CallerLemmas.{slice_get-append_left}
 use Rattle.rbg_flat.proofs.Common.{Facts, IsStill, AreFacts, IsAmongBits, IsOnBoard, IsPositionIn, LeadsFrom, EndsFrom, LearnsEnd, AreOn, SetsOfVertices, IsInWord, IsMarked, IsOpen, Meets}
 use Rattle.rbg_flat.proofs.Leaping.{within, leap_among, some_leap, target_position}

@@ -4,7 +4,7 @@ use Rattle.rbg_rules.specs.Meaning.{AbstractAction, shift, off, switch, positive
 use Rattle.rbg_rules.specs.declared.rule.Action.{Action}
 use Rattle.rbg_rules.specs.declared.rule.Action.TheVariants.{Shift, On, Off, Assign, Compare, Switch, Positive, Negative}
 use Rattle.rbg_rules.proofs.PositionLemmas.{one_stands}
-use Rattle.rbg_leaps.specs.Leaps.{IsShiftAt}
+use Rattle.rbg_shifts.specs.Leaps.{IsShiftAt}
 use Rattle.rbg_flat.specs.internal.Shown.{shows_shift, shows_switch}
 
 abbrev shifts : AbstractAction → Bool

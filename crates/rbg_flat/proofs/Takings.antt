@@ -4,7 +4,7 @@ use Rattle.rbg_flat.proofs.Common.{Passes, IsToTry, Holds, IsMet, first, then, I
 use Rattle.rbg_rules.specs.Meaning.{shift, on, off, assignment, comparison, switch, positive, negative, Expression, IsStart, Stands, arithmetic_of, IsGame, IsModifierAt, IsNumbered, AbstractGame, AbstractState, IsStateOf, Start, after, Applies}
 use Rattle.rbg_rules.specs.declared.rule.Action.{Action}
 use Rattle.rbg_rules.specs.declared.rule.Action.TheVariants.{Shift, On, Off, Assign, Compare, Switch, Positive, Negative}
-use Rattle.rbg_leaps.specs.Leaps.{IsShiftAt, IsLeap, EndsAcross}
+use Rattle.rbg_shifts.specs.Leaps.{IsShiftAt, IsLeap, EndsAcross}
 use Rattle.rbg_flat.proofs.ChainLemmas.{QuietStep, shifts, holds, quiet_step}
 use Rattle.rbg_flat.proofs.ToTry.{holds_to_try}
 

@@ -1,7 +1,7 @@
 -- A word of vertices is taken from what is open, and led on from where the action holds.
 use Rattle.rbg_base.proofs.Common.{◌≡◌, ℕ, ◌+◌, ◌*◌, ◌/◌, ◌%◌, ◌<◌, ◌⊎◌, inl, inr, List, Bool, true, get_or, refl, sym, ap, subst, ◌∙◌, arith, ◌↔◌, bit_at, bit_at-zero}
 use Rattle.rbg_rules.specs.Meaning.{IsGame, IsModifierAt, AbstractGame, AbstractState, IsStateOf, Applies, Start, after}
-use Rattle.rbg_leaps.specs.Leaps.{IsLeap, EndsAcross}
+use Rattle.rbg_shifts.specs.Leaps.{IsLeap, EndsAcross}
 use Rattle.rbg_flat.proofs.Common.{Holds, IsMet, then, EndsMet, IsBegun, LearnsEnd, LeadsFrom, EndsFrom, AreOn, IsOnBoard, Passes, IsToTry, SetsOfVertices, IsMarked, IsOpen, IsInWord, Meets, ClosesWord, HasBitAt}
 use Rattle.rbg_flat.proofs.Meetings.{meets_none}
 use Rattle.rbg_flat.proofs.Takings.{bit_decided, tried_holds}

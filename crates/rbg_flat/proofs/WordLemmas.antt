@@ -2,7 +2,7 @@
 use Rattle.rbg_base.proofs.Common.{◌≡◌, ◌≢◌, ℕ, zero, suc, ◌+◌, ◌*◌, ◌/◌, ◌%◌, ◌<◌, ◌≤◌, ◌^◌, ◌-◌, ◌⊎◌, inl, inr, List, length, get_or, refl, sym, ap, subst, ◌∙◌, slice_set, arith, bit_or, bit_and, min, bit_at, bit_not, w64, div-mul-add, or_disjoint, or_lt, and_le_l, cases_lt, bit_at-zero, bit_at-lt, bit_at_and, bit_at_not, bit_at_above, same_from_bits, ℕ_discrete}
 use Rattle.std.specs.Int.Bits.{or_add_and}
 use Rattle.std.proofs.lemmas.List.{get_or-set_same, get_or-set_other}
-use Rattle.rbg_leaps.proofs.Bits.{either_bit, first_bit, second_bit}
+use Rattle.rbg_shifts.proofs.Bits.{either_bit, first_bit, second_bit}
 use Rattle.rbg_flat.specs.internal.Sets.{HasBitAt, IsInWord}
 
 -- A bit of what two numbers share is a bit of both.

@@ -1,7 +1,7 @@
 -- A word of vertices is led on from, one after another.
 use Rattle.rbg_base.proofs.Common.{◌≡◌, ◌≢◌, ℕ, ◌+◌, ◌*◌, ◌/◌, ◌%◌, ◌<◌, ◌⊎◌, inl, inr, Bool, true, refl, sym, ap, subst, ◌∙◌, arith, bit_at, bit_at-zero, bit_at-lt, ℕ_discrete}
 use Rattle.rbg_rules.specs.Meaning.{AbstractGame, after}
-use Rattle.rbg_leaps.specs.Leaps.{IsLeap, EndsAcross}
+use Rattle.rbg_shifts.specs.Leaps.{IsLeap, EndsAcross}
 use Rattle.rbg_flat.proofs.Common.{LeadsFrom, EndsFrom, LeadsPast, EndsPast, LearnsEnd, SetsOfVertices, IsInWord, Meets}
 use Rattle.rbg_flat.proofs.Meetings.{meets_both, meets_same}
 

@@ -1,7 +1,7 @@
 -- What may come next with no modifier before it.
 use Rattle.std.specs.Prelude.{◌≡◌, ℕ, List, [], ◌∷◌, ◌++◌}
 use Rattle.rbg_rules.specs.Meaning.{HasNoModifier, Start, Follows, Ends, AbstractGame, AbstractState, Run}
-use Rattle.rbg_leaps.specs.Leaps.{IsShiftAt}
+use Rattle.rbg_shifts.specs.Leaps.{IsShiftAt}
 
 -- Position p, which is no shift, may come next at vertex v, with no modifier before it: some positions without a
 -- modifier run from s to a semi-state at v, and p follows them there.

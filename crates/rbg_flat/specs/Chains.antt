@@ -1,7 +1,7 @@
 -- Candidates by leaps: what holds where a leap ends leads on to the next leap.
 use Rattle.std.specs.Prelude.{◌⊎◌, ◌↔◌, ℕ}
 use Rattle.rbg_rules.specs.Meaning.{IsNumbered, IsModifierAt, Start, after, AbstractGame, AbstractState, Applies}
-use Rattle.rbg_leaps.specs.Leaps.{IsShiftAt, IsLeap, EndsAcross}
+use Rattle.rbg_shifts.specs.Leaps.{IsShiftAt, IsLeap, EndsAcross}
 use Rattle.rbg_flat.specs.Candidates.{IsCandidate, MayEnd}
 pub use Rattle.rbg_state.specs.Trials.{at_vertex}
 

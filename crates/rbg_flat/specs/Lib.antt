@@ -2,6 +2,7 @@
 pub mod Candidates
 pub mod Chains
 pub mod Found
+pub mod Met
 pub mod Ending
 pub mod Order
 pub mod Paths

@@ -2,8 +2,8 @@
 use Rattle.std.specs.Prelude.{◌≡◌, ◌+◌, ◌⊎◌, ℕ, List, [], ◌∷◌, length, slice_get, Some, IsTrue}
 use Rattle.rbg_base.specs.declared.relation.Relation.{Relation}
 use Rattle.rbg_rules.specs.Meaning.{Expression, AbstractArithmetic, on, off, comparison, switch, HasAction, IsModifierAt, IsPatternAt, positions_of, AbstractGame, after, Follows}
-use Rattle.rbg_leaps.specs.Leaps.{IsShiftAt}
-use Rattle.rbg_leaps.specs.Made.{AreLeapsOf}
+use Rattle.rbg_shifts.specs.Leaps.{IsShiftAt}
+use Rattle.rbg_shifts.specs.Made.{AreLeapsOf}
 use Rattle.rbg_flat.specs.declared.paths.Facts.{Facts}
 use Rattle.rbg_flat.specs.declared.paths.Kind.{Kind}
 use Rattle.rbg_flat.specs.declared.paths.Kind.TheVariants.{OnEither, Modifier, Pattern, On, Comparison, Plain}

@@ -7,6 +7,7 @@ pub mod Shown
 pub mod Leading
 pub mod Passing
 pub mod Gathering
+pub mod Counted
 pub mod Bits
 pub mod Ending
 pub mod Setting

@@ -14,8 +14,8 @@ use crate::setting::Setting;
 use crate::words::{lowest, shared, without};
 use rbg_auto::Expr;
 use rbg_base::{Position, Vertex};
-use rbg_leaps::{Origin, Target};
 use rbg_rules::Game;
+use rbg_shifts::{Origin, Target};
 use rbg_state::SemiState;
 
 /// What is told of the inside of a pattern at a vertex from which nothing goes on.

@@ -1,12 +1,13 @@
 //! A flat part that is being found, by sets of vertices.
-ghost use Rattle.std.specs.Prelude.{◌≡◌, ◌≢◌, ℕ, ◌+◌, ◌*◌, ◌/◌, ◌<◌, ◌≤◌, ◌↔◌, ◌⊎◌, ◌^◌, length, IfOk, IfSome, IfNone, OnOk, IsTrue, false};
+ghost use Rattle.std.specs.Prelude.{◌≡◌, ◌≢◌, ℕ, ◌+◌, ◌*◌, ◌/◌, ◌<◌, ◌≤◌, ◌↔◌, ◌⊎◌, ◌^◌, length, IfOk, IfErr, IfSome, IfNone, OnOk, IsTrue, false};
 ghost use Rattle.rbg_rules.specs.Meaning.{IsGame, IsStart, IsNumbered, IsPatternAt, positions_of, AbstractGame, AbstractState, IsStateOf, Start};
-ghost use Rattle.rbg_leaps.specs.Leaps.{IsLeap, EndsAcross};
-ghost use Rattle.rbg_leaps.specs.Origin.{start_of};
+ghost use Rattle.rbg_shifts.specs.Leaps.{IsLeap, EndsAcross};
+ghost use Rattle.rbg_shifts.specs.Origin.{start_of};
 ghost use Rattle.rbg_flat.specs.Candidates.{MayEnd};
 ghost use Rattle.rbg_flat.specs.Chains.{Holds};
 ghost use Rattle.rbg_flat.specs.Paths.{ArePathsOf, IsStill};
 ghost use Rattle.rbg_flat.specs.Found.{AreFound, HasCandidates, most_candidates};
+ghost use Rattle.rbg_flat.specs.Met.{CountsMet};
 ghost use Rattle.rbg_flat.specs.internal.Begun.{IsBegun};
 ghost use Rattle.rbg_flat.specs.internal.Passing.{Passes};
 ghost use Rattle.rbg_flat.specs.internal.Sets.{IsInWord, IsMarked, IsOpen, IsDone, KeepsDone, WaitsLast, weight};
@@ -16,7 +17,7 @@ ghost use Rattle.rbg_flat.specs.internal.Leading.{AreSizedFor, AreOn, IsOnBoard,
 ghost use Rattle.rbg_flat.specs.internal.Setting.{AreReady, HasBegun, LeadsOn};
 
 use crate::found::Modifiers;
-use crate::gathering::{gather_place, keeps};
+use crate::gathering::{count_place, gather_place, keeps};
 use crate::leading::{meet_bits, meet_targets};
 use crate::passing::held;
 use crate::paths::{Kind, Paths};
@@ -24,8 +25,8 @@ use crate::sets::Sets;
 use crate::setting::Setting;
 use crate::words::{lowest, unit_word, without};
 use rbg_base::{Memory, Pair, Position, Vertex};
-use rbg_leaps::Origin;
 use rbg_rules::Game;
+use rbg_shifts::Origin;
 use rbg_state::SemiState;
 use std::alloc::Global;
 
@@ -35,6 +36,13 @@ pub struct Flat {
     sets: Sets,
     /// Whether a word may end with no modifier more.
     ends: bool,
+}
+
+/// There was no memory for what was found.
+#[derive(Drop)]
+pub struct NotGathered {
+    /// How many candidates there were all the same.
+    pub many: usize,
 }
 
 impl Flat {
@@ -158,14 +166,15 @@ impl Flat {
     }
 
     /// Gathers what was found, once nothing is left to be looked at, in place of what the list held: the modifiers that
-    /// come next and are valid, each with its vertex. Returns how many candidates there were.
+    /// come next and are valid, each with its vertex. Returns how many candidates there were, also where there is no memory for
+    /// what was found.
     pub fn finish(
         &mut self,
         game: &Game,
         paths: &Paths,
         state: &SemiState,
         found: &mut Modifiers,
-    ) -> Result<usize, Memory>
+    ) -> Result<usize, NotGathered>
         requires lawful { IsGame game.now }
         requires paths { ArePathsOf game.now paths.now }
         requires fits { IsStateOf game.now state.now.state }
@@ -183,16 +192,48 @@ impl Flat {
             self.old.ends
             → HasCandidates game.now state.now.state f many) }
         ensures few { IfOk result (λ many. many ≤ most_candidates game.now) }
+        ensures count_lost { IfErr result (λ lost. (f : Start)
+            → IsBegun game.now state.now.state f (IsMarked self.old.sets) (IsOpen self.old.sets)
+            self.old.ends
+            → HasCandidates game.now state.now.state f lost.many) }
+        ensures few_lost { IfErr result (λ lost. lost.many ≤ most_candidates game.now) }
     {
         found.clear();
         let mut many = 0;
         while let Some(place) = self.sets.last_touched() {
             let position = self.sets.position_at(place);
             let keeps = keeps(game, paths, state, position);
-            many += gather_place(found, &self.sets, place, position, keeps)?;
+            let Ok(here) = gather_place(found, &self.sets, place, position, keeps) else {
+                let rest = self.count_met(game);
+                return Err(NotGathered { many: many + rest });
+            };
+            many += here;
             self.sets.forget(place);
         }
         Ok(many)
+    }
+
+    /// How many pairs of a vertex and a position were met so far, whatever is left to be looked at. They are forgotten. It
+    /// is asked where a flat part isn't found whole, or isn't handed out.
+    #[cold]
+    #[inline(never)]
+    pub fn count_met(&mut self, game: &Game) -> usize
+        requires lawful { IsGame game.now }
+        requires sized { AreSizedFor game.now self.old.sets }
+        requires on { AreOn game.now self.old.sets }
+        ensures sized { AreSizedFor game.now self.new.sets }
+        ensures ends { self.new.ends ≡ self.old.ends }
+        ensures count { CountsMet (IsMarked self.old.sets) result }
+        ensures few { result ≤ most_candidates game.now }
+    {
+        self.sets.close_all();
+        let mut many = 0;
+        while let Some(place) = self.sets.last_touched() {
+            let position = self.sets.position_at(place);
+            many += count_place(&self.sets, place, position);
+            self.sets.forget(place);
+        }
+        many
     }
 
     /// Leads on from a place in the rules and a vertex: meets where leaps lead from there. What is learned of the end is

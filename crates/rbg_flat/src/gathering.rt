@@ -1,5 +1,5 @@
 //! What was found is gathered: the modifiers that are valid, and how many candidates there are.
-ghost use Rattle.std.specs.Prelude.{◌≡◌, ◌↔◌, ◌/◌, ◌<◌, ◌≤◌, ◌^◌, length, count_ones, IfOk, IsTrue};
+ghost use Rattle.std.specs.Prelude.{◌≡◌, ◌↔◌, ◌/◌, ◌<◌, ◌≤◌, ◌^◌, [], false, length, count_ones, IfOk, IsTrue};
 ghost use Rattle.rbg_rules.specs.Meaning.{IsGame, IsModifierAt, positions_of, IsStateOf};
 ghost use Rattle.rbg_flat.specs.Paths.{ArePathsOf};
 ghost use Rattle.rbg_flat.specs.internal.Places.{IsMetAt};
@@ -86,4 +86,14 @@ pub(crate) fn gather_place(
     } else {
         Ok(count(word))
     }
+}
+
+/// Counts the vertices that were met at a place.
+pub(crate) fn count_place(sets: &Sets, place: usize, position: Position) -> usize
+    requires place { place < length sets.now.marks }
+    requires position { position ≡ place / sets.now.columns }
+    requires narrow { sets.now.columns < 2 ^ 16 }
+    ensures { Gathers (IsMetAt sets.now place position) [] [] position false result 64 }
+{
+    count(sets.met_at(place))
 }

@@ -1,6 +1,6 @@
 //! How sets are led on by leaps.
 ghost use Rattle.std.specs.Prelude.{◌≡◌, ◌+◌, ◌*◌, ◌<◌, length, All, IsTrue};
-ghost use Rattle.rbg_leaps.specs.Limits.{row_words};
+ghost use Rattle.rbg_shifts.specs.Limits.{row_words};
 ghost use Rattle.rbg_flat.specs.internal.Sets.{Meets, IsInWord};
 ghost use Rattle.rbg_flat.specs.internal.Leading.{IsTargetFor, IsAmong, IsAmongBits, IsPositionIn};
 ghost use Rattle.rbg_flat.specs.internal.Setting.{AreReady, IsToTryIn};
@@ -9,7 +9,7 @@ use crate::passing::to_try;
 use crate::sets::Sets;
 use crate::setting::Setting;
 use rbg_base::Position;
-use rbg_leaps::Target;
+use rbg_shifts::Target;
 
 /// Meets the vertices of a word at a position, whose word is at a place. What is new of them is to be looked at, unless a
 /// modifier stands there, an on of which no piece stands on the vertex, or a comparison that doesn't hold.

@@ -15,6 +15,6 @@ mod table;
 mod words;
 
 pub use ending::DeadEnd;
-pub use flat::Flat;
+pub use flat::{Flat, NotGathered};
 pub use found::Modifiers;
 pub use paths::{Paths, is_shift};

@@ -2,7 +2,7 @@
 ghost use Rattle.std.specs.Prelude.{◌≡◌, ◌<◌, ◌≤◌, ◌↔◌, ◌+◌, ◌*◌, [], ◌∷◌, ℕ, length, slice_get, Some, IsTrue};
 ghost use Rattle.std.specs.Int.{bit_at};
 ghost use Rattle.rbg_rules.specs.Meaning.{IsGame, IsPatternAt, positions_of, IsStateOf};
-ghost use Rattle.rbg_leaps.specs.Limits.{row_words};
+ghost use Rattle.rbg_shifts.specs.Limits.{row_words};
 ghost use Rattle.rbg_flat.specs.Paths.{ArePathsOf, IsKind};
 ghost use Rattle.rbg_flat.specs.declared.paths.Kind.TheVariants.{On, Comparison};
 ghost use Rattle.rbg_flat.specs.internal.Passing.{Passes, IsOneOf, IsToTry};

@@ -1,16 +1,16 @@
 //! The leaps of a game, and what flat parts need to know of each position.
 ghost use Rattle.std.specs.Prelude.{◌≡◌, ℕ, ◌+◌, ◌≤◌, ◌<◌, ◌↔◌, All, Some, length, slice_get, true, IfOk, IfSome, IfNone, IsTrue};
 ghost use Rattle.rbg_rules.specs.Meaning.{IsGame, positions_of};
-ghost use Rattle.rbg_leaps.specs.Leaps.{IsShiftAt};
-ghost use Rattle.rbg_leaps.specs.Limits.{IsTooLarge};
+ghost use Rattle.rbg_shifts.specs.Leaps.{IsShiftAt};
+ghost use Rattle.rbg_shifts.specs.Limits.{IsTooLarge};
 ghost use Rattle.rbg_flat.specs.Paths.{AreFacts, AreShown, ArePathsOf};
 ghost use Rattle.rbg_flat.specs.internal.Leading.{IsPositionIn};
 ghost use Rattle.rbg_flat.specs.internal.Shown.{ShowsFacts, HasNoPieces, HasPieces, shows_shift};
 
 use rbg_auto::{Expr, Steps};
 use rbg_base::{Memory, Piece, Position, Vertex};
-use rbg_leaps::{Leaps, Origin, Target, leaps};
 use rbg_rules::{Action, Game};
+use rbg_shifts::{Leaps, Origin, Target, leaps};
 use std::alloc::Global;
 
 /// What a flat part does with the action at a position. The kinds that are told apart first stand first.

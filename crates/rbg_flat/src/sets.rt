@@ -76,6 +76,16 @@ impl Sets {
         self.marks.clear();
     }
 
+    /// Nothing is to be looked at any more. What was met stays.
+    pub(crate) fn close_all(&mut self)
+        ensures size { self.new.size ≡ self.old.size }
+        ensures columns { self.new.columns ≡ self.old.columns }
+        ensures marks { self.new.marks ≡ self.old.marks }
+        ensures closed { (v p : ℕ) → ¬ IsOpen self.new v p }
+    {
+        self.pending.clear();
+    }
+
     /// Forgets what was met at the place that was touched last. It is asked once nothing is open any more.
     #[inline(always)]
     pub(crate) fn forget(&mut self, place: usize)

@@ -6,10 +6,10 @@ use Rattle.rbg_grammar.proofs.Common.{IsWhole, SpeltBounded, SpeltBoard, rectang
 use Rattle.rbg_rules.specs.Meaning.{Expression, IsGame, IsWithinLimits, greatest_bound}
 use Rattle.rbg_game.specs.declared.checking.boards.NamedBoard.{NamedBoard}
 use Rattle.rbg_game.proofs.Common.{Things, GameError, game_error_of, HasBoardFault, board_directions, names_spelt, HasFault, in_board, in_rules, MakesBoard, AreThingsOf, game_by_numbers}
-use Rattle.rbg_numbering.specs.declared.error.NumberingError.{NumberingError}
-use Rattle.rbg_numbering.proofs.Common.{Names, texts_of, Purpose, as_direction, as_piece, as_player, as_variable, names_for, HasRuleFault, IsRuleByNumbers}
+use Rattle.rbg_game.specs.declared.numbering_error.NumberingError.{NumberingError}
+use Rattle.rbg_game.proofs.NumberingCommon.{Names, texts_of, Purpose, as_direction, as_piece, as_player, as_variable, names_for, HasRuleFault, IsRuleByNumbers}
 use Rattle.rbg_game.specs.Descriptions.{NamedBoard as BoardByNames, BoardIs, directions_named, holder_names, holders_of, AreBounds, IsGameOf}
-use Rattle.rbg_numbering.proofs.RuleFaults.{IsAmong, among_same, rule_fault_by}
+use Rattle.rbg_game.proofs.RuleFaults.{IsAmong, among_same, rule_fault_by}
 use Rattle.rbg_game.proofs.FaultLaw.{texts_named}
 
 -- The names by which the rules are numbered.

@@ -2,9 +2,9 @@
 use Rattle.rbg_base.proofs.Common.{◌≡◌, ℕ, ◌<◌, inl, inr, List, [], ◌∷◌, length, flat_map, Contains, All, arith, AllZip, concat, All-nil, All-cons, All-append, Contains-append_cases, slice_get_within}
 use Rattle.rbg_grammar.specs.Tree.{SpeltName}
 use Rattle.rbg_rules.specs.Meaning.{AreDifferentNames}
-use Rattle.rbg_numbering.specs.Names.{IsNumberOf}
-use Rattle.rbg_numbering.proofs.Lists.{AllZip-once}
-use Rattle.rbg_numbering.proofs.RuleFaults.{unnumbered}
+use Rattle.rbg_game.specs.NameNumbers.{IsNumberOf}
+use Rattle.rbg_game.proofs.Lists.{AllZip-once}
+use Rattle.rbg_game.proofs.RuleFaults.{unnumbered}
 
 pub unnumbered_rows : (known : List (List ℕ)) (rows : List (List SpeltName)) (name : SpeltName) (numbers : List (List ℕ)) → Contains (flat_map (λ row. row) rows) name → ¬ Contains known name.text → ¬ AllZip (AllZip (IsNumberOf known)) rows numbers
 unnumbered_rows known [] name numbers stands unknown all = absurd (omega (arith, stands.1))

@@ -6,13 +6,13 @@ use Rattle.rbg_board.specs.declared.error.BoardError.TheVariants as board_errors
 use Rattle.rbg_grammar.proofs.Common.{SpeltName, SpeltBounded, SpeltEdge, SpeltVertex, SpeltBoard, rectangle, hexagon, graph, SpeltDescription}
 use Rattle.rbg_rules.specs.Meaning.{AbstractGame, greatest_bound, most_directions, AreDifferentNames, AreLawfulNames}
 use Rattle.rbg_game.proofs.Common.{GameError, game_error_of, Memory, names_in, NamedBoard, board_in, IsRowsBoard, IsRectangleBoard, IsHexagonBoard, IsGraphBoard, VertexIs, BoardIs, directions_named, holder_names, holders_of, AreBounds, IsGameOf, StandsAgain, HasGreatBound, HaveOneName, HasRowsFault, HasBoardFault, unknown_piece, many_directions, no_rectangle, no_hexagon, no_graph, board_memory, board_directions, board_pieces, names_of_holders, names_spelt, same_holder, same_piece, great_bound, many_players, many_pieces, many_variables, in_board, in_rules, memory, NoGameWithFaultLaw}
-use Rattle.rbg_numbering.proofs.Common.{texts_of, Purpose, as_direction, as_piece, as_player, as_variable, names_for}
+use Rattle.rbg_game.proofs.NumberingCommon.{texts_of, Purpose, as_direction, as_piece, as_player, as_variable, names_for}
 use Rattle.rbg_base.proofs.CallerLemmas.{Contains-from_get, get_from-Contains, slice_get-map_at}
-use Rattle.rbg_numbering.proofs.Lists.{map_entry, fellow}
+use Rattle.rbg_game.proofs.Lists.{map_entry, fellow}
 use Rattle.rbg_game.proofs.NameFaults.{texts_of-names}
 use Rattle.rbg_game.proofs.OneGameLists.{first_use_once}
 use Rattle.rbg_game.proofs.GraphFaults.{graph_fault_fails}
-use Rattle.rbg_numbering.proofs.RuleFaults.{rule_fault_fails, IsAmong, among_same, rule_fault_by}
+use Rattle.rbg_game.proofs.RuleFaults.{rule_fault_fails, IsAmong, among_same, rule_fault_by}
 use Rattle.rbg_game.proofs.BoardNames.{unnumbered_rows, rows_once}
 
 -- Names and bounds.

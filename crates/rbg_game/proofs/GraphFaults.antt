@@ -7,7 +7,7 @@ use Rattle.rbg_board.specs.declared.error.BoardError.{BoardError}
 use Rattle.rbg_grammar.specs.Tree.{SpeltName, SpeltEdge, SpeltVertex}
 use Rattle.rbg_rules.specs.Meaning.{AreDifferentNames}
 use Rattle.rbg_game.proofs.Common.{NamedBoard, EdgeIs, VertexIs, vertex_names, IsGraphBoard, StandsTwice, HasGraphFault, no_vertex, many_vertices, same_vertex, same_direction, unknown_vertex}
-use Rattle.rbg_numbering.proofs.Lists.{AllZip-at, fellow}
+use Rattle.rbg_game.proofs.Lists.{AllZip-at, fellow}
 
 -- different names stand once
 once : (names : List (List ℕ)) → StandsTwice names → ¬ AreDifferentNames names

@@ -5,11 +5,11 @@ use Rattle.rbg_board.specs.declared.error.BoardError.TheVariants as board_errors
 use Rattle.rbg_grammar.proofs.Common.{SpeltName, SpeltEdge, SpeltVertex, graph, edge_of, vertex_of}
 use Rattle.rbg_grammar.specs.declared.description.Edge.{Edge}
 use Rattle.rbg_grammar.specs.declared.description.Vertex.{Vertex}
-use Rattle.rbg_numbering.specs.declared.error.NumberingError.{NumberingError}
-use Rattle.rbg_numbering.specs.declared.error.NumberingError.TheVariants as errors
-use Rattle.rbg_numbering.proofs.Common.{IsNumberOf, HasLookUpFault, not_there, no_memory}
+use Rattle.rbg_game.specs.declared.numbering_error.NumberingError.{NumberingError}
+use Rattle.rbg_game.specs.declared.numbering_error.NumberingError.TheVariants as errors
+use Rattle.rbg_game.proofs.NumberingCommon.{IsNumberOf, HasLookUpFault, not_there, no_memory}
 use Rattle.rbg_base.proofs.CallerLemmas.{map-take_more, slice_get-map_at, Contains-map}
-use Rattle.rbg_numbering.proofs.Lists.{slice_get-map_read, Contains-one, entry_of_front, Contains-flat_map, Contains-map_read, AllZip-at}
+use Rattle.rbg_game.proofs.Lists.{slice_get-map_read, Contains-one, entry_of_front, Contains-flat_map, Contains-map_read, AllZip-at}
 use Rattle.rbg_game.proofs.Common.{vertex_names, directions_named, IsOrderOfFirstUse, board_pieces, HasGraphFault, same_vertex, Joins, edge_directions, IsTarget, IsEdge, IsCell}
 
 -- One more vertex, or one more edge.

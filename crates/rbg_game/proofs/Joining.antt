@@ -7,13 +7,13 @@ use Rattle.rbg_base.proofs.CallerLemmas.{AllZip-weaker, Contains-from_get, get_f
 use Rattle.rbg_board.specs.Cells.{AreDifferent}
 use Rattle.rbg_grammar.specs.Tree.{SpeltName}
 use Rattle.rbg_rules.specs.Meaning.{AreDifferentNames}
-use Rattle.rbg_numbering.specs.declared.error.NumberingError.{NumberingError}
-use Rattle.rbg_numbering.specs.declared.error.NumberingError.TheVariants as errors
-use Rattle.rbg_numbering.proofs.Common.{IsNumberOf, HasNameFault, same_name, no_memory}
+use Rattle.rbg_game.specs.declared.numbering_error.NumberingError.{NumberingError}
+use Rattle.rbg_game.specs.declared.numbering_error.NumberingError.TheVariants as errors
+use Rattle.rbg_game.proofs.NumberingCommon.{IsNumberOf, HasNameFault, same_name, no_memory}
 use Rattle.rbg_game.proofs.Common.{IsOrderOfFirstUse, Joins, NumbersDirections, AddsInOrder}
-use Rattle.rbg_numbering.proofs.Lists.{slice_get-last, Contains-one}
-use Rattle.rbg_numbering.proofs.NameLemmas.{slice_get-push_cases, push_differs}
-use Rattle.rbg_numbering.proofs.LookUps.{again_alone}
+use Rattle.rbg_game.proofs.Lists.{slice_get-last, Contains-one}
+use Rattle.rbg_game.proofs.NameLemmas.{slice_get-push_cases, push_differs}
+use Rattle.rbg_game.proofs.LookUps.{again_alone}
 
 -- One name.
 

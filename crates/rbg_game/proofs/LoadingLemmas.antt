@@ -1,10 +1,10 @@
 -- A layer that refuses a text leaves it no game.
 use Rattle.std.proofs.Common.{◌≡◌, ◌≢◌, ℕ, List, sym, subst, Result, Ok, Err, IfErr, IsErrAnd}
-use Rattle.rbg_tokens.proofs.Common.{Lexeme, HasTokens, HasTextFault}
+use Rattle.rbg_macro.proofs.TextCommon.{Lexeme, HasTokens, HasTextFault}
 use Rattle.rbg_macro.proofs.Common.{SectionTokens, HasSections, HasMacroFault}
-use Rattle.rbg_tokens.specs.declared.error.TextError.{TextError}
+use Rattle.rbg_macro.specs.declared.text_error.TextError.{TextError}
 use Rattle.rbg_macro.specs.declared.error.MacroError.{MacroError}
-use Rattle.rbg_tokens.proofs.OneReading.{tokens_once, text_refused_for_memory}
+use Rattle.rbg_macro.proofs.OneReading.{tokens_once, text_refused_for_memory}
 use Rattle.rbg_macro.proofs.OneExpansion.{sections_once, sections_refused_for_memory}
 use Rattle.rbg_grammar.proofs.Common.{SpeltDescription, Spells}
 use Rattle.rbg_grammar.proofs.OneDescription.{one_description}

@@ -4,11 +4,11 @@ use Rattle.rbg_grammar.proofs.Common.{SpeltName, SpeltBounded, SpeltDescription,
 use Rattle.rbg_grammar.specs.declared.description.Bounded.{Bounded}
 use Rattle.rbg_rules.specs.Meaning.{greatest_bound}
 use Rattle.rbg_game.proofs.Common.{GameError, game_error_of, holder_names, holders_of, StandsAgain, HasGreatBound, names_of_holders, HasFault, same_holder, same_piece, great_bound, memory, HasHolderFault, by_name, by_bound, AddsBounds}
-use Rattle.rbg_numbering.specs.declared.error.NumberingError.{NumberingError}
-use Rattle.rbg_numbering.proofs.Common.{texts_of, StandsBehind, HasNameFault, same_name, no_memory}
-use Rattle.rbg_numbering.proofs.LookUps.{name_fault_at}
+use Rattle.rbg_game.specs.declared.numbering_error.NumberingError.{NumberingError}
+use Rattle.rbg_game.proofs.NumberingCommon.{texts_of, StandsBehind, HasNameFault, same_name, no_memory}
+use Rattle.rbg_game.proofs.LookUps.{name_fault_at}
 use Rattle.rbg_base.proofs.CallerLemmas.{slice_get-map_at, Contains-from_get, get_from-Contains, slice_get-append_left, slice_get-append_right, AllZip-append}
-use Rattle.rbg_numbering.proofs.Lists.{Contains-one, map_entry, entry_of_front, slice_get-map_read}
+use Rattle.rbg_game.proofs.Lists.{Contains-one, map_entry, entry_of_front, slice_get-map_read}
 
 -- Names that are added.
 

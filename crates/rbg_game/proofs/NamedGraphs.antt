@@ -6,9 +6,9 @@ use Rattle.rbg_board.specs.declared.error.BoardError.{BoardError}
 use Rattle.rbg_board.specs.declared.error.BoardError.TheVariants as board_errors
 use Rattle.rbg_grammar.specs.Tree.{SpeltName, SpeltEdge, SpeltVertex, graph}
 use Rattle.rbg_rules.specs.Meaning.{most_directions, AreDifferentNames, AreLawfulNames}
-use Rattle.rbg_numbering.specs.Names.{IsNumberOf}
+use Rattle.rbg_game.specs.NameNumbers.{IsNumberOf}
 use Rattle.rbg_game.proofs.Common.{NamedBoard, EdgeIs, VertexIs, vertex_names, directions_named, IsOrderOfFirstUse, StandsTwice, HasGraphFault, no_vertex, many_vertices, same_vertex, same_direction, unknown_vertex, HasVertices, MakesBoard, edge_directions, IsTarget, IsEdge, IsCell}
-use Rattle.rbg_numbering.proofs.Lists.{AllZip-at}
+use Rattle.rbg_game.proofs.Lists.{AllZip-at}
 
 -- Lists that go together.
 

@@ -6,14 +6,14 @@ use Rattle.rbg_board.proofs.Common.{Graph, HasWidth, IsGraphOf, Rows, width_of, 
 use Rattle.rbg_board.specs.declared.error.BoardError.{BoardError}
 use Rattle.rbg_board.specs.declared.error.BoardError.TheVariants as board_errors
 use Rattle.rbg_rules.specs.Meaning.{most_directions, AreDifferentNames}
-use Rattle.rbg_numbering.specs.declared.error.NumberingError.{NumberingError}
+use Rattle.rbg_game.specs.declared.numbering_error.NumberingError.{NumberingError}
 use Rattle.rbg_game.specs.Descriptions.{IsRowsBoard, BoardIs, NamedBoard as DescribedBoard}
 use Rattle.rbg_game.proofs.Common.{game_error_of, GameError, board_pieces, HasRowsFault, HasBoardFault, unknown_piece, board_memory, MakesBoard, NumbersDirections, IsNamed, IsRefusedFor, refusal_of}
 use Rattle.rbg_game.specs.declared.checking.boards.NamedBoard.{NamedBoard}
 use Rattle.rbg_game.specs.declared.game_error.GameError.TheVariants as errors
-use Rattle.rbg_numbering.specs.Names.{IsNumberOf, texts_of}
-use Rattle.rbg_numbering.specs.NameTables.{HasLookUpFault, not_there, no_memory as look_up_memory}
-use Rattle.rbg_numbering.proofs.Lists.{AllZip-at}
+use Rattle.rbg_game.specs.NameNumbers.{IsNumberOf, texts_of}
+use Rattle.rbg_game.specs.NameTables.{HasLookUpFault, not_there, no_memory as look_up_memory}
+use Rattle.rbg_game.proofs.Lists.{AllZip-at}
 use Rattle.rbg_game.proofs.BoardNames.{rows_below}
 
 -- Directions.

@@ -2,12 +2,12 @@
 use Rattle.rbg_base.proofs.Common.{◌≡◌, ℕ, List, ◌++◌, Some, sym, ◌∙◌, subst, same_Some, map-append}
 use Rattle.rbg_grammar.specs.Tree.{SpeltBounded, SpeltDescription}
 use Rattle.rbg_rules.specs.Meaning.{AbstractGame, AreDifferentNames}
-use Rattle.rbg_numbering.proofs.Common.{Names, HasDifferentNames, RuleIs}
+use Rattle.rbg_game.proofs.NumberingCommon.{Names, HasDifferentNames, RuleIs}
 use Rattle.rbg_game.proofs.Common.{names_in, board_in, holder_names, holders_of, AreBounds, IsGameOf, OneGameOfDescriptionLaw, OneGameLaw}
 use Rattle.rbg_game.proofs.LoadingLemmas.{one_spelt}
-use Rattle.rbg_numbering.proofs.Lists.{AllZip-once}
+use Rattle.rbg_game.proofs.Lists.{AllZip-once}
 use Rattle.rbg_game.proofs.OneGameLists.{front_differs}
-use Rattle.rbg_numbering.proofs.OneNumbering.{numbered_rule_once}
+use Rattle.rbg_game.proofs.OneNumbering.{numbered_rule_once}
 use Rattle.rbg_game.proofs.OneGameBoards.{IsSameBoard, board_once, board_directions_differ}
 
 bounds_once : (holders : List SpeltBounded) (a b : List ℕ) → AreBounds holders a → AreBounds holders b → a ≡ b

@@ -4,10 +4,10 @@ use Rattle.rbg_board.proofs.Common.{Rows, width_of, HasWidth, IsGraphOf, Rectang
 use Rattle.rbg_board.proofs.CallerLemmas.{one_graph}
 use Rattle.rbg_grammar.specs.Tree.{SpeltName, SpeltEdge, SpeltVertex, SpeltBoard, rectangle, hexagon, graph}
 use Rattle.rbg_rules.specs.Meaning.{AreDifferentNames}
-use Rattle.rbg_numbering.specs.Names.{IsNumberOf}
+use Rattle.rbg_game.specs.NameNumbers.{IsNumberOf}
 use Rattle.rbg_game.specs.Descriptions.{NamedBoard, IsRowsBoard, EdgeIs, VertexIs, directions_named, IsGraphBoard, BoardIs}
 use Rattle.rbg_game.proofs.BoardNames.{rows_once}
-use Rattle.rbg_numbering.proofs.Lists.{AllZip-once}
+use Rattle.rbg_game.proofs.Lists.{AllZip-once}
 use Rattle.rbg_game.proofs.OneGameLists.{first_use_once}
 
 -- The boards are one, and have the same directions.

@@ -10,8 +10,8 @@ use Rattle.rbg_board.specs.Written.{Written, pieces_of, directions_of, WrittenEd
 use Rattle.rbg_grammar.specs.Tree.{SpeltName, SpeltBounded, SpeltEdge, SpeltVertex}
 use Rattle.rbg_grammar.specs.Tree.{SpeltBoard, rectangle, hexagon, graph, SpeltDescription}
 use Rattle.rbg_rules.specs.Meaning.{IsGame, AreDifferentNames, AbstractGame}
-use Rattle.rbg_numbering.specs.Names.{Names, IsNumberOf, texts_of}
-use Rattle.rbg_numbering.specs.Rules.{RuleIs}
+use Rattle.rbg_game.specs.NameNumbers.{Names, IsNumberOf, texts_of}
+use Rattle.rbg_game.specs.Rules.{RuleIs}
 
 -- the names of a game, by which its rules are numbered
 abbrev pub names_in : AbstractGame → Names

@@ -13,9 +13,9 @@ use Rattle.rbg_rules.specs.Meaning.{most_players, most_pieces, most_variables, g
 use Rattle.rbg_game.specs.declared.game_error.GameError.{GameError}
 use Rattle.rbg_game.specs.declared.game_error.GameError.TheVariants.{UnknownName, SameName, Bound, TooMany, Memory, Board}
 use Rattle.rbg_game.specs.declared.game_error.Thing.TheVariants.{Players, Pieces, Variables, Directions}
-use Rattle.rbg_numbering.specs.declared.error.NumberingError.{NumberingError}
-use Rattle.rbg_numbering.specs.Names.{Names, IsNumberOf, texts_of}
-use Rattle.rbg_numbering.specs.Faults.{HasUnknown, HasRuleFault}
+use Rattle.rbg_game.specs.declared.numbering_error.NumberingError.{NumberingError}
+use Rattle.rbg_game.specs.NameNumbers.{Names, IsNumberOf, texts_of}
+use Rattle.rbg_game.specs.RuleFaults.{HasUnknown, HasRuleFault}
 use Rattle.rbg_game.specs.GameErrors.{game_error_of}
 use Rattle.rbg_game.specs.Descriptions.{holder_names, holders_of, vertex_names, directions_named, IsOrderOfFirstUse}
 

@@ -1,6 +1,6 @@
 -- What a refusal of names or of rules is called as a refusal of the description.
-use Rattle.rbg_numbering.specs.declared.error.NumberingError.{NumberingError}
-use Rattle.rbg_numbering.specs.declared.error.NumberingError.TheVariants as causes
+use Rattle.rbg_game.specs.declared.numbering_error.NumberingError.{NumberingError}
+use Rattle.rbg_game.specs.declared.numbering_error.NumberingError.TheVariants as causes
 use Rattle.rbg_game.specs.declared.game_error.GameError.{GameError}
 use Rattle.rbg_game.specs.declared.game_error.GameError.TheVariants.{UnknownName, SameName, Bound, SwitchInPattern, PatternTooDeep, TooMany, Memory}
 use Rattle.rbg_game.specs.declared.game_error.Thing.TheVariants.{Positions}

@@ -2,7 +2,7 @@
 use Rattle.std.specs.Prelude.{◌≡◌, ℕ, List, Vec, map, length}
 use Rattle.std.specs.Global.{Global}
 use Rattle.rbg_grammar.specs.Tree.{SpeltName, SpeltVertex, SpeltBoard, rectangle, hexagon, graph, SpeltDescription}
-use Rattle.rbg_numbering.specs.NameTables.{bytes_of}
+use Rattle.rbg_game.specs.NameTables.{bytes_of}
 use Rattle.rbg_game.specs.Descriptions.{vertex_names}
 use Rattle.rbg_game.specs.Loading.{Describes}
 use Rattle.rbg_game.specs.declared.layout.Layout.{Layout}

@@ -1,3 +1,11 @@
+-- What the rules of a description are by numbers, and why they have none.
+pub mod NameNumbers
+pub mod Rules
+pub mod RuleFaults
+pub mod NameTables
+pub mod Numbered
+pub mod Laws
+pub mod internal
 -- Which game a description is, which game a text is, and why one is none.
 pub mod Names
 pub mod Descriptions
@@ -6,4 +14,3 @@ pub mod Faults
 pub mod Loading
 pub mod Layouts
 pub mod OneGame
-pub mod internal

@@ -1,10 +1,10 @@
 -- Which game a text is, and why a text is none.
 use Rattle.std.specs.Prelude.{◌≡◌, ℕ, List}
-use Rattle.rbg_tokens.specs.Token.{Lexeme}
+use Rattle.rbg_macro.specs.Token.{Lexeme}
 use Rattle.rbg_macro.specs.Sections.{SectionTokens}
-use Rattle.rbg_tokens.specs.Text.{HasTokens, HasTextFault}
+use Rattle.rbg_macro.specs.Text.{HasTokens, HasTextFault}
 use Rattle.rbg_macro.specs.Expansion.{HasSections, HasMacroFault}
-use Rattle.rbg_tokens.specs.declared.error.TextError.TheVariants.{Memory as TextMemory}
+use Rattle.rbg_macro.specs.declared.text_error.TextError.TheVariants.{Memory as TextMemory}
 use Rattle.rbg_macro.specs.declared.error.MacroError.TheVariants.{Memory as MacroMemory}
 use Rattle.rbg_grammar.specs.Tree.{SpeltDescription}
 use Rattle.rbg_grammar.specs.Spells.{Spells}

@@ -13,10 +13,12 @@ mod graphs;
 mod names;
 
 use crate::game_error::GameError;
+use crate::name_table::NameTable;
+use crate::rules::number_rules;
+use crate::tables::NameTables;
 use boards::{NamedBoard, make_board};
 use names::{Things, number_things};
 use rbg_grammar::{Description, DescriptionParts};
-use rbg_numbering::{NameTable, NameTables, number_rules};
 use rbg_rules::{Game, Parts, Rules};
 use std::alloc::{AllocError, Global};
 

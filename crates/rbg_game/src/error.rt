@@ -4,9 +4,8 @@ ghost use Rattle.rbg_game.specs.declared.error.LoadError.TheVariants as load_err
 ghost use Rattle.rbg_game.specs.Loading.{IsMemory};
 
 use crate::game_error::GameError;
-use rbg_macro::MacroError;
+use rbg_macro::{MacroError, TextError};
 use rbg_syntax::SyntaxError;
-use rbg_tokens::TextError;
 use std::fmt;
 use thiserror::Error;
 

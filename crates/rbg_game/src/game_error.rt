@@ -4,8 +4,8 @@ ghost use Rattle.rbg_game.specs.declared.game_error.GameError.TheVariants as gam
 ghost use Rattle.rbg_game.specs.GameErrors.{game_error_of};
 ghost use Rattle.rbg_game.specs.Names.{thing_name};
 
+use crate::numbering_error::NumberingError;
 use rbg_board::BoardError;
-use rbg_numbering::NumberingError;
 use std::alloc::{AllocError, AllocFailed};
 use std::fmt;
 use thiserror::Error;

@@ -1,7 +1,7 @@
 //! How the vertices of a board lie, as its description writes them.
 ghost use Rattle.std.specs.Prelude.{◌≡◌, map, length, IfOk};
 ghost use Rattle.rbg_grammar.specs.Views.{names_of, vertex_of, board_of};
-ghost use Rattle.rbg_numbering.specs.NameTables.{bytes_of};
+ghost use Rattle.rbg_game.specs.NameTables.{bytes_of};
 ghost use Rattle.rbg_game.specs.Descriptions.{vertex_names};
 ghost use Rattle.rbg_game.specs.Layouts.{IsLayoutOf};
 

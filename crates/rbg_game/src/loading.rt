@@ -1,6 +1,6 @@
 //! From the text of a game to the game.
 ghost use Rattle.std.specs.Prelude.{ℕ, List, IfOk, IfErr, ◌≢◌};
-ghost use Rattle.rbg_tokens.specs.Text.{HasTokens};
+ghost use Rattle.rbg_macro.specs.Text.{HasTokens};
 ghost use Rattle.rbg_grammar.specs.Descriptions.{description_of};
 ghost use Rattle.rbg_rules.specs.Meaning.{AbstractGame};
 ghost use Rattle.rbg_game.specs.Descriptions.{IsGameOf};
@@ -13,10 +13,9 @@ use crate::error::LoadError;
 use crate::game_error::GameError;
 use crate::layout::{Layout, layout_of};
 use rbg_grammar::Description;
-use rbg_macro::expand;
+use rbg_macro::{Tokens, expand, tokens};
 use rbg_rules::Game;
 use rbg_syntax::parse;
-use rbg_tokens::{Tokens, tokens};
 use std::alloc::Global;
 
 /// A game, and how its description writes its board.

@@ -13,9 +13,9 @@ mod forms;
 
 use boards::GameFiles;
 use forms::forms_agree;
+use rbg_cli::{Devices, SystemNetwork};
 use rbg_console::{Files, Input, MAX_INPUT, Status, SystemFiles, read_input};
 use rbg_game::load;
-use rbg_program::SystemNetwork;
 use std::alloc::{AllocError, Global};
 use std::io::{self, Write};
 use std::process::ExitCode;
@@ -48,14 +48,15 @@ fn run(
     let mut files = GameFiles::new(rt);
     let mut input = input;
     let status = match program {
-        Program::Rbg => rbg_program::run(
-            rt.alloc(),
-            words.as_slice(),
-            &mut files,
-            &mut SystemNetwork::new(rt),
-            &mut input,
-            output,
-        ),
+        Program::Rbg => {
+            let mut devices = Devices {
+                files,
+                network: SystemNetwork::new(rt),
+                input,
+                output,
+            };
+            rbg_cli::run(rt.alloc(), words.as_slice(), &mut devices)
+        }
         Program::RbgAuthor => {
             rbg_author::run(rt.alloc(), words.as_slice(), &mut files, &mut input, output)
         }

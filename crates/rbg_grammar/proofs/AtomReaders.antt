@@ -1,9 +1,9 @@
 -- The readers of atoms without a bracket, and of ons.
 use Rattle.std.proofs.Common.{◌≡◌, ◌≤◌, ◌+◌, List, length, Bool, true, false, cond, Some, None, Ok, refl, ◌∙◌, subst, arith}
-use Rattle.rbg_tokens.proofs.Common.{Lexeme, is_name_kind, is_symbol}
-use Rattle.rbg_tokens.specs.declared.token.Symbol.TheVariants.{DoubleArrow, Arrow, OpenBrace, CloseBrace}
-use Rattle.rbg_tokens.specs.declared.token.TokenKind.{TokenKind}
-use Rattle.rbg_tokens.specs.declared.token.TokenKind.TheVariants as kinds
+use Rattle.rbg_macro.proofs.TextCommon.{Lexeme, is_name_kind, is_symbol}
+use Rattle.rbg_macro.specs.declared.token.Symbol.TheVariants.{DoubleArrow, Arrow, OpenBrace, CloseBrace}
+use Rattle.rbg_macro.specs.declared.token.TokenKind.{TokenKind}
+use Rattle.rbg_macro.specs.declared.token.TokenKind.TheVariants as kinds
 use Rattle.rbg_grammar.proofs.Common.{SpeltRule, act, shift, switch, IsName, Listed, Within, IsOpenAtom, moves, switches, keeps, Reading, ◌>>=◌, next_is, symbol_at, name_at, listed_at, within_at, open_atom_at}
 use Rattle.rbg_grammar.proofs.Readers.{bind_ok, ok_one, IsReadBy, Always, symbol_read, symbol_next, name_read, name_next, next_test-symbol, next_test-name}
 use Rattle.rbg_grammar.proofs.Combinators.{EndsList, within_read}

@@ -1,9 +1,9 @@
 -- Phrases that are put together are read by readers that are put together in the same way.
 use Rattle.std.proofs.Common.{◌≡◌, ◌≤◌, ◌+◌, ℕ, zero, suc, List, [], ◌∷◌, length, Bool, true, false, cond, Ok, refl, subst, arith}
-use Rattle.rbg_tokens.proofs.Common.{Lexeme, is_symbol}
-use Rattle.rbg_tokens.specs.declared.token.Symbol.{Symbol}
-use Rattle.rbg_tokens.specs.declared.token.Symbol.TheVariants.{Comma}
-use Rattle.rbg_tokens.specs.declared.token.TokenKind.{TokenKind}
+use Rattle.rbg_macro.proofs.TextCommon.{Lexeme, is_symbol}
+use Rattle.rbg_macro.specs.declared.token.Symbol.{Symbol}
+use Rattle.rbg_macro.specs.declared.token.Symbol.TheVariants.{Comma}
+use Rattle.rbg_macro.specs.declared.token.TokenKind.{TokenKind}
 use Rattle.rbg_grammar.proofs.Common.{Repeated, done, again, After, after, Separated, separated, Listed, nothing, listed, Within, within, WithComma, with_comma, Reading, ◌>>=◌, next_is, symbol_at, repeated_within, repeated_at, after_at, separated_at, listed_at, within_at, with_comma_at}
 use Rattle.rbg_grammar.proofs.Readers.{bind_ok, ok_one, IsReadBy, Always, symbol_read, symbol_next}
 

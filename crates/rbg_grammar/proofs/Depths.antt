@@ -1,6 +1,6 @@
 -- Rules at all depths of brackets, from what is read at one.
 use Rattle.std.proofs.Common.{◌≡◌, ◌≤◌, ◌+◌, ℕ, zero, suc, List, [], ◌∷◌, ◌++◌, true, Option, Result, Ok, Err, refl, sym, ap, ◌∙◌, subst, arith, append-nil}
-use Rattle.rbg_tokens.proofs.Common.{Lexeme, opens}
+use Rattle.rbg_macro.proofs.TextCommon.{Lexeme, opens}
 use Rattle.rbg_grammar.proofs.Common.{AreRules, OneTooDeepLaw, IsTooDeep, open_with, open_after, SpeltRule, Fault, misfit, too_deep, Reading, ◌>>=◌, ended_at, whole_at, rules_at}
 use Rattle.rbg_grammar.proofs.Nesting.{Fits, fits_bracket, front_fits, opened}
 use Rattle.rbg_grammar.proofs.Pieces.{Piece, Deep, Outcome}

@@ -1,7 +1,7 @@
 -- The examples, by what is read of their tokens.
 use Rattle.std.proofs.Common.{◌≡◌, ℕ, zero, suc, List, [], ◌∷◌, Some, Result, Ok, Err, ◌++◌, refl, ap, sym, ◌∙◌, subst, arith}
-use Rattle.rbg_tokens.specs.Token.{Lexeme}
-use Rattle.rbg_tokens.specs.declared.token.Symbol.TheVariants as symbols
+use Rattle.rbg_macro.specs.Token.{Lexeme}
+use Rattle.rbg_macro.specs.declared.token.Symbol.TheVariants as symbols
 use Rattle.rbg_grammar.proofs.Common.{sign, signs, letter, letter_name, in_parentheses, SumInParentheses, NegatedFactor, StarredAssignments, DeepestBrackets, TooManyBrackets, TwoStars, TwoMinuses, TooDeepAlone, MisspeltAlone, Fault, misfit, too_deep, symbol_at, name_at, one_of_at, repeated_at, after_at, separated_at, within_at, open_atom_at, whole_at, number_or_name_at, factor_at, further_operand_at, chain_at, primary_at, sum_at, assignment_at, assignments_at, in_brackets_at, bracket_atom_at, item_at, sequence_at, rules_over_at, atom_at, rules_at, SpeltRule, act, shift, star, AreRules, IsSpelt, open_after}
 use Rattle.rbg_macro.specs.declared.source.SectionKind.TheVariants.{Rules}
 use Rattle.rbg_grammar.proofs.Depths.{spells_nothing, too_deep_here, one_too_deep}

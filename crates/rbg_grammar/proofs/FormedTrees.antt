@@ -1,10 +1,10 @@
 -- What the grammar spells is a tree without a sequence, a sum or a product of fewer than two parts.
 use Rattle.rbg_base.proofs.Common.{◌≡◌, ◌<◌, ◌&&◌, ◌||◌, ℕ, zero, suc, List, [], ◌∷◌, length, Bool, true, false, Some, refl, inl, inr, arith, All, All-nil, All-cons, All-head, All-tail}
-use Rattle.rbg_tokens.specs.Token.{Lexeme}
-use Rattle.rbg_tokens.specs.declared.token.Symbol.{Symbol}
-use Rattle.rbg_tokens.specs.declared.token.Symbol.TheVariants as symbols
-use Rattle.rbg_tokens.specs.declared.token.TokenKind.{TokenKind}
-use Rattle.rbg_tokens.specs.declared.token.TokenKind.TheVariants as kinds
+use Rattle.rbg_macro.specs.Token.{Lexeme}
+use Rattle.rbg_macro.specs.declared.token.Symbol.{Symbol}
+use Rattle.rbg_macro.specs.declared.token.Symbol.TheVariants as symbols
+use Rattle.rbg_macro.specs.declared.token.TokenKind.{TokenKind}
+use Rattle.rbg_macro.specs.declared.token.TokenKind.TheVariants as kinds
 use Rattle.rbg_base.specs.declared.operator.Operator.{Operator}
 use Rattle.rbg_base.specs.declared.operator.Operator.TheVariants as operators
 use Rattle.rbg_grammar.proofs.Common.{Rank, SpeltExpression, SpeltOperands, no_operands, more_operands, SpeltOperand, SpeltRule, SpeltRules, no_rules, more_rules, SpeltBoard, operands_after, first_of, in_chain, rules_after, sequence_of, choice_of, one_of, Repeated, done, again, After, after, Separated, separated, Within, within, is_of_rank, is_first_of, are_of_rank, make_a_chain, has_two_rules, is_formed_expression, are_formed_operands, is_formed, are_formed, has_its_directions}

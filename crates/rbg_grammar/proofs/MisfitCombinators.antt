@@ -2,12 +2,12 @@
 use Rattle.rbg_base.proofs.Common.{◌≡◌, ◌≤◌, ℕ, zero, suc, List, [], ◌∷◌, ◌++◌, length, Bool, true, false, cond, Option, Some, None, Result, Ok, Err, refl, sym, ap, ◌∙◌, subst, arith, ◌&&◌, bytes_eq, bytes_eq-Decides}
 use denote.Enum.Bare.{true_same}
 use Rattle.rbg_base.specs.Decimals.{number_of_digits}
-use Rattle.rbg_tokens.proofs.Common.{Lexeme, is_name_kind, is_number_kind, is_symbol}
-use Rattle.rbg_tokens.specs.contracts.token.Symbol.{the_type}
-use Rattle.rbg_tokens.specs.declared.token.Symbol.{Symbol}
-use Rattle.rbg_tokens.specs.declared.token.Symbol.TheVariants.{Comma}
-use Rattle.rbg_tokens.specs.declared.token.TokenKind.{TokenKind}
-use Rattle.rbg_tokens.specs.declared.token.TokenKind.TheVariants as kinds
+use Rattle.rbg_macro.proofs.TextCommon.{Lexeme, is_name_kind, is_number_kind, is_symbol}
+use Rattle.rbg_macro.specs.contracts.token.Symbol.{the_type}
+use Rattle.rbg_macro.specs.declared.token.Symbol.{Symbol}
+use Rattle.rbg_macro.specs.declared.token.Symbol.TheVariants.{Comma}
+use Rattle.rbg_macro.specs.declared.token.TokenKind.{TokenKind}
+use Rattle.rbg_macro.specs.declared.token.TokenKind.TheVariants as kinds
 use Rattle.rbg_grammar.proofs.Common.{SpeltName, SpeltNumber, IsSymbol, symbol, IsName, name, IsNumber, number, IsWord, word, IsOneOf, one_of, Repeated, done, again, After, after, Separated, separated, Listed, nothing, listed, Within, within, WithComma, with_comma, Fault, misfit, Reading, ◌>>=◌, TakesSome, next_is, symbol_at, name_at, number_at, word_at, or_misfit, one_of_at, repeated_within, repeated_at, after_at, separated_at, listed_at, within_at, with_comma_at}
 use Rattle.rbg_grammar.proofs.Misfits.{Begun, Judged, Judges, Behind, seen, given, bind, bind_at, choose, choose_at, same_reader, as_read}
 use Rattle.rbg_grammar.proofs.Readers.{kind_of-is_symbol, kind_of-is_name, kind_of-is_number}

@@ -1,6 +1,6 @@
 -- Where readings stop: at the first token that doesn't fit, whatever follows it, or where the tokens end.
 use Rattle.std.proofs.Common.{◌≡◌, ℕ, List, [], ◌∷◌, ◌++◌, Bool, true, false, cond, Some, None, Ok, Err, refl, sym, ap, ◌∙◌, subst, append_assoc}
-use Rattle.rbg_tokens.specs.Token.{Lexeme}
+use Rattle.rbg_macro.specs.Token.{Lexeme}
 use Rattle.rbg_grammar.proofs.Common.{misfit, too_deep, Reading, ◌>>=◌, TokenAt}
 
 -- with some tokens behind them the tokens are such a phrase, whatever follows

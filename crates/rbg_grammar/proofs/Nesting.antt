@@ -1,7 +1,7 @@
 -- How deep brackets are open along tokens.
 use Rattle.std.proofs.Common.{◌≡◌, ◌<◌, ◌≤◌, ◌+◌, ◌-◌, ℕ, Bool, List, [], ◌∷◌, ◌++◌, true, false, refl, arith, if◌then◌else◌}
-use Rattle.rbg_tokens.proofs.Common.{Lexeme, opens, closes}
-use Rattle.rbg_tokens.specs.declared.token.TokenKind.{TokenKind}
+use Rattle.rbg_macro.proofs.TextCommon.{Lexeme, opens, closes}
+use Rattle.rbg_macro.specs.declared.token.TokenKind.{TokenKind}
 use Rattle.rbg_grammar.specs.Spells.{open_with, open_after}
 
 -- each opening bracket among the tokens stands where fewer than so many are open, if this many are open before them

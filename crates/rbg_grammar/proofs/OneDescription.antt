@@ -1,9 +1,9 @@
 -- Sections spell at most one description.
 use Rattle.std.proofs.Common.{◌≡◌, ℕ, List, [], ◌∷◌, true, ap, sym, ◌∙◌, refl, subst, inl, inr}
-use Rattle.rbg_tokens.proofs.Common.{Lexeme, is_name_kind, is_symbol}
+use Rattle.rbg_macro.proofs.TextCommon.{Lexeme, is_name_kind, is_symbol}
 use Rattle.rbg_macro.specs.Sections.{SectionTokens}
 use Rattle.rbg_macro.specs.declared.source.SectionKind.{SectionKind}
-use Rattle.rbg_tokens.specs.declared.token.Symbol.TheVariants.{Comma}
+use Rattle.rbg_macro.specs.declared.token.Symbol.TheVariants.{Comma}
 use Rattle.rbg_grammar.proofs.Common.{IsBounded, bounded, ArePlayers, AreVariables, ArePieces, IsBoard, AreRules, Reading, next_is, bounded_at, name_at, separated_at, listed_at, board_at, rules_at, sections_of, HasSection, IsSection, MayHaveVariables, Spells, SpeltBounded, SpeltName, SpeltBoard, SpeltRule, SpeltDescription}
 use Rattle.rbg_grammar.proofs.Combinators.{Stops, EndsList, listed_read}
 use Rattle.rbg_grammar.proofs.Readers.{IsReadBy, Always, ok_one, name_next}

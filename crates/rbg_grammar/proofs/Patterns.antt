@@ -1,8 +1,8 @@
 -- A pattern as its brace's place and its rules, behind either sign.
 use Rattle.std.proofs.Common.{ℕ, List}
-use Rattle.rbg_tokens.specs.Token.{Lexeme}
-use Rattle.rbg_tokens.specs.declared.token.Symbol.{Symbol}
-use Rattle.rbg_tokens.specs.declared.token.Symbol.TheVariants.{OpenBrace, CloseBrace, Question, Exclamation}
+use Rattle.rbg_macro.specs.Token.{Lexeme}
+use Rattle.rbg_macro.specs.declared.token.Symbol.{Symbol}
+use Rattle.rbg_macro.specs.declared.token.Symbol.TheVariants.{OpenBrace, CloseBrace, Question, Exclamation}
 use Rattle.rbg_grammar.proofs.Common.{SpeltExpression, SpeltRule, act, positive, negative, IsSymbol, After, IsBracketAtom, holds, fails}
 
 pub data IsPattern (sign : Symbol) (Rules : List Lexeme → SpeltRule → List Lexeme → Type 0) : List Lexeme → ℕ × SpeltRule → List Lexeme → Type 0 where

@@ -1,6 +1,6 @@
 -- Each phrase has at least one token.
 use Rattle.std.proofs.Common.{ℕ, List, arith}
-use Rattle.rbg_tokens.specs.Token.{Lexeme}
+use Rattle.rbg_macro.specs.Token.{Lexeme}
 use Rattle.rbg_grammar.proofs.Common.{Rank, IsName, IsBounded, IsRow, IsEdge, IsVertex, IsAssignment, IsItem, IsSequence, IsAtom, IsPrimary, IsSum, Reading, TakesSome, bounded_at, edge_at, name_at, row_at, vertex_at, assignment_at, atom_at, further_operand_at, item_at, operand_at, primary_at, sequence_at, sum_at}
 use Rattle.rbg_grammar.proofs.Readers.{Always, IsReadBy, name_read}
 use Rattle.rbg_grammar.proofs.SectionReaders.{bounded_read, edge_read, row_read, vertex_read}

@@ -1,8 +1,8 @@
 -- A phrase's own tokens, apart from what follows; and tokens that begin a phrase up to a bracket that is one too many.
 use Rattle.std.proofs.Common.{◌≡◌, ◌+◌, ℕ, suc, List, [], ◌∷◌, ◌++◌, true, false, Ok, Err, refl, sym, ap, ◌∙◌, subst, arith, append_assoc}
-use Rattle.rbg_tokens.proofs.Common.{Lexeme, opens, closes}
-use Rattle.rbg_tokens.specs.declared.token.Symbol.{Symbol}
-use Rattle.rbg_tokens.specs.declared.token.TokenKind.TheVariants as kinds
+use Rattle.rbg_macro.proofs.TextCommon.{Lexeme, opens, closes}
+use Rattle.rbg_macro.specs.declared.token.Symbol.{Symbol}
+use Rattle.rbg_macro.specs.declared.token.TokenKind.TheVariants as kinds
 use Rattle.rbg_grammar.proofs.Common.{IsSymbol, symbol, open_with, open_after, misfit, too_deep, Reading, ◌>>=◌}
 use Rattle.rbg_grammar.proofs.Nesting.{Fits, open_after-append, fits_append, opened, closed, passed, plain_fits}
 

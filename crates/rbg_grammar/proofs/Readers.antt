@@ -2,11 +2,11 @@
 use Rattle.rbg_base.proofs.Common.{is_some, ◌≡◌, ◌≤◌, ◌+◌, ℕ, List, [], ◌∷◌, length, Bool, true, false, cond, Option, Some, None, Result, Ok, Err, refl, sym, ap, subst, arith, bytes_eq, bytes_eq-Decides}
 use denote.Enum.Bare.{same_true, true_same}
 use Rattle.rbg_base.specs.Decimals.{number_of_digits}
-use Rattle.rbg_tokens.proofs.Common.{Lexeme, is_name_kind, is_number_kind, is_symbol}
-use Rattle.rbg_tokens.specs.contracts.token.Symbol.{the_type}
-use Rattle.rbg_tokens.specs.declared.token.Symbol.{Symbol}
-use Rattle.rbg_tokens.specs.declared.token.TokenKind.{TokenKind}
-use Rattle.rbg_tokens.specs.declared.token.TokenKind.TheVariants as kinds
+use Rattle.rbg_macro.proofs.TextCommon.{Lexeme, is_name_kind, is_number_kind, is_symbol}
+use Rattle.rbg_macro.specs.contracts.token.Symbol.{the_type}
+use Rattle.rbg_macro.specs.declared.token.Symbol.{Symbol}
+use Rattle.rbg_macro.specs.declared.token.TokenKind.{TokenKind}
+use Rattle.rbg_macro.specs.declared.token.TokenKind.TheVariants as kinds
 use Rattle.rbg_grammar.proofs.Common.{SpeltName, SpeltNumber, IsSymbol, symbol, IsName, name, IsNumber, number, IsWord, word, IsOneOf, one_of, Fault, misfit, Reading, ◌>>=◌, next_is, token_at, symbol_at, name_at, number_at, word_at, is_in, or_misfit, one_of_at}
 
 pub bind_ok : {A B : Type 0} (r : Result A Fault) (f : A → Result B Fault) (y : B) → (r >>= f) ≡ Ok y → (x : A) × (r ≡ Ok x) × (f x ≡ Ok y)

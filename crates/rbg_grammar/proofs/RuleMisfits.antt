@@ -1,10 +1,10 @@
 -- Where the readings of arithmetic and of rules stop.
 use Rattle.std.proofs.Common.{◌≡◌, ℕ, zero, suc, List, [], ◌∷◌, ◌++◌, drop, Bool, true, false, cond, Some, None, Result, Ok, Err, refl, ap, ◌∙◌, inl, inr}
-use Rattle.rbg_tokens.proofs.Common.{Lexeme, opens, is_name_kind, is_number_kind, is_symbol}
-use Rattle.rbg_tokens.specs.declared.token.Symbol.{Symbol}
-use Rattle.rbg_tokens.specs.declared.token.Symbol.TheVariants.{DoubleArrow, Arrow, DoubleEquals, Equals, Plus, Minus, Star, OpenParenthesis, CloseParenthesis, OpenBracket, CloseBracket, OpenBrace, CloseBrace, Comma, Dollar, Question, Exclamation}
-use Rattle.rbg_tokens.specs.declared.token.TokenKind.{TokenKind}
-use Rattle.rbg_tokens.specs.declared.token.TokenKind.TheVariants as kinds
+use Rattle.rbg_macro.proofs.TextCommon.{Lexeme, opens, is_name_kind, is_number_kind, is_symbol}
+use Rattle.rbg_macro.specs.declared.token.Symbol.{Symbol}
+use Rattle.rbg_macro.specs.declared.token.Symbol.TheVariants.{DoubleArrow, Arrow, DoubleEquals, Equals, Plus, Minus, Star, OpenParenthesis, CloseParenthesis, OpenBracket, CloseBracket, OpenBrace, CloseBrace, Comma, Dollar, Question, Exclamation}
+use Rattle.rbg_macro.specs.declared.token.TokenKind.{TokenKind}
+use Rattle.rbg_macro.specs.declared.token.TokenKind.TheVariants as kinds
 use Rattle.rbg_base.specs.declared.relation.Relation.TheVariants as relations
 use Rattle.rbg_base.specs.declared.operator.Operator.TheVariants as operators
 use Rattle.rbg_grammar.proofs.Common.{Rank, SpeltExpression, SpeltRule, SpeltAction, act, shift, switch, assign, compare, positive, negative, star, first_of, in_chain, sequence_of, IsSymbol, Separated, separated, within, Fault, misfit, Reading, ◌>>=◌, TakesSome, next_is, symbol_at, name_at, one_of_at, repeated_at, after_at, listed_at, within_at, open_atom_at, on_at, off_at, in_sequence, too_deep_at, pattern_at, is_operator, number_or_name_at, factor_at, further_operand_at, chain_at, operand_at, sum_over_at, primary_at, sum_at, comparison_at, assignment_at, assignments_at, in_choice, positive_at, negative_at, in_braces_at, in_brackets_at, bracket_atom_at, item_at, begins_atom, sequence_at, rules_over_at, atom_at, rules_at}

@@ -1,10 +1,10 @@
 -- The readers of rules.
 use Rattle.std.proofs.Common.{◌≡◌, ◌≤◌, ◌+◌, ℕ, zero, suc, List, [], ◌∷◌, length, drop, Bool, true, false, cond, Ok, refl, ◌∙◌, subst, arith, inl, inr}
-use Rattle.rbg_tokens.proofs.Common.{Lexeme, opens, is_name_kind, is_symbol}
-use Rattle.rbg_tokens.specs.declared.token.Symbol.{Symbol}
-use Rattle.rbg_tokens.specs.declared.token.Symbol.TheVariants.{Equals, Plus, Minus, Star, Slash, OpenParenthesis, CloseParenthesis, OpenBracket, CloseBracket, OpenBrace, CloseBrace, Comma, Dollar, Question, Exclamation}
-use Rattle.rbg_tokens.specs.declared.token.TokenKind.{TokenKind}
-use Rattle.rbg_tokens.specs.declared.token.TokenKind.TheVariants as kinds
+use Rattle.rbg_macro.proofs.TextCommon.{Lexeme, opens, is_name_kind, is_symbol}
+use Rattle.rbg_macro.specs.declared.token.Symbol.{Symbol}
+use Rattle.rbg_macro.specs.declared.token.Symbol.TheVariants.{Equals, Plus, Minus, Star, Slash, OpenParenthesis, CloseParenthesis, OpenBracket, CloseBracket, OpenBrace, CloseBrace, Comma, Dollar, Question, Exclamation}
+use Rattle.rbg_macro.specs.declared.token.TokenKind.{TokenKind}
+use Rattle.rbg_macro.specs.declared.token.TokenKind.TheVariants as kinds
 use Rattle.rbg_base.specs.declared.relation.Relation.{Relation}
 use Rattle.rbg_grammar.proofs.Common.{Rank, SpeltName, SpeltExpression, SpeltRule, SpeltAction, act, assign, positive, negative, star, sequence_of, IsSymbol, symbol, IsName, Repeated, After, Separated, separated, Listed, nothing, listed, Within, within, relation_of, IsRelation, IsSum, IsOpenAtom, IsComparison, comparison, IsAssignment, assignment, AreAssignments, assignments, IsBracketAtom, groups, stands_on, puts, compares, assigns, holds, fails, IsItem, once, starred, IsSequence, in_turn, AreRulesOver, either, IsAtom, AreRules, Reading, ◌>>=◌, next_is, is_in, symbol_at, name_at, listed_at, repeated_at, after_at, separated_at, within_at, open_atom_at, on_at, off_at, in_sequence, too_deep_at, is_operator, comparison_at, assignment_at, assignments_at, in_choice, pattern_at, positive_at, negative_at, in_braces_at, in_brackets_at, bracket_atom_at, item_at, begins_atom, sequence_at, rules_over_at, atom_at, rules_at, sum_at}
 use Rattle.rbg_grammar.specs.declared.expression.Rank.TheVariants as ranks

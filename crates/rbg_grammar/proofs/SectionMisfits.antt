@@ -1,7 +1,7 @@
 -- Where the readings of players, variables, pieces and boards stop.
 use Rattle.std.proofs.Common.{List, ◌++◌, Ok, refl, codes, [], ◌∷◌, ℕ}
-use Rattle.rbg_tokens.proofs.Common.{Lexeme, is_name_kind, is_symbol}
-use Rattle.rbg_tokens.specs.declared.token.Symbol.TheVariants.{Comma, Colon, OpenParenthesis, CloseParenthesis, OpenBracket, CloseBracket, OpenBrace, CloseBrace}
+use Rattle.rbg_macro.proofs.TextCommon.{Lexeme, is_name_kind, is_symbol}
+use Rattle.rbg_macro.specs.declared.token.Symbol.TheVariants.{Comma, Colon, OpenParenthesis, CloseParenthesis, OpenBracket, CloseBracket, OpenBrace, CloseBrace}
 use Rattle.rbg_grammar.proofs.Common.{SpeltBoard, IsName, Repeated, Separated, Listed, WithComma, IsBounded, bounded, IsRow, IsEdge, edge, IsVertex, vertex, IsRectangle, four, IsHexagon, six, IsGraph, vertices, IsGenerated, generated, IsBoard, rectangular, hexagonal, graphic, Reading, ◌>>=◌, next_word, name_at, number_at, after_at, separated_at, listed_at, within_at, bounded_at, row_at, edge_at, vertex_at, rows_at, direction_at, rectangle_at, hexagon_at, graph_at, generated_at, board_at}
 use Rattle.rbg_grammar.specs.Tree.{rectangle as four_ways, hexagon as six_ways, graph as graph_of}
 use Rattle.rbg_grammar.proofs.Misfits.{Judges, seen, given, bind, choose}

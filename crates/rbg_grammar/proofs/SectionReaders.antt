@@ -1,9 +1,9 @@
 -- The readers of players, pieces and boards.
 use Rattle.std.proofs.Common.{◌≡◌, ◌≤◌, ◌+◌, ℕ, List, length, Bool, true, false, cond, Ok, refl, ◌∙◌, subst, arith, codes, bytes_eq}
-use Rattle.rbg_tokens.proofs.Common.{Lexeme, is_name_kind, is_symbol}
-use Rattle.rbg_tokens.specs.declared.token.Symbol.{Symbol}
-use Rattle.rbg_tokens.specs.declared.token.Symbol.TheVariants.{Comma, Colon, OpenParenthesis, CloseParenthesis, OpenBracket, CloseBracket, OpenBrace, CloseBrace}
-use Rattle.rbg_tokens.specs.declared.token.TokenKind.TheVariants as kinds
+use Rattle.rbg_macro.proofs.TextCommon.{Lexeme, is_name_kind, is_symbol}
+use Rattle.rbg_macro.specs.declared.token.Symbol.{Symbol}
+use Rattle.rbg_macro.specs.declared.token.Symbol.TheVariants.{Comma, Colon, OpenParenthesis, CloseParenthesis, OpenBracket, CloseBracket, OpenBrace, CloseBrace}
+use Rattle.rbg_macro.specs.declared.token.TokenKind.TheVariants as kinds
 use Rattle.rbg_grammar.proofs.Common.{SpeltName, SpeltNumber, SpeltBounded, SpeltEdge, SpeltVertex, SpeltBoard, IsName, IsNumber, IsWord, word, Repeated, After, Separated, Listed, Within, within, WithComma, IsBounded, bounded, IsRow, IsEdge, edge, IsVertex, vertex, IsRectangle, four, IsHexagon, six, IsGraph, vertices, IsGenerated, generated, IsBoard, rectangular, hexagonal, graphic, Reading, next_is, next_word, name_at, number_at, after_at, separated_at, listed_at, within_at, with_comma_at, bounded_at, row_at, edge_at, vertex_at, rows_at, direction_at, rectangle_at, hexagon_at, graph_at, generated_at, board_at}
 use Rattle.rbg_grammar.proofs.Readers.{bind_ok, ok_one, IsReadBy, Always, symbol_next, name_read, name_next, number_read, word_read, next_test-symbol}
 use Rattle.rbg_grammar.proofs.Combinators.{FirstThen, first_then, both_read, Begins, Stops, EndsList, after_read, within_read, separated_read, listed_read, with_comma_read, repeated_sound, repeated_complete, repeated_shorter}

@@ -1,10 +1,10 @@
 -- What one more bracket makes of readings that are put together of others.
 use Rattle.std.proofs.Common.{◌≡◌, ◌+◌, ℕ, zero, suc, List, [], ◌∷◌, length, Bool, true, false, cond, Option, Some, None, Result, Ok, Err, refl, sym, ap, ◌∙◌, subst}
-use Rattle.rbg_tokens.proofs.Common.{Lexeme, opens, closes, is_name_kind, is_number_kind, is_symbol}
-use Rattle.rbg_tokens.specs.declared.token.Symbol.{Symbol}
-use Rattle.rbg_tokens.specs.declared.token.Symbol.TheVariants.{Comma, OpenParenthesis, CloseParenthesis, OpenBracket, CloseBracket, OpenBrace, CloseBrace}
-use Rattle.rbg_tokens.specs.declared.token.TokenKind.{TokenKind}
-use Rattle.rbg_tokens.specs.declared.token.TokenKind.TheVariants as kinds
+use Rattle.rbg_macro.proofs.TextCommon.{Lexeme, opens, closes, is_name_kind, is_number_kind, is_symbol}
+use Rattle.rbg_macro.specs.declared.token.Symbol.{Symbol}
+use Rattle.rbg_macro.specs.declared.token.Symbol.TheVariants.{Comma, OpenParenthesis, CloseParenthesis, OpenBracket, CloseBracket, OpenBrace, CloseBrace}
+use Rattle.rbg_macro.specs.declared.token.TokenKind.{TokenKind}
+use Rattle.rbg_macro.specs.declared.token.TokenKind.TheVariants as kinds
 use Rattle.rbg_base.specs.Decimals.{number_of_digits}
 use Rattle.rbg_grammar.specs.Phrase.{IsSymbol, IsName, name, IsNumber, number, IsOneOf, one_of, Repeated, done, again as more_of, After, after, Separated, separated, Listed, nothing, listed}
 use Rattle.rbg_grammar.proofs.Common.{SpeltName, SpeltNumber, Fault, misfit, too_deep, Reading, ◌>>=◌, next_is, token_at, symbol_at, name_at, number_at, or_misfit, one_of_at, repeated_within, repeated_at, after_at, separated_at, listed_at}

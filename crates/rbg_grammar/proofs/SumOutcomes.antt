@@ -1,8 +1,8 @@
 -- What one more bracket makes of readings of arithmetic.
 use Rattle.std.proofs.Common.{◌≡◌, ℕ, zero, suc, List, [], ◌∷◌, Bool, true, false, cond, Ok, Err, refl, ap, inl, inr, arith}
-use Rattle.rbg_tokens.proofs.Common.{Lexeme, opens, is_number_kind, is_symbol}
-use Rattle.rbg_tokens.specs.declared.token.Symbol.TheVariants.{Minus, OpenParenthesis, CloseParenthesis}
-use Rattle.rbg_tokens.specs.declared.token.TokenKind.TheVariants as kinds
+use Rattle.rbg_macro.proofs.TextCommon.{Lexeme, opens, is_number_kind, is_symbol}
+use Rattle.rbg_macro.specs.declared.token.Symbol.TheVariants.{Minus, OpenParenthesis, CloseParenthesis}
+use Rattle.rbg_macro.specs.declared.token.TokenKind.TheVariants as kinds
 use Rattle.rbg_base.specs.declared.operator.Operator.{Operator}
 use Rattle.rbg_grammar.proofs.Common.{Rank, SpeltExpression, SpeltOperand, first_of, in_chain, IsName, name, IsNumber, symbol, Repeated, done, After, Within, within, too_deep, Reading, ◌>>=◌, next_is, name_at, number_at, one_of_at, repeated_at, after_at, within_at, is_operator, number_or_name_at, factor_at, further_operand_at, chain_at, operand_at, sum_over_at, primary_at, sum_at}
 use Rattle.rbg_grammar.specs.declared.expression.Rank.TheVariants as ranks

@@ -1,10 +1,10 @@
 -- The readers of arithmetic.
 use Rattle.std.proofs.Common.{◌≡◌, ◌≤◌, ◌+◌, ℕ, zero, suc, List, [], ◌∷◌, length, Bool, true, false, cond, Ok, Err, refl, ap, ◌∙◌, subst, arith, inl, inr}
-use Rattle.rbg_tokens.proofs.Common.{Lexeme, is_name_kind, is_number_kind, is_symbol}
-use Rattle.rbg_tokens.specs.declared.token.Symbol.{Symbol}
-use Rattle.rbg_tokens.specs.declared.token.Symbol.TheVariants.{Plus, Minus, OpenParenthesis, CloseParenthesis}
-use Rattle.rbg_tokens.specs.declared.token.TokenKind.{TokenKind}
-use Rattle.rbg_tokens.specs.declared.token.TokenKind.TheVariants as kinds
+use Rattle.rbg_macro.proofs.TextCommon.{Lexeme, is_name_kind, is_number_kind, is_symbol}
+use Rattle.rbg_macro.specs.declared.token.Symbol.{Symbol}
+use Rattle.rbg_macro.specs.declared.token.Symbol.TheVariants.{Plus, Minus, OpenParenthesis, CloseParenthesis}
+use Rattle.rbg_macro.specs.declared.token.TokenKind.{TokenKind}
+use Rattle.rbg_macro.specs.declared.token.TokenKind.TheVariants as kinds
 use Rattle.rbg_base.specs.declared.operator.Operator.{Operator}
 use Rattle.rbg_grammar.proofs.Common.{Rank, SpeltName, SpeltNumber, SpeltExpression, SpeltOperand, first_of, in_chain, IsSymbol, symbol, IsName, name, IsNumber, number, Repeated, After, after, Within, within, misfit, Reading, TakesSome, ◌>>=◌, next_is, name_at, number_at, one_of_at, repeated_at, place_of, after_at, within_at, too_deep_at, is_operator, number_or_name_at, factor_at, further_operand_at, chain_at, operand_at, sum_over_at, primary_at, sum_at}
 use Rattle.rbg_grammar.specs.declared.expression.Rank.TheVariants as ranks

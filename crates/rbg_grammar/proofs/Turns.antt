@@ -1,8 +1,8 @@
 -- The turns of a reader's loop.
 use Rattle.rbg_base.proofs.Common.{◌≡◌, ◌≤◌, ◌<◌, ℕ, zero, suc, List, [], ◌∷◌, ◌++◌, length, drop, map, Bool, true, false, cond, Ok, Err, refl, sym, ap, ◌∙◌, arith, append_assoc, append-nil, map-append}
-use Rattle.rbg_tokens.proofs.Common.{Lexeme, is_symbol}
-use Rattle.rbg_tokens.specs.declared.token.Symbol.{Symbol}
-use Rattle.rbg_tokens.specs.declared.token.TokenKind.{TokenKind}
+use Rattle.rbg_macro.proofs.TextCommon.{Lexeme, is_symbol}
+use Rattle.rbg_macro.specs.declared.token.Symbol.{Symbol}
+use Rattle.rbg_macro.specs.declared.token.TokenKind.{TokenKind}
 use Rattle.rbg_grammar.proofs.Readers.{bind_ok, symbol_read}
 use Rattle.rbg_grammar.specs.Reading.{Fault, Takes, TakesSome, further_at, Reading, ◌>>=◌, next_is, symbol_at, repeated_within, repeated_at, after_at, separated_at}
 

@@ -1,6 +1,6 @@
 -- Laws that the definitions have to obey. The module `laws` proves each.
 use Rattle.std.specs.Prelude.{◌≡◌, ℕ, List}
-use Rattle.rbg_tokens.specs.Token.{Lexeme}
+use Rattle.rbg_macro.specs.Token.{Lexeme}
 use Rattle.rbg_macro.specs.Sections.{SectionTokens}
 use Rattle.rbg_grammar.specs.Formed.{IsWhole}
 use Rattle.rbg_macro.specs.declared.source.SectionKind.{SectionKind}

@@ -2,14 +2,14 @@
 -- none.
 use Rattle.std.specs.Prelude.{◌≡◌, ◌<◌, ◌&&◌, ℕ, zero, suc, List, [], ◌∷◌, Bool, false, codes, drop, length, Option, Some, None, is_some, Result, Ok, Err, if◌then◌else◌}
 use Rattle.std.specs.Str.{bytes_eq}
-use Rattle.rbg_tokens.specs.Token.{Lexeme}
+use Rattle.rbg_macro.specs.Token.{Lexeme}
 use Rattle.rbg_macro.specs.Sections.{SectionTokens}
-use Rattle.rbg_tokens.specs.declared.token.Symbol.{Symbol}
-use Rattle.rbg_tokens.specs.declared.token.Symbol.TheVariants.{DoubleArrow, Arrow, OpenParenthesis, CloseParenthesis, OpenBracket, CloseBracket, OpenBrace, CloseBrace, Comma, Colon}
-use Rattle.rbg_tokens.specs.declared.token.TokenKind.{TokenKind}
+use Rattle.rbg_macro.specs.declared.token.Symbol.{Symbol}
+use Rattle.rbg_macro.specs.declared.token.Symbol.TheVariants.{DoubleArrow, Arrow, OpenParenthesis, CloseParenthesis, OpenBracket, CloseBracket, OpenBrace, CloseBrace, Comma, Colon}
+use Rattle.rbg_macro.specs.declared.token.TokenKind.{TokenKind}
 use Rattle.rbg_grammar.specs.Tree.{SpeltName, SpeltNumber, SpeltBounded, SpeltEdge, SpeltVertex, SpeltBoard, rectangle, hexagon, graph, SpeltRule, act, shift, on, off, switch, sequence, no_rules, sequence_of}
 use Rattle.rbg_base.specs.Decimals.{number_of_digits}
-use Rattle.rbg_tokens.specs.Kinds.{is_name_kind, is_number_kind, is_symbol}
+use Rattle.rbg_macro.specs.Kinds.{is_name_kind, is_number_kind, is_symbol}
 
 -- Why a piece isn't read: the token at this place doesn't fit, or the tokens end; or the bracket at this place is
 -- opened where none may be.

@@ -1,11 +1,11 @@
 -- Which sections spell which description, and where tokens stop fitting.
 use Rattle.std.specs.Prelude.{◌≡◌, ◌≤◌, ◌+◌, ◌-◌, ℕ, List, [], ◌∷◌, ◌++◌, ◌⊎◌, true, if◌then◌else◌}
-use Rattle.rbg_tokens.specs.Token.{Lexeme}
+use Rattle.rbg_macro.specs.Token.{Lexeme}
 use Rattle.rbg_macro.specs.Sections.{SectionTokens}
 use Rattle.rbg_macro.specs.declared.source.SectionKind.{SectionKind}
 use Rattle.rbg_macro.specs.declared.source.SectionKind.TheVariants.{Players, Pieces, Variables, Board, Rules}
-use Rattle.rbg_tokens.specs.declared.token.TokenKind.{TokenKind}
-use Rattle.rbg_tokens.specs.Kinds.{opens, closes}
+use Rattle.rbg_macro.specs.declared.token.TokenKind.{TokenKind}
+use Rattle.rbg_macro.specs.Kinds.{opens, closes}
 use Rattle.rbg_grammar.specs.Sections.{sections_of}
 use Rattle.rbg_grammar.specs.Phrase.{Phrase}
 use Rattle.rbg_grammar.specs.Tree.{SpeltBounded, SpeltName, SpeltBoard, SpeltRule, SpeltDescription}

@@ -6,9 +6,9 @@ use Rattle.rbg_rules.specs.Meaning.{IsNumbered, AbstractGame}
 use Rattle.rbg_match.specs.declared.config.Config.{Config}
 use Rattle.rbg_match.proofs.Common.{bytes_for, AbstractEvent, piece, end_of_stream, message_limit, MatchState, seats_of, Transcript}
 use Rattle.rbg_match.proofs.OneTranscriptLemmas.{one_transcript}
-use Rattle.rbg_hall.specs.Laws.{Beginning, ChooseAlike, Hands, HandsEach, HoldsTranscript, OneTable, TakesLast, late_refusal, ticks, stirs, plays, goes, late, stirs_not, says_not, goes_not}
-use Rattle.rbg_hall.specs.Laws as laws
-use Rattle.rbg_hall.proofs.Common.{TableState, TableRun, OwnEvent, clock, joins, arrives, says, leaves, Plays, Hears, SitsAt, HasSeat, HasNoSeat, IsFirstFree, AreTaken, new_table, Telling, bytes_to, refusal_to}
+use Rattle.rbg_hall.specs.TableLaws.{Beginning, ChooseAlike, Hands, HandsEach, HoldsTranscript, OneTable, TakesLast, late_refusal, ticks, stirs, plays, goes, late, stirs_not, says_not, goes_not}
+use Rattle.rbg_hall.specs.TableLaws as laws
+use Rattle.rbg_hall.proofs.TableCommon.{TableState, TableRun, OwnEvent, clock, joins, arrives, says, leaves, Plays, Hears, SitsAt, HasSeat, HasNoSeat, IsFirstFree, AreTaken, new_table, Telling, bytes_to, refusal_to}
 use Rattle.rbg_hall.specs.Tables as tables
 use Rattle.rbg_hall.proofs.Holding.{run_holds_transcript}
 use Rattle.rbg_hall.proofs.Seats.{SitsNowhere, SeatsDiffer, all_differ, one_differ, no_seats, seat_or_none}
@@ -151,7 +151,7 @@ still_waited : {old new : TableState} {events : List OwnEvent} {told : List Tell
 still_waited none waits = waits
 still_waited (more hears rest) waits = (waited hears (still_waited rest waits)).0
 
--- a table that waits stands in one way behind events, and has told one thing
+-- a table that waits stands in one way after events, and has told one thing
 one_gathering : {old new new' : TableState} {events : List OwnEvent} {told told' : List Telling} → SeatsDiffer old.seats → RunsOn old events new told → RunsOn old events new' told' → new.begun ≡ None → new'.begun ≡ None → (new ≡ new') × (told ≡ told')
 one_gathering differ none none waits waits' = (refl, refl)
 one_gathering {old} {new' = new'} differ (more {middle = middle} {events = events} hears rest) (more {middle = middle'} {next = next'} hears' rest') waits waits' =
@@ -159,7 +159,7 @@ one_gathering {old} {new' = new'} differ (more {middle = middle} {events = event
     let later = one_gathering (one_differ hears differ) rest (subst (λ (one : TableState). RunsOn one events new' next') (sym here.0) rest') waits waits' in
     (later.0, λ i. here.1 i ++ later.1 i)
 
--- a table that waits behind these events doesn't wait behind a line that takes the last seat
+-- a table that waits after these events doesn't wait after a line that takes the last seat
 no_more_waiting : {old table new : TableState} {line : ℕ} {seats : List (Option ℕ)} {told others : List Telling} (at : ℕ) (before after : List OwnEvent) → SeatsDiffer old.seats → RunsOn old before table told → table.begun ≡ None → TakesLast table line seats → RunsOn old (before ++ joins line at ∷ after) new others → new.begun ≡ None → ⊥
 no_more_waiting {old} {table} {new} {line} at before after differ runs waits takes whole waits' =
     let parts = parted before (joins line at ∷ after) whole in

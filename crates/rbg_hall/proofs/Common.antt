@@ -1,13 +1,27 @@
 -- The definitions of this crate that most proofs cite, passed on from one place. Declares nothing.
-pub use Rattle.rbg_hall.specs.Hearing.{HearsFor, input_of}
-pub use Rattle.rbg_hall.specs.Laws.{Beginning, Hands, HandsEach, HoldsTranscript, LinesHaveOneSeat, RunHoldsTranscript, TakesLast, goes_not, late, late_refusal, says_not, stirs_not}
-pub use Rattle.rbg_hall.specs.Limits.{lines_in_all}
-pub use Rattle.rbg_hall.specs.Tables.{AreTaken, HallOf, HasNoSeat, HasSeat, Hears, IsFirstFree, OwnEvent, Plays, SitsAt, TableRun, TableState, arrives, begins, clock, comes_late, frees, goes, goes_unheard, is_early, is_full, is_moment_for_none, is_unheard, joins, leaves, new_table, plays, says, sits, stays, stirs, ticks, waits, waits_too}
-pub use Rattle.rbg_hall.specs.Tellings.{Telling, bytes_to, refusal_to, telling, to_lines, told_from, told_on, told_to}
-pub use Rattle.rbg_hall.specs.Undoing.{bytes_in, cut_back, undone}
-pub use Rattle.rbg_hall.specs.declared.queues.Mark.{Mark}
-pub use Rattle.rbg_hall.specs.declared.table.Phase.{Phase}
-pub use Rattle.rbg_hall.specs.declared.table.Phase.TheVariants.{Begun}
-pub use Rattle.rbg_hall.specs.internal.Hearing.{BeginsFor, IsFirstAt, PlaysFor, nothing}
-pub use Rattle.rbg_hall.specs.internal.Parts.{begun_in, game_in}
-pub use Rattle.rbg_hall.specs.internal.Running.{StepsFor}
+pub use Rattle.rbg_hall.specs.Allowed.{IsAllowed, bytes_by, bytes_for}
+pub use Rattle.rbg_hall.specs.Apart.{asks_for, concerning, concerns}
+pub use Rattle.rbg_hall.specs.Events.{AbstractHallEvent, ends, event_of, sends, ticks}
+pub use Rattle.rbg_hall.specs.Failing.{HeldHall}
+pub use Rattle.rbg_hall.specs.Halls.{AbstractTable, EachHears, HallRun, HallState, HallSteps, HearsEach, begun_at, begun_of, line_at, line_behind, lines_after, new_hall, refused_by, refused_first, refused_for, refused_in}
+pub use Rattle.rbg_hall.specs.Hearing.{HallHears}
+pub use Rattle.rbg_hall.specs.Laws.{BegunMatchesHoldTranscripts, HoldsMatch, LinesHaveTheSameBytes, LogSends, LoggedRun, LogsSendWhatIsTold, OthersAreUnheard, RunIsAllowed, ServedHallIsAllowed, ServedHallRunsOn, TablesAreApart, early_refusal}
+pub use Rattle.rbg_hall.specs.Ledgers.{Becomes, EachBecomes, EachWrites, HallStops, HallWrites, HasLogFailed, IsLogAt, KeptHearsEach, given_at, given_to, kept, log_at, log_of}
+pub use Rattle.rbg_hall.specs.Limits.{most_tables}
+pub use Rattle.rbg_hall.specs.Lines.{HallLine, asking, asks, first_request, has_ended, line_after, line_cut, over, sent_by, silent, stream_of}
+pub use Rattle.rbg_hall.specs.Openings.{AreLoaded, AreWithinLimits, IsNewHall, IsRefusedHall, MayBeTables, memory, start_of, starts_of}
+pub use Rattle.rbg_hall.specs.Own.{heard_first, heard_of, heard_of_end, heard_of_piece, own, own_after}
+pub use Rattle.rbg_hall.specs.Requests.{is_for, is_request}
+unfoldable pub use Rattle.rbg_hall.specs.Requests.{requested}
+pub use Rattle.rbg_hall.specs.Serving.{HasSeatThere, HaveAllEnded, IsServedHall, SpeaksAs, hall_event, hall_events, of_hall}
+pub use Rattle.rbg_hall.specs.Wholes.{HasRun, IsOfHall}
+pub use Rattle.rbg_hall.specs.declared.error.HallError.{HallError}
+pub use Rattle.rbg_hall.specs.declared.error.HallError.TheVariants.{Config, Memory, Tables}
+pub use Rattle.rbg_hall.specs.declared.event.HallEvent.{HallEvent}
+pub use Rattle.rbg_hall.specs.declared.hearing.First.{First}
+pub use Rattle.rbg_hall.specs.declared.line.LinePhase.{LinePhase}
+pub use Rattle.rbg_hall.specs.declared.line.LinePhase.TheVariants.{Over}
+pub use Rattle.rbg_hall.specs.declared.table.Table.{Table}
+pub use Rattle.rbg_hall.specs.internal.First.{IsFirst, IsTaken, index_within}
+pub use Rattle.rbg_hall.specs.internal.Hearing.{EachKeptHears, HearsEachFor, PieceHeard, TablesHear, TablesStop, said_by}
+pub use Rattle.rbg_hall.specs.internal.Parts.{AreReady, FirstHaveLimits, HaveLimits, IsEmptied, IsFaulty, IsPlaced, IsReady, hall_of, ledgers_of, line_of, lines_of, new_kept, new_line, new_tables, states_of}

@@ -14,8 +14,8 @@ use Rattle.rbg_match.proofs.AllEvents.{all_handled}
 use Rattle.rbg_match.proofs.Delivering.{delivered-none, delivered-queued, length-delivered}
 use Rattle.rbg_match.proofs.EndedLemmas.{ended_play_stays}
 use Rattle.rbg_match.proofs.WholeMatch.{seats_of_opened, stepped_is_transcript}
-use Rattle.rbg_hall.proofs.Common.{Beginning, Hands, HandsEach, RunHoldsTranscript, TakesLast, late_refusal, late, stirs_not, says_not, goes_not, TableState, TableRun, OwnEvent, joins, Plays, Hears, waits, ticks, sits, begins, is_full, comes_late, stays, waits_too, stirs, is_early, plays, frees, goes, is_moment_for_none, is_unheard, goes_unheard, SitsAt, HasNoSeat, Telling, bytes_to, telling, to_lines}
-use Rattle.rbg_hall.specs.Laws as laws
+use Rattle.rbg_hall.proofs.TableCommon.{Beginning, Hands, HandsEach, RunHoldsTranscript, TakesLast, late_refusal, late, stirs_not, says_not, goes_not, TableState, TableRun, OwnEvent, joins, Plays, Hears, waits, ticks, sits, begins, is_full, comes_late, stays, waits_too, stirs, is_early, plays, frees, goes, is_moment_for_none, is_unheard, goes_unheard, SitsAt, HasNoSeat, Telling, bytes_to, telling, to_lines}
+use Rattle.rbg_hall.specs.TableLaws as laws
 use Rattle.rbg_hall.specs.Tables as tables
 use Rattle.rbg_hall.proofs.Places.{there_within}
 use Rattle.rbg_hall.proofs.Seats.{SitsNowhere, SeatsDiffer, all_differ, differ_taken, none_on, own_on}
@@ -71,7 +71,7 @@ silent_on {old = old} {new = new} {event = event} others step outcome is =
 pub step_on : {old new : MatchState} {event : AbstractEvent} {before after : List (List ℕ)} (others : List (List ℕ)) → (step : Steps old event new before after) → Steps old event new others (delivered others step.said)
 step_on others step = search (silent_on others step)
 
--- what is told behind what a line was told
+-- what is told after what a line was told
 behind : (one : ℕ) (told next : List Telling) (before more : List ℕ) → bytes_to one told ≡ before → bytes_to one next ≡ more → bytes_to one (told ++ next) ≡ before ++ more
 behind one told next before more had has = bytes_to-append one told next ∙ (λ i. had i ++ has i)
 
@@ -95,7 +95,7 @@ seen_later event beginning = record {
 }
 
 module _ (game : AbstractGame) (text : List ℕ) (config : Config) (events : List OwnEvent) (event : OwnEvent) where
-  -- a line without a seat, behind one more event
+  -- a line without a seat, after one more event
   further : (one : ℕ) (early told next : List Telling) (after : List OwnEvent) → bytes_to one told ≡ bytes_to one early ++ flat_map (late_refusal one) after → bytes_to one next ≡ late_refusal one event → bytes_to one (told ++ next) ≡ bytes_to one early ++ flat_map (late_refusal one) (after ++ event ∷ [])
   further one early told next after had has =
       behind one told next (bytes_to one early ++ flat_map (late_refusal one) after) (late_refusal one event) had has

@@ -5,9 +5,9 @@ use Rattle.rbg_rules.specs.Meaning.{AbstractGame}
 use Rattle.std.proofs.lemmas.Bool.{true≢false}
 use Rattle.rbg_wire.specs.declared.message.Reason.TheVariants.{OutOfTurn, NoSeat}
 use Rattle.rbg_wire.proofs.Common.{Item, whole_item}
-use Rattle.rbg_hall.proofs.Common.{TableState, Plays, Hears, clock, joins, arrives, says, leaves, waits, ticks, sits, is_full, comes_late, stays, waits_too, stirs, is_early, frees, goes, is_moment_for_none, is_unheard, goes_unheard, SitsAt, HasNoSeat, AreTaken, refusal_to, to_lines, told_to, PlaysFor, BeginsFor, IsFirstAt, HearsFor, StepsFor}
+use Rattle.rbg_hall.proofs.TableCommon.{TableState, Plays, Hears, clock, joins, arrives, says, leaves, waits, ticks, sits, is_full, comes_late, stays, waits_too, stirs, is_early, frees, goes, is_moment_for_none, is_unheard, goes_unheard, SitsAt, HasNoSeat, AreTaken, refusal_to, to_lines, told_to, PlaysFor, BeginsFor, IsFirstAt, HearsFor, StepsFor}
 use Rattle.rbg_hall.specs.Tables as tables
-use Rattle.rbg_hall.specs.internal.Hearing as hearing
+use Rattle.rbg_hall.specs.internal.TableHearing as hearing
 use Rattle.rbg_hall.proofs.Telling.{told_to-none}
 
 -- a table whose match has begun lets it handle an event

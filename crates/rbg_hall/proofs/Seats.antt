@@ -3,7 +3,7 @@ use Rattle.rbg_base.proofs.Common.{◌≡◌, ◌≢◌, ℕ, zero, suc, List, [
 use Rattle.rbg_rules.specs.Meaning.{AbstractGame}
 use Rattle.rbg_match.specs.declared.config.Config.{Config}
 use Rattle.rbg_match.specs.PlayingOn.{seats_of}
-use Rattle.rbg_hall.proofs.Common.{LinesHaveOneSeat, TableState, TableRun, OwnEvent, Plays, Hears, waits, ticks, sits, begins, is_full, comes_late, stays, waits_too, stirs, is_early, plays, frees, goes, is_moment_for_none, is_unheard, goes_unheard, Telling, bytes_to, told_on, to_lines}
+use Rattle.rbg_hall.proofs.TableCommon.{LinesHaveOneSeat, TableState, TableRun, OwnEvent, Plays, Hears, waits, ticks, sits, begins, is_full, comes_late, stays, waits_too, stirs, is_early, plays, frees, goes, is_moment_for_none, is_unheard, goes_unheard, Telling, bytes_to, told_on, to_lines}
 use Rattle.rbg_hall.specs.Tables as tables
 use Rattle.rbg_hall.proofs.Places.{set_cases, same_or_other}
 use Rattle.rbg_hall.proofs.Telling.{bytes_to-append, bytes_to-same, bytes_to-other}

@@ -3,7 +3,7 @@ use Rattle.rbg_base.proofs.Common.{◌≡◌, ◌≢◌, ℕ, zero, suc, ◌+◌
 use Rattle.std.proofs.lemmas.List.{append-nil, set-get_or, get_or-set_same, get_or-map, map-set, length-map}
 use Rattle.std.proofs.lemmas.List.Concat.{flat_map-append}
 use Rattle.std.proofs.lemmas.Bool.{eq-eqb, ne_eqb}
-use Rattle.rbg_hall.proofs.Common.{Telling, bytes_to, told_from, told_to, telling, told_on, to_lines, Mark, cut_back, undone}
+use Rattle.rbg_hall.proofs.TableCommon.{Telling, bytes_to, told_from, told_to, telling, told_on, to_lines, Mark, cut_back, undone}
 
 -- what one queue has, where each of them gets more by its number
 pub extended_at : (more : ℕ → List ℕ) (extended : ℕ → List (List ℕ) → List (List ℕ)) → ((number : ℕ) (queue : List ℕ) (others : List (List ℕ)) → extended number (queue ∷ others) ≡ (queue ++ more number) ∷ extended (suc number) others) → (first : ℕ) (queues : List (List ℕ)) (index : ℕ) → index < length queues → get_or (extended first queues) index [] ≡ get_or queues index [] ++ more (first + index)
@@ -52,7 +52,7 @@ bytes_to-same line bytes = rw (eq-eqb line line refl) (append-nil bytes)
 pub bytes_to-other : (line other : ℕ) (bytes : List ℕ) → other ≢ line → bytes_to line (telling other bytes) ≡ []
 bytes_to-other line other bytes differ = rw (ne_eqb other line differ) refl
 
--- bytes for a line before these, and for one behind them
+-- bytes for a line before these, and for one after them
 told_from-before : (first : ℕ) (queues : List (List ℕ)) (line : ℕ) (bytes : List ℕ) → line < first → told_from first queues (telling line bytes) ≡ queues
 told_from-before first [] line bytes before = refl
 told_from-before first (queue ∷ others) line bytes before =
@@ -77,7 +77,7 @@ told_from-one first (queue ∷ others) (suc index) bytes within =
     let differ : suc first + index ≢ first = omega arith in
     rw (further, bytes_to-other first (suc first + index) bytes differ, append-nil queue, told_from-one (suc first) others index bytes (omega arith)) refl
 
--- bytes for a line stand behind what it has
+-- bytes for a line stand after what it has
 pub told_to-one : (queues : List (List ℕ)) (line : ℕ) (bytes : List ℕ) → line < length queues → told_to queues (telling line bytes) ≡ set queues line (get_or queues line [] ++ bytes)
 told_to-one queues line bytes within =
     let same : 0 + line ≡ line = omega arith in

@@ -1,21 +1,11 @@
--- What a table hears, and what is queued for the lines then.
+-- What a hall hears, and what is queued for the lines then.
 use Rattle.std.specs.Prelude.{◌≡◌, ℕ, List}
-use Rattle.rbg_wire.specs.Inboxes.{item_of}
-use Rattle.rbg_hall.specs.declared.input.TableInput.{TableInput}
-use Rattle.rbg_hall.specs.declared.input.TableInput.TheVariants.{Clock, Joins, Arrives, Says, Leaves}
-use Rattle.rbg_hall.specs.Tables.{TableState, Hears, OwnEvent, clock, joins, arrives, says, leaves}
 use Rattle.rbg_hall.specs.Tellings.{Telling, told_to}
+use Rattle.rbg_hall.specs.Events.{AbstractHallEvent}
+use Rattle.rbg_hall.specs.Halls.{HallState, HallSteps}
 
--- what an event of the code stands for
-abbrev pub input_of : TableInput → OwnEvent
-input_of (Clock at) = clock at
-input_of (Joins line at) = joins line at
-input_of (Arrives line at) = arrives line at
-input_of (Says line at took) = says line at (item_of took)
-input_of (Leaves line at) = leaves line at
-
--- A table hears an event, and what it tells its lines follows what each line had.
-pub record HearsFor (old : TableState) (event : OwnEvent) (new : TableState) (before after : List (List ℕ)) : Type 0 where
+-- A hall hears an event, and what the lines are told follows what each had.
+pub record HallHears (old : HallState) (event : AbstractHallEvent) (new : HallState) (before after : List (List ℕ)) : Type 0 where
   pub told : List Telling
-  pub hears : Hears old event new told
+  pub steps : HallSteps old event new told
   pub queued : after ≡ told_to before told

@@ -1,155 +1,178 @@
--- Laws of a table.
-use Rattle.std.specs.Prelude.{◌≡◌, ℕ, ◌+◌, ◌==◌, false, List, [], ◌∷◌, ◌++◌, Option, Some, None, is_some, slice_get, slice_set, if◌then◌else◌}
+-- Laws of a hall.
+use Rattle.std.specs.Prelude.{◌≡◌, ◌+◌, ◌==◌, ◌++◌, ℕ, true, List, [], ◌∷◌, Option, Some, IsErrOf, Result, length, map, replicate, slice_get, slice_index_or, if◌then◌else◌}
 use Rattle.std.specs.List.{flat_map}
-use Rattle.rbg_wire.specs.declared.message.Reason.TheVariants.{NoSeat}
+use Rattle.rbg_wire.specs.declared.message.Reason.TheVariants.{OutOfTurn}
 use Rattle.rbg_wire.specs.Messages.{refusal_message, spelling}
-use Rattle.rbg_wire.specs.Streams.{Item}
-use Rattle.rbg_wire.specs.Whole.{whole_item}
-use Rattle.rbg_rules.specs.Meaning.{IsNumbered, AbstractGame}
-use Rattle.rbg_match.specs.declared.config.Config.{Config}
-use Rattle.rbg_match.specs.Deliveries.{Delivery, bytes_for}
-use Rattle.rbg_match.specs.Inputs.{AbstractEvent, piece, end_of_stream, moment_alone, counted_first}
-use Rattle.rbg_match.specs.Laws.{IsHeavyEnd, keeper_pairs}
-use Rattle.rbg_match.specs.Limits.{message_limit}
+use Rattle.rbg_rules.specs.Meaning.{IsNumbered}
+use Rattle.rbg_game.specs.Loading.{Loads}
+use Rattle.rbg_match.specs.Deliveries as deliveries
 use Rattle.rbg_match.specs.Matches.{MatchState}
-use Rattle.rbg_match.specs.Play.{AbstractPlay}
-use Rattle.rbg_match.specs.Transcript.{Transcript}
-use Rattle.rbg_hall.specs.Tables.{TableState, TableRun, HallOf, OwnEvent, clock, joins, arrives, says, leaves, SitsAt, HasNoSeat, IsFirstFree, AreTaken}
-use Rattle.rbg_hall.specs.Tellings.{Telling, bytes_to}
+use Rattle.rbg_hall.specs.TableLaws.{ChooseAlike, HoldsTranscript}
+use Rattle.rbg_hall.specs.TableLimits.{lines_in_all}
+use Rattle.rbg_hall.specs.Tables.{TableState, OwnEvent, clock, joins, arrives, says, leaves}
+use Rattle.rbg_hall.specs.Tellings.{Telling, bytes_to, told_to}
+use Rattle.rbg_serving.specs.declared.served.Served.{Served}
+use Rattle.rbg_hall.specs.Kept.{Ledger, no_log}
+use Rattle.rbg_serving.specs.Logs.{IsLog}
+use Rattle.rbg_serving.specs.declared.served.ServeError.{ServeError}
+use Rattle.rbg_serving.specs.declared.served.ServeError.TheVariants.{Memory}
+use Rattle.rbg_serving.specs.Serving.{Serves}
+use Rattle.rbg_serving.specs.Told.{Told}
+use Rattle.rbg_hall.specs.Allowed.{IsAllowed}
+use Rattle.rbg_hall.specs.Apart.{asks_for, concerning, IsExchanged}
+use Rattle.rbg_hall.specs.Events.{AbstractHallEvent}
+use Rattle.rbg_hall.specs.Failing.{HeldHall}
+use Rattle.rbg_hall.specs.Halls.{AbstractTable, HallState, HallRun, new_hall}
+use Rattle.rbg_hall.specs.Ledgers.{HallWrites, given_to, log_at}
+use Rattle.rbg_hall.specs.Openings.{IsNewHall, MayBeTables}
+use Rattle.rbg_hall.specs.Own.{own}
+use Rattle.rbg_hall.specs.Serving.{IsServedHall, hall_events, of_hall}
 
--- What a match that has begun is handed of an event, where these lines have the seats.
---   ticks: the clock.
---   stirs, plays, goes: what a line with a seat sends, an item of it, its end.
---   late: a line that asks for the table. There is no seat for it, and the match hears nothing.
---   stirs_not, says_not, goes_not: nor does it hear a line without a seat.
-pub data Hands (seats : List (Option ℕ)) : OwnEvent → List AbstractEvent → Type 0 where
-  ticks : {at : ℕ} →
-      Hands seats (clock at) (moment_alone at ∷ [])
-  stirs : {line at : ℕ} →
-      (index : ℕ) →
-      slice_get seats index ≡ Some (Some line) →
-      Hands seats (arrives line at) (moment_alone at ∷ [])
-  plays : {line at : ℕ} {item : Item} →
-      (index : ℕ) →
-      slice_get seats index ≡ Some (Some line) →
-      Hands seats (says line at item) (piece (index + 1) at (whole_item message_limit item) ∷ [])
-  goes : {line at : ℕ} →
-      (index : ℕ) →
-      slice_get seats index ≡ Some (Some line) →
-      Hands seats (leaves line at) (end_of_stream (index + 1) at ∷ [])
-  late : {line at : ℕ} →
-      Hands seats (joins line at) []
-  stirs_not : {line at : ℕ} →
-      ((index : ℕ) → ¬ (slice_get seats index ≡ Some (Some line))) →
-      Hands seats (arrives line at) []
-  says_not : {line at : ℕ} {item : Item} →
-      ((index : ℕ) → ¬ (slice_get seats index ≡ Some (Some line))) →
-      Hands seats (says line at item) []
-  goes_not : {line at : ℕ} →
-      ((index : ℕ) → ¬ (slice_get seats index ≡ Some (Some line))) →
-      Hands seats (leaves line at) []
+-- Whatever a hall hears, each line has what it may have.
+abbrev pub RunIsAllowed : Type 0
+RunIsAllowed =
+    (starts : List AbstractTable) (events : List AbstractHallEvent) (state : HallState) (told : List Telling) →
+    HallRun starts events state told →
+    IsAllowed starts events (told_to (replicate lines_in_all []) told)
 
--- The same of events in turn.
-pub data HandsEach (seats : List (Option ℕ)) : List OwnEvent → List AbstractEvent → Type 0 where
-  none :
-      HandsEach seats [] []
-  more : {events : List OwnEvent} {event : OwnEvent} {handed next : List AbstractEvent} →
-      HandsEach seats events handed →
-      Hands seats event next →
-      HandsEach seats (events ++ event ∷ []) (handed ++ next)
+-- Take away all events of lines that ask for another table, or for none: a table hears the same.
+abbrev pub OthersAreUnheard : Type 0
+OthersAreUnheard =
+    (tables table : ℕ) (events : List AbstractHallEvent) →
+    own tables table (concerning tables table events) ≡ own tables table events
 
--- A line that has no seat takes the last one that is free, and then the seats are these.
-pub record TakesLast (gathering : TableState) (line : ℕ) (seats : List (Option ℕ)) : Type 0 where
-  pub index : ℕ
-  pub has_none : HasNoSeat gathering line
-  pub free : IsFirstFree gathering.seats index
-  pub taken : seats ≡ slice_set gathering.seats index (Some line)
-  pub full : AreTaken seats
+-- Let the same table stand at one place in two halls, of as many tables or not, and let the clock and the lines that ask
+-- for it do the same in both, whatever the other tables are and the other lines do. Then these lines may have in one hall
+-- what they may have in the other, and nobody else notices.
+abbrev pub TablesAreApart : Type 0
+TablesAreApart =
+    (starts others : List AbstractTable) (index : ℕ) (start : AbstractTable) (events elsewhere : List AbstractHallEvent)
+    (first second mixed : List (List ℕ)) →
+    MayBeTables starts →
+    MayBeTables others →
+    slice_get starts index ≡ Some start →
+    slice_get others index ≡ Some start →
+    concerning (length starts) (index + 1) events ≡ concerning (length others) (index + 1) elsewhere →
+    IsAllowed starts events first →
+    IsAllowed others elsewhere second →
+    IsExchanged (length starts) (index + 1) events first second mixed →
+    IsAllowed starts events mixed
 
--- what a line without a seat is told at an event of a table whose match has begun: that there is no seat for it
-abbrev pub late_refusal : (line : ℕ) → OwnEvent → List ℕ
-late_refusal line (clock at) = []
-late_refusal line (joins other at) = if other == line then spelling (refusal_message NoSeat) else []
-late_refusal line (arrives other at) = []
-late_refusal line (says other at item) = []
-late_refusal line (leaves other at) = []
-
--- Where the gathering at a table ended.
---   whole: the table heard `before`, then a line asked for it at this moment, then the table heard `after`.
---   gathers, waits: from a table where nobody sits `before` led to one that waits for its last line. Its lines were told
---   `early`.
---   takes: the line takes the last seat.
-pub record Beginning (game : AbstractGame) (text : List ℕ) (config : Config) (events : List OwnEvent)
-    (seats : List (Option ℕ)) : Type 0 where
-  pub before : List OwnEvent
-  pub line : ℕ
-  pub at : ℕ
-  pub after : List OwnEvent
-  pub whole : events ≡ before ++ joins line at ∷ after
-  pub gathering : TableState
-  pub early : List Telling
-  pub gathers : TableRun game text config before gathering early
-  pub waits : gathering.begun ≡ None
-  pub takes : TakesLast gathering line seats
-
--- The match that has begun, and what these lines were told.
---   hands, transcript: of what the table hears from then on the match is handed this. Where play stands, and what is
---   said, is a transcript of it.
---   of_game, of_config, begins, works: the match has this game and config, began at the moment of the beginning, and
---   hasn't failed.
---   on_seats: a line on a seat is told what the table told it before, and then what the transcript says to its seat.
---   elsewhere: a line that has no seat is told what the table told it before, and then that there is none, each time it
---   asks for one.
-pub record HoldsTranscript (game : AbstractGame) (text : List ℕ) (config : Config) (events : List OwnEvent)
-    (seats : List (Option ℕ)) (playing : MatchState) (told : List Telling) : Type 0 where
-  pub beginning : Beginning game text config events seats
-  pub handed : List AbstractEvent
-  pub hands : HandsEach seats beginning.after handed
-  pub said : List Delivery
-  pub transcript : Transcript game text config beginning.at handed playing.play said
-  pub of_game : playing.game ≡ game
-  pub of_config : playing.config ≡ config
-  pub begins : playing.began ≡ counted_first beginning.at
-  pub works : playing.failed ≡ false
-  pub on_seats : (index one : ℕ) →
-      slice_get seats index ≡ Some (Some one) →
-      bytes_to one told ≡ bytes_to one beginning.early ++ bytes_for (index + 1) said
-  pub elsewhere : (one : ℕ) →
-      ((index : ℕ) → ¬ (slice_get seats index ≡ Some (Some one))) →
-      bytes_to one told ≡ bytes_to one beginning.early ++ flat_map (late_refusal one) beginning.after
-
--- Whatever a table hears, it holds a transcript of its match once that has begun, and each line is told accordingly.
-abbrev pub RunHoldsTranscript : Type 0
-RunHoldsTranscript =
-    (game : AbstractGame) (text : List ℕ) (config : Config) (events : List OwnEvent) (told : List Telling) →
-    (hall : HallOf game text config events told) (playing : MatchState) →
-    hall.state.begun ≡ Some playing →
-    HoldsTranscript game text config events hall.state.seats playing told
-
--- Whatever a table hears, no line has two seats.
-abbrev pub LinesHaveOneSeat : Type 0
-LinesHaveOneSeat =
-    (game : AbstractGame) (text : List ℕ) (config : Config) (events : List OwnEvent) (told : List Telling) →
-    (hall : HallOf game text config events told) (line first second : ℕ) →
-    SitsAt hall.state line first →
-    SitsAt hall.state line second →
-    first ≡ second
-
--- The keeper's moves have the same pairs in both matches, and neither has ended because a question is above the limits.
-pub record ChooseAlike (one other : AbstractPlay) : Type 0 where
-  pub light : ¬ IsHeavyEnd one
-  pub other_light : ¬ IsHeavyEnd other
-  pub keeper : keeper_pairs one.made ≡ keeper_pairs other.made
-
--- What a table hears decides whether its match has begun and what each line is told, but for the keeper's moves and for
--- an end because a question is above the limits.
-abbrev pub OneTable : Type 0
-OneTable =
-    (game : AbstractGame) (text : List ℕ) (config : Config) (events : List OwnEvent) (told others : List Telling) →
-    IsNumbered game.rules →
-    (one : HallOf game text config events told) →
-    (other : HallOf game text config events others) →
+-- Let two halls be such, and let the matches at that table, if they have begun, be alike: the keeper's moves have the
+-- same pairs, and neither ends because a question is above the limits. Then each line that asks for the table has the
+-- same bytes in both.
+abbrev pub LinesHaveTheSameBytes : Type 0
+LinesHaveTheSameBytes =
+    (starts others : List AbstractTable) (index : ℕ) (start : AbstractTable) (events elsewhere : List AbstractHallEvent)
+    (first second : List (List ℕ)) →
+    MayBeTables starts →
+    MayBeTables others →
+    (here : slice_get starts index ≡ Some start) →
+    (there : slice_get others index ≡ Some start) →
+    IsNumbered start.game.rules →
+    concerning (length starts) (index + 1) events ≡ concerning (length others) (index + 1) elsewhere →
+    (one : IsAllowed starts events first) →
+    (other : IsAllowed others elsewhere second) →
     ((playing playing' : MatchState) →
-    one.state.begun ≡ Some playing → other.state.begun ≡ Some playing' → ChooseAlike playing.play playing'.play) →
-    (is_some one.state.begun ≡ is_some other.state.begun)
-    × ((line : ℕ) → bytes_to line told ≡ bytes_to line others)
+    (one.by_table index start here).state.begun ≡ Some playing →
+    (other.by_table index start there).state.begun ≡ Some playing' →
+    ChooseAlike playing.play playing'.play) →
+    (line : ℕ) →
+    asks_for (length starts) (index + 1) line events ≡ true →
+    slice_index_or first line [] ≡ slice_index_or second line []
+
+-- what a line on a seat is told of an event before the match begins: an item of it is out of turn
+abbrev pub early_refusal : (line : ℕ) → OwnEvent → List ℕ
+early_refusal line (clock at) = []
+early_refusal line (joins other at) = []
+early_refusal line (arrives other at) = []
+early_refusal line (says other at item) = if other == line then spelling (refusal_message OutOfTurn) else []
+early_refusal line (leaves other at) = []
+
+-- The match that has begun at a table, which heard these events. Each line on a seat was told by the hall that its items
+-- before the beginning were out of turn, and then what the transcript says to its seat, and nothing else.
+pub record HoldsMatch (start : AbstractTable) (heard : List OwnEvent) (seats : List (Option ℕ)) (playing : MatchState)
+    (told : List Telling) : Type 0 where
+  pub by_table : List Telling
+  pub holds : HoldsTranscript start.game start.text start.config heard seats playing by_table
+  pub on_seats : (index line : ℕ) →
+      slice_get seats index ≡ Some (Some line) →
+      bytes_to line told ≡ flat_map (early_refusal line) holds.beginning.before ++ deliveries.bytes_for (index + 1) holds.said
+
+-- Whatever a hall hears, a match that has begun at a table holds a transcript of what the table heard, and the lines on
+-- its seats are told accordingly.
+abbrev pub BegunMatchesHoldTranscripts : Type 0
+BegunMatchesHoldTranscripts =
+    (starts : List AbstractTable) (events : List AbstractHallEvent) (state : HallState) (told : List Telling) →
+    HallRun starts events state told →
+    (index : ℕ) (start : AbstractTable) (table : TableState) (playing : MatchState) →
+    slice_get starts index ≡ Some start →
+    slice_get state.tables index ≡ Some table →
+    table.begun ≡ Some playing →
+    HoldsMatch start (own (length starts) (index + 1) events) table.seats playing told
+
+-- From a hall where nobody sits, with no logs, these events in turn lead here, and these bytes are queued for its lines. In
+-- between tables may be given empty logs.
+pub data LoggedRun {W : Type 0} (told : W → List ℕ → Type 0) (starts : List AbstractTable) :
+    List AbstractHallEvent → HallState → List (Ledger W) → (queues : List (List ℕ)) → Type 0 where
+  none :
+      LoggedRun told starts [] (new_hall starts) (map (λ _. no_log) starts) (replicate lines_in_all [])
+  keeps : {events : List AbstractHallEvent} {state : HallState} {ledgers : List (Ledger W)} {queues : List (List ℕ)} →
+      LoggedRun told starts events state ledgers queues →
+      (table : ℕ) (log : W) →
+      told log [] →
+      LoggedRun told starts events state (given_to state.tables ledgers table log) queues
+  more : {events : List AbstractHallEvent} {event : AbstractHallEvent} {middle new : HallState} {was is : List (Ledger W)}
+      {before after : List (List ℕ)} →
+      LoggedRun told starts events middle was before →
+      HallWrites told middle was event new is before after →
+      LoggedRun told starts (events ++ event ∷ []) new is after
+
+-- The log of a match that has begun at a table, which heard these events. The match holds a transcript of them. The log is
+-- a script, and the match of that script stands where this match does. What is queued for a line on a seat is that its
+-- items before the beginning were out of turn, and then what the script's match sends to its seat, and nothing else.
+pub record LogSends {W : Type 0} (told : W → List ℕ → Type 0) (log : W) (start : AbstractTable) (heard : List OwnEvent)
+    (seats : List (Option ℕ)) (playing : MatchState) (queues : List (List ℕ)) : Type 0 where
+  pub by_table : List Telling
+  pub holds : HoldsTranscript start.game start.text start.config heard seats playing by_table
+  pub held : List ℕ
+  pub sent : List (List ℕ)
+  pub tells : told log held
+  pub is : IsLog start.text held playing sent
+  pub on_seats : (index line : ℕ) →
+      slice_get seats index ≡ Some (Some line) →
+      slice_index_or queues line [] ≡ flat_map (early_refusal line) holds.beginning.before ++ slice_index_or sent index []
+
+-- Whatever a hall hears, a log that is told of a match that has begun is a script, whose match sends what is queued for the
+-- lines on the seats.
+abbrev pub LogsSendWhatIsTold : {W : Type 0} → (told : W → List ℕ → Type 0) → Type 0
+LogsSendWhatIsTold {W} told =
+    (starts : List AbstractTable) (events : List AbstractHallEvent) (state : HallState) (ledgers : List (Ledger W))
+    (queues : List (List ℕ)) →
+    LoggedRun told starts events state ledgers queues →
+    (index : ℕ) (start : AbstractTable) (table : TableState) (playing : MatchState) (log : W) →
+    slice_get starts index ≡ Some start →
+    Loads start.text start.game →
+    slice_get state.tables index ≡ Some table →
+    table.begun ≡ Some playing →
+    log_at ledgers (index + 1) ≡ Some log →
+    LogSends told log start (own (length starts) (index + 1) events) table.seats playing queues
+
+-- A hall that is served has heard what was heard in the call after what it heard before, unless memory ran out.
+abbrev pub ServedHallRunsOn : {W : Type 0} → (told : W → List ℕ → Type 0) → Type 0
+ServedHallRunsOn {W} told =
+    (starts : List AbstractTable) (events : List AbstractHallEvent) (rounds : ℕ) (before after : List Told)
+    (moments : List ℕ) (old new : HeldHall W) (queued_before queued : List (List ℕ)) (result : Result Served ServeError) →
+    LoggedRun told starts events old.state old.ledgers queued_before →
+    (serves : Serves (of_hall told) rounds before after moments old new queued_before queued result) →
+    (¬ IsErrOf result Memory) →
+    LoggedRun told starts (events ++ hall_events serves.heard) new.state new.ledgers queued
+
+-- What is queued for the lines of a new hall that was served may be queued for them after what was heard.
+abbrev pub ServedHallIsAllowed : {W : Type 0} → (told : W → List ℕ → Type 0) → Type 0
+ServedHallIsAllowed {W} told =
+    (starts : List AbstractTable) (rounds : ℕ) (before after : List Told) (moments : List ℕ) (old new : HeldHall W)
+    (queued_before queued : List (List ℕ)) (result : Result Served ServeError) →
+    IsNewHall starts old queued_before →
+    (serves : Serves (of_hall told) rounds before after moments old new queued_before queued result) →
+    IsServedHall starts serves.heard queued result

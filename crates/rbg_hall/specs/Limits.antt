@@ -1,6 +1,6 @@
 -- The limits of a hall.
 use Rattle.std.specs.Prelude.{ℕ}
 
--- a hall has this many lines
-abbrev pub lines_in_all : ℕ
-lines_in_all = 128
+-- a hall has at most this many tables
+abbrev pub most_tables : ℕ
+most_tables = 16

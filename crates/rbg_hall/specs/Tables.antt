@@ -29,7 +29,7 @@ new_table game text config =
 --   clock: the clock shows the moment.
 --   joins: the first item of a line asks for this table.
 --   arrives: a piece of a line that asked for this table has come.
---   says: such a line has completed an item behind its first one.
+--   says: such a line has completed an item after its first one.
 --   leaves: such a line has ended.
 pub data OwnEvent : Type 0 where
   clock : (at : ℕ) → OwnEvent

@@ -11,7 +11,7 @@ pub enum TableInput<'a> {
     Joins { line: u64, at: u64 },
     /// A piece of a line that asked for this table has come.
     Arrives { line: u64, at: u64 },
-    /// Such a line has completed an item behind its first one.
+    /// Such a line has completed an item after its first one.
     Says { line: u64, at: u64, took: Took<'a> },
     /// Such a line has ended.
     Leaves { line: u64, at: u64 },

@@ -1,14 +1,41 @@
-//! Tables of a hall: what one table does with what its own lines send and with the clock. The table seats the lines that
-//! ask for it, refuses what they say before its match begins, and hands it to the match afterwards. It touches no other
-//! table and the queues of its own lines alone.
+//! A whole hall: tables and lines together. What a line sends is heard by the table that its first message asks for,
+//! and by no other; the clock is heard by all. Each table plays as if it stood alone, and may have a log of its match.
 #![tactic(auto)]
 
+mod due;
+mod ending;
+mod engine;
+mod error;
+mod event;
+mod events;
+mod hall;
+mod hall_table;
+mod hearing;
 mod input;
+mod kept_table;
 pub mod laws;
+mod line;
+pub mod log_laws;
+mod noting;
+mod numbered;
+mod opening;
 mod queues;
+mod request;
 mod running;
+mod serving;
+mod speaking;
+mod standing;
 mod table;
+pub mod table_laws;
+mod whole;
 
+pub use error::HallError;
+pub use event::HallEvent;
+pub use hall::{Hall, TABLES};
+pub use hall_table::{HallTable, MESSAGE_LIMIT, whole_piece};
 pub use input::TableInput;
+pub use kept_table::KeptTable;
 pub use queues::{HallOut, LINES, Mark};
-pub use table::{HallTable, MESSAGE_LIMIT, whole_piece};
+pub use standing::Standing;
+pub use table::Table;
+pub use whole::whole_hall;

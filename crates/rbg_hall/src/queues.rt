@@ -1,6 +1,6 @@
 //! The bytes that are queued for the lines.
 ghost use Rattle.std.specs.Prelude.{◌≡◌, ◌<◌, ℕ, List, [], replicate, slice_index_or, IfOk, OnOk, length};
-ghost use Rattle.rbg_hall.specs.Limits.{lines_in_all};
+ghost use Rattle.rbg_hall.specs.TableLimits.{lines_in_all};
 ghost use Rattle.rbg_hall.specs.Tellings.{refusal_to, telling, to_lines, told_on, told_to};
 ghost use Rattle.rbg_hall.specs.Undoing.{bytes_in, cut_back, undone};
 
@@ -33,7 +33,7 @@ impl Model for HallOut {
 
     ghost view = { λ o. map (λ queue. queue.items) o.queues.items };
 
-    ghost use Rattle.rbg_hall.specs.Limits.{lines_in_all};
+    ghost use Rattle.rbg_hall.specs.TableLimits.{lines_in_all};
 
     ghost invariant = { λ o. length o.queues.items ≡ lines_in_all };
 }

@@ -1,15 +1,15 @@
 -- Lemmas on why a hall has no printed lines.
 use Rattle.rbg_base.proofs.Common.{◌≡◌, ℕ, ◌≤◌, List, All, Some, length, map, slice_get, sym, subst, length-map, All-get_or, slice_get_within, get_or_from_slice_get}
 use Rattle.std.specs.Global.{Vec}
-use Rattle.rbg_floor.proofs.Common.{AbstractHallEvent, AbstractTable, most_tables, IsRefusedHall}
-use Rattle.rbg_floor.specs.Openings.IsRefusedHall.{tables as wrong_tables, config as wrong_config, memory as no_memory}
-use Rattle.rbg_floor.specs.Wholes.{IsOfHall as IsAllowedHall}
-use Rattle.rbg_floor.specs.declared.error.HallError.{HallError}
+use Rattle.rbg_hall.proofs.Common.{AbstractHallEvent, AbstractTable, most_tables, IsRefusedHall}
+use Rattle.rbg_hall.specs.Openings.IsRefusedHall.{tables as wrong_tables, config as wrong_config, memory as no_memory}
+use Rattle.rbg_hall.specs.Wholes.{IsOfHall as IsAllowedHall}
+use Rattle.rbg_hall.specs.declared.error.HallError.{HallError}
 use Rattle.rbg_match.specs.Config.{IsWithinLimits}
 use Rattle.rbg_match.specs.declared.config.Config.{Config}
-use Rattle.rbg_refereeing.specs.Scripts.{config_for}
-use Rattle.rbg_refereeing.specs.Errors.{IsOfScript}
-use Rattle.rbg_refereeing.specs.declared.error.RefereeingError.{RefereeingError}
+use Rattle.rbg_referee.specs.Scripts.{config_for}
+use Rattle.rbg_referee.specs.Errors.{IsOfScript}
+use Rattle.rbg_referee.specs.declared.input_error.RefereeingError.{RefereeingError}
 use Rattle.rbg_script.specs.declared.error.ScriptError.{ScriptError}
 use Rattle.rbg_script.specs.declared.error.ScriptError.TheVariants.{Line, Memory as NoMemory}
 use Rattle.rbg_script.specs.Scripts.{AbstractScript, SpellsScript, HasMisfit, IsReason, misfit}

@@ -1,7 +1,7 @@
 -- Lemmas on the printed lines of a hall.
 use Rattle.std.proofs.Common.{◌≡◌, ℕ, ◌+◌, ◌<◌, List, [], ◌∷◌, ◌++◌, length, take, get_or, ap, sym, ◌∙◌, subst, arith}
 use Rattle.std.proofs.lemmas.List.{take_more, length-take-le}
-use Rattle.rbg_refereeing.specs.Printed.{AreMessages, seat_lines}
+use Rattle.rbg_referee.specs.Printed.{AreMessages, seat_lines}
 use Rattle.rbg_hosting.specs.Printed.{IsPrintedHall}
 use Rattle.rbg_hosting.specs.Printed.IsPrintedHall.{one_more}
 

@@ -2,13 +2,13 @@
 use Rattle.rbg_base.proofs.Common.{◌≡◌, ℕ, suc, ◌+◌, ◌<◌, ◌≤◌, List, [], ◌∷◌, ◌++◌, Option, Some, None, length, map, take, slice_get, false, ap, sym, ◌∙◌, refl, subst, append-nil, arith, Ok, slice_index_or, slice_get-get_or, slice_get_within, get_or_from_slice_get}
 use Rattle.std.proofs.lemmas.List.{length-map, length-take-le, take_more, take_all}
 use Rattle.rbg_base.proofs.CallerLemmas.{slice_get-map_at}
-use Rattle.rbg_floor.proofs.Common.{HeldHall, AbstractTable, HallState, begun_at, begun_of, IsNewHall, of_hall, hall_events}
-use Rattle.rbg_floor.proofs.Beginnings.{begun_matches_hold_transcripts}
-use Rattle.rbg_floor.proofs.Running.{EachRuns, run_of, run_stands}
-use Rattle.rbg_floor.proofs.Running as running
-use Rattle.rbg_floor.proofs.Served.{handled_run}
-use Rattle.rbg_floor.proofs.Wholes.{new_run}
-use Rattle.rbg_hall.proofs.Common.{TableState, OwnEvent, Telling}
+use Rattle.rbg_hall.proofs.Common.{HeldHall, AbstractTable, HallState, begun_at, begun_of, IsNewHall, of_hall, hall_events}
+use Rattle.rbg_hall.proofs.Beginnings.{begun_matches_hold_transcripts}
+use Rattle.rbg_hall.proofs.HallRunning.{EachRuns, run_of, run_stands}
+use Rattle.rbg_hall.proofs.HallRunning as running
+use Rattle.rbg_hall.proofs.Served.{handled_run}
+use Rattle.rbg_hall.proofs.Wholes.{new_run}
+use Rattle.rbg_hall.proofs.TableCommon.{TableState, OwnEvent, Telling}
 use Rattle.rbg_match.specs.Matches.{MatchState}
 use Rattle.rbg_record.specs.Right.{IsRightRecord}
 use Rattle.rbg_serving.proofs.Common.{Serves, Told, TellEach, nothing_told}

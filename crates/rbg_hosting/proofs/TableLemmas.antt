@@ -2,12 +2,12 @@
 use Rattle.rbg_base.proofs.Common.{◌≡◌, ℕ, ◌+◌, ◌<◌, List, [], ◌∷◌, ◌++◌, All, length, take, drop, get_or, ap, sym, ◌∙◌, refl, subst, All-nil, All-push}
 use Rattle.std.specs.Global.{Vec}
 use Rattle.std.proofs.lemmas.List.{length-append, map-append, take-append-drop, take_more, drop_more}
-use Rattle.rbg_floor.specs.declared.table.Table.{Table}
-use Rattle.rbg_floor.proofs.Common.{AbstractTable, AreLoaded, start_of, starts_of}
+use Rattle.rbg_hall.specs.declared.table.Table.{Table}
+use Rattle.rbg_hall.proofs.Common.{AbstractTable, AreLoaded, start_of, starts_of}
 use Rattle.rbg_game.specs.Loading.{Loads}
 use Rattle.rbg_match.specs.declared.config.Config.{Config}
-use Rattle.rbg_refereeing.specs.declared.error.RefereeingError.{RefereeingError}
-use Rattle.rbg_refereeing.specs.declared.error.RefereeingError.TheVariants.{Load, Script, Memory}
+use Rattle.rbg_referee.specs.declared.input_error.RefereeingError.{RefereeingError}
+use Rattle.rbg_referee.specs.declared.input_error.RefereeingError.TheVariants.{Load, Script, Memory}
 use Rattle.rbg_hosting.specs.Tables.{texts_of, IsGames, IsTableOf, AreTablesOf}
 use Rattle.rbg_hosting.specs.Tables.AreTablesOf.{no_table, one_more}
 use Rattle.rbg_hosting.specs.internal.Loading.{IsNotTable, IsNotLoaded}
@@ -54,7 +54,7 @@ pub one_more_loaded : (config : Config) (description : List ℕ) (old new : List
 one_more_loaded config description old new table are one adds =
     subst AreLoaded (sym adds) (All-push (λ (table : Table). Loads table.text.items table.game) old table are (subst (λ text. Loads text table.game) (sym one.text) one.loads))
 
--- the descriptions before one, this one, and those behind it
+-- the descriptions before one, this one, and those after it
 parts_at : (descriptions : List (Vec ℕ)) (k : ℕ) (description : Vec ℕ) → k < length descriptions → description ≡ get_or descriptions k description → texts_of descriptions ≡ texts_of (take k descriptions) ++ description.items ∷ texts_of (drop (k + 1) descriptions)
 parts_at descriptions k description below is =
     ap texts_of (sym (take-append-drop k descriptions) ∙ ap (λ l. take k descriptions ++ l) (drop_more descriptions k description below ∙ ap (λ d. d ∷ drop (k + 1) descriptions) (sym is)))

@@ -2,8 +2,8 @@
 use Rattle.std.specs.Prelude.{◌≡◌, ℕ, List}
 use Rattle.rbg_console.specs.declared.status.Status.{Status}
 use Rattle.rbg_console.specs.declared.status.Status.TheVariants.{Success, BadInput}
-use Rattle.rbg_refereeing.specs.Answers.{script_line}
-use Rattle.rbg_refereeing.specs.Faults as of_inputs
+use Rattle.rbg_referee.specs.Answers.{script_line}
+use Rattle.rbg_referee.specs.Faults as of_inputs
 use Rattle.rbg_hosting.specs.declared.error.HostingError.{HostingError}
 use Rattle.rbg_hosting.specs.declared.error.HostingError.TheVariants.{Tables, Input}
 use Rattle.rbg_hosting.specs.Halls.{IsNoHall, IsScriptsHall}

@@ -1,9 +1,9 @@
 -- Which error an error of a lower crate becomes.
 use Rattle.std.specs.Prelude.{◌≡◌}
-use Rattle.rbg_floor.specs.declared.error.HallError.{HallError}
-use Rattle.rbg_floor.specs.declared.error.HallError.TheVariants.{Tables as WrongTables, Config, Memory as NoMoreMemory}
-use Rattle.rbg_refereeing.specs.declared.error.RefereeingError.{RefereeingError}
-use Rattle.rbg_refereeing.specs.declared.error.RefereeingError.TheVariants.{Script, Memory}
+use Rattle.rbg_hall.specs.declared.error.HallError.{HallError}
+use Rattle.rbg_hall.specs.declared.error.HallError.TheVariants.{Tables as WrongTables, Config, Memory as NoMoreMemory}
+use Rattle.rbg_referee.specs.declared.input_error.RefereeingError.{RefereeingError}
+use Rattle.rbg_referee.specs.declared.input_error.RefereeingError.TheVariants.{Script, Memory}
 use Rattle.rbg_hosting.specs.declared.error.HostingError.{HostingError}
 use Rattle.rbg_hosting.specs.declared.error.HostingError.TheVariants.{Tables, Input}
 

@@ -1,11 +1,11 @@
 -- What is printed of a hall that hears a script, and why nothing is.
 use Rattle.std.specs.Prelude.{◌≤◌, ℕ, List, All, length, map}
-use Rattle.rbg_floor.specs.Halls.{AbstractTable}
-use Rattle.rbg_floor.specs.Limits.{most_tables}
-use Rattle.rbg_floor.specs.Wholes.{IsOfHall}
-use Rattle.rbg_refereeing.specs.Scripts.{config_for}
-use Rattle.rbg_refereeing.specs.declared.error.RefereeingError.{RefereeingError}
-use Rattle.rbg_refereeing.specs.declared.error.RefereeingError.TheVariants.{Load, Script, Memory}
+use Rattle.rbg_hall.specs.Halls.{AbstractTable}
+use Rattle.rbg_hall.specs.Limits.{most_tables}
+use Rattle.rbg_hall.specs.Wholes.{IsOfHall}
+use Rattle.rbg_referee.specs.Scripts.{config_for}
+use Rattle.rbg_referee.specs.declared.input_error.RefereeingError.{RefereeingError}
+use Rattle.rbg_referee.specs.declared.input_error.RefereeingError.TheVariants.{Load, Script, Memory}
 use Rattle.rbg_script.specs.Scripts.{AbstractScript, SpellsScript, HasMisfit}
 use Rattle.rbg_hosting.specs.declared.error.HostingError.{HostingError}
 use Rattle.rbg_hosting.specs.declared.error.HostingError.TheVariants.{Tables, Input}

@@ -1,3 +1,6 @@
+-- Matches that outlive the process that served them.
+pub mod Played
+pub mod Runs
 pub mod Answers
 pub mod Errors
 pub mod Halls

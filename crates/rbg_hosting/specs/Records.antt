@@ -1,9 +1,9 @@
 -- What `hall` prints: the record of each match that has begun.
 use Rattle.std.specs.Prelude.{ℕ, ◌+◌, List, [], ◌∷◌, ◌++◌, Option, Some, None, length, codes, decimal}
-use Rattle.rbg_floor.specs.Events.{AbstractHallEvent}
-use Rattle.rbg_floor.specs.Halls.{AbstractTable, HallState}
-use Rattle.rbg_floor.specs.Serving.{HaveAllEnded}
-use Rattle.rbg_floor.specs.Wholes.{HasRun}
+use Rattle.rbg_hall.specs.Events.{AbstractHallEvent}
+use Rattle.rbg_hall.specs.Halls.{AbstractTable, HallState}
+use Rattle.rbg_hall.specs.Serving.{HaveAllEnded}
+use Rattle.rbg_hall.specs.Wholes.{HasRun}
 use Rattle.rbg_hall.specs.Tables.{TableState}
 use Rattle.rbg_match.specs.Matches.{MatchState}
 use Rattle.rbg_match.specs.declared.config.Config.{Config}

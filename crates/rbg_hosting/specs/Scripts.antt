@@ -1,5 +1,5 @@
 -- The events of a script as those of a hall.
-use Rattle.rbg_floor.specs.Events.{AbstractHallEvent, sends, ends, ticks}
+use Rattle.rbg_hall.specs.Events.{AbstractHallEvent, sends, ends, ticks}
 use Rattle.rbg_script.specs.Events.{AbstractEvent, piece_event, end_event, tick_event}
 
 -- the event of the hall: its line has the number that the script has for a seat, and moment and bytes are the same

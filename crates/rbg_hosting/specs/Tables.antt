@@ -1,6 +1,6 @@
 -- The tables of a hall, of their descriptions.
 use Rattle.std.specs.Prelude.{◌≡◌, ℕ, List, [], ◌∷◌, ◌++◌, All, map}
-use Rattle.rbg_floor.specs.Halls.{AbstractTable}
+use Rattle.rbg_hall.specs.Halls.{AbstractTable}
 use Rattle.rbg_game.specs.Loading.{Loads, IsRefused, IsMemory}
 use Rattle.rbg_game.specs.declared.error.LoadError.{LoadError}
 use Rattle.rbg_match.specs.declared.config.Config.{Config}

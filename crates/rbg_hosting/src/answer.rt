@@ -6,7 +6,7 @@ ghost use Rattle.rbg_hosting.specs.Tables.{texts_of};
 use crate::HostingError;
 use crate::hearing::hall_texts;
 use rbg_console::Status;
-use rbg_refereeing::{Answer, answer_fault, answer_script};
+use rbg_referee::{Answer, answer_fault, answer_script};
 use std::alloc::{AllocError, Global};
 
 /// Answers descriptions and a script: with the printed lines of the hall that hears it, or with the line of what is wrong.

@@ -1,8 +1,8 @@
 //! Why a hall has no printed lines.
 ghost use Rattle.rbg_hosting.specs.Errors.{IsOfHall, IsOfInput};
 
-use rbg_floor::HallError;
-use rbg_refereeing::RefereeingError;
+use rbg_hall::HallError;
+use rbg_referee::RefereeingError;
 use thiserror::Error;
 
 /// Why a hall has no printed lines.

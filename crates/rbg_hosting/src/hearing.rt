@@ -8,10 +8,9 @@ use crate::HostingError;
 use crate::printed::hall_lines;
 use crate::script_events::events_of;
 use crate::tables::tables_of;
-use rbg_floor::{TABLES, whole_hall};
-use rbg_hall::HallOut;
+use rbg_hall::{HallOut, TABLES, whole_hall};
 use rbg_match::Config;
-use rbg_refereeing::{RefereeingError, config_of};
+use rbg_referee::{RefereeingError, config_of};
 use rbg_script::{Script, ScriptError, read_script};
 use std::alloc::Global;
 

@@ -1,18 +1,38 @@
-//! A hall from its descriptions: what it prints of a script that it hears, and its matches over connections.
+//! Matches and halls that are served: with a log or with none, going on from one that was cut off, from a script, and
+//! over connections.
 #![tactic(auto)]
 
+mod again;
 mod answer;
+mod beginning;
+mod bounded;
+mod cut;
 mod error;
+mod fault;
 mod hearing;
+mod joining;
+mod keeping_serving;
 mod printed;
 mod reading;
+mod record;
+mod resuming;
 mod run;
+mod script;
 mod script_events;
 mod serving;
 mod tables;
+mod task;
 
+pub use again::resume_match;
 pub use answer::answer_hall;
+pub use beginning::serve_lines;
+pub use cut::run_cut;
 pub use error::HostingError;
+pub use fault::ServingFault;
 pub use hearing::hall_texts;
+pub use keeping_serving::serve_match;
+pub use record::keep_record;
 pub use run::{run_hall_script, serve_files};
+pub use script::run_script;
 pub use serving::{HallService, serve_hall};
+pub use task::{Keeping, NOTHING_KEPT, Serving};

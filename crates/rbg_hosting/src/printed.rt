@@ -1,10 +1,10 @@
 //! The printed lines of a hall: for each of its lines in order, each of its messages.
 ghost use Rattle.std.specs.Prelude.{◌≡◌, length, IfOk};
-ghost use Rattle.rbg_hall.specs.Limits.{lines_in_all};
+ghost use Rattle.rbg_hall.specs.TableLimits.{lines_in_all};
 ghost use Rattle.rbg_hosting.specs.Printed.{IsPrintedHall};
 
 use rbg_hall::{HallOut, LINES};
-use rbg_refereeing::push_seat;
+use rbg_referee::push_seat;
 use std::alloc::{AllocError, Global};
 
 /// `<line> <message>` for each message, as `referee` prints those of a seat.

@@ -2,7 +2,7 @@
 
 use rbg_console::{Files, Input};
 use rbg_game::{LoadError, load};
-use rbg_tokens::{MAX_TEXT, TextError};
+use rbg_macro::{MAX_TEXT, TextError};
 use std::alloc::{AllocError, Global};
 
 /// What the files have. None where one of them can't be read; None for one that is too long for a description.

@@ -2,12 +2,12 @@
 
 use crate::HallService;
 use crate::answer::answer_hall;
+use crate::fault::ServingFault;
 use crate::reading::{read_all, whole_texts};
 use crate::serving::serve_hall;
 use rbg_console::{Files, Input, MAX_INPUT, Status, read_input, write_text};
-use rbg_keeping::ServingFault;
 use rbg_network::Network;
-use rbg_refereeing::{Answer, RefereeingError, answer_device, answer_fault, answer_script};
+use rbg_referee::{Answer, RefereeingError, answer_device, answer_fault, answer_script};
 use std::alloc::{AllocError, Global};
 use std::io::{Read, Write};
 

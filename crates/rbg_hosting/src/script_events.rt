@@ -1,10 +1,10 @@
 //! The events of a script, as a hall is given them.
 ghost use Rattle.std.specs.Prelude.{◌≡◌, map, IfOk};
-ghost use Rattle.rbg_floor.specs.Events.{event_of as hall_event};
+ghost use Rattle.rbg_hall.specs.Events.{event_of as hall_event};
 ghost use Rattle.rbg_hosting.specs.Scripts.{event_for};
 ghost use Rattle.rbg_script.specs.Events.{event_of as scripted_event};
 
-use rbg_floor::HallEvent;
+use rbg_hall::HallEvent;
 use rbg_script::ScriptEvent;
 use std::alloc::{AllocError, Global};
 

@@ -1,22 +1,20 @@
 //! A hall over connections: its players are waited for, its matches are played at once, and their records are given.
 ghost use Rattle.std.specs.Prelude.{◌≡◌, ◌≤◌, [], List, length, IfOk, OnOk};
-ghost use Rattle.rbg_floor.specs.Halls.{AbstractTable, begun_at};
-ghost use Rattle.rbg_floor.specs.Openings.{AreLoaded, IsNewHall, starts_of};
-ghost use Rattle.rbg_hall.specs.Limits.{lines_in_all};
+ghost use Rattle.rbg_hall.specs.Halls.{AbstractTable, begun_at};
+ghost use Rattle.rbg_hall.specs.Openings.{AreLoaded, IsNewHall, starts_of};
+ghost use Rattle.rbg_hall.specs.TableLimits.{lines_in_all};
 ghost use Rattle.rbg_hosting.specs.Records.{AreHallsRecords, ArePrintedMatches, HasEnded};
 ghost use Rattle.rbg_hosting.specs.Tables.{texts_of};
 ghost use Rattle.rbg_hosting.specs.internal.Writing.{AppendsMatch, AppendsRecord};
 ghost use Rattle.rbg_match.specs.Matches.{HasHistory};
 
+use crate::fault::ServingFault;
 use crate::tables::tables_of;
-use rbg_floor::{Hall, HallError, Table};
-use rbg_hall::{HallOut, LINES};
-use rbg_keeping::ServingFault;
-use rbg_log::Log;
+use rbg_hall::{Hall, HallError, HallOut, LINES, Table};
 use rbg_match::{Config, Match};
 use rbg_network::{Hosting, Network, News, StreamLine, gather};
 use rbg_record::write_record;
-use rbg_serving::{Clock, ServeError};
+use rbg_serving::{Clock, Log, ServeError};
 use std::alloc::{AllocError, Global};
 use std::io::{Read, Write};
 

@@ -1,13 +1,13 @@
 //! The tables of a hall, of their descriptions.
 ghost use Rattle.std.specs.Prelude.{◌≡◌, ◌++◌, ◌∷◌, [], IfErr, IfOk, OnOk};
-ghost use Rattle.rbg_floor.specs.Openings.{AreLoaded, start_of, starts_of};
+ghost use Rattle.rbg_hall.specs.Openings.{AreLoaded, start_of, starts_of};
 ghost use Rattle.rbg_hosting.specs.Tables.{AreTablesOf, IsTableOf, texts_of};
 ghost use Rattle.rbg_hosting.specs.internal.Loading.{IsNotLoaded, IsNotTable};
 
-use rbg_floor::Table;
 use rbg_game::load;
+use rbg_hall::Table;
 use rbg_match::Config;
-use rbg_refereeing::RefereeingError;
+use rbg_referee::RefereeingError;
 use std::alloc::Global;
 
 /// A table for each description, in order.

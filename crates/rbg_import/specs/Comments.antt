@@ -17,18 +17,18 @@ pub record IsPlain (bytes : List ℕ) (at end : ℕ) : Type 0 where
 -- the bytes from `//` up to the end of its line
 pub record IsLine (bytes : List ℕ) (at end : ℕ) : Type 0 where
   pub opens : StandsAt bytes at 47 47
-  pub behind : at + 2 ≤ end
+  pub after : at + 2 ≤ end
   pub one_line : (k : ℕ) → at + 2 ≤ k → k < end → slice_index bytes k ≢ 10
   pub ends : end < length bytes → slice_index bytes end ≡ 10
 
--- the bytes from `/*` up to the first `*/` behind it
+-- the bytes from `/*` up to the first `*/` after it
 pub record IsBlock (bytes : List ℕ) (at end : ℕ) : Type 0 where
   pub opens : StandsAt bytes at 47 42
-  pub behind : at + 4 ≤ end
+  pub after : at + 4 ≤ end
   pub closes : StandsAt bytes (end - 2) 42 47
   pub first : (k : ℕ) → at + 2 ≤ k → k < end - 2 → StandsAt bytes k 42 47 → ⊥
 
--- a `/*` behind which no `*/` stands
+-- a `/*` after which no `*/` stands
 pub record IsOpen (bytes : List ℕ) (at end : ℕ) : Type 0 where
   pub opens : StandsAt bytes at 47 42
   pub last : end ≡ length bytes
@@ -51,7 +51,7 @@ commented_byte b = if b == 10 then b ∷ codes "//" else b ∷ []
 abbrev pub commented : List ℕ → List ℕ
 commented body = codes "//" ++ flat_map commented_byte body
 
--- a line feed, unless the line ends behind a comment anyway
+-- a line feed, unless the line ends after a comment anyway
 abbrev pub feed_before : List ℕ → List ℕ
 feed_before rest = if ends_line rest then [] else codes "\n"
 

@@ -7,17 +7,17 @@ use Rattle.rbg_import.specs.declared.board.Direction.{Direction}
 use Rattle.rbg_import.specs.declared.graph.Edge.{Edge}
 use Rattle.rbg_import.specs.declared.place.Place.{Place}
 use Rattle.rbg_import.specs.declared.place.Way.{Way}
-use Rattle.rbg_import.specs.declared.place.Way.TheVariants.{RowBefore, RowBehind, CellBefore, CellBehind, LayerBefore, LayerBehind}
+use Rattle.rbg_import.specs.declared.place.Way.TheVariants.{RowBefore, RowAfter, CellBefore, CellAfter, LayerBefore, LayerAfter}
 
 -- The way leads from the first place to the second. Rows follow one another downwards, cells from the left, layers from
 -- the first one.
 abbrev pub leads : Way → Place → Place → Bool
 leads RowBefore a b = (a.y == b.y + 1) && (a.x == b.x) && (a.z == b.z)
-leads RowBehind a b = (b.y == a.y + 1) && (a.x == b.x) && (a.z == b.z)
+leads RowAfter a b = (b.y == a.y + 1) && (a.x == b.x) && (a.z == b.z)
 leads CellBefore a b = (a.x == b.x + 1) && (a.y == b.y) && (a.z == b.z)
-leads CellBehind a b = (b.x == a.x + 1) && (a.y == b.y) && (a.z == b.z)
+leads CellAfter a b = (b.x == a.x + 1) && (a.y == b.y) && (a.z == b.z)
 leads LayerBefore a b = (a.z == b.z + 1) && (a.x == b.x) && (a.y == b.y)
-leads LayerBehind a b = (b.z == a.z + 1) && (a.x == b.x) && (a.y == b.y)
+leads LayerAfter a b = (b.z == a.z + 1) && (a.x == b.x) && (a.y == b.y)
 
 -- the edge of a place in a direction to a cell, if it leads there
 abbrev pub edge_to : Place → Direction → Cell → List Edge

@@ -1,8 +1,8 @@
 -- What an imported text is.
 use Rattle.std.specs.Prelude.{ℕ, ◌≡◌, ◌≤◌, List, ◌++◌, length, take, drop}
 use Rattle.rbg_import.specs.declared.board.Board.{Board}
-use Rattle.rbg_import.specs.declared.importing.Imported.{Imported}
-use Rattle.rbg_import.specs.declared.importing.Imported.TheVariants.{Text, Faults}
+use Rattle.rbg_import.specs.declared.whole_text.Imported.{Imported}
+use Rattle.rbg_import.specs.declared.whole_text.Imported.TheVariants.{Text, Faults}
 use Rattle.rbg_import.specs.Comments.{Rewrites}
 use Rattle.rbg_import.specs.Graphs.{graph_text}
 
@@ -21,11 +21,11 @@ pub record IsChanged (text new : List ℕ) : Type 0 where
   pub before : List ℕ
   pub notes : List ℕ
   pub graph : List ℕ
-  pub behind : List ℕ
-  pub is : new ≡ ((before ++ notes) ++ graph) ++ behind
+  pub after : List ℕ
+  pub is : new ≡ ((before ++ notes) ++ graph) ++ after
   pub rewrites_before : Rewrites (take start text) (length (take start text)) before
   pub is_graph : IsGraph graph
-  pub rewrites_behind : Rewrites (drop end text) (length (drop end text)) behind
+  pub rewrites_after : Rewrites (drop end text) (length (drop end text)) after
 
 -- The new text is the old one with other comments alone, or with a graph too.
 pub data IsImported (text new : List ℕ) : Type 0 where

@@ -1,7 +1,7 @@
 //! A board as a description writes it.
 
 use crate::place::{Place, WAYS, Way};
-use rbg_tokens::Token;
+use rbg_macro::Token;
 
 /// A direction of a board.
 #[derive(Clone, Copy)]

@@ -19,7 +19,7 @@ enum PartKind {
     Open,
 }
 
-/// What stands at an offset, and the offset behind it.
+/// What stands at an offset, and the offset after it.
 #[derive(Clone, Copy)]
 struct Part {
     kind: PartKind,
@@ -57,7 +57,7 @@ fn stands_at(bytes: &[u8], at: usize, first: u8, second: u8) -> bool
 /// The end of the line, from an offset on.
 fn line_end(bytes: &[u8], from: usize) -> usize
     requires { from ≤ length bytes.now }
-    ensures behind { from ≤ result }
+    ensures after { from ≤ result }
     ensures within { result ≤ length bytes.now }
     ensures one_line { (k : ℕ) → from ≤ k → k < result → slice_index bytes.now k ≢ 10 }
     ensures ends { result < length bytes.now → slice_index bytes.now result ≡ 10 }
@@ -90,7 +90,7 @@ fn block_part(bytes: &[u8], at: usize) -> Part
 /// Where the first `*/` stands from an offset on.
 fn body_end(bytes: &[u8], from: usize) -> Option<usize>
     requires { from ≤ length bytes.now }
-    ensures behind { IfSome result (λ index. from ≤ index) }
+    ensures after { IfSome result (λ index. from ≤ index) }
     ensures found { IfSome result (λ index. StandsAt bytes.now index 42 47) }
     ensures first { IfSome result (λ index. (k : ℕ) → from ≤ k → k < index → StandsAt bytes.now k 42 47 → ⊥) }
     ensures none { IfNone result ((k : ℕ) → from ≤ k → StandsAt bytes.now k 42 47 → ⊥) }
@@ -191,7 +191,7 @@ fn push_commented_bytes(body: &[u8], output: &mut Vec<u8>) -> Result<(), AllocEr
     Ok(())
 }
 
-/// Adds a byte of a comment, and behind a line feed `//`.
+/// Adds a byte of a comment, and after a line feed `//`.
 fn push_commented_byte(byte: u8, output: &mut Vec<u8>) -> Result<(), AllocError>
     ensures { OnOk result (output.new.items ≡ output.old.items ++ commented_byte byte) }
 {
@@ -199,7 +199,7 @@ fn push_commented_byte(byte: u8, output: &mut Vec<u8>) -> Result<(), AllocError>
     output.extend_from_slice(if byte == b'\n' { b"//" } else { b"" })
 }
 
-/// Adds a line feed, unless the line ends behind a comment anyway.
+/// Adds a line feed, unless the line ends after a comment anyway.
 fn push_feed(rest: &[u8], output: &mut Vec<u8>) -> Result<(), AllocError>
     ensures { OnOk result (output.new.items ≡ output.old.items ++ feed_before rest.now) }
 {

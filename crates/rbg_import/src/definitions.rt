@@ -1,7 +1,7 @@
 //! The board of a text, its macros, and rows that lack a cell.
 
-use crate::fault::{Fault, FaultKind, push_fault_at};
-use rbg_tokens::{Symbol, Token};
+use crate::fault::{FaultKind, ImportFault, push_fault_at};
+use rbg_macro::{Symbol, Token};
 use std::alloc::{AllocError, Global};
 
 /// The names of the sections.
@@ -12,7 +12,7 @@ const SECTIONS: [&str; 5] = ["players", "pieces", "variables", "board", "rules"]
 pub(crate) struct Definition<'a> {
     /// The name in its head.
     pub name: Token<'a>,
-    /// What stands behind its `=`.
+    /// What stands after its `=`.
     pub body: &'a [Token<'a>],
 }
 
@@ -47,21 +47,21 @@ pub(crate) fn definitions<'a>(
     Ok(found)
 }
 
-/// Adds the definition that these tokens continue behind its `#`, if its head is whole.
+/// Adds the definition that these tokens continue after its `#`, if its head is whole.
 fn push_definition<'a>(
-    behind: Option<&'a [Token<'a>]>,
+    after: Option<&'a [Token<'a>]>,
     found: &mut Vec<Definition<'a>>,
 ) -> Result<(), AllocError> {
-    if let Some(definition) = definition_of(behind) {
+    if let Some(definition) = definition_of(after) {
         found.push(definition)?;
     }
     Ok(())
 }
 
-fn definition_of<'a>(behind: Option<&'a [Token<'a>]>) -> Option<Definition<'a>> {
-    let behind = behind?;
-    let end = index_of(behind, Symbol::Hash).unwrap_or(behind.len());
-    let (name, rest) = behind.get(..end)?.split_first()?;
+fn definition_of<'a>(after: Option<&'a [Token<'a>]>) -> Option<Definition<'a>> {
+    let after = after?;
+    let end = index_of(after, Symbol::Hash).unwrap_or(after.len());
+    let (name, rest) = after.get(..end)?.split_first()?;
     let equals = index_of(rest, Symbol::Equals)?;
     Some(Definition {
         name: *name,
@@ -79,11 +79,11 @@ fn index_of(tokens: &[Token<'_>], symbol: Symbol) -> Option<usize> {
     None
 }
 
-/// The first token of a board behind which a cell is lacking.
+/// The first token of a board after which a cell is lacking.
 pub(crate) fn first_hole<'a>(tokens: &[Token<'a>]) -> Option<Token<'a>> {
     for pair in tokens.windows(2) {
-        if let [before, behind] = pair
-            && is_hole(*before, *behind)
+        if let [before, after] = pair
+            && is_hole(*before, *after)
         {
             return Some(*before);
         }
@@ -92,17 +92,17 @@ pub(crate) fn first_hole<'a>(tokens: &[Token<'a>]) -> Option<Token<'a>> {
 }
 
 /// Whether a cell is lacking between two tokens: between commas, or between a comma and the bracket of a row.
-fn is_hole(before: Token<'_>, behind: Token<'_>) -> bool {
-    let is_after_bracket = before.is(Symbol::OpenBracket) && behind.is(Symbol::Comma);
-    let is_before_bracket = before.is(Symbol::Comma) && behind.is(Symbol::CloseBracket);
-    let is_between = before.is(Symbol::Comma) && behind.is(Symbol::Comma);
+fn is_hole(before: Token<'_>, after: Token<'_>) -> bool {
+    let is_after_bracket = before.is(Symbol::OpenBracket) && after.is(Symbol::Comma);
+    let is_before_bracket = before.is(Symbol::Comma) && after.is(Symbol::CloseBracket);
+    let is_between = before.is(Symbol::Comma) && after.is(Symbol::Comma);
     is_after_bracket || is_before_bracket || is_between
 }
 
-/// Tells the boards of layers in macros, and the rows that lack a cell: of each macro the first one.
+/// Reports the boards of layers in macros, and the rows that lack a cell: of each macro the first one.
 pub(crate) fn push_macro_boards(
     definitions: &[Definition<'_>],
-    faults: &mut Vec<Fault>,
+    faults: &mut Vec<ImportFault>,
 ) -> Result<(), AllocError> {
     for definition in definitions {
         if definition.is_macro() {
@@ -113,11 +113,11 @@ pub(crate) fn push_macro_boards(
     Ok(())
 }
 
-/// Tells that a token can't be rewritten, if there is one.
+/// Reports that a token can't be rewritten, if there is one.
 pub(crate) fn push_found(
     kind: FaultKind,
     found: Option<Token<'_>>,
-    faults: &mut Vec<Fault>,
+    faults: &mut Vec<ImportFault>,
 ) -> Result<(), AllocError> {
     match found {
         Some(token) => push_fault_at(faults, kind, token),
@@ -145,11 +145,11 @@ pub(crate) fn has_calls(definitions: &[Definition<'_>], board: &[Token<'_>]) -> 
     false
 }
 
-/// Tells the calls of macros among the tokens of a board, and joined tokens.
+/// Reports the calls of macros among the tokens of a board, and joined tokens.
 pub(crate) fn push_calls(
     definitions: &[Definition<'_>],
     board: &[Token<'_>],
-    faults: &mut Vec<Fault>,
+    faults: &mut Vec<ImportFault>,
 ) -> Result<(), AllocError> {
     for token in board {
         if is_call(definitions, *token) {
@@ -172,10 +172,10 @@ fn is_macro_name(definitions: &[Definition<'_>], name: &[u8]) -> bool {
     false
 }
 
-/// Tells the macros that have a name which a vertex of a graph could have.
+/// Reports the macros that have a name which a vertex of a graph could have.
 pub(crate) fn push_vertex_macros(
     definitions: &[Definition<'_>],
-    faults: &mut Vec<Fault>,
+    faults: &mut Vec<ImportFault>,
 ) -> Result<(), AllocError> {
     for definition in definitions {
         if definition.is_macro() && is_vertex_name(definition.name.text) {
@@ -185,7 +185,7 @@ pub(crate) fn push_vertex_macros(
     Ok(())
 }
 
-/// Whether a name is an `x` with digits, `y`, `z` and further digits in any order behind it.
+/// Whether a name is an `x` with digits, `y`, `z` and further digits in any order after it.
 fn is_vertex_name(name: &[u8]) -> bool {
     match name {
         [b'x', b'0'..=b'9', rest @ ..] => are_coordinates(rest),

@@ -1,11 +1,11 @@
 //! What can't be rewritten.
 
-use rbg_tokens::Token;
+use rbg_macro::Token;
 use std::alloc::AllocError;
 
 /// What can't be rewritten, and where it stands.
 #[derive(Clone, Copy)]
-pub struct Fault {
+pub struct ImportFault {
     /// Its offset in the text.
     pub at: usize,
     /// How many bytes it has.
@@ -92,9 +92,9 @@ impl FaultKind {
     }
 }
 
-/// Adds that something can't be rewritten, before what stands behind it in the text.
+/// Adds that something can't be rewritten, before what stands after it in the text.
 pub(crate) fn push_fault(
-    faults: &mut Vec<Fault>,
+    faults: &mut Vec<ImportFault>,
     kind: FaultKind,
     at: usize,
     len: usize,
@@ -106,13 +106,13 @@ pub(crate) fn push_fault(
         }
     }
     let place = place.min(faults.len());
-    faults.insert(place, Fault { at, len, kind })?;
+    faults.insert(place, ImportFault { at, len, kind })?;
     Ok(())
 }
 
 /// The same at a token.
 pub(crate) fn push_fault_at(
-    faults: &mut Vec<Fault>,
+    faults: &mut Vec<ImportFault>,
     kind: FaultKind,
     token: Token<'_>,
 ) -> Result<(), AllocError> {

@@ -155,17 +155,17 @@ fn push_number(mark: &[u8], number: usize, output: &mut Vec<u8>) -> Result<(), A
     push_between(mark, buffer.format(number).as_bytes(), b"", output)
 }
 
-/// Adds bytes, with others before and behind them.
+/// Adds bytes, with others before and after them.
 fn push_between(
     before: &[u8],
     bytes: &[u8],
-    behind: &[u8],
+    after: &[u8],
     output: &mut Vec<u8>,
 ) -> Result<(), AllocError>
     ensures { OnOk result (output.new.items
-        ≡ output.old.items ++ ((before.now ++ bytes.now) ++ behind.now)) }
+        ≡ output.old.items ++ ((before.now ++ bytes.now) ++ after.now)) }
 {
     output.extend_from_slice(before)?;
     output.extend_from_slice(bytes)?;
-    output.extend_from_slice(behind)
+    output.extend_from_slice(after)
 }

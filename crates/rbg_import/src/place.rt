@@ -17,21 +17,21 @@ pub(crate) struct Place {
 #[derive(Clone, Copy)]
 pub(crate) enum Way {
     RowBefore,
-    RowBehind,
+    RowAfter,
     CellBefore,
-    CellBehind,
+    CellAfter,
     LayerBefore,
-    LayerBehind,
+    LayerAfter,
 }
 
 /// The ways, in the order in which a board names its directions. A board without layers has the first four.
 pub(crate) const WAYS: [Way; 6] = [
     Way::RowBefore,
-    Way::RowBehind,
+    Way::RowAfter,
     Way::CellBefore,
-    Way::CellBehind,
+    Way::CellAfter,
     Way::LayerBefore,
-    Way::LayerBehind,
+    Way::LayerAfter,
 ];
 
 impl Way {
@@ -41,18 +41,18 @@ impl Way {
     {
         match self {
             Way::RowBefore => follows(to.y, from.y) && from.x == to.x && from.z == to.z,
-            Way::RowBehind => follows(from.y, to.y) && from.x == to.x && from.z == to.z,
+            Way::RowAfter => follows(from.y, to.y) && from.x == to.x && from.z == to.z,
             Way::CellBefore => follows(to.x, from.x) && from.y == to.y && from.z == to.z,
-            Way::CellBehind => follows(from.x, to.x) && from.y == to.y && from.z == to.z,
+            Way::CellAfter => follows(from.x, to.x) && from.y == to.y && from.z == to.z,
             Way::LayerBefore => follows(to.z, from.z) && from.x == to.x && from.y == to.y,
-            Way::LayerBehind => follows(from.z, to.z) && from.x == to.x && from.y == to.y,
+            Way::LayerAfter => follows(from.z, to.z) && from.x == to.x && from.y == to.y,
         }
     }
 }
 
-/// Whether the second number is the next one behind the first.
-fn follows(before: usize, behind: usize) -> bool
-    ensures { result ≡ behind == before + 1 }
+/// Whether the second number is the next one after the first.
+fn follows(before: usize, after: usize) -> bool
+    ensures { result ≡ after == before + 1 }
 {
-    before < behind && behind - before == 1
+    before < after && after - before == 1
 }

@@ -1,9 +1,11 @@
 //! Brackets in the bodies of macros, each looked at by itself.
 
-use rbg_diagnostics::{Diagnostic, Severity, Telling, line_and_column};
-use rbg_origins::{Definition, definitions};
-use rbg_suggest::behind_head;
-use rbg_tokens::{Symbol, Token, TokenKind};
+use crate::among::holds_offset;
+use crate::definition::{Definition, definitions};
+use crate::diagnostic::{Diagnostic, Severity};
+use crate::message_writer::{MessageWriter, line_and_column};
+use crate::names::after_head;
+use rbg_macro::{Symbol, Token, TokenKind};
 use std::alloc::{AllocError, Global};
 
 /// What is wrong with the brackets among some tokens.
@@ -18,7 +20,7 @@ enum BracketFault<'a> {
 }
 
 /// What is wrong with the brackets among some tokens: each one that closes none, and then each one that stays open. What
-/// follows a bracket of the wrong kind isn't told.
+/// follows a bracket of the wrong kind isn't reported.
 fn bracket_faults<'a>(
     alloc: Global,
     tokens: &'a [Token<'a>],
@@ -88,7 +90,7 @@ pub fn is_section_balanced(
     tokens: &[Token<'_>],
     section: &str,
 ) -> Result<bool, AllocError> {
-    are_balanced(alloc, behind_head(tokens, section.as_bytes()))
+    are_balanced(alloc, after_head(tokens, section.as_bytes()))
 }
 
 /// Whether nothing is wrong with the brackets among some tokens.
@@ -110,15 +112,6 @@ pub fn is_balanced_around(
         }
     }
     Ok(false)
-}
-
-fn holds_offset(tokens: &[Token<'_>], at: usize) -> bool {
-    for token in tokens {
-        if token.at == at {
-            return true;
-        }
-    }
-    false
 }
 
 /// Adds the faults of the brackets in the bodies of macros.
@@ -165,34 +158,34 @@ fn push_fault(
         | BracketFault::Mismatched(_, token) => { token.at }
     };
     let mut made = Diagnostic::new(alloc, Severity::Fault, "Bracket", at, 1);
-    let mut told = Telling::new(alloc, &mut made.message);
-    tell_fault(&mut told, text, definition.name.text, fault);
-    told.end()?;
+    let mut writer = MessageWriter::new(alloc, &mut made.message);
+    write_fault(&mut writer, text, definition.name.text, fault);
+    writer.end()?;
     relate_opening(alloc, text, fault, &mut made)?;
     found.push(made)?;
     Ok(())
 }
 
-fn tell_fault(told: &mut Telling<'_>, text: &[u8], name: &[u8], fault: BracketFault<'_>) {
+fn write_fault(writer: &mut MessageWriter<'_>, text: &[u8], name: &[u8], fault: BracketFault<'_>) {
     match fault {
         BracketFault::Open(token) => {
-            told.named("the bracket ", token.text, " isn't closed");
-            told.named(" in the body of ", name, "");
+            writer.named("the bracket ", token.text, " isn't closed");
+            writer.named(" in the body of ", name, "");
         }
         BracketFault::Unopened(token) => {
-            told.named("", token.text, " closes no bracket");
-            told.named(" in the body of ", name, "");
+            writer.named("", token.text, " closes no bracket");
+            writer.named(" in the body of ", name, "");
         }
         BracketFault::Mismatched(open, close) => {
-            told.text("expected ");
-            told.text(closing_of(open.kind));
-            told.place(
+            writer.text("expected ");
+            writer.text(closing_of(open.kind));
+            writer.place(
                 " for the bracket opened at ",
                 line_and_column(text, open.at),
                 "",
             );
-            told.named(" in the body of ", name, "");
-            told.named(", found ", close.text, "");
+            writer.named(" in the body of ", name, "");
+            writer.named(", found ", close.text, "");
         }
     }
 }
@@ -218,9 +211,9 @@ pub fn relate_bracket(
     at: usize,
 ) -> Result<(), AllocError> {
     let mut words = Vec::new(alloc);
-    let mut told = Telling::new(alloc, &mut words);
+    let mut writer = MessageWriter::new(alloc, &mut words);
     let place = line_and_column(text, at);
-    told.place("the bracket opened at ", place, " isn't closed");
-    told.end()?;
+    writer.place("the bracket opened at ", place, " isn't closed");
+    writer.end()?;
     fault.relate(at, 1, words)
 }

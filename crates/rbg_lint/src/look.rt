@@ -1,11 +1,11 @@
 //! The text that is looked at, and what is found in it.
 
+use crate::diagnostic::{Diagnostic, Severity};
 use crate::parameters::push_parameters;
 use crate::signs::push_signs;
 use crate::stars::push_stars;
-use rbg_diagnostics::{Diagnostic, Severity};
-use rbg_origins::{Origin, Unrolled};
-use rbg_tokens::Token;
+use crate::unrolled::{TokenOrigin, Unrolled};
+use rbg_macro::Token;
 use std::alloc::{AllocError, Global};
 
 /// A text, and the same with its macros written out.
@@ -21,7 +21,7 @@ pub struct Look<'a> {
 
 impl<'a> Look<'a> {
     /// Where the token with an index comes from, of those whose macros are written out.
-    pub(crate) fn origin(&self, index: usize) -> Option<Origin> {
+    pub(crate) fn origin(&self, index: usize) -> Option<TokenOrigin> {
         self.unrolled.origin(index)
     }
 

@@ -1,10 +1,12 @@
 //! Parameters that their macros never use, or that hide a name.
 
+use crate::among::{has_text, index_of};
+use crate::definition::{Definition, definitions};
+use crate::diagnostic::Diagnostic;
 use crate::look::{Look, new_warning};
-use rbg_diagnostics::{Diagnostic, Telling};
-use rbg_origins::{Definition, definitions, index_of};
-use rbg_suggest::kind_of;
-use rbg_tokens::{Symbol, Token};
+use crate::message_writer::MessageWriter;
+use crate::names::kind_of;
+use rbg_macro::{Symbol, Token};
 use std::alloc::{AllocError, Global};
 
 /// Adds the parameters that their macros never use, and those that hide a name.
@@ -22,7 +24,7 @@ pub(crate) fn push_parameters(
 }
 
 /// Adds those of one macro. Where a text joins tokens, a call may need a parameter for the sake of other macros, so none is
-/// told to be unused.
+/// reported as unused.
 fn push_parameters_of(
     alloc: Global,
     look: Look<'_>,
@@ -43,15 +45,6 @@ fn push_parameters_of(
     Ok(())
 }
 
-fn has_text(tokens: &[Token<'_>], text: &[u8]) -> bool {
-    for token in tokens {
-        if token.text == text {
-            return true;
-        }
-    }
-    false
-}
-
 fn push_unused(
     alloc: Global,
     definition: &Definition<'_>,
@@ -61,10 +54,10 @@ fn push_unused(
     let Some(mut warning) = new_warning(alloc, found, "UnusedParameter", parameter) else {
         return Ok(());
     };
-    let mut told = Telling::new(alloc, &mut warning.message);
-    told.named("the macro ", definition.name.text, "");
-    told.named(" never uses its parameter ", parameter.text, "");
-    told.end()?;
+    let mut writer = MessageWriter::new(alloc, &mut warning.message);
+    writer.named("the macro ", definition.name.text, "");
+    writer.named(" never uses its parameter ", parameter.text, "");
+    writer.end()?;
     found.push(warning)?;
     Ok(())
 }
@@ -79,12 +72,12 @@ fn push_hiding(
     let Some(mut warning) = new_warning(alloc, found, "HidingParameter", parameter) else {
         return Ok(());
     };
-    let mut told = Telling::new(alloc, &mut warning.message);
-    told.named("the parameter ", parameter.text, "");
-    told.named(" of ", definition.name.text, " hides the ");
-    told.text(kind);
-    told.text(" of its name");
-    told.end()?;
+    let mut writer = MessageWriter::new(alloc, &mut warning.message);
+    writer.named("the parameter ", parameter.text, "");
+    writer.named(" of ", definition.name.text, " hides the ");
+    writer.text(kind);
+    writer.text(" of its name");
+    writer.end()?;
     found.push(warning)?;
     Ok(())
 }

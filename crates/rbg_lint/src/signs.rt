@@ -1,8 +1,9 @@
 //! Rules that are never reached, and a `+` that is written like a repetition.
 
+use crate::diagnostic::Diagnostic;
 use crate::look::{Look, new_warning};
-use rbg_diagnostics::{Diagnostic, Telling};
-use rbg_tokens::{Symbol, Token};
+use crate::message_writer::MessageWriter;
+use rbg_macro::{Symbol, Token};
 use std::alloc::{AllocError, Global};
 
 /// Adds what is found of signs in the sections, where macros are written out.
@@ -42,16 +43,16 @@ fn begins_item(token: &Token<'_>) -> bool {
         || token.is(Symbol::DoubleArrow)
 }
 
-/// What is said of a `+` behind the item with an index, if it is written like a repetition: next to a closing bracket, and
+/// What is said of a `+` after the item with an index, if it is written like a repetition: next to a closing bracket, and
 /// not next to what follows.
 fn repetition_words(look: Look<'_>, index: usize) -> Option<Words> {
     let item = look.flat.get(index)?;
     let before = look.origin(index)?;
     let plus = look.origin(index.saturating_add(1))?;
     let end = before.at.saturating_add(item.text.len());
-    let is_behind = item.is(Symbol::CloseParenthesis) && plus.at == end;
+    let is_next = item.is(Symbol::CloseParenthesis) && plus.at == end;
     let next = look.text.get(plus.at.saturating_add(1))?;
-    if is_behind && next.is_ascii_whitespace() {
+    if is_next && next.is_ascii_whitespace() {
         Some((
             "Plus",
             "`+` is a choice between what stands before it and behind it: once or more is `x x*`",
@@ -61,7 +62,7 @@ fn repetition_words(look: Look<'_>, index: usize) -> Option<Words> {
     }
 }
 
-/// Adds what is said of the token with an index, or of the one behind it for a `+`.
+/// Adds what is said of the token with an index, or of the one after it for a `+`.
 fn push_sign(
     alloc: Global,
     look: Look<'_>,
@@ -81,9 +82,9 @@ fn push_sign(
     let Some(mut warning) = new_warning(alloc, found, code, token) else {
         return Ok(());
     };
-    let mut told = Telling::new(alloc, &mut warning.message);
-    told.text(text);
-    told.end()?;
+    let mut writer = MessageWriter::new(alloc, &mut warning.message);
+    writer.text(text);
+    writer.end()?;
     found.push(warning)?;
     Ok(())
 }

@@ -1,10 +1,12 @@
 //! Stars that bind the last one of several items that a macro or an argument puts before them.
 
+use crate::among::is_at;
+use crate::diagnostic::Diagnostic;
 use crate::look::{Look, new_warning};
-use rbg_diagnostics::{Diagnostic, Telling};
-use rbg_origins::Origin;
-use rbg_suggest::behind_head;
-use rbg_tokens::{Symbol, Token};
+use crate::message_writer::MessageWriter;
+use crate::names::after_head;
+use crate::unrolled::TokenOrigin;
+use rbg_macro::{Symbol, Token};
 use std::alloc::{AllocError, Global};
 
 /// The most calls, one inside the other, that are followed.
@@ -53,7 +55,7 @@ fn is_own(look: Look<'_>, index: usize, at: usize) -> bool {
 
 /// The offset at which a token, or the call from which it comes, stands in the body that a call has put.
 fn place_at(look: Look<'_>, index: usize, level: Option<usize>) -> Option<usize> {
-    let mut origin: Origin = look.origin(index)?;
+    let mut origin: TokenOrigin = look.origin(index)?;
     for _ in 0..MOST_CALLS {
         if origin.call == level {
             return Some(origin.place);
@@ -81,7 +83,7 @@ fn item_start(tokens: &[Token<'_>], last: usize) -> usize {
     last
 }
 
-/// Whether the item behind a token is no part of a sequence with it: the token is a `+`, an opening bracket or an arrow.
+/// Whether the item after a token is no part of a sequence with it: the token is a `+`, an opening bracket or an arrow.
 fn is_operator(tokens: &[Token<'_>], index: usize) -> bool {
     match tokens.get(index) {
         Some(token) => token.is(Symbol::Arrow) || token.kind.opens(),
@@ -91,14 +93,14 @@ fn is_operator(tokens: &[Token<'_>], index: usize) -> bool {
 
 /// Whether a star is one of rules, and no product.
 fn is_rule(tokens: &[Token<'_>], star: usize) -> bool {
-    let rules = behind_head(tokens, b"rules");
+    let rules = after_head(tokens, b"rules");
     let (Some(first), Some(token)) = (rules.first(), tokens.get(star)) else {
         return false;
     };
     first.at < token.at && !is_in_arithmetic(tokens, star)
 }
 
-/// Whether a `$` stands behind the innermost bracket but a parenthesis that is open at an index.
+/// Whether a `$` stands after the innermost bracket but a parenthesis that is open at an index.
 fn is_in_arithmetic(tokens: &[Token<'_>], index: usize) -> bool {
     let mut closed = 0usize;
     for place in (0..index).rev() {
@@ -107,7 +109,7 @@ fn is_in_arithmetic(tokens: &[Token<'_>], index: usize) -> bool {
                 closed = closed.saturating_add(1);
             } else if token.is(Symbol::OpenBracket) || token.is(Symbol::OpenBrace) {
                 if closed == 0 {
-                    return is_dollar(tokens, place.saturating_add(1));
+                    return is_at(tokens, place.saturating_add(1), Symbol::Dollar);
                 }
                 closed -= 1;
             } else if token.is(Symbol::Hash) {
@@ -116,13 +118,6 @@ fn is_in_arithmetic(tokens: &[Token<'_>], index: usize) -> bool {
         }
     }
     false
-}
-
-fn is_dollar(tokens: &[Token<'_>], index: usize) -> bool {
-    match tokens.get(index) {
-        Some(token) => token.is(Symbol::Dollar),
-        None => false,
-    }
 }
 
 /// Adds that a star binds only the last item of what the name at an offset puts.
@@ -138,14 +133,14 @@ fn push_star(
     let Some(mut warning) = new_warning(alloc, found, "StarBindsLast", token) else {
         return Ok(());
     };
-    let mut told = Telling::new(alloc, &mut warning.message);
-    told.named(
+    let mut writer = MessageWriter::new(alloc, &mut warning.message);
+    writer.named(
         "the star behind ",
         token.text,
         " binds only the last item of what",
     );
-    told.text(" stands here for it: put it in parentheses");
-    told.end()?;
+    writer.text(" stands here for it: put it in parentheses");
+    writer.end()?;
     found.push(warning)?;
     Ok(())
 }

@@ -1,7 +1,8 @@
 //! The documents that an editor has open.
 
-use crate::reading::{position_at, text_at};
-use rbg_language::{Lines, replaced};
+use crate::edits::replaced;
+use crate::lines::Lines;
+use crate::message_fields::{position_at, text_at};
 use serde_json::Value;
 use std::alloc::{AllocError, Global};
 

@@ -1,18 +1,33 @@
-//! A server of the Language Server Protocol for descriptions of games: messages over a reader and a writer, the documents
-//! that an editor has open, and the answers to what it asks of them.
+//! The server for editors: the language as an editor asks for it, and the messages between them.
 #![tactic(auto)]
 
-mod answering;
-mod asking;
+mod analysis;
+mod answers;
+mod completion;
+mod definitions;
 mod documents;
-mod framing;
-mod judging;
+mod edits;
+mod expansion;
+mod frames;
+mod hover;
+mod judge;
+mod kinds;
+mod layout;
+mod lines;
+mod message_fields;
+mod new_names;
 mod notices;
-mod reading;
+mod outline;
+mod questions;
+mod references;
 mod reply;
+mod sections;
 mod server;
-mod serving;
+mod session;
+mod walk;
+mod words;
 
-pub use framing::FramingError;
-pub use judging::Judge;
-pub use serving::{End, serve};
+pub use frames::FramingError;
+pub use judge::Judge;
+pub use layout::formatted;
+pub use session::{End, serve};

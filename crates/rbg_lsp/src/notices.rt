@@ -1,12 +1,13 @@
-//! Faults and warnings as an editor is told of them.
+//! Faults and warnings as they are sent to an editor.
 
 use crate::documents::Document;
+use crate::lines::Lines;
 use crate::reply::Reply;
-use rbg_diagnostics::{Diagnostic, Related, Severity};
-use rbg_language::{Lines, Span};
+use crate::words::Span;
+use rbg_lint::{Diagnostic, Related, Severity};
 use std::alloc::{AllocError, Global};
 
-/// What is told of one document.
+/// The document that a message is about.
 #[derive(Clone, Copy)]
 struct About<'a> {
     uri: &'a str,
@@ -14,7 +15,7 @@ struct About<'a> {
     lines: &'a Lines,
 }
 
-/// Writes the message that tells the faults and warnings of a document.
+/// Writes the message with the faults and warnings of a document.
 pub(crate) fn write_diagnostics(
     alloc: Global,
     document: &Document,

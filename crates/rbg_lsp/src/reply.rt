@@ -1,6 +1,7 @@
 //! JSON that is written part by part, and messages of it.
 
-use rbg_language::{Lines, Position, Span};
+use crate::lines::{Lines, Position};
+use crate::words::Span;
 use serde_json::Value;
 use std::alloc::{AllocError, Global};
 use std::io::Write;

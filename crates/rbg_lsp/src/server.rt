@@ -1,11 +1,11 @@
-//! What becomes of each message.
+//! The server: what becomes of each message.
 
-use crate::answering::write_null;
-use crate::asking::{Question, answer, question_of};
+use crate::answers::{Request, write_null};
 use crate::documents::Documents;
-use crate::judging::Judge;
+use crate::judge::Judge;
+use crate::message_fields::text_at;
 use crate::notices::{write_diagnostics, write_none};
-use crate::reading::text_at;
+use crate::questions::{Question, answer, question_of};
 use crate::reply::Reply;
 use serde_json::Value;
 use std::alloc::{AllocError, Global};
@@ -107,7 +107,14 @@ impl Server {
     ) -> Result<(), AllocError> {
         let id = message.get("id");
         match (text_at(message, "/method"), id) {
-            (Some(method), Some(id)) => self.request(method, id, message, output),
+            (Some(method), Some(id)) => {
+                let request = Request {
+                    method,
+                    id,
+                    message,
+                };
+                self.answer(request, output)
+            }
             (Some(method), None) => self.notification(judge, method, message, output),
             (None, Some(_)) if message.get("result").is_some() || message.get("error").is_some() =>
                 { Ok(()) }
@@ -120,26 +127,15 @@ impl Server {
     }
 
     /// Answers a request.
-    fn request(
-        &mut self,
-        method: &str,
-        id: &Value,
-        message: &Value,
-        output: &mut Vec<u8>,
-    ) -> Result<(), AllocError> {
+    fn answer(&mut self, request: Request<'_>, output: &mut Vec<u8>) -> Result<(), AllocError> {
         let mut reply = Reply::new(self.alloc);
-        self.write_answer(method, id, message, &mut reply)?;
+        self.write_answer(request, &mut reply)?;
         reply.push_to(output)
     }
 
     /// Writes the answer to a request.
-    fn write_answer(
-        &mut self,
-        method: &str,
-        id: &Value,
-        message: &Value,
-        reply: &mut Reply,
-    ) -> Result<(), AllocError> {
+    fn write_answer(&mut self, request: Request<'_>, reply: &mut Reply) -> Result<(), AllocError> {
+        let Request { method, id, .. } = request;
         match self.phase {
             Phase::Beginning if method == "initialize" => {
                 self.phase = Phase::Running;
@@ -158,7 +154,7 @@ impl Server {
                 write_null(reply, id);
                 Ok(())
             }
-            Phase::Running => self.write_running(method, id, message, reply),
+            Phase::Running => self.write_running(request, reply),
             Phase::ShutDown | Phase::Ended { .. } => {
                 reply.error(Some(id), INVALID_REQUEST, "the server was shut down");
                 Ok(())
@@ -167,15 +163,10 @@ impl Server {
     }
 
     /// Writes the answer to a request between `initialize` and `shutdown`.
-    fn write_running(
-        &self,
-        method: &str,
-        id: &Value,
-        message: &Value,
-        reply: &mut Reply,
-    ) -> Result<(), AllocError> {
+    fn write_running(&self, request: Request<'_>, reply: &mut Reply) -> Result<(), AllocError> {
+        let Request { method, id, .. } = request;
         match question_of(method) {
-            Some(question) => self.write_asked(question, id, message, reply),
+            Some(question) => self.write_asked(question, request, reply),
             None if method == "initialize" => {
                 reply.error(Some(id), INVALID_REQUEST, "initialize came before");
                 Ok(())
@@ -191,15 +182,14 @@ impl Server {
     fn write_asked(
         &self,
         question: Question,
-        id: &Value,
-        message: &Value,
+        request: Request<'_>,
         reply: &mut Reply,
     ) -> Result<(), AllocError> {
-        let uri = text_at(message, "/params/textDocument/uri").unwrap_or("");
+        let uri = text_at(request.message, "/params/textDocument/uri").unwrap_or("");
         match self.documents.find(uri) {
-            Some(document) => answer(self.alloc, question, document, id, message, reply),
+            Some(document) => answer(self.alloc, question, document, request, reply),
             None => {
-                reply.error(Some(id), INVALID_PARAMS, "the document isn't open");
+                reply.error(Some(request.id), INVALID_PARAMS, "the document isn't open");
                 Ok(())
             }
         }
@@ -237,7 +227,7 @@ impl Server {
         }
     }
 
-    /// Tells the faults and the warnings of a document, if it is open.
+    /// Sends the faults and the warnings of a document, if it is open.
     fn publish<J: Judge>(
         &self,
         judge: &J,
@@ -253,7 +243,7 @@ impl Server {
         reply.push_to(output)
     }
 
-    /// Closes a document, and tells that it has no faults and warnings any more.
+    /// Closes a document, and sends that it has no faults and warnings any more.
     fn close(&mut self, uri: &str, output: &mut Vec<u8>) -> Result<(), AllocError> {
         if self.documents.find(uri).is_none() {
             return Ok(());

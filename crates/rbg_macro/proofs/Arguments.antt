@@ -3,9 +3,9 @@ use Rattle.std.proofs.Common.{ℕ, ◌≡◌, ◌+◌, ◌-◌, ◌<◌, ◌≤�
 use Rattle.std.proofs.Math.ListN.{drop_of_length-le}
 use Rattle.std.proofs.lemmas.List.{map-append, append-nil, drop-map, length-map, get_or-drop, take_more}
 use Rattle.rbg_macro.proofs.Common.{ReadToken, Arguments, arguments, arguments_by, nesting, Within, Cuts, Ends, Mismatched, closing, cutting, with_token, with_argument, AreArguments, lists_in, read_lexeme}
-use Rattle.rbg_tokens.specs.declared.token.TokenKind.{TokenKind}
-use Rattle.rbg_tokens.proofs.Common.{opens, closes, is_symbol, Lexeme}
-use Rattle.rbg_tokens.specs.declared.token.Symbol.TheVariants as symbols
+use Rattle.rbg_macro.specs.declared.token.TokenKind.{TokenKind}
+use Rattle.rbg_macro.proofs.TextCommon.{opens, closes, is_symbol, Lexeme}
+use Rattle.rbg_macro.specs.declared.token.Symbol.TheVariants as symbols
 
 -- arguments with complete ones, and the beginning of one, before them
 abbrev pub with_front : List (List Lexeme) → List Lexeme → Arguments → Arguments

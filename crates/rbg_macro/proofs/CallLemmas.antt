@@ -1,7 +1,7 @@
 -- Calls of macros with parameters, as the code finds them.
 use Rattle.rbg_base.proofs.Common.{ℕ, ◌≡◌, ◌+◌, ◌≤◌, true, false, nat_eq, List, [], ◌∷◌, length, drop, map, Some, refl, sym, ap, ◌∙◌, arith, add-one, nat_tests}
 use Rattle.rbg_macro.proofs.Common.{Template, arguments, Calls, met, meets, called, AreArguments, IsCall, begins_with_parenthesis, Macro, filled, item_in, macro_of, IsNamed}
-use Rattle.rbg_tokens.specs.Token.{Lexeme}
+use Rattle.rbg_macro.specs.Token.{Lexeme}
 
 called_with : (m : Macro) (behind rest : List Lexeme) (lists : List (List Lexeme)) (n : ℕ) → begins_with_parenthesis behind ≡ true → rest ≡ drop 1 behind →
     AreArguments rest lists n → length lists ≡ m.parameters → called m behind ≡ Calls (filled m.body lists) (drop (n + 1) behind)

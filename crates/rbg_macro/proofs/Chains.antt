@@ -1,8 +1,8 @@
 -- Chains of joined tokens, as the code makes them.
 use Rattle.rbg_base.proofs.Common.{ℕ, ◌≡◌, ◌+◌, ◌-◌, ◌<◌, ◌≤◌, true, false, min, nat_le, List, [], ◌∷◌, ◌++◌, length, get_or, take, drop, map, Some, Err, refl, sym, ap, ◌∙◌, arith, length-append, length-drop, take-append_seam, drop-append_seam, nat_tests, drop-append-le, take-append-le, length-map, drop-map}
 use Rattle.rbg_macro.proofs.Common.{MacroError, MAX_JOINED, ReadToken, word_at, JoinsNext, JoinsChain, FailsChain, begins_with_tilde, joined_from, joined_kind, joined_token, read_lexeme}
-use Rattle.rbg_tokens.specs.declared.token.TokenKind.{TokenKind}
-use Rattle.rbg_tokens.specs.Token.{Lexeme}
+use Rattle.rbg_macro.specs.declared.token.TokenKind.{TokenKind}
+use Rattle.rbg_macro.specs.Token.{Lexeme}
 use Rattle.rbg_macro.proofs.Heads.{two_tokens}
 use Rattle.rbg_macro.proofs.Spans.{whole_of}
 

@@ -3,9 +3,9 @@ use Rattle.rbg_base.proofs.Common.{ℕ, ◌≡◌, ◌+◌, ◌<◌, ◌≤◌, 
 use Rattle.std.proofs.Math.ListN.{drop_of_length-le}
 use Rattle.std.proofs.lemmas.List.{append-nil, take-map, drop-map, drop-drop, get_or-drop}
 use Rattle.rbg_macro.proofs.Common.{MacroError, Template, SectionKind, AddsDefined, with_one_more, BeginsDefinition, Definitions, Defined, A_Section, A_Macro, Part, expect, behind_equals, behind_name, section_named, defined, definitions, definitions_of, parts, part_of, is_hash_token, first_at, with_section, Macro, body_of, macro_of, item_in, SectionTokens}
-use Rattle.rbg_tokens.specs.declared.token.Token.{Token}
-use Rattle.rbg_tokens.proofs.Common.{is_name_kind, is_symbol, Lexeme, lexeme_of}
-use Rattle.rbg_tokens.specs.declared.token.Symbol.TheVariants as symbols
+use Rattle.rbg_macro.specs.declared.token.Token.{Token}
+use Rattle.rbg_macro.proofs.TextCommon.{is_name_kind, is_symbol, Lexeme, lexeme_of}
+use Rattle.rbg_macro.specs.declared.token.Symbol.TheVariants as symbols
 
 pub defined_section : (earlier : List Macro) (part : Part) (name : Lexeme) (ts body : List Lexeme) (kind : SectionKind) →
     expect (λ t. is_name_kind t.kind) part.end part.tokens ≡ Ok (name, ts) → Some kind ≡ section_named name.text →

@@ -1,7 +1,7 @@
 -- Where expansion fails.
 use Rattle.std.proofs.Common.{ℕ, ◌≡◌, ◌+◌, ◌-◌, ◌<◌, ◌≤◌, List, ◌∷◌, length, ap, ◌∙◌, arith}
 use Rattle.rbg_macro.proofs.Common.{MacroError, TooManyTokens, MAX_LEVEL, MAX_READ, Template, Calls, met, meets, IsMiscall, IsNamed, FailsReading, too_many_read, no_call, in_call, Macro}
-use Rattle.rbg_tokens.specs.Token.{Lexeme}
+use Rattle.rbg_macro.specs.Token.{Lexeme}
 
 pub fails_without_call : (macros : List Macro) (d n k : ℕ) (t : Lexeme) (ts : List Lexeme) (template : Template) (e : MacroError) →
     IsNamed macros t template → IsMiscall template t.at ts e → FailsReading macros d n k (t ∷ ts) e

@@ -4,7 +4,7 @@ use Rattle.std.proofs.lemmas.List.{map-append, take_more, append-nil, length-map
 use Rattle.std.proofs.lemmas.List.Folds.{length-flat_map-take}
 use Rattle.rbg_macro.specs.declared.macros.BodyItem.{BodyItem as KeptItem}
 use Rattle.rbg_macro.proofs.Common.{ReadToken, filled, filled_item, item_in, lists_in}
-use Rattle.rbg_tokens.specs.Token.{Lexeme}
+use Rattle.rbg_macro.specs.Token.{Lexeme}
 
 -- the length of the items so far
 pub record FilledSoFar (body : List KeptItem) (arguments : List (Bor (List ReadToken))) (i len room : ℕ) : Type 0 where

@@ -2,9 +2,9 @@
 use Rattle.rbg_base.proofs.Common.{ℕ, ◌≡◌, ◌+◌, ◌<◌, ◌≤◌, Bool, true, false, ◌&&◌, ◌||◌, cond, List, [], ◌∷◌, ◌++◌, length, get_or, drop, map, Ok, Err, refl, sym, ap, ◌∙◌, arith, length-drop, Bor, list_any, bytes_eq}
 use Rattle.std.proofs.lemmas.List.{drop-drop, drop-map, map-append, length-map}
 use Rattle.rbg_macro.proofs.Common.{MacroError, BadDefinition, parameter_list, is_new_name, AddsParameter, texts_in}
-use Rattle.rbg_tokens.specs.declared.token.Token.{Token}
-use Rattle.rbg_tokens.proofs.Common.{is_name_kind, is_symbol, Lexeme, lexeme_of}
-use Rattle.rbg_tokens.specs.declared.token.Symbol.TheVariants as symbols
+use Rattle.rbg_macro.specs.declared.token.Token.{Token}
+use Rattle.rbg_macro.proofs.TextCommon.{is_name_kind, is_symbol, Lexeme, lexeme_of}
+use Rattle.rbg_macro.specs.declared.token.Symbol.TheVariants as symbols
 
 -- a text among those behind references
 pub among_texts : (text : List ℕ) (keys : List (Bor (List ℕ))) → list_any (λ k. bytes_eq text k.now) keys ≡ list_any (bytes_eq text) (texts_in keys)

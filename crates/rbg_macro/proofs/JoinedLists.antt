@@ -3,9 +3,9 @@ use Rattle.rbg_base.proofs.Common.{ℕ, ◌≡◌, ◌+◌, ◌-◌, ◌<◌, �
 use Rattle.std.proofs.Math.ListN.{drop_of_length-le}
 use Rattle.std.proofs.lemmas.List.{map-append, append-nil, drop-drop, drop-map, length-map, take_rest}
 use Rattle.rbg_macro.proofs.Common.{MacroError, BadJoin, JoinedToken, Single, Joined, ReadToken, joined_word, IsJoinedWithin, word_at, JoinsChain, AddsChain, FailsChain, begins_with_tilde, IsMarked, IsMarkedWord, Word, lexeme_in_word, word_of, lexeme_in, Span, Macro, joined, joined_from, behind, read_lexeme}
-use Rattle.rbg_tokens.specs.declared.token.TokenKind.{TokenKind}
-use Rattle.rbg_tokens.proofs.Common.{is_symbol, Lexeme}
-use Rattle.rbg_tokens.specs.declared.token.Symbol.TheVariants as symbols
+use Rattle.rbg_macro.specs.declared.token.TokenKind.{TokenKind}
+use Rattle.rbg_macro.proofs.TextCommon.{is_symbol, Lexeme}
+use Rattle.rbg_macro.specs.declared.token.Symbol.TheVariants as symbols
 use Rattle.rbg_macro.proofs.Marks.{word_added}
 use Rattle.rbg_macro.proofs.Spans.{same_lexeme, whole_of}
 

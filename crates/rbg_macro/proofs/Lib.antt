@@ -1,4 +1,11 @@
 -- Lemmas.
+pub mod TextCommon
+pub mod OneReading
+mod Parts
+mod Scan
+pub mod SpeltTokens
+pub mod Words
+pub mod ZeroBytes
 pub mod Common
 mod Arguments
 mod CallLemmas

@@ -5,7 +5,7 @@ use Rattle.std.specs.Map.{lookup}
 use Rattle.rbg_base.proofs.CallerLemmas.{AllZip-push_one, none_of_not_some}
 use Rattle.rbg_macro.specs.declared.macros.BodyItem.{BodyItem as KeptItem}
 use Rattle.rbg_macro.proofs.Common.{Template, ReadToken, Macro, macro_named, AreMarkedLists, FillsMarks, IsMarkedWord, KeepsMarks, Word, lexeme_in_word, word_of, IsNumberOf, IsMarked, IsMarkedItem, IsMarkedTemplate, IsTemplateAt, macro_of, macro_in, item_in, IsNamed, read_lexeme}
-use Rattle.rbg_tokens.proofs.Common.{is_name_kind, Lexeme}
+use Rattle.rbg_macro.proofs.TextCommon.{is_name_kind, Lexeme}
 use Rattle.rbg_macro.proofs.Names.{lookup_none, lookup_some}
 
 -- the macro whose template is at an index

@@ -3,7 +3,7 @@ use Rattle.rbg_base.proofs.Common.{ℕ, ◌≡◌, ◌+◌, Bool, true, false, �
 use Rattle.std.specs.Map.{lookup}
 use Rattle.indexmap.specs.IndexMap.{insert_entry}
 use Rattle.rbg_macro.proofs.Common.{Template, macro_of, macro_in, texts_in, IsNamed}
-use Rattle.rbg_tokens.proofs.Common.{is_name_kind, Lexeme}
+use Rattle.rbg_macro.proofs.TextCommon.{is_name_kind, Lexeme}
 use Rattle.rbg_macro.specs.Macro.{macro_named, item_of, Word, Place}
 
 -- whether a name is there

@@ -1,7 +1,7 @@
 -- Tokens have one expansion at most, and those that have one have no fault.
 use Rattle.rbg_base.proofs.Common.{ℕ, ◌≡◌, ◌+◌, ◌<◌, ◌≤◌, List, [], ◌∷◌, ◌++◌, length, Ok, refl, sym, ap, ◌∙◌, arith, length-append, subst, inl, inr, sum_by-append}
 use Rattle.rbg_macro.proofs.Common.{MacroError, BadDefinition, Twice, ArgumentCount, Depth, TooManyTokens, BadJoin, Memory, MAX_KEPT, MAX_LEVEL, MAX_READ, Stays, Calls, NoCall, meets, Definitions, Expands, list, Reads, nothing, stays, call, Fails, too_many_read, no_join, reading, FailsReading, too_many_kept, behind_kept, no_call, too_deep, in_call, behind_call, ExpandsAll, none, one_more, FailsAll, here, later, kept, HasSections, HasFault, HasMacroFault, joined, Macro, SectionTokens}
-use Rattle.rbg_tokens.specs.Token.{Lexeme}
+use Rattle.rbg_macro.specs.Token.{Lexeme}
 
 -- a list that expands is joined, and the joined list is read
 record IsRead (macros : List Macro) (d : ℕ) (ts us : List Lexeme) (n : ℕ) : Type 0 where

@@ -1,7 +1,7 @@
 -- Tokens have one first fault at most.
 use Rattle.std.proofs.Common.{ℕ, ◌≡◌, ◌≢◌, ◌+◌, ◌<◌, ◌≤◌, List, ◌∷◌, length, Ok, Err, refl, arith, subst, inl, inr}
 use Rattle.rbg_macro.proofs.Common.{MacroError, BadDefinition, Twice, ArgumentCount, Depth, TooManyTokens, BadJoin, Memory, MAX_KEPT, MAX_LEVEL, MAX_READ, Stays, Calls, NoCall, meets, Definitions, Expands, Fails, too_many_read, no_join, reading, FailsReading, too_many_kept, behind_kept, no_call, too_deep, in_call, behind_call, FailsAll, here, later, HasFault, HasMacroFault, joined, Macro, SectionTokens}
-use Rattle.rbg_tokens.specs.Token.{Lexeme}
+use Rattle.rbg_macro.specs.Token.{Lexeme}
 use Rattle.rbg_macro.proofs.OneExpansion.{expands_once, list_has_no_fault}
 
 -- a list that has a fault: it isn't counted, isn't joined, or its joined list has the fault

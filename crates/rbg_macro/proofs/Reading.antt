@@ -4,7 +4,7 @@ use Rattle.std.proofs.Math.ListN.{drop_of_length-le}
 use Rattle.std.proofs.lemmas.List.{append-nil, drop-map, drop-drop, length-map}
 use Rattle.rbg_macro.proofs.Common.{MacroError, ExpandedTokens, MAX_KEPT, ReadToken, Stays, meets, Expands, list, Reads, nothing, stays, call, Fails, no_join, reading, FailsReading, too_many_kept, behind_kept, in_call, behind_call, Macro, read_lexeme}
 use Rattle.rbg_macro.specs.internal.ExpandedTokens.{IsWithinLimits, ReadsOn, ReadsJoined, FailsJoined, GivesWay, IsTooMany, no_join as joins_not, reading as fails_reading}
-use Rattle.rbg_tokens.specs.Token.{Lexeme}
+use Rattle.rbg_macro.specs.Token.{Lexeme}
 
 -- The list was read up to a place. If the rest expands to something, then the list expands to what was kept, followed
 -- by it, and a fault of the rest is a fault of the list.

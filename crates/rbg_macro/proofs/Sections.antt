@@ -4,7 +4,7 @@ use Rattle.std.proofs.Math.ListN.{drop_of_length-le}
 use Rattle.std.proofs.lemmas.List.{append-nil, map-append}
 use Rattle.rbg_macro.proofs.Common.{SectionBody, MacroError, TooManyTokens, ExpandedTokens, MAX_READ, SectionSpan, section_of, list, Fails, too_many_read, no_join, reading, ExpandsAll, none, one_more, FailsAll, here, later, kept, ExpandsWithin, UnlessMemory, Macro, section_in, IsSectionWithin, SectionTokens}
 use Rattle.rbg_macro.specs.internal.ExpandedTokens.{IsWithinLimits, ReadsJoined, FailsJoined, ReadsSection, no_join as joins_not, reading as fails_reading}
-use Rattle.rbg_tokens.specs.Token.{Lexeme}
+use Rattle.rbg_macro.specs.Token.{Lexeme}
 use Rattle.rbg_macro.proofs.Exits.{unless_weaker}
 use Rattle.rbg_macro.proofs.Spans.{slice_of_front, slice_of_end}
 

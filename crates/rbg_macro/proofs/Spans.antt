@@ -3,7 +3,7 @@ use Rattle.rbg_base.proofs.Common.{ℕ, ◌≡◌, ◌+◌, ◌-◌, ◌<◌, �
 use Rattle.std.proofs.lemmas.List.{take-append-le, drop-append-le, map-append, length-take, take-append-drop, get_or-take, get_or-drop}
 use Rattle.rbg_macro.proofs.Common.{Span, KeptToken, lexeme_in, kept_lexeme, IsKeptAs, IsKeptWithin, IsSpanWithin}
 use Rattle.rbg_macro.specs.declared.buffer.KeptToken.TheVariants.{OfText, Joined}
-use Rattle.rbg_tokens.specs.Token.{Lexeme}
+use Rattle.rbg_macro.specs.Token.{Lexeme}
 
 -- a range that ends within the first list
 pub slice_of_front : {X : Type 0} (xs more : List X) (a b : ℕ) → a ≤ b → b ≤ length xs → slice_range (xs ++ more) a b ≡ slice_range xs a b

@@ -1,10 +1,10 @@
 -- The tokens of expanded sections are spelt, since those of the text are.
 use Rattle.rbg_base.proofs.Common.{ℕ, ◌≡◌, ◌+◌, Bool, true, false, cond, nat_eq, List, [], ◌∷◌, ◌++◌, length, arith, map, take, zero, suc, find, Option, None, Some, slice_get, unwrap_or, Result, Ok, Err, refl, subst, All-nil, All-cons, All, AllByRecursion, list_any, position_or_len, option_map, bytes_eq}
 use Rattle.rbg_macro.proofs.Common.{MacroError, BadDefinition, Twice, SectionKind, SectionSpan, Arguments, Nesting, Within, Cuts, Ends, Mismatched, nesting, arguments, arguments_by, with_token, with_argument, Meets, Stays, Calls, NoCall, with_arguments, called, met, meets, Part, parts, part_of, is_hash_token, expect, behind_equals, is_new_name, parameter_list, behind_name, section_named, Defined, A_Section, A_Macro, defined_as, defined, Definitions, with_section, with_defined, definitions, definitions_of, Expands, list, Reads, nothing, stays, call, ExpandsAll, none, one_more, HasSections, ◌>>=◌, section_in, IsSectionWithin, IsSectionIn, AreLexemes, SectionTokens}
-use Rattle.rbg_tokens.proofs.Common.{is_name_kind, is_symbol, IsLexeme, HasTokens, Lexeme}
-use Rattle.rbg_tokens.specs.declared.token.Symbol.TheVariants as symbols
+use Rattle.rbg_macro.proofs.TextCommon.{is_name_kind, is_symbol, IsLexeme, HasTokens, Lexeme}
+use Rattle.rbg_macro.specs.declared.token.Symbol.TheVariants as symbols
 use Rattle.rbg_macro.specs.Macro.{BodyItem, Word, Place, Macro, parameter_named, word_or_place, body_of, filled, macro_named}
-use Rattle.rbg_tokens.proofs.SpeltTokens.{Spelt, by_recursion, each, tokens_spelt}
+use Rattle.rbg_macro.proofs.SpeltTokens.{Spelt, by_recursion, each, tokens_spelt}
 use Rattle.rbg_macro.proofs.SpeltJoins.{joined_spelt}
 
 -- what each element of two lists is, each one of their concatenation is

@@ -4,12 +4,12 @@ use Rattle.std.proofs.lemmas.List.Folds.{list_all-append}
 use Rattle.std.specs.Char.{is_ascii_digit}
 use Rattle.rbg_base.specs.Names.{is_name, is_name_start, is_name_part}
 use Rattle.rbg_macro.proofs.Common.{MacroError, BadJoin, MAX_JOINED, joined_kind, joined_token, with_kind, behind, join_at, joined_from, joined}
-use Rattle.rbg_tokens.specs.declared.token.TokenKind.{TokenKind}
-use Rattle.rbg_tokens.specs.declared.token.TokenKind.TheVariants.{Name, Number, Symbol as A_Symbol}
-use Rattle.rbg_tokens.proofs.Common.{is_symbol, is_number, Spells, IsLexeme, Lexeme}
-use Rattle.rbg_tokens.specs.declared.token.Symbol.TheVariants as symbols
-use Rattle.rbg_tokens.proofs.Words.{name_parts, number_digits}
-use Rattle.rbg_tokens.proofs.SpeltTokens.{Spelt}
+use Rattle.rbg_macro.specs.declared.token.TokenKind.{TokenKind}
+use Rattle.rbg_macro.specs.declared.token.TokenKind.TheVariants.{Name, Number, Symbol as A_Symbol}
+use Rattle.rbg_macro.proofs.TextCommon.{is_symbol, is_number, Spells, IsLexeme, Lexeme}
+use Rattle.rbg_macro.specs.declared.token.Symbol.TheVariants as symbols
+use Rattle.rbg_macro.proofs.Words.{name_parts, number_digits}
+use Rattle.rbg_macro.proofs.SpeltTokens.{Spelt}
 
 -- a digit is a part of a name
 digits_are_parts : (bytes : List ℕ) → list_all is_ascii_digit bytes ≡ true → list_all is_name_part bytes ≡ true

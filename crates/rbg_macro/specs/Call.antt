@@ -1,11 +1,11 @@
 -- Calls of macros: what a call is, its arguments, and what replaces it.
 use Rattle.std.specs.Prelude.{ℕ, ◌+◌, List, [], ◌∷◌, length, nat_eq, Option, None, Some, cond, zero, suc}
 use Rattle.std.specs.Option.{option_map}
-use Rattle.rbg_tokens.specs.declared.token.TokenKind.{TokenKind}
-use Rattle.rbg_tokens.specs.Kinds.{opens, closes, is_symbol}
-use Rattle.rbg_tokens.specs.declared.token.Symbol.TheVariants as symbols
+use Rattle.rbg_macro.specs.declared.token.TokenKind.{TokenKind}
+use Rattle.rbg_macro.specs.Kinds.{opens, closes, is_symbol}
+use Rattle.rbg_macro.specs.declared.token.Symbol.TheVariants as symbols
 use Rattle.rbg_macro.specs.Macro.{Macro, filled, macro_named}
-use Rattle.rbg_tokens.specs.Token.{Lexeme}
+use Rattle.rbg_macro.specs.Token.{Lexeme}
 
 -- the tokens of a call from some place on: the rest of one argument, the arguments after it, and what follows the
 -- closing bracket

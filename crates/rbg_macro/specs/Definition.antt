@@ -8,10 +8,10 @@ use Rattle.rbg_macro.specs.declared.error.MacroError.TheVariants.{BadDefinition,
 use Rattle.rbg_macro.specs.declared.source.SectionKind.{SectionKind}
 use Rattle.rbg_macro.specs.declared.source.SectionKind.TheVariants.{Players, Pieces, Variables, Board, Rules}
 use Rattle.rbg_macro.specs.Steps.{◌>>=◌}
-use Rattle.rbg_tokens.specs.Kinds.{is_name_kind, is_symbol}
-use Rattle.rbg_tokens.specs.declared.token.Symbol.TheVariants as symbols
+use Rattle.rbg_macro.specs.Kinds.{is_name_kind, is_symbol}
+use Rattle.rbg_macro.specs.declared.token.Symbol.TheVariants as symbols
 use Rattle.rbg_macro.specs.Macro.{Macro, body_of}
-use Rattle.rbg_tokens.specs.Token.{Lexeme}
+use Rattle.rbg_macro.specs.Token.{Lexeme}
 use Rattle.rbg_macro.specs.Sections.{SectionTokens}
 
 -- the tokens from one `#` up to the next

@@ -8,7 +8,7 @@ use Rattle.rbg_macro.specs.Definition.{Definitions, definitions_of}
 use Rattle.rbg_macro.specs.Errors.{UnlessMemory}
 use Rattle.rbg_macro.specs.Joining.{joined}
 use Rattle.rbg_macro.specs.Macro.{Macro}
-use Rattle.rbg_tokens.specs.Token.{Lexeme}
+use Rattle.rbg_macro.specs.Token.{Lexeme}
 use Rattle.rbg_macro.specs.Sections.{SectionTokens}
 
 -- `Expands macros d ts us n`: the list `ts` of level `d` expands to `us`, while `n` tokens are read.

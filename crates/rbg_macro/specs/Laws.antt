@@ -7,8 +7,8 @@ use Rattle.rbg_macro.specs.Limits.{deepest_level, longest_joined, most_kept, mos
 use Rattle.rbg_macro.specs.Expansion.{Expands, HasSections, HasMacroFault}
 use Rattle.rbg_macro.specs.Macro.{Macro}
 use Rattle.rbg_macro.specs.Sections.{AreLexemes, SectionTokens}
-use Rattle.rbg_tokens.specs.Text.{HasTokens}
-use Rattle.rbg_tokens.specs.Token.{Lexeme}
+use Rattle.rbg_macro.specs.Text.{HasTokens}
+use Rattle.rbg_macro.specs.Token.{Lexeme}
 
 -- a list expands to one list at most, while one number of tokens is read
 abbrev pub OneListLaw : Type 0

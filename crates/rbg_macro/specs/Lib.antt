@@ -1,4 +1,13 @@
--- Sections, macros and their expansion, by topic. The folder `internal` is for the crate's own proofs.
+-- Tokens of a text, by topic. The folder `internal` is for the crate's own proofs.
+pub mod TextLimits
+pub mod Token
+pub mod Kinds
+pub mod Spelling
+pub mod Text
+pub mod Lines
+pub mod TextLaws
+pub mod internal
+-- Sections, macros and their expansion, by topic.
 pub mod Limits
 pub mod Names
 pub mod Sections
@@ -10,4 +19,3 @@ pub mod Definition
 pub mod Joining
 pub mod Expansion
 pub mod Laws
-pub mod internal

@@ -2,8 +2,8 @@
 use Rattle.std.specs.Prelude.{ℕ, List, [], ◌∷◌, Option, None, Some, cond, position, slice_get, find, unwrap_or, map}
 use Rattle.std.specs.List.{flat_map}
 use Rattle.std.specs.Str.{bytes_eq}
-use Rattle.rbg_tokens.specs.Kinds.{is_name_kind}
-use Rattle.rbg_tokens.specs.Token.{Lexeme}
+use Rattle.rbg_macro.specs.Kinds.{is_name_kind}
+use Rattle.rbg_macro.specs.Token.{Lexeme}
 
 -- what a body is made of: its own tokens, and the places where an argument is put
 pub data BodyItem : Type 0 where

@@ -1,8 +1,8 @@
 -- A section as contracts see it.
 use Rattle.std.specs.Prelude.{ℕ, All, List}
 use Rattle.rbg_macro.specs.declared.source.SectionKind.{SectionKind}
-use Rattle.rbg_tokens.specs.Spelling.{IsLexeme}
-use Rattle.rbg_tokens.specs.Token.{Lexeme}
+use Rattle.rbg_macro.specs.Spelling.{IsLexeme}
+use Rattle.rbg_macro.specs.Token.{Lexeme}
 
 -- a section: its kind, the offset of its `#`, and its tokens
 pub record SectionTokens : Type 0 where

@@ -1,3 +1,5 @@
+-- What only the contracts of private functions and this crate's proofs cite.
+pub mod Part
 -- What only the contracts of private functions, the models and this crate's proofs cite.
 pub mod Calls
 pub mod Defines

@@ -2,11 +2,11 @@
 ghost use Rattle.std.specs.Prelude.{◌≡◌, ◌<◌, [], ◌∷◌, ◌++◌, length, take, slice_get, Some, IfOk, OnOk};
 ghost use Rattle.rbg_macro.specs.internal.ReadTokens.{read_lexeme};
 ghost use Rattle.rbg_macro.specs.internal.Span.{lexeme_in, IsKeptAs, IsSpanWithin};
-ghost use Rattle.rbg_tokens.specs.Token.{lexeme_of};
+ghost use Rattle.rbg_macro.specs.Token.{lexeme_of};
 
 use crate::read_token::{Bytes, ReadToken};
+use crate::token::{Token, TokenKind};
 use rbg_base::Memory;
-use rbg_tokens::{Token, TokenKind};
 use std::alloc::Global;
 use std::marker::Model;
 
@@ -34,7 +34,7 @@ pub(crate) struct TokenBuffer<'t> {
 
 impl<'t> Model for TokenBuffer<'t> {
     ghost use Rattle.std.specs.Prelude.{List, map, All};
-    ghost use Rattle.rbg_tokens.specs.Token.{Lexeme};
+    ghost use Rattle.rbg_macro.specs.Token.{Lexeme};
 
     ghost Value = { List Lexeme };
 

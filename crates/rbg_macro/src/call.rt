@@ -11,8 +11,8 @@ ghost use Rattle.rbg_macro.specs.internal.Template.{lists_in};
 use crate::error::MacroError;
 use crate::macros::{BodyItem, Template};
 use crate::read_token::ReadToken;
+use crate::token::{Symbol, TokenKind};
 use rbg_base::Memory;
-use rbg_tokens::{Symbol, TokenKind};
 use smallvec::SmallVec;
 
 /// The arguments of a call. Most calls have few.

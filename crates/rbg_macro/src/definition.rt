@@ -9,16 +9,16 @@ ghost use Rattle.rbg_macro.specs.Definition.{section_named, first_at, defined, d
 ghost use Rattle.rbg_macro.specs.internal.Defines.{BeginsDefinition};
 ghost use Rattle.rbg_macro.specs.internal.Gives.{Gives};
 ghost use Rattle.rbg_macro.specs.Errors.{UnlessMemory};
-ghost use Rattle.rbg_tokens.specs.Kinds.{is_name_kind, is_symbol};
-ghost use Rattle.rbg_tokens.specs.declared.token.Symbol.TheVariants as symbols;
+ghost use Rattle.rbg_macro.specs.Kinds.{is_name_kind, is_symbol};
+ghost use Rattle.rbg_macro.specs.declared.token.Symbol.TheVariants as symbols;
 ghost use Rattle.rbg_macro.specs.internal.Template.{texts_in};
-ghost use Rattle.rbg_tokens.specs.Token.{lexeme_of};
+ghost use Rattle.rbg_macro.specs.Token.{lexeme_of};
 
 use crate::error::MacroError;
 use crate::macros::{Macros, Template};
 use crate::source::SectionKind;
+use crate::token::{Symbol, Token};
 use indexmap::IndexSet;
-use rbg_tokens::{Symbol, Token};
 use std::alloc::Global;
 
 /// A section with its own tokens.

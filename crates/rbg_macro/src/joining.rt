@@ -15,8 +15,8 @@ use crate::error::MacroError;
 use crate::limits::MAX_JOINED;
 use crate::marking::MarkedMacros;
 use crate::read_token::{Bytes, ReadToken};
+use crate::token::{Symbol, TokenKind};
 use rbg_base::Memory;
-use rbg_tokens::{Symbol, TokenKind};
 use std::alloc::Global;
 use std::marker::Model;
 

@@ -8,12 +8,12 @@ ghost use Rattle.rbg_macro.specs.Macro.{macro_named, item_of, body_of};
 ghost use Rattle.rbg_macro.specs.internal.Template.{macro_of, item_in, texts_in};
 ghost use Rattle.rbg_macro.specs.internal.Marks.{IsNumberOf, IsTemplateAt};
 ghost use Rattle.rbg_macro.specs.internal.ReadTokens.{read_lexeme};
-ghost use Rattle.rbg_tokens.specs.Token.{lexeme_of};
+ghost use Rattle.rbg_macro.specs.Token.{lexeme_of};
 
 use crate::read_token::ReadToken;
+use crate::token::Token;
 use indexmap::{IndexMap, IndexSet};
 use rbg_base::Memory;
-use rbg_tokens::Token;
 use std::alloc::Global;
 use std::marker::Model;
 

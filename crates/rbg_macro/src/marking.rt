@@ -5,12 +5,12 @@ ghost use Rattle.rbg_macro.specs.Macro.{macro_named};
 ghost use Rattle.rbg_macro.specs.internal.Marks.{IsMarked, IsMarkedItem, IsMarkedTemplate};
 ghost use Rattle.rbg_macro.specs.internal.ReadTokens.{read_lexeme};
 ghost use Rattle.rbg_macro.specs.internal.Template.{item_in, IsNamed};
-ghost use Rattle.rbg_tokens.specs.Token.{lexeme_of};
+ghost use Rattle.rbg_macro.specs.Token.{lexeme_of};
 
 use crate::macros::{BodyItem, Macros, Template};
 use crate::read_token::ReadToken;
+use crate::token::Token;
 use rbg_base::Memory;
-use rbg_tokens::Token;
 use std::alloc::Global;
 use std::marker::Model;
 

@@ -1,9 +1,9 @@
 //! Tokens as expansion reads them: their bytes are the text's, or were joined.
 ghost use Rattle.std.specs.Prelude.{◌≡◌};
 ghost use Rattle.rbg_macro.specs.internal.ReadTokens.{bytes_in, read_lexeme};
-ghost use Rattle.rbg_tokens.specs.Token.{lexeme_of};
+ghost use Rattle.rbg_macro.specs.Token.{lexeme_of};
 
-use rbg_tokens::{Token, TokenKind};
+use crate::token::{Token, TokenKind};
 
 /// The bytes of a token. Those of the text are never copied, and those that were joined last as long as their list.
 #[derive(Clone, Copy)]

@@ -2,11 +2,11 @@
 ghost use Rattle.std.specs.Prelude.{◌≡◌, ◌<◌, ◌==◌, IsTrue, Some, length, slice_get};
 ghost use Rattle.rbg_base.specs.Names.{is_name};
 ghost use Rattle.rbg_macro.specs.Names.{section_name};
-ghost use Rattle.rbg_tokens.specs.Spelling.{is_number};
-ghost use Rattle.rbg_tokens.specs.Token.{lexeme_of};
+ghost use Rattle.rbg_macro.specs.Spelling.{is_number};
+ghost use Rattle.rbg_macro.specs.Token.{lexeme_of};
 
 use crate::buffer::TokenBuffer;
-use rbg_tokens::{Token, TokenKind};
+use crate::token::{Token, TokenKind};
 use std::fmt;
 use std::marker::Model;
 

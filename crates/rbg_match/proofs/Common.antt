@@ -4,7 +4,7 @@ pub use Rattle.rbg_match.specs.Deliveries.{AreMarks, Delivery, bytes_for, delive
 pub use Rattle.rbg_match.specs.Handling.{AbstractInput, Handles, HandlesInTime, Judges, Refuses, after_end, gone, heavy, illegal, in_time, legal, overdue, sent, spent, tick}
 pub use Rattle.rbg_match.specs.History.{FitsOutcome, HasTurn, HasTurnSince, IsHistory, IsInTurn, LeadsTo, MadeInTurn, start_place}
 pub use Rattle.rbg_match.specs.Inputs.{AbstractEvent, Streams, TimedInput, counted, counted_first, cut_of, end_of_stream, event_of, has_seat, inputs_at, inputs_in, moment_alone, moment_of, piece, rest_of, rests_after, streams_after, streams_at_start, timed_inputs_in, timed_inputs_of}
-pub use Rattle.rbg_match.specs.Laws.{AreAlike, Cutting, EndedMatchStays, EndedPlayStays, HaveOneKeeper, IsHeavyEnd, OneTranscript, OneUntilHeavy, SteppedIsTranscript, StopsWithin, TickAtStart, TickBehind, TranscriptHasHistory, equal, keeper_pairs, keeper_run, one_stops, other_stops}
+pub use Rattle.rbg_match.specs.Laws.{AreAlike, Cutting, EndedMatchStays, EndedPlayStays, HaveOneKeeper, IsHeavyEnd, OneTranscript, OneUntilHeavy, SteppedIsTranscript, StopsWithin, TickAtStart, TickAfter, TranscriptHasHistory, equal, keeper_pairs, keeper_run, one_stops, other_stops}
 pub use Rattle.rbg_match.specs.Limits.{latest_moment, message_limit, most_refusals}
 pub use Rattle.rbg_match.specs.Matches.{HasHistory, MatchState, Opens, Steps, StepsAll, more}
 pub use Rattle.rbg_match.specs.Play.{AbstractPlay, due_of, ended, moved, mover_of, play_at_start, refusals_of, refused, turn_begun}

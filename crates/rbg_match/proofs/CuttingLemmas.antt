@@ -99,7 +99,7 @@ module _ (streams : Streams) (seat at : ℕ) (a b : List ℕ) (after : List Abst
   abbrev moment : ℕ
   moment = counted streams at
 
-  -- the inputs of the first part behind its tick
+  -- the inputs of the first part after its tick
   abbrev of_first : List AbstractInput
   of_first = if has_seat streams.rests seat then map (sent seat) (cut_of streams.rests seat a).items else []
 

@@ -58,7 +58,7 @@ delivered_from-one first (bytes ∷ others) (suc index) message within =
     let differ : suc first + index ≢ first = omega arith in
     rw (further, bytes_for-other first (suc first + index) message differ, append-nil bytes, delivered_from-one (suc first) others index message (omega arith)) refl
 
--- one message puts its spelling behind what its seat has
+-- one message puts its spelling after what its seat has
 pub delivered-one : (outbox : List (List ℕ)) (index : ℕ) (message : AbstractMessage) → index < length outbox → delivered outbox (to_seat (index + 1) message) ≡ set outbox index (get_or outbox index [] ++ spelling message)
 delivered-one outbox index message within =
     let same : index + 1 ≡ 1 + index = omega arith in
@@ -81,7 +81,7 @@ to_others-more seats one message differ = let apart : suc seats ≢ one = omega 
 pub to_others-same : (seats one : ℕ) (message : AbstractMessage) → seats + 1 ≡ one → to_others (seats + 1) one message ≡ to_others seats one message
 to_others-same seats one message same = let equal : suc seats ≡ one = omega arith in rw (add-one, eq-eqb (suc seats) one equal) (append-nil (to_others seats one message))
 
--- what more is said stands behind what each seat has been sent
+-- what more is said stands after what each seat has been sent
 pub delivered-queued_more : (seats : ℕ) (first next : List Delivery) → delivered (queued seats first) next ≡ queued seats (first ++ next)
 delivered-queued_more seats first next =
     ap (λ outbox. delivered outbox next) (sym (delivered-queued seats first)) ∙ delivered-append (replicate seats []) first next ∙ delivered-queued seats (first ++ next)

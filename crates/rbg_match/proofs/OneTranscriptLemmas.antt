@@ -109,7 +109,7 @@ heavy_end play may run = record { heavy = refl; not_endless = λ keeper many. le
 not_asked : (play : AbstractPlay) {n : ℕ} → MayBeAsked n play → mover_of play ≡ 0 → most_keeper_moves ≤ n → ⊥
 not_asked play may keeper many = let few = may keeper in omega (arith, few, many)
 
--- what the keeper's first move behind some moves is
+-- what the keeper's first move after some moves is
 keepers_first : (moves : List Made) (made : Made) (rest : List Made) → made.player ≡ 0 → keeper_pairs (moves ++ made ∷ rest) ≡ keeper_pairs moves ++ made.pairs ∷ keeper_pairs rest
 keepers_first moves made rest keeper =
     let test : (made.player == 0) ≡ true = rw keeper refl in
@@ -160,10 +160,10 @@ stops_behind {game = game} first first' is stops = record {
   goes_on = ap (λ (l : List Delivery). first' ++ l) stops.goes_on ∙ ap (λ (l : List Delivery). l ++ (stops.before ++ stops.after)) (sym is) ∙ sym (append_assoc first stops.before stops.after);
 }
 
-alike_behind : {game : AbstractGame} {one other : AbstractPlay} {said others : List Delivery} (first first' : List Delivery) → first ≡ first' → AreAlike game one other said others → AreAlike game one other (first ++ said) (first' ++ others)
-alike_behind {said = said} first first' is (equal plays tells) = equal plays (ap (λ (l : List Delivery). l ++ said) is ∙ ap (λ (l : List Delivery). first' ++ l) tells)
-alike_behind first first' is (one_stops stops) = one_stops (stops_behind first first' is stops)
-alike_behind first first' is (other_stops stops) = other_stops (stops_behind first' first (sym is) stops)
+alike_after : {game : AbstractGame} {one other : AbstractPlay} {said others : List Delivery} (first first' : List Delivery) → first ≡ first' → AreAlike game one other said others → AreAlike game one other (first ++ said) (first' ++ others)
+alike_after {said = said} first first' is (equal plays tells) = equal plays (ap (λ (l : List Delivery). l ++ said) is ∙ ap (λ (l : List Delivery). first' ++ l) tells)
+alike_after first first' is (one_stops stops) = one_stops (stops_behind first first' is stops)
+alike_after first first' is (other_stops stops) = other_stops (stops_behind first' first (sym is) stops)
 
 module _ (game : AbstractGame) (numbered : IsNumbered game.rules) where
   plays_on_alike : {moment n : ℕ} {play one other : AbstractPlay} {said others : List Delivery} → PlaysOn game moment n play one said → PlaysOn game moment n play other others → keeper_run 0 play.made ≡ n → HaveOneKeeper one other → AreAlike game one other said others
@@ -186,7 +186,7 @@ module _ (game : AbstractGame) (numbered : IsNumbered game.rules) where
       let with_pairs = subst (λ (ps : List (ℕ × ℕ)). PlaysOn game moment (suc n) (moved play moment ps to') other others) (sym alike) goes' in
       let goes_there = subst (λ (there : AbstractPlace). PlaysOn game moment (suc n) (moved play moment pairs there) other others) place with_pairs in
       let rest = plays_on_alike goes goes_there (run_of_keeper play moment n pairs to keeper run) agree in
-      alike_behind (to_each (seats_of game) (move_message pairs)) (to_each (seats_of game) (move_message pairs')) (ap (λ (ps : List (ℕ × ℕ)). to_each (seats_of game) (move_message ps)) alike) rest
+      alike_after (to_each (seats_of game) (move_message pairs)) (to_each (seats_of game) (move_message pairs')) (ap (λ (ps : List (ℕ × ℕ)). to_each (seats_of game) (move_message ps)) alike) rest
   plays_on_alike (on.keeper keeper may legal short goes) (on.turn player legal') run agree = absurd (player keeper)
   plays_on_alike (on.turn {pairs = pairs} {to = to} player legal) (on.finished may never) run agree = absurd (never.no_move pairs to legal)
   plays_on_alike (on.turn player legal) (on.keeper keeper may legal' short goes) run agree = absurd (player keeper)
@@ -206,7 +206,7 @@ module _ (game : AbstractGame) (numbered : IsNumbered game.rules) where
         let place : to' ≡ to = one_place_law game numbered play.place pairs to' to legal' legal in
         let goes_there = subst (λ (there : AbstractPlace). PlaysOn game moment 0 (moved play moment pairs there) other others) place goes' in
         let rest = plays_on_alike goes goes_there (run_of_player play moment pairs to player) agree in
-        alike_behind (to_each (seats_of game) (move_message pairs)) (to_each (seats_of game) (move_message pairs)) refl rest
+        alike_after (to_each (seats_of game) (move_message pairs)) (to_each (seats_of game) (move_message pairs)) refl rest
 
     judged_alike : {play : AbstractPlay} {moment : ℕ} {one other : AbstractPlay} {said others : List Delivery} (pairs pairs' : List (ℕ × ℕ)) → pairs' ≡ pairs → Judges game config play moment pairs one said → Judges game config play moment pairs' other others → 1 ≤ mover_of play → HaveOneKeeper one other → AreAlike game one other said others
     judged_alike {play = play} {moment = moment} {other = other} {others = others} pairs pairs' is judges judges' player agree = judges_alike judges (subst (λ (ps : List (ℕ × ℕ)). Judges game config play moment ps other others) is judges') player agree
@@ -255,7 +255,7 @@ module _ (game : AbstractGame) (numbered : IsNumbered game.rules) where
 
     -- what both send first, and then
     alike_then : {middle middle' one other : AbstractPlay} {inputs : List TimedInput} {first first' next next' : List Delivery} → AreAlike game middle middle' first first' → HandlesEach game config middle inputs one next → HandlesEach game config middle' inputs other next' → (middle ≡ middle' → AreAlike game one other next next') → AreAlike game one other (first ++ next) (first' ++ next')
-    alike_then {first = first} {first' = first'} (equal plays tells) rest rest' goes_on = alike_behind first first' tells (goes_on plays)
+    alike_then {first = first} {first' = first'} (equal plays tells) rest rest' goes_on = alike_after first first' tells (goes_on plays)
     alike_then {first = first} {first' = first'} {next = next} {next' = next'} (one_stops stops) rest rest' goes_on =
         let over = each_stays Heavy stops.heavy.heavy rest in
         one_stops (record {
@@ -311,7 +311,7 @@ one_until_heavy game text config now events play play' said said' numbered one o
     let all = all_timed game (streams_at_start (seats_of game) now) events (length-replicate (seats_of game) (incomplete [])) in
     let later : one.opened ≡ other.opened → AreAlike game play play' one.replies other.replies = λ is. each_alike game numbered config each (subst (λ (from : AbstractPlay). HandlesEach game config from inputs play' other.replies) (sym is) each') all agree in
     let greeted = greetings text config game.players in
-    let alike = alike_behind greeted greeted refl (alike_then game numbered config opened each each' later) in
+    let alike = alike_after greeted greeted refl (alike_then game numbered config opened each each' later) in
     let said_is : greeted ++ (one.opening ++ one.replies) ≡ said = sym (append_assoc greeted one.opening one.replies) ∙ sym one.whole in
     let said_is' : greeted ++ (other.opening ++ other.replies) ≡ said' = sym (append_assoc greeted other.opening other.replies) ∙ sym other.whole in
     subst (λ (l : List Delivery). AreAlike game play play' said l) said_is' (subst (λ (l : List Delivery). AreAlike game play play' l (greeted ++ (other.opening ++ other.replies))) said_is alike)

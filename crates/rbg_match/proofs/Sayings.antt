@@ -4,7 +4,7 @@ use Rattle.rbg_wire.specs.Messages.{AbstractMessage, spelling}
 use Rattle.rbg_match.proofs.Common.{Delivery, delivered, to_seat, Says}
 use Rattle.rbg_match.proofs.Delivering.{delivered-append, delivered-none, delivered-one, length-delivered}
 
--- what was said next stands behind what was said first
+-- what was said next stands after what was said first
 pub said_more : {middle new : List (List ℕ)} (old : List (List ℕ)) (first next : List Delivery) → middle ≡ delivered old first → new ≡ delivered middle next → new ≡ delivered old (first ++ next)
 said_more old first next before after = after ∙ ap (λ outbox. delivered outbox next) before ∙ delivered-append old first next
 
@@ -20,7 +20,7 @@ said_refused {old = old} first before says refusal is_err Both = record {
   whole = IfOk-from_err refusal (λ value. Both value (first ++ says.said)) is_err;
 }
 
--- a spelling put behind what one seat has
+-- a spelling put after what one seat has
 pub one_said : {E : Type 0} (old : List (List ℕ)) (index : ℕ) (message : AbstractMessage) (bytes : List ℕ) (result : Result (Unit {0}) E) → index < length old → OnOk result (bytes ≡ get_or old index [] ++ spelling message) → OnErr result (bytes ≡ get_or old index []) → Says old (set old index bytes) result (λ _ said. said ≡ to_seat (index + 1) message)
 one_said old index message bytes (Ok done) within ok err = record {
   said = to_seat (index + 1) message;

@@ -1,8 +1,8 @@
--- A moment of the clock behind an event that isn't earlier changes nothing.
+-- A moment of the clock after an event that isn't earlier changes nothing.
 use Rattle.rbg_base.proofs.Common.{◌≡◌, ℕ, ◌≤◌, List, [], ◌∷◌, ◌++◌, map, refl, sym, ap, ◌∙◌, subst, arith, min, if◌then◌else◌, max-eq_left, le-max_right}
 use Rattle.rbg_wire.specs.Streams.{Rest}
 use Rattle.rbg_rules.specs.Meaning.{AbstractGame}
-use Rattle.rbg_match.proofs.Common.{Config, Delivery, AbstractInput, tick, gone, sent, AbstractEvent, piece, end_of_stream, moment_alone, moment_of, TimedInput, Streams, counted, counted_first, has_seat, cut_of, inputs_in, inputs_at, timed_inputs_in, streams_after, streams_at_start, timed_inputs_of, TickBehind, TickAtStart, latest_moment, AbstractPlay, seats_of, HandlesAll}
+use Rattle.rbg_match.proofs.Common.{Config, Delivery, AbstractInput, tick, gone, sent, AbstractEvent, piece, end_of_stream, moment_alone, moment_of, TimedInput, Streams, counted, counted_first, has_seat, cut_of, inputs_in, inputs_at, timed_inputs_in, streams_after, streams_at_start, timed_inputs_of, TickAfter, TickAtStart, latest_moment, AbstractPlay, seats_of, HandlesAll}
 use Rattle.rbg_match.proofs.AllEvents.{streams_through}
 use Rattle.rbg_match.proofs.CuttingLemmas.{timed_inputs_of-append}
 use Rattle.rbg_match.proofs.OneByOne.{all_to_each, each_to_all}
@@ -24,8 +24,8 @@ has_input rests (moment_alone at) = record { first = tick; others = []; all = re
 min_monotone : (a b c : ℕ) → a ≤ b → min a c ≤ min b c
 min_monotone a b c before = omega (arith, before)
 
-counted_behind : (streams : Streams) (event : AbstractEvent) (at : ℕ) → at ≤ moment_of event → counted (streams_after streams event) at ≡ counted streams (moment_of event)
-counted_behind streams event at before =
+counted_after : (streams : Streams) (event : AbstractEvent) (at : ℕ) → at ≤ moment_of event → counted (streams_after streams event) at ≡ counted streams (moment_of event)
+counted_after streams event at before =
     let small = min_monotone at (moment_of event) latest_moment before in
     let most = le-max_right streams.moment (min (moment_of event) latest_moment) in
     max-eq_left (omega (arith, small, most))
@@ -34,13 +34,13 @@ module _ (streams : Streams) (event : AbstractEvent) (at : ℕ) (after : List Ab
   abbrev moment : ℕ
   moment = counted streams (moment_of event)
 
-  -- the streams behind the tick are those before it
+  -- the streams after the tick are those before it
   same_streams : streams_after (streams_after streams event) (moment_alone at) ≡ streams_after streams event
-  same_streams = λ i. record { moment = counted_behind streams event at before i; rests = (streams_after streams event).rests }
+  same_streams = λ i. record { moment = counted_after streams event at before i; rests = (streams_after streams event).rests }
 
   with_tick : timed_inputs_of streams (event ∷ moment_alone at ∷ after) ≡ timed_inputs_in streams event ++ tick_at moment ∷ timed_inputs_of (streams_after streams event) after
   with_tick =
-      ap (λ (one : ℕ). timed_inputs_in streams event ++ tick_at one ∷ timed_inputs_of (streams_after (streams_after streams event) (moment_alone at)) after) (counted_behind streams event at before)
+      ap (λ (one : ℕ). timed_inputs_in streams event ++ tick_at one ∷ timed_inputs_of (streams_after (streams_after streams event) (moment_alone at)) after) (counted_after streams event at before)
       ∙ ap (λ (one : Streams). timed_inputs_in streams event ++ tick_at moment ∷ timed_inputs_of one after) same_streams
 
 module _ (game : AbstractGame) (config : Config) (some : 1 ≤ config.turn_ms) (streams : Streams) (play end : AbstractPlay) (said : List Delivery) where
@@ -80,8 +80,8 @@ module _ (game : AbstractGame) (config : Config) (some : 1 ≤ config.turn_ms) (
         let parts = subst (λ (inputs : List TimedInput). HandlesAll game config play inputs end said) without_is handles in
         subst (λ (inputs : List TimedInput). HandlesAll game config play inputs end said) (sym with_is) (each_to_all (tick_added game config some now (timed_inputs_of streams before) has.first has.others rest (all_to_each parts)))
 
-pub tick_behind : TickBehind
-tick_behind game text config now some before after event at early play said =
+pub tick_after : TickAfter
+tick_after game text config now some before after event at early play said =
     let streams = streams_at_start (seats_of game) now in (
       λ one. of_other_inputs _ one (drop_tick game config some streams one.opened play one.replies before after event at early one.goes_on),
       λ one. of_other_inputs _ one (add_tick game config some streams one.opened play one.replies before after event at early one.goes_on),

@@ -104,8 +104,8 @@ SteppedIsTranscript =
 
 -- A moment of the clock that isn't later than the event before it changes nothing and sends nothing: the transcripts
 -- with it and without it are the same.
-abbrev pub TickBehind : Type 0
-TickBehind =
+abbrev pub TickAfter : Type 0
+TickAfter =
     (game : AbstractGame) (text : List ℕ) (config : Config) (now : ℕ) →
     1 ≤ config.turn_ms →
     (before after : List AbstractEvent) (event : AbstractEvent) (at : ℕ) →

@@ -3,7 +3,7 @@ ghost use Rattle.std.specs.Prelude.{◌≡◌};
 ghost use Rattle.rbg_base.specs.Move.{most_pairs};
 ghost use Rattle.rbg_moves.specs.Limits.{most_keeper_moves};
 ghost use Rattle.rbg_match.specs.Limits.{most_seats, longest_turn, most_refusals, message_limit, latest_moment};
-ghost use Rattle.rbg_match.specs.Laws.{Cutting, EndedPlayStays, EndedMatchStays, OneTranscript, OneUntilHeavy, SteppedIsTranscript, TickAtStart, TickBehind, TranscriptHasHistory};
+ghost use Rattle.rbg_match.specs.Laws.{Cutting, EndedPlayStays, EndedMatchStays, OneTranscript, OneUntilHeavy, SteppedIsTranscript, TickAtStart, TickAfter, TranscriptHasHistory};
 
 use crate::opening::MESSAGE_LIMIT;
 use crate::{LATEST_MOMENT, MAX_REFUSALS, MAX_SEATS, MAX_TURN_MS};
@@ -27,9 +27,9 @@ pub fn cutting_changes_nothing()
     ensures { Cutting }
 {}
 
-/// A tick changes nothing and sends nothing behind an event that isn't earlier.
-pub fn tick_behind_an_event_says_nothing()
-    ensures { TickBehind }
+/// A tick changes nothing and sends nothing after an event that isn't earlier.
+pub fn tick_after_an_event_says_nothing()
+    ensures { TickAfter }
 {}
 
 /// Nor does a tick at the moment at which the match begins.

@@ -13,7 +13,7 @@ use Rattle.rbg_search.specs.declared.over.Over.{Over}
 use Rattle.rbg_search.specs.declared.over.Over.TheVariants.{Deep, Wide}
 use Rattle.rbg_search.proofs.CallerLemmas.{find_begins, list_begins, counts_begin, counts_weaker, counts_more, counts_end, counts_reached, over_begin, over_more, deep_begin, deep_more, row_none}
 use Rattle.rbg_search.proofs.Orders.{flat_permuted}
-use Rattle.rbg_search.proofs.Takings.{any_part, is_answer, takes_as, takes_part_of}
+use Rattle.rbg_search.proofs.Takings.{any_part, is_answer, ok_held, takes_as, takes_part_of}
 use Rattle.rbg_search.proofs.Turns.{turned, turn_under, turn_at, turn_front, turn_rest, none_left}
 use Rattle.rbg_moves.specs.internal.Asking.{question_of, IsGivenUp}
 use Rattle.rbg_moves.specs.internal.Gathering.{AddsMove, Gathers, IsLegalBy, IsSwitchOr, ListsSwitches, LeavesOthers, IsWalked}
@@ -90,7 +90,7 @@ pub come_paired : {old now : Searching} {s l : History} {f : Start} {result : Re
 come_paired {old} {now} {s} {f = f} {result} {ends = ends} question come =
     takes_as old.game question s.state f old.opened now.opened old.taken now.taken (IsOk result) (Unit {0})
     (takes_part_of old.game question s.state f reach s.state f old.opened now.opened old.taken now.taken (IsOk result) (any_part old.game question s.state f) come.asked.taken)
-    (λ _. is_answer result ends come.was)
+    (λ _. is_answer result ends come.was) (λ _. ok_held result ends come.was)
 
 -- What comes next was given up.
 pub none_come : {old now : Searching} {s l : History} {f : Start} {result : Result Bool Over} (max left : ℕ) → IsNumbered old.game.rules → IsAnswered old now s l reach f result → IsGivenUp old (question_of max) s.state f left (result ≡ Err Deep) (result ≡ Err Wide)

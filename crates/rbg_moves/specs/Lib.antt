@@ -6,3 +6,6 @@ pub mod Limits
 pub mod Settling
 pub mod Tallying
 pub mod internal
+-- Where a game that is played move by move stands, and where a move leads.
+pub mod Moving
+pub mod Playing

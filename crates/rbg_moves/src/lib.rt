@@ -1,4 +1,4 @@
-//! Places of play, and the moves that lead from one to the next.
+//! Places of play, the moves that lead from one to the next, and a game that is played move by move.
 #![tactic(auto)]
 
 mod asking;
@@ -8,6 +8,7 @@ mod list;
 mod making;
 mod place;
 mod played;
+mod playthrough;
 mod settling;
 mod stepping;
 mod trying;
@@ -19,6 +20,7 @@ pub use finding::find_move;
 pub use list::{Gathered, Listed, list_moves};
 pub use place::Place;
 pub use played::PlayedGame;
+pub use playthrough::Playthrough;
 pub use rbg_base::{MAX_PAIRS, Move, MoveList, Pair};
 pub use rbg_search::Over;
 pub use settling::MAX_KEEPER_MOVES;

@@ -55,7 +55,7 @@ impl Workspace {
         self.tally.openings()
     }
 
-    /// How many pairs of a position and a vertex the questions tried, shifts left out.
+    /// How many pairs of a position and a vertex the questions met, without shifts where the game has leaps.
     pub fn pairs(&self) -> u64
         ensures { result ≡ self.now.tally.pairs }
     {

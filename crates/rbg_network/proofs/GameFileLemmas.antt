@@ -1,4 +1,4 @@
--- What a game file says, by what stands behind its first line.
+-- What a game file says, by what stands after its first line.
 use Rattle.std.proofs.Common.{◌≡◌, ℕ, List, ◌++◌, sym, ◌∙◌, ap}
 use Rattle.std.proofs.lemmas.List.{append_cancel_left}
 use Rattle.rbg_network.specs.declared.game_file.Naming.{Naming}

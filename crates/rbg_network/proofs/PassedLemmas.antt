@@ -139,9 +139,9 @@ begun_more begun now byte index old within is same =
     ∙ (sym (joins begun (take index old) (byte ∷ [])).begun_then
     ∙ ap (begun_after begun) (sym (take_more old index 0 within ∙ ap (λ b. take index old ++ b ∷ []) (sym is))))
 
--- The byte is written behind what was passed on.
-pub written_behind : (before old buffer : List ℕ) (kept byte : ℕ) → kept ≡ length before → kept < length old → buffer ≡ before ++ drop kept old → slice_set buffer kept byte ≡ (before ++ byte ∷ []) ++ drop (kept + 1) old
-written_behind before old buffer kept byte long within is =
+-- The byte is written after what was passed on.
+pub written_after : (before old buffer : List ℕ) (kept byte : ℕ) → kept ≡ length before → kept < length old → buffer ≡ before ++ drop kept old → slice_set buffer kept byte ≡ (before ++ byte ∷ []) ++ drop (kept + 1) old
+written_after before old buffer kept byte long within is =
     let on : kept + 1 ≡ suc kept = omega arith in
     ap (λ bytes. set bytes kept byte) (is ∙ ap (λ more. before ++ more) (drop-cons old kept 0 within))
     ∙ (ap (λ at. set (before ++ get_or old kept 0 ∷ drop (suc kept) old) at byte) long

@@ -13,7 +13,7 @@ abbrev pub names_line : (names : Option (List ℕ)) → List ℕ
 names_line None = []
 names_line (Some names) = codes "names " ++ names ++ 10 ∷ []
 
--- Behind the digest's line stands that of these names, or that of none.
+-- After the digest's line stands that of these names, or that of none.
 abbrev pub IsTail : (tail : List ℕ) → Naming → Type 0
 IsTail tail (This names) = tail ≡ names_line (option_map (λ one. one.now) names)
 IsTail tail Other = (names : Option (List ℕ)) → tail ≢ names_line names

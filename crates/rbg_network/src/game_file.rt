@@ -71,7 +71,7 @@ fn push_names(names: &str, text: &mut Vec<u8>) -> Result<(), AllocError>
     Ok(())
 }
 
-/// What the text behind the digest's line says.
+/// What the text after the digest's line says.
 fn naming_of(tail: &[u8]) -> Naming<'_>
     ensures { IsTail tail.now result }
 {

@@ -25,7 +25,7 @@ pub use game_file::{Naming, read_game, spell_game};
 pub use gathering::{GatherError, Hosting, gather};
 pub use named_log::{Named, begin_log, take_log};
 pub use network::{Network, is_nothing_yet};
-pub use news::News;
+pub use news::{MatchNews, News};
 pub use stream_line::StreamLine;
 pub use system_clock::SystemClock;
 pub use system_log::SystemLog;

@@ -3,8 +3,7 @@
 ghost use Rattle.std.specs.Prelude.{[], IfOk};
 
 use crate::News;
-use rbg_log::Log;
-use rbg_serving::Clock;
+use rbg_serving::{Clock, Log};
 use std::io::{self, ErrorKind, Read, Write};
 
 /// Connections on this machine, the clock by which matches over them are played, the files in which these are logged and
@@ -51,7 +50,8 @@ pub trait Network {
 
     /// A file for a log that is to replace the one of this name, which this process holds. It lies beside it; one that is
     /// left there is written over.
-    fn rewrite_log(&mut self, name: &str, sync: bool) -> io::Result<Self::Log>;
+    fn rewrite_log(&mut self, name: &str, sync: bool) -> io::Result<Self::Log>
+        ensures rewritten { IfOk result (λ log. Self.Log.told log []) };
 
     /// Replaces the log of this name by the one that was written beside it.
     fn replace_log(&mut self, name: &str) -> io::Result<()>;

@@ -48,6 +48,27 @@ pub enum News<'a> {
     Lost { port: u16, error: ClientError },
     /// This process plays for this player.
     Plays { player: u64, name: &'a str },
+    /// A player has connected to a hall whose matches are played already, and has this connection.
+    Joined { connection: usize },
+    /// News of the match of this number in a hall.
+    OfMatch { number: u64, news: MatchNews<'a> },
+}
+
+/// What an organiser is told of a match in a hall.
+#[derive(Clone, Copy)]
+pub enum MatchNews<'a> {
+    /// All its seats are taken.
+    Begins,
+    /// It goes on from its log, and waits for its players again.
+    GoesOn,
+    /// It has ended.
+    Ended { outcome: Outcome },
+    /// It did not end in this many rounds.
+    Unfinished { rounds: u64 },
+    /// It did not end within this many minutes.
+    OutOfTime { minutes: u64 },
+    /// Who sits on a seat, as the organiser says.
+    Sits { seat: usize, name: &'a str },
 }
 
 impl fmt::Display for News<'_> {
@@ -97,6 +118,33 @@ impl fmt::Display for News<'_> {
             }
             News::Lost { port, error } => write_failure(f, *error, "port ", u64::from(*port), ""),
             News::Plays { player, name } => write_name(f, "plays", name, *player),
+            News::Joined { connection } => {
+                write_number(f, "connection ", *connection as u64, " connected")
+            }
+            News::OfMatch { number, news } => {
+                write_number(f, "match ", *number, "")?;
+                write_of_match(f, news)
+            }
+        }
+    }
+}
+
+/// What is told of a match, after its number.
+fn write_of_match<W: fmt::Write>(f: &mut Formatter<W>, news: &MatchNews<'_>) -> fmt::Result {
+    match news {
+        MatchNews::Begins => f.write_str(" begins"),
+        MatchNews::GoesOn => f.write_str(" goes on"),
+        MatchNews::Ended { outcome } => {
+            f.write_str(" ended: ")?;
+            write_outcome(f, outcome)
+        }
+        MatchNews::Unfinished { rounds } => write_count(f, *rounds, " not ended within", "round"),
+        MatchNews::OutOfTime { minutes } => {
+            write_count(f, *minutes, " not ended within", "minute")
+        }
+        MatchNews::Sits { seat, name } => {
+            f.write_str(": ")?;
+            write_name(f, "is", name, *seat as u64)
         }
     }
 }
@@ -111,7 +159,7 @@ fn write_number<W: fmt::Write>(
     write!(f, "{before}{number}{after}")
 }
 
-/// So many of something with this name, behind a text.
+/// So many of something with this name, after a text.
 fn write_count<W: fmt::Write>(
     f: &mut Formatter<W>,
     count: u64,
@@ -132,9 +180,14 @@ fn write_name<W: fmt::Write>(
     write!(f, "seat {seat} {verb} {name}")
 }
 
-/// How a match ended, by the message that its seats are sent.
+/// How a match ended.
 fn write_end<W: fmt::Write>(f: &mut Formatter<W>, outcome: &Outcome) -> fmt::Result {
     f.write_str("match ended: ")?;
+    write_outcome(f, outcome)
+}
+
+/// An outcome, by the message that the seats are sent.
+fn write_outcome<W: fmt::Write>(f: &mut Formatter<W>, outcome: &Outcome) -> fmt::Result {
     match outcome {
         Outcome::Finished { scores } => write_scores(f, scores.as_slice()),
         Outcome::Time { player } => write_number(f, "E1 ", *player, ""),
@@ -153,7 +206,7 @@ fn write_scores<W: fmt::Write>(f: &mut Formatter<W>, scores: &[u64]) -> fmt::Res
     Ok(())
 }
 
-/// An error behind a number between two texts.
+/// An error after a number between two texts.
 fn write_failure<W: fmt::Write>(
     f: &mut Formatter<W>,
     error: ClientError,

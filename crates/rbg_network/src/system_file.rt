@@ -39,7 +39,7 @@ fn sync_directory(rt: &HostRuntime, path: &str) {
     }
 }
 
-/// The most bytes that the system lets a file of this process have, as far as it says that. A write that begins behind them
+/// The most bytes that the system lets a file of this process have, as far as it says that. A write that begins after them
 /// would end the process by a signal.
 pub(crate) fn most_bytes(rt: &HostRuntime) -> u64 {
     match fs::read_to_string(rt, "/proc/self/limits") {

@@ -1,7 +1,7 @@
 //! Logs in files of the system. What fails is said on standard error.
 
 use crate::system_file::most_bytes;
-use rbg_log::{Log, LogFailure};
+use rbg_serving::{Log, LogFailure};
 use std::fs::File;
 use std::io::{self, ErrorKind, Write};
 

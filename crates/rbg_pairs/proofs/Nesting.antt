@@ -5,7 +5,7 @@ use Rattle.rbg_rules.proofs.PositionLemmas.{Among, Among_right, one_stands}
 use Rattle.rbg_rules.proofs.PatternLemmas.{own_stands, word_own}
 use Rattle.rbg_rules.proofs.LevelLemmas.{one_level_law}
 use Rattle.rbg_pairs.specs.Nesting.{StandsIn, NestsFrom}
-use Rattle.rbg_leaps.proofs.ShiftLemmas.{level_stands}
+use Rattle.rbg_shifts.proofs.ShiftLemmas.{level_stands}
 
 below_more : (n m k : ℕ) → n ≤ m → n ≡ suc k → (m ≡ suc (m - 1)) × (k ≤ m - 1)
 below_more n m k under is = (omega (arith, under, is), omega (arith, under, is))

@@ -1,7 +1,7 @@
 -- What may come next stands in the rules.
 use Rattle.std.proofs.Common.{ℕ, [], ◌∷◌}
 use Rattle.rbg_rules.specs.Meaning.{AbstractAction, Expression, HasAction, IsNumbered, Start, Follows}
-use Rattle.rbg_leaps.proofs.ShiftLemmas.{follower_stands, action_within}
+use Rattle.rbg_shifts.proofs.ShiftLemmas.{follower_stands, action_within}
 use Rattle.rbg_pairs.specs.Start.{IsPositionOf}
 
 pub action_position : (rules : Expression) → IsNumbered rules → (p : ℕ) (a : AbstractAction) → HasAction rules p a → IsPositionOf rules p

@@ -5,5 +5,6 @@ pub mod Nesting
 pub mod Closure
 pub mod Meeting
 pub mod Part
+pub mod Met
 pub mod Plain
 pub mod internal

@@ -1,10 +1,11 @@
 //! One flat part: the pairs that are reached without a modifier, the modifiers found among them, and whether a word may
 //! end.
-ghost use Rattle.std.specs.Prelude.{◌≡◌, ℕ, ◌<◌, ◌≤◌, ◌+◌, ◌-◌, ◌^◌, [], ◌∷◌, ◌++◌, List, length, take, slice_get, Contains, Some, IfOk, IfSome, IfNone, OnOk};
+ghost use Rattle.std.specs.Prelude.{◌≡◌, ◌≢◌, ℕ, ◌<◌, ◌≤◌, ◌+◌, ◌-◌, ◌^◌, [], ◌∷◌, ◌++◌, List, length, take, slice_get, AllPairs, Contains, Some, IfOk, IfSome, IfNone, OnErr, OnOk};
 ghost use Rattle.rbg_rules.specs.Meaning.{shift, on, AbstractGame, AbstractState, IsStateOf, IsNumbered, HasAction, IsPatternAt, Start, IsGame};
 ghost use Rattle.rbg_pairs.specs.Flat.{IsFlatPart};
 ghost use Rattle.rbg_pairs.specs.Part.{IsTrialAt, IsPart, HasMarksOf};
-ghost use Rattle.rbg_pairs.specs.Plain.{HasPlain};
+ghost use Rattle.rbg_pairs.specs.Met.{IsMetPart};
+ghost use Rattle.rbg_pairs.specs.Plain.{CountsPlain};
 ghost use Rattle.rbg_pairs.specs.Start.{start_of, IsPositionOf};
 
 use crate::game_steps::GameSteps;
@@ -12,8 +13,8 @@ use crate::queue::Queue;
 use rbg_auto::{Glance, Steps};
 use rbg_base::{Direction, Memory, Pair, Piece, Position, Vertex};
 use rbg_flat::is_shift;
-use rbg_leaps::Origin;
 use rbg_rules::Game;
+use rbg_shifts::Origin;
 use rbg_state::{SemiState, Trial};
 use std::alloc::Global;
 
@@ -68,18 +69,13 @@ impl Flat {
         Ok(())
     }
 
-    /// How many pairs were met that are no shifts.
-    pub fn candidates<S: Steps>(&self, rules: &GameSteps<'_, S>) -> usize
-        requires marks { HasMarksOf rules.now self.now.queue }
-        ensures count { HasPlain rules.now.rules self.now.queue.pairs result }
+    /// How many pairs were met so far, shifts among them.
+    pub fn met(&self) -> usize
+        ensures count { result ≡ length self.now.queue.pairs }
+        ensures once { AllPairs (λ a b. a ≢ b) self.now.queue.pairs }
         ensures few { result ≤ self.now.queue.marks - self.now.queue.vertices }
     {
-        let mut many = 0;
-        for index in 0..self.queue.len() {
-            let pair = self.queue.pair(index);
-            many = one_more(rules, pair.position, many);
-        }
-        many
+        self.queue.len()
     }
 
     /// Takes the next pair, of which this became.
@@ -101,6 +97,7 @@ impl Flat {
             → take self.new.taken self.new.queue.pairs
             ≡ take self.old.taken self.old.queue.pairs ++ (v, q) ∷ []) }
         ensures within { OnOk result (self.new.taken ≤ length self.new.queue.pairs) }
+        ensures refused { OnErr result (self.new.queue.pairs ≡ self.old.queue.pairs) }
     {
         let pair = self.queue.pair(self.taken);
         self.taken = self.take_pair(rules, self.taken, pair, trial)?;
@@ -133,6 +130,7 @@ impl Flat {
         ensures done { IfOk result (λ more. take more self.new.queue.pairs
             ≡ take taken self.old.queue.pairs ++ pair ∷ []) }
         ensures within { IfOk result (λ more. more ≤ length self.new.queue.pairs) }
+        ensures refused { OnErr result (self.new.queue.pairs ≡ self.old.queue.pairs) }
     {
         let more = taken + 1;
         match trial {
@@ -192,6 +190,11 @@ impl Flat {
             (take self.old.taken self.old.queue.pairs)
             self.old.found.items self.old.ends
             → IsFlatPart rules.now state.now.state f self.new.found.items self.new.ends)) }
+        ensures lost { OnErr result ((f : Start)
+            → IsPart rules.now state.now.state f self.old.queue.pairs
+            (take self.old.taken self.old.queue.pairs)
+            self.old.found.items self.old.ends
+            → IsMetPart rules.now state.now.state f self.new.queue.pairs) }
     {
         loop {
             self.take_told(rules, state);
@@ -242,16 +245,24 @@ impl Flat {
     }
 }
 
-/// A number of pairs that are no shifts, with one pair more, at this position.
+/// A number of pairs with one pair more, at this position. A shift counts only where shifts are said to.
 #[inline(always)]
-pub fn one_more<S: Steps>(rules: &GameSteps<'_, S>, position: Position, many: usize) -> usize
+pub fn one_more<S: Steps>(
+    rules: &GameSteps<'_, S>,
+    position: Position,
+    many: usize,
+    shifts: bool,
+) -> usize
     requires position { IsPositionOf rules.now.rules position }
     requires small { many + 1 < 2 ^ 64 }
-    ensures count { (done : List (ℕ × ℕ)) (v : ℕ) → HasPlain rules.now.rules done many
+    ensures count { (done : List (ℕ × ℕ)) (v : ℕ) → CountsPlain shifts rules.now.rules done many
         → ¬ Contains done (v, position)
-        → HasPlain rules.now.rules (done ++ (v, position) ∷ []) result }
+        → CountsPlain shifts rules.now.rules (done ++ (v, position) ∷ []) result }
     ensures few { result ≤ many + 1 }
 {
+    if shifts {
+        return many + 1;
+    }
     if is_shift(rules.game(), position) {
         many
     } else {

@@ -10,9 +10,9 @@ use crate::tables::Tables;
 use rbg_auto::{Glance, Steps};
 use rbg_base::Position;
 use rbg_flat::Paths;
-use rbg_leaps::Origin;
 use rbg_rules::Game;
 use rbg_rules::limits::MAX_NESTED_PATTERNS;
+use rbg_shifts::Origin;
 use std::marker::Model;
 
 /// A game and the steps of its rules.

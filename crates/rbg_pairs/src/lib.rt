@@ -11,4 +11,4 @@ mod taking;
 
 pub use flat::{Flat, one_more, tried};
 pub use game_steps::GameSteps;
-pub use rbg_leaps::Origin;
+pub use rbg_shifts::Origin;

@@ -86,6 +86,7 @@ impl Queue {
         requires { All (λ p. HasMark self.old.vertices self.old.marks (vertex, p)) positions.now }
         ensures kept { (self.new.vertices ≡ self.old.vertices) × (self.new.marks ≡ self.old.marks) }
         ensures met { OnOk result (MeetsAll self.old.pairs self.new.pairs vertex positions.now) }
+        ensures refused { OnErr result (self.new.pairs ≡ self.old.pairs) }
     {
         make_room(&mut self.room, self.met, positions.len())?;
         if positions.len() >= LONG_LIST && are_marked(&self.words, self.rows, vertex, positions) {

@@ -3,7 +3,7 @@ use Rattle.rbg_base.proofs.Common.{◌≡◌, ℕ, List, [], length, subst, arit
 use Rattle.rbg_rules.specs.Meaning.{AbstractGame, IsGame, AbstractPlace, IsLegal, Finished, IsPlaceOf}
 use Rattle.rbg_moves.specs.Listing.{IsListed}
 use Rattle.rbg_base.specs.Move.{IsMoveLength}
-use Rattle.rbg_spelling.proofs.LegalPairs.{legal_spelled}
+use Rattle.rbg_rules.proofs.LegalPairs.{legal_spelled}
 use Rattle.rbg_player.specs.Players.{AbstractSeat}
 use Rattle.rbg_player.specs.Hearing.{IsMover, HasMoveToMake}
 use Rattle.rbg_player.specs.internal.Sitting.{IsAnswer, Lists}

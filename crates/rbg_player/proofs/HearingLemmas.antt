@@ -82,7 +82,7 @@ unanswered_fault old new pairs error follows (heavy mover hard) =
     heavy_to_list follows.legal (subst IsMover follows.same mover) (subst (λ (seat : AbstractSeat). IsTooHard seat.game list_moves seat.place) follows.same hard)
 unanswered_fault old new pairs error follows memory = faults.memory
 
--- a move that was made, with the player's own move behind it or with none
+-- a move that was made, with the player's own move after it or with none
 pub says_answer : (old new : AbstractSeat) (pairs answer : List (ℕ × ℕ)) (before after : List ℕ) → Follows old pairs new → IsAnswer new answer → after ≡ before ++ spelling (move_message answer) → HearsAndSays (playing old) (move_message pairs) (playing new) before after
 says_answer old new pairs answer before after follows is tells = record {
   said = move_message answer ∷ [];

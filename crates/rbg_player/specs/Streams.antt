@@ -52,7 +52,7 @@ abbrev pub cut_of : AbstractPlayer → (piece : List ℕ) → Cut
 cut_of player piece = cut message_limit player.rest piece
 
 -- A player hears a piece of its stream well: it hears the items that the piece completes, keeps the rest, and what it
--- says stands behind the bytes that were there.
+-- says stands after the bytes that were there.
 pub record HearsPiece
     (old : AbstractPlayer) (piece : List ℕ) (new : AbstractPlayer) (before after : List ℕ)
     : Type 0

@@ -114,7 +114,7 @@ impl Player {
     }
 }
 
-/// Where a player stands that answers an error. What it said behind the first bytes is taken back.
+/// Where a player stands that answers an error. What it said after the first bytes is taken back.
 fn give_up(error: PlayerError, len: usize, out: &mut Vec<u8>) -> Stage
     ensures stage { stage_of result ≡ failed error }
     ensures out { out.new.items ≡ take len out.old.items }

@@ -3,7 +3,7 @@ use Rattle.rbg_base.proofs.Common.{◌≡◌, ℕ, ◌+◌, ◌≤◌, Bool, tru
 use Rattle.rbg_grammar.proofs.Common.{same_kind, sections_of, HasSection}
 use Rattle.rbg_macro.specs.Sections.{SectionTokens}
 use Rattle.rbg_macro.specs.declared.source.SectionKind.TheVariants.{Board}
-use Rattle.rbg_tokens.specs.Token.{Lexeme}
+use Rattle.rbg_macro.specs.Token.{Lexeme}
 use Rattle.rbg_position.specs.internal.Walking.{IsSectionAt}
 
 -- the list from an item on

@@ -2,34 +2,34 @@
 use Rattle.rbg_base.proofs.Common.{◌≡◌, ℕ, ◌+◌, ◌&&◌, Bool, true, false, cond, List, [], ◌∷◌, ◌++◌, length, map, filter, refl, sym, ap, ◌∙◌, append_assoc, flat_map, enumerate_from}
 use Rattle.std.proofs.lemmas.List.{take_at, map-append, length-append}
 use Rattle.rbg_grammar.proofs.Common.{IsRow, IsEdge, edge, IsVertex, vertex, IsRectangle, four, IsHexagon, six, IsGraph, vertices, IsGenerated, generated, IsBoard, rectangular, hexagonal, graphic, Phrase, IsSymbol, symbol, IsName, name, IsWord, word, Repeated, done, again, After, after, separated, Listed, nothing, listed, Within, within, WithComma, with_comma, SpeltName, SpeltEdge, SpeltVertex, SpeltBoard, rectangle, hexagon, graph}
-use Rattle.rbg_tokens.proofs.Common.{is_name_kind, Lexeme}
-use Rattle.rbg_tokens.specs.declared.token.Symbol.{Symbol}
-use Rattle.rbg_tokens.specs.declared.token.Symbol.TheVariants as symbols
-use Rattle.rbg_tokens.specs.declared.token.TokenKind.{TokenKind}
-use Rattle.rbg_tokens.specs.declared.token.TokenKind.TheVariants as kinds
+use Rattle.rbg_macro.proofs.TextCommon.{is_name_kind, Lexeme}
+use Rattle.rbg_macro.specs.declared.token.Symbol.{Symbol}
+use Rattle.rbg_macro.specs.declared.token.Symbol.TheVariants as symbols
+use Rattle.rbg_macro.specs.declared.token.TokenKind.{TokenKind}
+use Rattle.rbg_macro.specs.declared.token.TokenKind.TheVariants as kinds
 use Rattle.rbg_position.specs.Laws.{names_in_brackets}
 use Rattle.rbg_position.specs.Sections.{Indexed, leave_open, kinds_before, names_piece}
-use Rattle.rbg_position.specs.internal.Walking.{is_inside_behind}
+use Rattle.rbg_position.specs.internal.Walking.{is_inside_after}
 use Rattle.rbg_position.proofs.Sections.{inside_more}
 
 -- the names in brackets of these tokens, where the first one is in brackets or isn't
 abbrev pub names_from : Bool → List Lexeme → List (List ℕ)
 names_from inside [] = []
 names_from inside (t ∷ ts) =
-    cond (inside && is_name_kind t.kind) (t.text ∷ names_from (is_inside_behind inside t.kind) ts) (names_from (is_inside_behind inside t.kind) ts)
+    cond (inside && is_name_kind t.kind) (t.text ∷ names_from (is_inside_after inside t.kind) ts) (names_from (is_inside_after inside t.kind) ts)
 
 abbrev text_of : Indexed → List ℕ
 text_of p = p.1.text
 
 -- with the tokens before them
-abbrev names_behind : (before ts : List Lexeme) → List (List ℕ)
-names_behind before ts = map text_of (filter (names_piece (before ++ ts)) (enumerate_from (length before) ts))
+abbrev names_after : (before ts : List Lexeme) → List (List ℕ)
+names_after before ts = map text_of (filter (names_piece (before ++ ts)) (enumerate_from (length before) ts))
 
 one_chosen : (test : Bool) (p : Indexed) (ps : List Indexed) → map text_of (cond test (p ∷ ps) ps) ≡ cond test (text_of p ∷ map text_of ps) (map text_of ps)
 one_chosen true p ps = refl
 one_chosen false p ps = refl
 
-names_on : (before : List Lexeme) (t : Lexeme) (ts : List Lexeme) → names_behind (before ++ t ∷ []) ts ≡ map text_of (filter (names_piece (before ++ t ∷ ts)) (enumerate_from (length before + 1) ts))
+names_on : (before : List Lexeme) (t : Lexeme) (ts : List Lexeme) → names_after (before ++ t ∷ []) ts ≡ map text_of (filter (names_piece (before ++ t ∷ ts)) (enumerate_from (length before + 1) ts))
 names_on before t ts =
     let whole : before ++ t ∷ [] ++ ts ≡ before ++ t ∷ ts = append_assoc before (t ∷ []) ts in
     let many : length (before ++ t ∷ []) ≡ length before + 1 = length-append before (t ∷ []) in
@@ -38,15 +38,15 @@ names_on before t ts =
 inside_here : (before : List Lexeme) (t : Lexeme) (ts : List Lexeme) → leave_open (kinds_before (before ++ t ∷ ts) (length before)) ≡ leave_open (map (λ (u : Lexeme). u.kind) before)
 inside_here before t ts = ap (λ us. leave_open (map (λ (u : Lexeme). u.kind) us)) (take_at before (t ∷ ts) (length before) refl)
 
-inside_next : (before : List Lexeme) (t : Lexeme) → leave_open (map (λ (u : Lexeme). u.kind) (before ++ t ∷ [])) ≡ is_inside_behind (leave_open (map (λ (u : Lexeme). u.kind) before)) t.kind
+inside_next : (before : List Lexeme) (t : Lexeme) → leave_open (map (λ (u : Lexeme). u.kind) (before ++ t ∷ [])) ≡ is_inside_after (leave_open (map (λ (u : Lexeme). u.kind) before)) t.kind
 inside_next before t =
     ap leave_open (map-append (λ (u : Lexeme). u.kind) before (t ∷ [])) ∙ inside_more (map (λ (u : Lexeme). u.kind) before) t.kind
 
-same_names : (before ts : List Lexeme) → names_behind before ts ≡ names_from (leave_open (map (λ (u : Lexeme). u.kind) before)) ts
+same_names : (before ts : List Lexeme) → names_after before ts ≡ names_from (leave_open (map (λ (u : Lexeme). u.kind) before)) ts
 same_names before [] = refl
 same_names before (t ∷ ts) =
     let inside : Bool = leave_open (map (λ (u : Lexeme). u.kind) before) in
-    let rest : map text_of (filter (names_piece (before ++ t ∷ ts)) (enumerate_from (length before + 1) ts)) ≡ names_from (is_inside_behind inside t.kind) ts =
+    let rest : map text_of (filter (names_piece (before ++ t ∷ ts)) (enumerate_from (length before + 1) ts)) ≡ names_from (is_inside_after inside t.kind) ts =
     sym (names_on before t ts) ∙ same_names (before ++ t ∷ []) ts ∙ ap (λ (test : Bool). names_from test ts) (inside_next before t) in
     one_chosen (names_piece (before ++ t ∷ ts) (length before, t)) (length before, t) (filter (names_piece (before ++ t ∷ ts)) (enumerate_from (length before + 1) ts))
     ∙ (λ i. cond (inside_here before t ts i && is_name_kind t.kind) (t.text ∷ rest i) (rest i))
@@ -55,13 +55,13 @@ pub names_from_first : (ts : List Lexeme) → names_in_brackets ts ≡ names_fro
 names_from_first ts = same_names [] ts
 
 -- A token that is no name in brackets.
-skipped : (inside next : Bool) (t : Lexeme) (kind : TokenKind) (rest : List Lexeme) → t.kind ≡ kind → (inside && is_name_kind kind) ≡ false → is_inside_behind inside kind ≡ next → names_from inside (t ∷ rest) ≡ names_from next rest
+skipped : (inside next : Bool) (t : Lexeme) (kind : TokenKind) (rest : List Lexeme) → t.kind ≡ kind → (inside && is_name_kind kind) ≡ false → is_inside_after inside kind ≡ next → names_from inside (t ∷ rest) ≡ names_from next rest
 skipped inside next t kind rest is none on =
-    (λ i. cond (inside && is_name_kind (is i)) (t.text ∷ names_from (is_inside_behind inside (is i)) rest) (names_from (is_inside_behind inside (is i)) rest))
-    ∙ ap (λ (test : Bool). cond test (t.text ∷ names_from (is_inside_behind inside kind) rest) (names_from (is_inside_behind inside kind) rest)) none
+    (λ i. cond (inside && is_name_kind (is i)) (t.text ∷ names_from (is_inside_after inside (is i)) rest) (names_from (is_inside_after inside (is i)) rest))
+    ∙ ap (λ (test : Bool). cond test (t.text ∷ names_from (is_inside_after inside kind) rest) (names_from (is_inside_after inside kind) rest)) none
     ∙ ap (λ (test : Bool). names_from test rest) on
 
-symbol_skipped : (inside next : Bool) (s : Symbol) (ts : List Lexeme) (at : ℕ) (rest : List Lexeme) → IsSymbol s ts at rest → (inside && is_name_kind (kinds.Symbol s)) ≡ false → is_inside_behind inside (kinds.Symbol s) ≡ next → names_from inside ts ≡ names_from next rest
+symbol_skipped : (inside next : Bool) (s : Symbol) (ts : List Lexeme) (at : ℕ) (rest : List Lexeme) → IsSymbol s ts at rest → (inside && is_name_kind (kinds.Symbol s)) ≡ false → is_inside_after inside (kinds.Symbol s) ≡ next → names_from inside ts ≡ names_from next rest
 symbol_skipped inside next s _ _ rest (symbol {t} is) none on = skipped inside next t (kinds.Symbol s) rest is none on
 
 name_outside : (ts : List Lexeme) (n : SpeltName) (rest : List Lexeme) → IsName ts n rest → names_from false ts ≡ names_from false rest
@@ -72,7 +72,7 @@ word_outside text _ _ rest (word {t} is same) = skipped false false t kinds.Name
 
 name_inside : (ts : List Lexeme) (n : SpeltName) (rest : List Lexeme) → IsName ts n rest → names_from true ts ≡ n.text ∷ names_from true rest
 name_inside _ _ rest (name {t} is) =
-    λ i. cond (true && is_name_kind (is i)) (t.text ∷ names_from (is_inside_behind true (is i)) rest) (names_from (is_inside_behind true (is i)) rest)
+    λ i. cond (true && is_name_kind (is i)) (t.text ∷ names_from (is_inside_after true (is i)) rest) (names_from (is_inside_after true (is i)) rest)
 
 comma_outside : (ts : List Lexeme) (n : SpeltName) (rest : List Lexeme) → WithComma IsName ts n rest → names_from false ts ≡ names_from false rest
 comma_outside ts n rest (with_comma {mid} {at} named is) =

@@ -1,4 +1,9 @@
 -- Lemmas, by topic.
+pub mod SameBoards
+pub mod Items
+pub mod Keys
+pub mod Parts
+pub mod Texts
 pub mod Boards
 pub mod BracketedNames
 pub mod Definitions

@@ -3,8 +3,8 @@ use Rattle.std.proofs.Common.{ℕ, List, subst}
 use Rattle.rbg_game.specs.Loading.{Loads}
 use Rattle.rbg_macro.specs.Expansion.{HasSections}
 use Rattle.rbg_rules.specs.Meaning.{AbstractGame}
-use Rattle.rbg_tokens.proofs.Common.{HasTokens, Lexeme}
-use Rattle.rbg_tokens.proofs.OneReading.{tokens_once}
+use Rattle.rbg_macro.proofs.TextCommon.{HasTokens, Lexeme}
+use Rattle.rbg_macro.proofs.OneReading.{tokens_once}
 use Rattle.rbg_position.specs.Sections.{ExpandsBoard}
 use Rattle.rbg_position.specs.internal.Missing.{HasNoBoard}
 use Rattle.rbg_position.proofs.Definitions.{board_begins}

@@ -4,8 +4,8 @@ use Rattle.rbg_board.proofs.Common.{width_of, Written, directions_in, directions
 use Rattle.rbg_grammar.specs.Tree.{SpeltEdge, SpeltVertex, SpeltBoard, rectangle, hexagon, graph}
 use Rattle.rbg_game.proofs.Common.{NamedBoard, BoardIs, EdgeIs, VertexIs, board_in, Loads}
 use Rattle.rbg_rules.specs.Meaning.{AbstractGame}
-use Rattle.rbg_same.specs.Same.{IsNarrow}
-use Rattle.rbg_same.proofs.Boards.{as_wide}
+use Rattle.rbg_position.specs.Same.{IsNarrow}
+use Rattle.rbg_position.proofs.SameBoards.{as_wide}
 
 few_in : (n : ℕ) (b : NamedBoard) (vertices : List (List ℕ)) (es : List SpeltEdge) (ws : List (ℕ × ℕ)) → length b.directions ≤ n → AllZip (EdgeIs b vertices) es ws → width_of (directions_in ws) ≤ n
 few_in n b vertices [] [] few are = omega arith

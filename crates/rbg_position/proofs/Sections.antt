@@ -2,12 +2,12 @@
 use Rattle.rbg_base.proofs.Common.{◌≡◌, ℕ, ◌+◌, ◌≤◌, ◌&&◌, ◌⊎◌, inl, inr, Bool, true, false, cond, List, [], ◌∷◌, ◌++◌, length, map, take, filter, slice_get, Option, Some, None, if◌then◌else◌, refl, sym, ap, ◌∙◌, append_assoc, zero-add, arith, flat_map, count_by, enumerate_from, last_or, filter-append, sum_by-append, slice_get_within, get_or_from_slice_get}
 use Rattle.std.proofs.lemmas.List.{append-nil, take_more, length-take-le, map-append, flat_map_more}
 use Rattle.rbg_rules.specs.Meaning.{AbstractGame}
-use Rattle.rbg_tokens.proofs.Common.{is_name_kind, Lexeme}
-use Rattle.rbg_tokens.specs.declared.token.Symbol.TheVariants.{OpenBracket, CloseBracket}
-use Rattle.rbg_tokens.specs.declared.token.TokenKind.{TokenKind}
-use Rattle.rbg_tokens.specs.declared.token.TokenKind.TheVariants.{Symbol}
+use Rattle.rbg_macro.proofs.TextCommon.{is_name_kind, Lexeme}
+use Rattle.rbg_macro.specs.declared.token.Symbol.TheVariants.{OpenBracket, CloseBracket}
+use Rattle.rbg_macro.specs.declared.token.TokenKind.{TokenKind}
+use Rattle.rbg_macro.specs.declared.token.TokenKind.TheVariants.{Symbol}
 use Rattle.rbg_position.specs.Sections.{Indexed, kinds_before, is_bracket, is_opening, leave_open, names_piece, vertex_at, name_of, space_between, written_of}
-use Rattle.rbg_position.specs.internal.Walking.{is_inside_behind}
+use Rattle.rbg_position.specs.internal.Walking.{is_inside_after}
 
 -- one token more before an index
 tokens_more : (ts : List Lexeme) (i : ℕ) (t : Lexeme) → slice_get ts i ≡ Some t → take (i + 1) ts ≡ take i ts ++ t ∷ []
@@ -59,12 +59,12 @@ other_more kinds kind is =
     ∙ ap (λ (test : Bool). is_opening (last_or None (filter is_bracket kinds ++ cond test (kind ∷ []) []))) is
     ∙ ap (λ ks. is_opening (last_or None ks)) (append-nil (filter is_bracket kinds))
 
-pub inside_more : (kinds : List TokenKind) (kind : TokenKind) → leave_open (kinds ++ kind ∷ []) ≡ is_inside_behind (leave_open kinds) kind
+pub inside_more : (kinds : List TokenKind) (kind : TokenKind) → leave_open (kinds ++ kind ∷ []) ≡ is_inside_after (leave_open kinds) kind
 inside_more kinds (Symbol OpenBracket) = bracket_more kinds (Symbol OpenBracket) refl
 inside_more kinds (Symbol CloseBracket) = bracket_more kinds (Symbol CloseBracket) refl
 inside_more kinds kind = other_more kinds kind refl
 
--- So many tokens of a section are written behind the old text. So many of them name pieces, and the next one is in
+-- So many tokens of a section are written after the old text. So many of them name pieces, and the next one is in
 -- brackets or not.
 pub record AreWritten (game : AbstractGame) (pieces : List ℕ) (ts : List Lexeme) (old : List ℕ) (vertex : ℕ) (inside : Bool) (last : Option TokenKind) (i : ℕ) (out : List ℕ) : Type 0 where
   pub text : out ≡ old ++ flat_map (written_of game pieces ts) (enumerate_from 0 (take i ts))
@@ -100,7 +100,7 @@ pub token_written : (game : AbstractGame) (pieces : List ℕ) (ts : List Lexeme)
     → worded ≡ spaced ++ (if is_piece then name_of game (slice_get pieces vertex) else t.text)
     → Counts is_piece vertex next
     → AreWritten game pieces ts old vertex inside last i out
-    → AreWritten game pieces ts old next (is_inside_behind inside t.kind) (Some t.kind) (i + 1) worded
+    → AreWritten game pieces ts old next (is_inside_after inside t.kind) (Some t.kind) (i + 1) worded
 token_written game pieces ts old vertex next inside is_piece last i t out spaced worded at named spaced_is worded_is counts before =
     let piece_is : is_piece ≡ names_piece ts (i, t) = named ∙ ap (λ (test : Bool). test && is_name_kind t.kind) before.inside_is in
     let front : List ℕ = flat_map (written_of game pieces ts) (enumerate_from 0 (take i ts)) in
@@ -117,6 +117,6 @@ token_written game pieces ts old vertex next inside is_piece last i t out spaced
           ∙ flat_map_more (written_of game pieces ts) old (enumerate_from 0 (take i ts)) (i, t)
           ∙ ap (λ ps. old ++ flat_map (written_of game pieces ts) ps) (sym (indexed_more ts i t at));
       vertex_is = counted is_piece (names_piece ts (i, t)) vertex next (vertex_at ts i) (vertex_at ts (i + 1)) piece_is before.vertex_is (vertex_more ts i t at) counts;
-      inside_is = ap (λ (test : Bool). is_inside_behind test t.kind) before.inside_is ∙ sym (inside_more (kinds_before ts i) t.kind) ∙ ap leave_open (sym (kinds_more ts i t at));
+      inside_is = ap (λ (test : Bool). is_inside_after test t.kind) before.inside_is ∙ sym (inside_more (kinds_before ts i) t.kind) ∙ ap leave_open (sym (kinds_more ts i t at));
       last_is = sym (last_push None (kinds_before ts i) t.kind) ∙ ap (last_or None) (sym (kinds_more ts i t at));
     }

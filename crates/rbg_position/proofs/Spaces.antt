@@ -1,8 +1,8 @@
 -- What is written between two tokens.
 use Rattle.std.proofs.Common.{◌≡◌, [], Bool, Some, codes, if◌then◌else◌, refl, sym, ◌∙◌}
-use Rattle.rbg_tokens.specs.declared.token.Symbol.TheVariants.{OpenBracket, CloseBracket, CloseBrace, Comma, Colon}
-use Rattle.rbg_tokens.specs.declared.token.TokenKind.{TokenKind}
-use Rattle.rbg_tokens.specs.declared.token.TokenKind.TheVariants.{Name, Symbol}
+use Rattle.rbg_macro.specs.declared.token.Symbol.TheVariants.{OpenBracket, CloseBracket, CloseBrace, Comma, Colon}
+use Rattle.rbg_macro.specs.declared.token.TokenKind.{TokenKind}
+use Rattle.rbg_macro.specs.declared.token.TokenKind.TheVariants.{Name, Symbol}
 use Rattle.rbg_position.specs.Sections.{space_between}
 use Rattle.rbg_position.specs.internal.Walking.{begins_line, is_spaced}
 

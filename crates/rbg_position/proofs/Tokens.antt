@@ -1,9 +1,9 @@
 -- Tokens by their indices.
 use Rattle.rbg_base.proofs.Common.{◌≡◌, ℕ, ◌+◌, ◌<◌, ◌≤◌, ◌⊎◌, inl, inr, Bool, true, false, List, length, get_or, map, slice_get, Some, IsTrue, codes, sym, ap, subst, ◌∙◌, arith, cases_lt, length-map, slice_get_within, slice_get-get_or}
 use Rattle.rbg_base.proofs.CallerLemmas.{slice_get-map_at}
-use Rattle.rbg_tokens.proofs.Common.{is_symbol, Lexeme, lexeme_of}
-use Rattle.rbg_tokens.specs.declared.token.Symbol.TheVariants as symbols
-use Rattle.rbg_tokens.specs.declared.token.Token.{Token}
+use Rattle.rbg_macro.proofs.TextCommon.{is_symbol, Lexeme, lexeme_of}
+use Rattle.rbg_macro.specs.declared.token.Symbol.TheVariants as symbols
+use Rattle.rbg_macro.specs.declared.token.Token.{Token}
 use Rattle.rbg_position.specs.Boards.{BeginsBoard}
 
 pub at_token : (ts : List Token) (i : ℕ) (d : Token) → i < length ts → slice_get (map lexeme_of ts) i ≡ Some (lexeme_of (get_or ts i d))

@@ -8,8 +8,8 @@ use Rattle.rbg_macro.specs.declared.source.SectionKind.TheVariants.{Board}
 use Rattle.rbg_macro.proofs.Common.{HasSections, SectionTokens}
 use Rattle.rbg_macro.proofs.OneExpansion.{sections_once}
 use Rattle.rbg_rules.specs.Meaning.{AbstractGame}
-use Rattle.rbg_tokens.specs.Token.{Lexeme}
-use Rattle.rbg_tokens.proofs.OneReading.{tokens_once}
+use Rattle.rbg_macro.specs.Token.{Lexeme}
+use Rattle.rbg_macro.proofs.OneReading.{tokens_once}
 use Rattle.rbg_position.specs.Laws.{NamesAreOfVerticesLaw, names_of_pieces}
 use Rattle.rbg_position.proofs.BracketedNames.{board_names, names_from_first, piece_texts, row_texts, spelt_pieces, texts_of}
 

@@ -1,9 +1,9 @@
 -- The section of the board among the tokens of a text, and the text with another one in its place.
 use Rattle.std.specs.Prelude.{◌≡◌, ℕ, ◌+◌, ◌-◌, ◌<◌, ◌≤◌, true, false, List, ◌++◌, length, take, drop, slice_get, Some, codes}
-use Rattle.rbg_tokens.specs.Kinds.{is_symbol}
-use Rattle.rbg_tokens.specs.declared.token.Symbol.TheVariants as symbols
-use Rattle.rbg_tokens.specs.Text.{HasTokens}
-use Rattle.rbg_tokens.specs.Token.{Lexeme}
+use Rattle.rbg_macro.specs.Kinds.{is_symbol}
+use Rattle.rbg_macro.specs.declared.token.Symbol.TheVariants as symbols
+use Rattle.rbg_macro.specs.Text.{HasTokens}
+use Rattle.rbg_macro.specs.Token.{Lexeme}
 
 -- `#board` stands here.
 pub record BeginsBoard (tokens : List Lexeme) (at : ℕ) : Type 0 where
@@ -26,7 +26,7 @@ pub record IsBoardSection (tokens : List Lexeme) (start end : ℕ) : Type 0 wher
   pub ends : (token : Lexeme) → slice_get tokens end ≡ Some token → is_symbol symbols.Hash token.kind ≡ true
 
 -- The new text is the old one with this section in place of that of its board. What stands before the first token of
--- that section, and behind its last one, is the same.
+-- that section, and after its last one, is the same.
 pub record IsRewritten (text section new : List ℕ) : Type 0 where
   pub tokens : List Lexeme
   pub cut : HasTokens text tokens

@@ -1,10 +1,10 @@
 -- Examples of sections of boards as they are written.
 use Rattle.std.specs.Prelude.{◌≡◌, ℕ, List, [], ◌∷◌, ◌++◌, codes}
 use Rattle.rbg_rules.specs.Meaning.{AbstractGame}
-use Rattle.rbg_tokens.specs.Token.{Lexeme}
-use Rattle.rbg_tokens.specs.declared.token.Symbol.{Symbol}
-use Rattle.rbg_tokens.specs.declared.token.Symbol.TheVariants as symbols
-use Rattle.rbg_tokens.specs.declared.token.TokenKind.TheVariants as kinds
+use Rattle.rbg_macro.specs.Token.{Lexeme}
+use Rattle.rbg_macro.specs.declared.token.Symbol.{Symbol}
+use Rattle.rbg_macro.specs.declared.token.Symbol.TheVariants as symbols
+use Rattle.rbg_macro.specs.declared.token.TokenKind.TheVariants as kinds
 use Rattle.rbg_position.specs.Sections.{section_text}
 
 -- a name and a symbol, wherever they stand
@@ -25,7 +25,7 @@ abbrev pub double : List ℕ → List ℕ → List Lexeme
 double left right =
     sign symbols.OpenBracket (codes "[") ∷ word left ∷ comma ∷ word right ∷ sign symbols.CloseBracket (codes "]") ∷ []
 
--- in parentheses behind a name
+-- in parentheses after a name
 abbrev pub generated : List ℕ → List Lexeme → List Lexeme
 generated name ts =
     word name ∷ sign symbols.OpenParenthesis (codes "(") ∷ ts

@@ -3,8 +3,8 @@ use Rattle.std.specs.Prelude.{◌≡◌, ℕ, List, None}
 use Rattle.rbg_rules.specs.Meaning.{AbstractGame, start_of, AbstractPlace}
 use Rattle.rbg_moves.specs.Settling.{Settles}
 use Rattle.rbg_game.specs.Loading.{Loads}
-use Rattle.rbg_page.specs.Telling.{Told, IsTelling}
-use Rattle.rbg_same.specs.Same.{game_with}
+use Rattle.rbg_view.specs.Telling.{Told, IsTelling}
+use Rattle.rbg_position.specs.Same.{game_with}
 use Rattle.rbg_position.specs.Boards.{IsRewritten}
 use Rattle.rbg_position.specs.Sections.{IsSectionOf}
 

@@ -4,9 +4,9 @@ use Rattle.rbg_rules.specs.Meaning.{AbstractGame, AbstractPlace}
 use Rattle.rbg_moves.specs.Settling.{Settles, MeetsHeavy, IsEndless}
 use Rattle.rbg_game.specs.Loading.{Loads, IsMemory, IsRefused as IsRefusedText}
 use Rattle.rbg_game.specs.declared.error.LoadError.{LoadError}
-use Rattle.rbg_page.specs.Pages.{IsRefused}
-use Rattle.rbg_page.specs.Telling.{Told, IsTelling}
-use Rattle.rbg_page.specs.declared.error.PageError.{PageError}
+use Rattle.rbg_view.specs.Pages.{IsRefused}
+use Rattle.rbg_view.specs.Telling.{Told, IsTelling}
+use Rattle.rbg_view.specs.declared.error.PageError.{PageError}
 use Rattle.rbg_position.specs.Positions.{first_place, game_at, IsTextAt}
 use Rattle.rbg_position.specs.declared.error.PositionError.{PositionError}
 use Rattle.rbg_position.specs.declared.error.PositionError.TheVariants.{Record, Value, Turn, Keeper, Unsettled, Refused, Memory}

@@ -7,12 +7,12 @@ use Rattle.rbg_macro.specs.Expansion.{HasSections}
 use Rattle.rbg_macro.specs.Sections.{SectionTokens}
 use Rattle.rbg_macro.specs.declared.source.SectionKind.TheVariants.{Board}
 use Rattle.rbg_rules.specs.Meaning.{AbstractGame}
-use Rattle.rbg_tokens.specs.Kinds.{is_name_kind}
-use Rattle.rbg_tokens.specs.Text.{HasTokens}
-use Rattle.rbg_tokens.specs.Token.{Lexeme}
-use Rattle.rbg_tokens.specs.declared.token.Symbol.TheVariants.{OpenBracket, CloseBracket, CloseBrace, Comma, Colon}
-use Rattle.rbg_tokens.specs.declared.token.TokenKind.{TokenKind}
-use Rattle.rbg_tokens.specs.declared.token.TokenKind.TheVariants.{Name, Symbol}
+use Rattle.rbg_macro.specs.Kinds.{is_name_kind}
+use Rattle.rbg_macro.specs.Text.{HasTokens}
+use Rattle.rbg_macro.specs.Token.{Lexeme}
+use Rattle.rbg_macro.specs.declared.token.Symbol.TheVariants.{OpenBracket, CloseBracket, CloseBrace, Comma, Colon}
+use Rattle.rbg_macro.specs.declared.token.TokenKind.{TokenKind}
+use Rattle.rbg_macro.specs.declared.token.TokenKind.TheVariants.{Name, Symbol}
 
 -- a token with its index
 abbrev pub Indexed : Type 0
@@ -33,7 +33,7 @@ abbrev pub is_opening : Option TokenKind → Bool
 is_opening (Some (Symbol OpenBracket)) = true
 is_opening _ = false
 
--- whether what stands behind these tokens is in brackets: the last bracket among them is `[`
+-- whether what stands after these tokens is in brackets: the last bracket among them is `[`
 abbrev pub leave_open : List TokenKind → Bool
 leave_open kinds = is_opening (last_or None (filter is_bracket kinds))
 
@@ -55,7 +55,7 @@ abbrev pub word_of : AbstractGame → (pieces : List ℕ) → List Lexeme → In
 word_of game pieces ts p =
     if names_piece ts p then name_of game (slice_get pieces (vertex_at ts p.0)) else p.1.text
 
--- What is written between two tokens: a new line before a row and between two vertices of a graph, and a space behind `,`
+-- What is written between two tokens: a new line before a row and between two vertices of a graph, and a space after `,`
 -- and `:`. Before the first token nothing is written.
 unfoldable pub space_between : (last : Option TokenKind) → (next : TokenKind) → List ℕ
 space_between (Some (Symbol Comma)) (Symbol OpenBracket) = codes "\n    "

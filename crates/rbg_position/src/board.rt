@@ -4,20 +4,19 @@ ghost use Rattle.rbg_grammar.specs.Sections.{same_kind};
 ghost use Rattle.rbg_grammar.specs.Spells.{HasSection};
 ghost use Rattle.rbg_macro.specs.Expansion.{HasSections};
 ghost use Rattle.rbg_macro.specs.declared.source.SectionKind.TheVariants.{Board};
-ghost use Rattle.rbg_tokens.specs.Kinds.{is_name_kind};
-ghost use Rattle.rbg_tokens.specs.Token.{Lexeme};
+ghost use Rattle.rbg_macro.specs.Kinds.{is_name_kind};
+ghost use Rattle.rbg_macro.specs.Token.{Lexeme};
 ghost use Rattle.rbg_position.specs.Sections.{ExpandsBoard, name_of, section_text, space_between};
 ghost use Rattle.rbg_position.specs.internal.Walking.{
   IsSectionAt,
   begins_line,
-  is_inside_behind,
+  is_inside_after,
   is_spaced,
 };
 
 use rbg_base::{Memory, Piece};
-use rbg_macro::{Section, SectionKind, Source, expand};
+use rbg_macro::{Section, SectionKind, Source, Symbol, TokenKind, Tokens, expand};
 use rbg_rules::Game;
-use rbg_tokens::{Symbol, TokenKind, Tokens};
 use std::alloc::Global;
 
 /// The section of the board, in which these pieces stand on the vertices. Its macros are expanded.
@@ -99,11 +98,12 @@ fn put_section(
         let token = section.token(index);
         let is_piece = is_piece_name(is_inside, token.kind);
         put_space(last, token.kind, out)?;
-        put_word(is_piece, game, pieces, vertex, token.text, out)?;
+        let word = word_of(is_piece, game, pieces, vertex, token.text);
+        put_word(word, out)?;
         if is_piece {
             vertex += 1;
         }
-        is_inside = is_inside_behind(is_inside, token.kind);
+        is_inside = is_inside_after(is_inside, token.kind);
         last = Some(token.kind);
     }
     Ok(())
@@ -116,34 +116,39 @@ fn is_piece_name(is_inside: bool, kind: TokenKind) -> bool
     is_inside && kind.is_name()
 }
 
-/// Appends the text of a token, or the name of the piece on a vertex in its place.
-fn put_word(
+/// The text of a token, or the name of the piece on a vertex in its place.
+fn word_of<'a>(
     is_piece: bool,
-    game: &Game,
+    game: &'a Game,
     pieces: &[Piece],
     vertex: usize,
-    text: &[u8],
-    out: &mut Vec<u8>,
-) -> Result<(), Memory>
-    ensures { OnOk result (out.new.items ≡ out.old.items
-        ++ (if is_piece then name_of game.now (slice_get pieces.now vertex) else text.now)) }
+    text: &'a [u8],
+) -> &'a [u8]
+    ensures { result.now
+        ≡ (if is_piece then name_of game.now (slice_get pieces.now vertex) else text.now) }
 {
     if is_piece {
-        put_piece(game, pieces, vertex, out)
+        name_on(game, pieces, vertex)
     } else {
-        out.extend_from_slice(text)
+        text
     }
 }
 
-/// Appends the name of the piece on a vertex.
-fn put_piece(game: &Game, pieces: &[Piece], vertex: usize, out: &mut Vec<u8>) -> Result<(), Memory>
-    ensures { OnOk result (out.new.items
-        ≡ out.old.items ++ name_of game.now (slice_get pieces.now vertex)) }
+/// The name of the piece on a vertex.
+fn name_on<'a>(game: &'a Game, pieces: &[Piece], vertex: usize) -> &'a [u8]
+    ensures { result.now ≡ name_of game.now (slice_get pieces.now vertex) }
 {
     match pieces.get(vertex) {
-        Some(piece) => out.extend_from_slice(piece_name(game, *piece)),
-        None => Ok(()),
+        Some(piece) => piece_name(game, *piece),
+        None => &[],
     }
+}
+
+/// Appends a word.
+fn put_word(word: &[u8], out: &mut Vec<u8>) -> Result<(), Memory>
+    ensures { OnOk result (out.new.items ≡ out.old.items ++ word.now) }
+{
+    out.extend_from_slice(word)
 }
 
 /// The name of a piece.
@@ -157,9 +162,9 @@ fn piece_name(game: &Game, piece: Piece) -> &[u8]
     }
 }
 
-/// Whether what stands behind a token is in brackets, where the token itself is or isn't.
-fn is_inside_behind(is_inside: bool, kind: TokenKind) -> bool
-    ensures { result ≡ is_inside_behind is_inside kind }
+/// Whether what stands after a token is in brackets, where the token itself is or isn't.
+fn is_inside_after(is_inside: bool, kind: TokenKind) -> bool
+    ensures { result ≡ is_inside_after is_inside kind }
 {
     match kind {
         TokenKind::Symbol(Symbol::OpenBracket) => true,
@@ -179,7 +184,7 @@ fn put_space(last: Option<TokenKind>, next: TokenKind, out: &mut Vec<u8>) -> Res
     }
 }
 
-/// What stands between two tokens: a space behind a `,` and a `:`, and a new line before a row and behind a vertex of a
+/// What stands between two tokens: a space after a `,` and a `:`, and a new line before a row and after a vertex of a
 /// graph.
 fn space_between(last: TokenKind, next: TokenKind) -> &'static [u8]
     ensures { result.now ≡ space_between (Some last) next }

@@ -3,7 +3,7 @@ ghost use Rattle.std.specs.Prelude.{◌≡◌};
 ghost use Rattle.rbg_position.specs.declared.error.PositionError.TheVariants.{Memory as OutOfMemory, Record};
 
 use rbg_base::{Memory, Player, Variable};
-use rbg_page::PageError;
+use rbg_view::PageError;
 use thiserror::Error;
 
 /// Why there is no description of the place to which a record leads.

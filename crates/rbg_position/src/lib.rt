@@ -1,14 +1,22 @@
-//! A place as a description: the game with the board as it stands after the moves of a record.
+//! A place as a description: the game with the board as it stands after the moves of a record. And whether two games
+//! differ in their boards' pieces alone.
 #![tactic(auto)]
 
-mod beginning;
+mod action_keys;
 mod board;
-mod comparing;
+mod description;
 mod error;
 pub mod examples;
+mod key_mark;
 pub mod laws;
-mod making;
-mod rewriting;
+mod names;
+mod new_text;
+mod opening;
+mod place_values;
+mod rule_keys;
+mod same_board;
+mod same_game;
 
+pub use description::position;
 pub use error::PositionError;
-pub use making::position;
+pub use same_game::is_game_with;

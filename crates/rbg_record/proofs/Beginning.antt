@@ -1,10 +1,10 @@
 -- What the first lines of a record lead to.
 use Rattle.std.proofs.Common.{◌≡◌, ℕ, ◌≤◌, List, sym, subst}
 use Rattle.rbg_rules.specs.Meaning.{AbstractGame, AbstractPlace}
-use Rattle.rbg_lines.specs.declared.heading.Start.{Start}
-use Rattle.rbg_lines.specs.declared.heading.Version.{Version}
-use Rattle.rbg_lines.specs.declared.heading.Version.TheVariants.{One, Two}
-use Rattle.rbg_lines.specs.Heading.{version_text, SpellsStart}
+use Rattle.rbg_record.specs.declared.heading.Start.{Start}
+use Rattle.rbg_record.specs.declared.heading.Version.{Version}
+use Rattle.rbg_record.specs.declared.heading.Version.TheVariants.{One, Two}
+use Rattle.rbg_record.specs.Heading.{version_text, SpellsStart}
 use Rattle.rbg_match.proofs.Common.{IsWithinLimits, start_place, latest_moment}
 use Rattle.rbg_record.proofs.Common.{turn_config, version_next, players_next, start_next, entry_next, Leads}
 use Rattle.rbg_record.specs.Lines as lines

@@ -3,13 +3,13 @@ use Rattle.rbg_base.proofs.Common.{◌≡◌, ℕ, ◌+◌, List, [], ◌∷◌,
 use Rattle.rbg_wire.proofs.Common.{LacksByte, line_feed, line_of, lines_of}
 use Rattle.rbg_rules.specs.Meaning.{IsNumbered, AbstractGame, AbstractPlace, Legal}
 use Rattle.rbg_rules.proofs.PlaceLemmas.{one_place_law}
-use Rattle.rbg_lines.specs.declared.entry.Entry.{Entry}
-use Rattle.rbg_lines.specs.declared.entry.Entry.TheVariants.{Move, End as Ends}
-use Rattle.rbg_lines.specs.declared.entry.Timed.{Timed}
-use Rattle.rbg_lines.specs.declared.heading.Version.{Version}
-use Rattle.rbg_lines.specs.declared.heading.Version.TheVariants.{One, Two}
-use Rattle.rbg_lines.specs.Heading.{version_text}
-use Rattle.rbg_lines.proofs.Apart.{entries_apart, headings_apart, one_start}
+use Rattle.rbg_record.specs.declared.entry.Entry.{Entry}
+use Rattle.rbg_record.specs.declared.entry.Entry.TheVariants.{Move, End as Ends}
+use Rattle.rbg_record.specs.declared.entry.Timed.{Timed}
+use Rattle.rbg_record.specs.declared.heading.Version.{Version}
+use Rattle.rbg_record.specs.declared.heading.Version.TheVariants.{One, Two}
+use Rattle.rbg_record.specs.Heading.{version_text}
+use Rattle.rbg_record.proofs.Apart.{entries_apart, headings_apart, one_start}
 use Rattle.rbg_record.proofs.Common.{Checked, Good, Bad, RecordError, Form, Over, Memory, IsRightRecord, Standing, Reached, version_next, nothing_next, entry_next, unwritten_moment, HasForm, SpellsIn, EntryLeads, Leads, LeadTo, BeginsWith, IsGoodByLines, IsFormFault, IsBadLine, IsJudged, OneJudgement, GoodByLines}
 use Rattle.rbg_match.specs.History.{start_place}
 use Rattle.rbg_record.specs.Lines as lines
@@ -73,8 +73,8 @@ chain_of : (game : AbstractGame) (texts : List (List ℕ)) (to : Reached) → Le
 chain_of game texts to lines.none = stay
 chain_of game texts to (lines.more {texts = before} {from = from} earlier leads) = chain_more (chain_of game before from earlier) leads
 
--- reading stops behind so many lines
-record StopsBehind (game : AbstractGame) (bytes : List ℕ) (count : ℕ) (end : End) : Type 0 where
+-- reading stops after so many lines
+record StopsAfter (game : AbstractGame) (bytes : List ℕ) (count : ℕ) (end : End) : Type 0 where
   pub texts : List (List ℕ)
   pub rest : List ℕ
   pub begins : BeginsWith bytes texts rest
@@ -83,7 +83,7 @@ record StopsBehind (game : AbstractGame) (bytes : List ℕ) (count : ℕ) (end :
   pub chain : Chain (Leads game) version_next texts to
   pub stops : Stops (Leads game) HasForm IsEnded to rest end
 
-one_stop : (game : AbstractGame) → IsNumbered game.rules → (bytes : List ℕ) (m n : ℕ) (end end' : End) → StopsBehind game bytes m end → StopsBehind game bytes n end' → (m ≡ n) × (end ≡ end')
+one_stop : (game : AbstractGame) → IsNumbered game.rules → (bytes : List ℕ) (m n : ℕ) (end end' : End) → StopsAfter game bytes m end → StopsAfter game bytes n end' → (m ≡ n) × (end ≡ end')
 one_stop game numbered bytes m n end end' one other =
     let same = one_end (reading game numbered) version_next one.texts other.texts one.rest other.rest bytes one.to other.to end end' one.begins.whole other.begins.whole one.begins.parts other.begins.parts one.chain other.chain one.stops other.stops in
     (one.number ∙ (same.0 ∙ sym other.number), same.1)
@@ -94,7 +94,7 @@ last_line texts text rest =
     ap (λ bytes. bytes ++ rest) (flat_map-append line_of texts (text ∷ []) ∙ ap (λ bytes. lines_of texts ++ bytes) (append-nil (line_of text)))
     ∙ (append_assoc (lines_of texts) (line_of text) rest ∙ ap (λ bytes. lines_of texts ++ bytes) (append_assoc text (line_feed ∷ []) rest))
 
-stops_good : (game : AbstractGame) (bytes : List ℕ) (judged : IsGoodByLines game bytes) → StopsBehind game bytes (length judged.texts) good
+stops_good : (game : AbstractGame) (bytes : List ℕ) (judged : IsGoodByLines game bytes) → StopsAfter game bytes (length judged.texts) good
 stops_good game bytes judged = record {
   texts = judged.texts;
   rest = [];
@@ -105,7 +105,7 @@ stops_good game bytes judged = record {
   stops = (refl, refl);
 }
 
-stops_bad : (game : AbstractGame) (bytes : List ℕ) (line : ℕ) (judged : IsBadLine game bytes line) → StopsBehind game bytes (length judged.texts) bad
+stops_bad : (game : AbstractGame) (bytes : List ℕ) (line : ℕ) (judged : IsBadLine game bytes line) → StopsAfter game bytes (length judged.texts) bad
 stops_bad game bytes line judged = record {
   texts = judged.texts;
   rest = judged.text ++ line_feed ∷ judged.here.rest;
@@ -125,7 +125,7 @@ stops_bad game bytes line judged = record {
   };
 }
 
-stops_form : (game : AbstractGame) (bytes : List ℕ) (line : ℕ) (judged : IsFormFault game bytes line) → StopsBehind game bytes (length judged.texts) misread
+stops_form : (game : AbstractGame) (bytes : List ℕ) (line : ℕ) (judged : IsFormFault game bytes line) → StopsAfter game bytes (length judged.texts) misread
 stops_form game bytes line judged = record {
   texts = judged.texts;
   rest = judged.rest;

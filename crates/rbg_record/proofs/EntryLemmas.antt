@@ -4,9 +4,9 @@ use Rattle.rbg_wire.specs.declared.outcome.Outcome.{Outcome}
 use Rattle.rbg_wire.specs.declared.outcome.Outcome.TheVariants.{Finished, Time, Refusals, Gone, Heavy}
 use Rattle.rbg_rules.specs.Meaning.{AbstractGame, AbstractPlace, Legal}
 use Rattle.rbg_rules.specs.Moves as moves
-use Rattle.rbg_lines.specs.declared.entry.Entry.{Entry}
-use Rattle.rbg_lines.specs.declared.entry.Entry.TheVariants.{Move, End}
-use Rattle.rbg_lines.specs.declared.entry.Timed.{Timed}
+use Rattle.rbg_record.specs.declared.entry.Entry.{Entry}
+use Rattle.rbg_record.specs.declared.entry.Entry.TheVariants.{Move, End}
+use Rattle.rbg_record.specs.declared.entry.Timed.{Timed}
 use Rattle.rbg_match.proofs.Common.{FitsOutcome, HasTurn, latest_moment}
 use Rattle.rbg_record.proofs.Common.{Fault, turn_config, FitsUnasked, Standing, Reached, nothing_next, entry_next, IsMomentFor, SpellsIn, EntryLeads, Leads, play_at, RefusesEntry, Refuses, reached_of, EndsSo, SomeIsLegal}
 use Rattle.rbg_record.specs.declared.fault.Fault.TheVariants.{Form, Bad, Over, Memory}

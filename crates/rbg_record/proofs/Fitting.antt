@@ -3,7 +3,7 @@ use Rattle.std.proofs.Common.{◌≡◌, ℕ, ◌≤◌, List, Option, Some, Non
 use Rattle.rbg_wire.specs.declared.outcome.Outcome.{Outcome}
 use Rattle.rbg_wire.specs.declared.outcome.Outcome.TheVariants.{Finished, Time, Refusals, Gone, Heavy}
 use Rattle.rbg_rules.specs.Meaning.{AbstractGame, AbstractPlace}
-use Rattle.rbg_lines.specs.declared.entry.Entry.TheVariants.{End}
+use Rattle.rbg_record.specs.declared.entry.Entry.TheVariants.{End}
 use Rattle.rbg_match.specs.declared.config.Config.{Config}
 use Rattle.rbg_match.specs.declared.made.Made.{Made}
 use Rattle.rbg_match.proofs.Common.{FitsOutcome, AbstractPlay}

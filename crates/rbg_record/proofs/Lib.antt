@@ -1,3 +1,8 @@
+-- What the proofs of this crate share.
+pub mod LineCommon
+pub mod Apart
+pub mod Lacking
+pub mod LineReading
 -- Lemmas, by topic.
 pub mod Common
 pub mod Beginning
@@ -15,3 +20,5 @@ pub mod PlayerNames
 pub mod SoFarLemmas
 pub mod Telling
 pub mod WrittenLemmas
+mod EventLines
+mod TellingLemmas

@@ -13,8 +13,8 @@ use Rattle.rbg_match.specs.declared.made.Made.{Made}
 use Rattle.rbg_match.specs.History as history
 use Rattle.rbg_match.proofs.Common.{LeadsTo, MadeInTurn, FitsOutcome, MatchState, HasHistory, AbstractPlay}
 use Rattle.rbg_match.proofs.LegalPairs.{found_are_pairs}
-use Rattle.rbg_lines.specs.declared.entry.Entry.TheVariants.{Move, End}
-use Rattle.rbg_lines.proofs.Common.{EntryHasSpelling, TimedHasSpelling, HaveNames}
+use Rattle.rbg_record.specs.declared.entry.Entry.TheVariants.{Move, End}
+use Rattle.rbg_record.proofs.LineCommon.{EntryHasSpelling, TimedHasSpelling, HaveNames}
 use Rattle.rbg_record.proofs.Common.{plain, timed, made_entry, plain_entry, HasSpelling, record_of, plain_record_of, plain_move}
 use Rattle.rbg_record.proofs.Fitting.{fits_later}
 

@@ -2,7 +2,7 @@
 use Rattle.rbg_base.proofs.Common.{◌≡◌, ℕ, suc, List, [], ◌∷◌, ◌++◌, length, refl, sym, ap, ◌∙◌, subst, append_assoc, All, All-head, All-tail}
 use Rattle.rbg_wire.proofs.Common.{LacksByte, line_feed, line_of, lines_of}
 use Rattle.rbg_wire.proofs.ByteLemmas.{no_cut, same_cut}
-use Rattle.rbg_lines.specs.Lines.{IsFirstLine}
+use Rattle.rbg_record.specs.NextLine.{IsFirstLine}
 use Rattle.rbg_record.specs.Judged.{GoesOn}
 use Rattle.rbg_record.specs.Judged as judged
 
@@ -89,7 +89,7 @@ module _ {State : Type 0} {Leads : State → List ℕ → State → Type 0} {Has
   one_way state rest misread bad stops stuck = absurd (stops (judged.one_more stuck.text stuck.later stuck.first stuck.form))
   one_way state rest misread misread stops stops' = refl
 
-  -- Reading stops behind as many lines, in the same way.
+  -- Reading stops after as many lines, in the same way.
   pub one_end : (from : State) (texts texts' : List (List ℕ)) (rest rest' bytes : List ℕ) (to to' : State) (end end' : End) → All (LacksByte line_feed) texts → All (LacksByte line_feed) texts' → bytes ≡ lines_of texts ++ rest → bytes ≡ lines_of texts' ++ rest' → Chain Leads from texts to → Chain Leads from texts' to' → Stops Leads HasForm IsOver to rest end → Stops Leads HasForm IsOver to' rest' end' → (length texts ≡ length texts') × (end ≡ end')
   one_end from [] [] rest rest' bytes to to' end end' whole whole' parts parts' stay stay stops stops' =
       (refl, one_way from rest end end' stops (subst (λ (left : List ℕ). Stops Leads HasForm IsOver from left end') (sym parts' ∙ parts) stops'))

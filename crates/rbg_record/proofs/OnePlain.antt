@@ -1,11 +1,11 @@
 -- Bytes have one fault at most against the form of version 1.
 use Rattle.rbg_base.proofs.Common.{◌≡◌, ℕ, ◌+◌, List, [], ◌∷◌, ◌++◌, map, refl, sym, ap, ◌∙◌, append-nil, All, Option, All-head, All-tail}
 use Rattle.rbg_wire.specs.declared.outcome.Outcome.{Outcome}
-use Rattle.rbg_lines.specs.declared.entry.Entry.TheVariants.{Move, End as Ends}
-use Rattle.rbg_lines.specs.declared.heading.Version.TheVariants.{One}
-use Rattle.rbg_lines.proofs.Common.{SpellsEntry, EntryHasSpelling, entry_text, version_text}
+use Rattle.rbg_record.specs.declared.entry.Entry.TheVariants.{Move, End as Ends}
+use Rattle.rbg_record.specs.declared.heading.Version.TheVariants.{One}
+use Rattle.rbg_record.proofs.LineCommon.{SpellsEntry, EntryHasSpelling, entry_text, version_text}
 use Rattle.rbg_wire.specs.Lines.{lines_of}
-use Rattle.rbg_lines.proofs.Apart.{entries_apart}
+use Rattle.rbg_record.proofs.Apart.{entries_apart}
 use Rattle.rbg_record.proofs.Common.{OnePlainFault, PlainPart, before_version, among_moves, behind_end, HasPlainForm, IsPlainSoFar, IsPlainFault, PlainMove, PlainRecord, plain, plain_entry, texts_of, Spells}
 use Rattle.rbg_record.specs.Migration as migration
 use Rattle.rbg_record.proofs.Leading.{whole_texts}

@@ -1,12 +1,12 @@
 -- Bytes are those of one record at most.
 use Rattle.rbg_base.proofs.Common.{◌≡◌, ℕ, List, [], ◌∷◌, ◌++◌, map, Option, refl, sym, ap, ◌∙◌, subst, All, All-head, All-tail, ◌↔◌}
 use Rattle.rbg_wire.specs.declared.outcome.Outcome.{Outcome}
-use Rattle.rbg_lines.specs.declared.entry.Entry.{Entry}
-use Rattle.rbg_lines.specs.declared.entry.Entry.TheVariants.{Move, End}
-use Rattle.rbg_lines.specs.declared.entry.Timed.{Timed}
-use Rattle.rbg_lines.specs.declared.heading.Version.TheVariants.{One, Two}
-use Rattle.rbg_lines.proofs.Common.{EntryHasSpelling, TimedHasSpelling, entry_text, timed_text, version_text, players_text, start_text}
-use Rattle.rbg_lines.proofs.Apart.{entries_apart, headings_apart, lines_apart}
+use Rattle.rbg_record.specs.declared.entry.Entry.{Entry}
+use Rattle.rbg_record.specs.declared.entry.Entry.TheVariants.{Move, End}
+use Rattle.rbg_record.specs.declared.entry.Timed.{Timed}
+use Rattle.rbg_record.specs.declared.heading.Version.TheVariants.{One, Two}
+use Rattle.rbg_record.proofs.LineCommon.{EntryHasSpelling, TimedHasSpelling, entry_text, timed_text, version_text, players_text, start_text}
+use Rattle.rbg_record.proofs.Apart.{entries_apart, headings_apart, lines_apart}
 use Rattle.rbg_match.specs.declared.made.Made.{Made}
 use Rattle.rbg_record.proofs.Common.{OneRecord, PlainMove, AbstractRecord, plain, timed, plain_entry, made_entry, plain_entries, timed_entries, texts_of, HasSpelling, IsMigrated, migrated, IsRight, IsRightRecord}
 use Rattle.rbg_rules.specs.Meaning.{AbstractGame}

@@ -4,7 +4,7 @@ use Rattle.std.proofs.lemmas.Bool.{true≢false}
 use Rattle.std.proofs.lemmas.List.{length-append}
 use Rattle.rbg_wire.proofs.Common.{LacksByte, line_feed, lines_of}
 use Rattle.rbg_rules.specs.Meaning.{AbstractPlace, IsPlaceOf, AbstractGame}
-use Rattle.rbg_lines.specs.Lines.{IsFirstLine}
+use Rattle.rbg_record.specs.NextLine.{IsFirstLine}
 use Rattle.rbg_record.proofs.Common.{Fault, Reached, version_next, players_next, start_next, entry_next, nothing_next, HasForm, Leads, LeadTo, BeginsWith, GoesOn, IsGoodByLines, IsLineOf, HasFormFault, IsFormFault, IsJudged, told_at, IsReachedIn, Refuses, place_in, IsCutSoFar, IsReadSoFar}
 use Rattle.rbg_record.specs.declared.fault.Fault.TheVariants.{Form, Bad, Over, Memory}
 use Rattle.rbg_record.specs.Lines as lines
@@ -58,8 +58,8 @@ place_in_game game nothing_next before reached_in in_game = in_game
 
 -- the lines so far, where what is left is not of the form
 module _ {Part : Type 0} (LeadThere : List (List ℕ) → Part → Type 0) (over : Part) (HasForm : Part → List ℕ → Type 0) {bytes : List ℕ} {texts : List (List ℕ)} {rest : List ℕ} {line : ℕ} (part : Part) (cut : IsCutSoFar bytes texts rest line) (leads : LeadThere texts part) where
-  fault_behind : ¬ GoesOn (part ≡ over) (HasForm part) rest → HasFormFault LeadThere over HasForm bytes line
-  fault_behind stops = record {
+  fault_after : ¬ GoesOn (part ≡ over) (HasForm part) rest → HasFormFault LeadThere over HasForm bytes line
+  fault_after stops = record {
     texts = texts;
     rest = rest;
     begins = cut.begins;
@@ -71,11 +71,11 @@ module _ {Part : Type 0} (LeadThere : List (List ℕ) → Part → Type 0) (over
 
   -- a line that is not of the form
   pub line_fault : (text later : List ℕ) → IsFirstLine rest text later → (HasForm part text → ⊥) → HasFormFault LeadThere over HasForm bytes line
-  line_fault text later first wrong = fault_behind (not_formed (part ≡ over) (HasForm part) rest text later first wrong)
+  line_fault text later first wrong = fault_after (not_formed (part ≡ over) (HasForm part) rest text later first wrong)
 
   -- no line is left, but the record has not ended, or some bytes are left
   pub end_fault : LacksByte line_feed rest → (part ≡ over → rest ≡ [] → ⊥) → HasFormFault LeadThere over HasForm bytes line
-  end_fault lacks going = fault_behind (ends_early (part ≡ over) (HasForm part) rest lacks going)
+  end_fault lacks going = fault_after (ends_early (part ≡ over) (HasForm part) rest lacks going)
 
 -- the next line
 line_here : {bytes : List ℕ} {texts : List (List ℕ)} {text rest later : List ℕ} {line : ℕ} → IsCutSoFar bytes texts rest line → IsFirstLine rest text later → IsLineOf bytes line texts text

@@ -2,12 +2,12 @@
 use Rattle.rbg_base.proofs.Common.{◌≡◌, ◌≢◌, ◌⊎◌, inl, inr, zero, suc, ℕ, ◌≤◌, List, [], ◌∷◌, ◌++◌, map, Option, refl, sym, ap, ◌∙◌, subst, arith, append-nil, All, map-append, All-nil, All-push}
 use Rattle.rbg_wire.specs.declared.outcome.Outcome.{Outcome}
 use Rattle.rbg_rules.specs.Meaning.{AbstractGame, AbstractPlace, Legal}
-use Rattle.rbg_lines.specs.declared.entry.Entry.TheVariants.{Move, End}
-use Rattle.rbg_lines.specs.declared.entry.Timed.{Timed}
-use Rattle.rbg_lines.specs.declared.heading.Start.{Start}
-use Rattle.rbg_lines.specs.declared.heading.Version.{Version}
-use Rattle.rbg_lines.specs.declared.heading.Version.TheVariants.{One, Two}
-use Rattle.rbg_lines.proofs.Common.{entry_text, timed_text, EntryHasSpelling, TimedHasSpelling, SpellsEntry, SpellsTimed, version_text, players_text, start_text, HaveNames, StartHasSpelling}
+use Rattle.rbg_record.specs.declared.entry.Entry.TheVariants.{Move, End}
+use Rattle.rbg_record.specs.declared.entry.Timed.{Timed}
+use Rattle.rbg_record.specs.declared.heading.Start.{Start}
+use Rattle.rbg_record.specs.declared.heading.Version.{Version}
+use Rattle.rbg_record.specs.declared.heading.Version.TheVariants.{One, Two}
+use Rattle.rbg_record.proofs.LineCommon.{entry_text, timed_text, EntryHasSpelling, TimedHasSpelling, SpellsEntry, SpellsTimed, version_text, players_text, start_text, HaveNames, StartHasSpelling}
 use Rattle.rbg_wire.specs.Lines.{lines_of}
 use Rattle.rbg_match.specs.declared.made.Made.{Made}
 use Rattle.rbg_match.proofs.Common.{IsWithinLimits, LeadsTo, MadeInTurn, FitsOutcome, latest_moment}

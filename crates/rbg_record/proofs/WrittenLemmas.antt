@@ -6,9 +6,9 @@ use Rattle.rbg_rules.specs.Meaning.{IsGame}
 use Rattle.rbg_match.specs.declared.config.Config.{Config}
 use Rattle.rbg_match.specs.declared.made.Made.{Made}
 use Rattle.rbg_match.specs.Matches.{MatchState, HasHistory}
-use Rattle.rbg_lines.specs.declared.entry.Entry.TheVariants.{End}
-use Rattle.rbg_lines.specs.declared.heading.Version.TheVariants.{One, Two}
-use Rattle.rbg_lines.proofs.Common.{entry_text, timed_text, version_text, players_text, start_text}
+use Rattle.rbg_record.specs.declared.entry.Entry.TheVariants.{End}
+use Rattle.rbg_record.specs.declared.heading.Version.TheVariants.{One, Two}
+use Rattle.rbg_record.proofs.LineCommon.{entry_text, timed_text, version_text, players_text, start_text}
 use Rattle.rbg_wire.specs.Lines.{line_of, lines_of}
 use Rattle.rbg_record.proofs.Common.{made_text, told_text, entries_bytes, record_of, plain_record_of, plain_move, plain, timed, plain_entry, made_entry, Spells}
 use Rattle.rbg_record.proofs.MatchSpelled.{two_spelled, one_spelled}

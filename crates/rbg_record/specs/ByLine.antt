@@ -2,7 +2,7 @@
 use Rattle.std.specs.Prelude.{◌≡◌, ℕ, ◌≤◌, List, Result, IfOk, IfErr}
 use Rattle.rbg_rules.specs.Meaning.{AbstractGame, IsPlaceOf}
 use Rattle.rbg_match.specs.Limits.{latest_moment}
-use Rattle.rbg_lines.specs.declared.entry.Timed.{Timed}
+use Rattle.rbg_record.specs.declared.entry.Timed.{Timed}
 use Rattle.rbg_record.specs.declared.fault.Fault.{Fault}
 use Rattle.rbg_record.specs.declared.fault.Fault.TheVariants.{Form, Bad, Over, Memory}
 use Rattle.rbg_record.specs.declared.reached.Reached.{Reached as CodeReached}

@@ -6,10 +6,10 @@ use Rattle.rbg_rules.specs.Meaning.{IsHeavyToFind, IsHeavyToTry, AbstractGame}
 use Rattle.rbg_match.specs.History.{IsInTurn}
 use Rattle.rbg_match.specs.Limits.{latest_moment}
 use Rattle.rbg_match.specs.PlayingOn.{seats_of}
-use Rattle.rbg_lines.specs.declared.entry.Entry.{Entry}
-use Rattle.rbg_lines.specs.declared.entry.Entry.TheVariants.{Move, End}
-use Rattle.rbg_lines.specs.declared.entry.Timed.{Timed}
-use Rattle.rbg_lines.specs.Lines.{IsFirstLine}
+use Rattle.rbg_record.specs.declared.entry.Entry.{Entry}
+use Rattle.rbg_record.specs.declared.entry.Entry.TheVariants.{Move, End}
+use Rattle.rbg_record.specs.declared.entry.Timed.{Timed}
+use Rattle.rbg_record.specs.NextLine.{IsFirstLine}
 use Rattle.rbg_wire.specs.Lines.{line_feed, lines_of}
 use Rattle.rbg_record.specs.Lines.{
   Standing,
@@ -45,7 +45,7 @@ pub data GoesOn (over : Type 0) (HasForm : List ℕ → Type 0) (rest : List ℕ
       HasForm text →
       GoesOn over HasForm rest
 
--- Each line is right behind those before it, and the record has ended with the last of them.
+-- Each line is right after those before it, and the record has ended with the last of them.
 pub record IsGoodByLines (game : AbstractGame) (bytes : List ℕ) : Type 0 where
   pub texts : List (List ℕ)
   pub begins : BeginsWith bytes texts []
@@ -67,13 +67,13 @@ pub record HasFormFault {Part : Type 0} (LeadThere : List (List ℕ) → Part �
 abbrev pub IsFormFault : AbstractGame → (bytes : List ℕ) → (line : ℕ) → Type 0
 IsFormFault game bytes line = HasFormFault (LeadTo game) nothing_next HasForm bytes line
 
--- The line of this number has this text, behind lines of the texts before it. Lines are numbered from 1.
+-- The line of this number has this text, after lines of the texts before it. Lines are numbered from 1.
 pub record IsLineOf (bytes : List ℕ) (line : ℕ) (texts : List (List ℕ)) (text : List ℕ) : Type 0 where
   pub rest : List ℕ
   pub begins : BeginsWith bytes (texts ++ text ∷ []) rest
   pub number : line ≡ length texts + 1
 
--- The lines before this one are right. This one is of the form, but it isn't right behind them.
+-- The lines before this one are right. This one is of the form, but it isn't right after them.
 pub record IsBadLine (game : AbstractGame) (bytes : List ℕ) (line : ℕ) : Type 0 where
   pub texts : List (List ℕ)
   pub text : List ℕ

@@ -1,3 +1,8 @@
+-- The lines of a record.
+pub mod Entries
+pub mod Heading
+pub mod LineLaws
+pub mod NextLine
 -- What a record is, which records are right, and what is told of one that isn't. Each file builds on those above it.
 pub mod Records
 pub mod Right
@@ -9,3 +14,6 @@ pub mod Migration
 pub mod OfMatch
 pub mod Laws
 pub mod internal
+-- Scripts of records.
+pub mod Scripting
+pub mod Writing

@@ -7,14 +7,14 @@ use Rattle.rbg_match.specs.Config.{IsWithinLimits}
 use Rattle.rbg_match.specs.History.{start_place, IsInTurn, FitsOutcome}
 use Rattle.rbg_match.specs.Limits.{latest_moment}
 use Rattle.rbg_match.specs.Play.{AbstractPlay}
-use Rattle.rbg_lines.specs.declared.entry.Entry.{Entry}
-use Rattle.rbg_lines.specs.declared.entry.Entry.TheVariants.{Move, End}
-use Rattle.rbg_lines.specs.declared.entry.Timed.{Timed}
-use Rattle.rbg_lines.specs.declared.heading.Start.{Start}
-use Rattle.rbg_lines.specs.declared.heading.Version.{Version}
-use Rattle.rbg_lines.specs.declared.heading.Version.TheVariants.{One, Two}
-use Rattle.rbg_lines.specs.Entries.{SpellsEntry, SpellsTimed}
-use Rattle.rbg_lines.specs.Heading.{version_text, SpellsPlayers, SpellsStart}
+use Rattle.rbg_record.specs.declared.entry.Entry.{Entry}
+use Rattle.rbg_record.specs.declared.entry.Entry.TheVariants.{Move, End}
+use Rattle.rbg_record.specs.declared.entry.Timed.{Timed}
+use Rattle.rbg_record.specs.declared.heading.Start.{Start}
+use Rattle.rbg_record.specs.declared.heading.Version.{Version}
+use Rattle.rbg_record.specs.declared.heading.Version.TheVariants.{One, Two}
+use Rattle.rbg_record.specs.Entries.{SpellsEntry, SpellsTimed}
+use Rattle.rbg_record.specs.Heading.{version_text, SpellsPlayers, SpellsStart}
 use Rattle.rbg_record.specs.declared.reached.Standing.{Standing as CodeStanding}
 use Rattle.rbg_record.specs.Right.{told_play, turn_config}
 
@@ -81,7 +81,7 @@ pub data EntryLeads (game : AbstractGame) (standing : Standing) : Timed → Reac
       at ≤ latest_moment →
       EntryLeads game standing (record { at = at; entry = End outcome }) nothing_next
 
--- A line with this text is right behind the lines so far, and leads on.
+-- A line with this text is right after the lines so far, and leads on.
 --   version_1: moves come next. The first turn begins at moment 0 and lasts for one millisecond.
 --   version_2: the players come next.
 --   players: they are those of the game.
@@ -114,7 +114,7 @@ pub data Leads (game : AbstractGame) : Reached → (text : List ℕ) → Reached
       EntryLeads game standing told to →
       Leads game (entry_next standing) text to
 
--- The first lines of a record have these texts. Each is right behind those before it, and this is what they lead to.
+-- The first lines of a record have these texts. Each is right after those before it, and this is what they lead to.
 pub data LeadTo (game : AbstractGame) : (texts : List (List ℕ)) → Reached → Type 0 where
   none :
       LeadTo game [] version_next

@@ -2,11 +2,11 @@
 use Rattle.std.specs.Prelude.{◌≡◌, ◌↔◌, ℕ, List, [], ◌∷◌, ◌++◌, map, Option}
 use Rattle.rbg_wire.specs.declared.outcome.Outcome.{Outcome}
 use Rattle.rbg_rules.specs.Meaning.{AbstractGame}
-use Rattle.rbg_lines.specs.declared.entry.Entry.{Entry}
-use Rattle.rbg_lines.specs.declared.entry.Entry.TheVariants.{Move, End}
-use Rattle.rbg_lines.specs.declared.heading.Version.TheVariants.{One}
-use Rattle.rbg_lines.specs.Entries.{SpellsEntry}
-use Rattle.rbg_lines.specs.Heading.{version_text}
+use Rattle.rbg_record.specs.declared.entry.Entry.{Entry}
+use Rattle.rbg_record.specs.declared.entry.Entry.TheVariants.{Move, End}
+use Rattle.rbg_record.specs.declared.heading.Version.TheVariants.{One}
+use Rattle.rbg_record.specs.Entries.{SpellsEntry}
+use Rattle.rbg_record.specs.Heading.{version_text}
 use Rattle.rbg_record.specs.Records.{PlainRecord, TimedRecord, plain, timed, Spells}
 use Rattle.rbg_record.specs.Right.{made_at, IsRight}
 use Rattle.rbg_record.specs.Lines.{unwritten_moment}
@@ -31,7 +31,7 @@ pub record IsMigrated (game : AbstractGame) (old new : List ℕ) : Type 0 where
   pub after : Spells new (timed (migrated game told))
   pub same : IsRight game (plain told) ↔ IsRight game (timed (migrated game told))
 
--- Where one is in a record of version 1: before its version, among its moves, or behind its end.
+-- Where one is in a record of version 1: before its version, among its moves, or after its end.
 pub data PlainPart : Type 0 where
   before_version : PlainPart
   among_moves : PlainPart

@@ -4,3 +4,5 @@ pub mod Reading
 pub mod Written
 pub mod SoFar
 pub mod Migrating
+-- Definitions that only this crate's proofs use.
+pub mod Telling

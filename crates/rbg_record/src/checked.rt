@@ -5,6 +5,6 @@
 pub enum Checked {
     /// The record is right.
     Good,
-    /// The lines before this one are right, and it is of the form; but it isn't right behind them.
+    /// The lines before this one are right, and it is of the form; but it isn't right after them.
     Bad { line: usize },
 }

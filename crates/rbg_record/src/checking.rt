@@ -3,10 +3,10 @@ ghost use Rattle.std.specs.Prelude.{◌≡◌, ◌↔◌, ℕ, IfOk, Err, Ok};
 ghost use Rattle.rbg_record.specs.Judged.{IsBadLine, IsFormFault, IsHeavyLine, IsJudged};
 ghost use Rattle.rbg_record.specs.Right.{IsRightRecord};
 
+use crate::cutting::next_line;
 use crate::reached::Reached;
 use crate::reading::read_line;
 use crate::{Checked, RecordError};
-use rbg_lines::next_line;
 use rbg_moves::PlayedGame;
 
 /// Tells whether a record is right, of either version.

@@ -12,7 +12,7 @@ use rbg_moves::Over as OverLimits;
 pub enum Fault {
     /// It is not of the form.
     Form,
-    /// It is of the form, but not right behind the lines before it.
+    /// It is of the form, but not right after the lines before it.
     Bad,
     /// A question about it is above the limits.
     Over,

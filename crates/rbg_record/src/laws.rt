@@ -1,7 +1,7 @@
 //! Laws of records. The contract of each function is a law; its body does nothing.
 ghost use Rattle.rbg_record.specs.Laws.{GoodByLines, MatchesAreRight, OneJudgement, OnePlainFault, OneRecord};
 
-/// Line by line is the same as all at once: each line is right behind those before it, and the record ends with the
+/// Line by line is the same as all at once: each line is right after those before it, and the record ends with the
 /// last, exactly where the bytes are those of a record that is right.
 pub fn good_lines_are_a_right_record()
     ensures { GoodByLines }

@@ -1,24 +1,49 @@
-//! Records of matches: whether a record is right, and how a record of version 1 becomes one of version 2.
+//! Records of matches: their lines, whether a record is right, how one of version 1 becomes one of version 2, and the
+//! script of a record. A line of version 2 that tells a move or the end is a moment, a space and such a line of version
+//! 1.
 #![tactic(auto)]
 
 mod asking;
 mod checked;
 mod checking;
+mod cutting;
+mod entries;
+mod entry;
+mod entry_reader;
+mod entry_writer;
 mod error;
 mod fault;
+mod heading;
+mod heading_reader;
+mod heading_writer;
 pub mod laws;
+pub mod line_laws;
+mod making;
 mod migrating;
 mod moments;
+mod part;
 mod players;
 mod reached;
 mod reading;
+mod script_error;
+mod script_writing;
 mod writing;
 
 pub use checked::Checked;
 pub use checking::check_record;
+pub use cutting::next_line;
+pub use entry::{Entry, Timed};
+pub use entry_reader::{read_entry, read_timed};
+pub use entry_writer::{write_end_line, write_move_line};
 pub use error::RecordError;
 pub use fault::Fault;
+pub use heading::{Start, Version};
+pub use heading_reader::{read_players, read_start, read_version};
+pub use heading_writer::{begin_players, end_line, write_player, write_start, write_version};
+pub use making::script_of_record;
 pub use migrating::migrate;
 pub use reached::{Reached, Standing};
 pub use reading::{read_in, read_line};
+pub use script_error::ScriptingError;
+pub use script_writing::write_script;
 pub use writing::{write_record, write_record_1};

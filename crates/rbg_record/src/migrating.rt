@@ -1,6 +1,6 @@
 //! Making version 2 of a record of version 1.
 ghost use Rattle.std.specs.Prelude.{◌≡◌, ◌++◌, ◌↔◌, ℕ, Err, IfOk, IfSome, IfNone, OnOk, IsTrue};
-ghost use Rattle.rbg_lines.specs.Entries.{timed_text};
+ghost use Rattle.rbg_record.specs.Entries.{timed_text};
 ghost use Rattle.rbg_wire.specs.Lines.{line_of, lines_of};
 ghost use Rattle.rbg_rules.specs.Meaning.{AbstractGame};
 ghost use Rattle.rbg_record.specs.Lines.{with_moment};
@@ -9,13 +9,16 @@ ghost use Rattle.rbg_record.specs.Right.{IsRightRecord};
 ghost use Rattle.rbg_record.specs.internal.Migrating.{Migrates, head_texts, part_behind, part_of};
 
 use crate::RecordError;
+use crate::cutting::next_line;
+use crate::entry::Entry;
+use crate::entry_reader::read_entry;
+use crate::entry_writer::{write_end_line, write_move_line};
+use crate::heading::{Start, Version};
+use crate::heading_reader::read_version;
+use crate::heading_writer::{write_start, write_version};
 use crate::moments::unwritten;
 use crate::players::write_players;
 use rbg_base::Memory;
-use rbg_lines::{
-    Entry, Start, Version, next_line, read_entry, read_version, write_end_line, write_move_line,
-    write_start, write_version,
-};
 use rbg_rules::Game;
 use std::alloc::Global;
 

@@ -3,13 +3,14 @@ ghost use Rattle.std.specs.Prelude.{◌≡◌, ◌↔◌, ◌≤◌, ◌+◌, So
 ghost use Rattle.rbg_match.specs.Config.{IsWithinLimits};
 ghost use Rattle.rbg_match.specs.History.{IsInTurn};
 ghost use Rattle.rbg_match.specs.Limits.{latest_moment};
-ghost use Rattle.rbg_lines.specs.declared.entry.Entry.TheVariants.{End as EndEntry};
+ghost use Rattle.rbg_record.specs.declared.entry.Entry.TheVariants.{End as EndEntry};
 ghost use Rattle.rbg_record.specs.Lines.{IsMomentFor, unwritten_moment};
 ghost use Rattle.rbg_record.specs.Judged.{FitsUnasked, IsOnTurn};
 ghost use Rattle.rbg_record.specs.Right.{turn_config};
 
+use crate::entry::{Entry, Timed};
+use crate::heading::Start;
 use crate::reached::Standing;
-use rbg_lines::{Entry, Start, Timed};
 use rbg_match::{Config, LATEST_MOMENT};
 use rbg_moves::PlayedGame;
 use rbg_wire::Outcome;

@@ -3,10 +3,10 @@ ghost use Rattle.std.specs.Prelude.{◌≡◌, ◌++◌, ◌-◌, ◌<◌, ◌�
 ghost use Rattle.std.specs.List.{flat_map};
 ghost use Rattle.rbg_wire.specs.Lines.{line_of};
 ghost use Rattle.rbg_rules.specs.Meaning.{IsGame, AbstractGame};
-ghost use Rattle.rbg_lines.specs.Heading.{players_text};
+ghost use Rattle.rbg_record.specs.Heading.{players_text};
 
+use crate::heading_writer::{begin_players, end_line, write_player};
 use rbg_base::Memory;
-use rbg_lines::{begin_players, end_line, write_player};
 use rbg_match::Match;
 use rbg_rules::Game;
 

@@ -4,8 +4,8 @@ ghost use Rattle.rbg_record.specs.Lines.{nothing_next};
 ghost use Rattle.rbg_record.specs.ByLine.{reached_of};
 ghost use Rattle.rbg_record.specs.Reaching.{place_in};
 
+use crate::heading::Version;
 use rbg_base::Memory;
-use rbg_lines::Version;
 use rbg_moves::Place;
 
 /// Where the moves so far lead.

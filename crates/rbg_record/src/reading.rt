@@ -1,8 +1,8 @@
-//! The lines of a record in turn: each is read, and then judged behind those before it.
+//! The lines of a record in turn: each is read, and then judged after those before it.
 ghost use Rattle.std.specs.Prelude.{◌≡◌, ◌↔◌, ◌≤◌, Some, IfErr, IfOk, IfSome, IfNone, IsTrue};
 ghost use Rattle.rbg_rules.specs.Meaning.{IsPlaceOf};
-ghost use Rattle.rbg_lines.specs.declared.entry.Timed.{Timed as AnyTimed};
-ghost use Rattle.rbg_lines.specs.declared.entry.Entry.TheVariants.{End as EndEntry, Move as MoveEntry};
+ghost use Rattle.rbg_record.specs.declared.entry.Timed.{Timed as AnyTimed};
+ghost use Rattle.rbg_record.specs.declared.entry.Entry.TheVariants.{End as EndEntry, Move as MoveEntry};
 ghost use Rattle.rbg_wire.specs.declared.outcome.Outcome.TheVariants.{Heavy};
 ghost use Rattle.rbg_match.specs.Limits.{latest_moment};
 ghost use Rattle.rbg_record.specs.Judged.{FitsUnasked};
@@ -11,17 +11,18 @@ ghost use Rattle.rbg_record.specs.ByLine.{IsReachedIn, ReadsLine, RefusesEntry, 
 ghost use Rattle.rbg_record.specs.internal.Reading.{EndsSo};
 
 use crate::asking::{are_players, are_scores, is_finished, try_move};
+use crate::entry::{Entry, Timed};
+use crate::entry_reader::{read_entry, read_timed};
 use crate::fault::Fault;
+use crate::heading::Version;
+use crate::heading_reader::{read_players, read_start, read_version};
 use crate::moments::{is_lawful, unwritten};
 use crate::reached::{Reached, Standing};
-use rbg_lines::{
-    Entry, Timed, Version, read_entry, read_players, read_start, read_timed, read_version,
-};
 use rbg_match::LATEST_MOMENT;
 use rbg_moves::{Move, Place, PlayedGame};
 use rbg_wire::Outcome;
 
-/// What a line leads to behind the lines so far, of which the first is read behind `Reached::Version`. Whoever reads a
+/// What a line leads to after the lines so far, of which the first is read after `Reached::Version`. Whoever reads a
 /// record line by line by this call takes the same ones as `check_record`.
 pub fn read_line(game: &PlayedGame, reached: Reached, text: &[u8]) -> Result<Reached, Fault>
     requires { IsReachedIn game.now (reached_of reached) }

@@ -6,9 +6,11 @@ ghost use Rattle.rbg_record.specs.OfMatch.{WritesRecord, record_of, plain_record
 ghost use Rattle.rbg_record.specs.Records.{plain, timed};
 ghost use Rattle.rbg_record.specs.internal.Written.{entries_bytes, made_text, told_moment};
 
+use crate::entry_writer::{write_end_line, write_move_line};
+use crate::heading::{Start, Version};
+use crate::heading_writer::{write_start, write_version};
 use crate::players::write_players;
 use rbg_base::Memory;
-use rbg_lines::{Start, Version, write_end_line, write_move_line, write_start, write_version};
 use rbg_match::{Made, Match};
 use std::alloc::Global;
 

@@ -1,7 +1,7 @@
 -- What callers need of a text that loads to a game: no byte of it is zero, and its players' names are names of the language.
 use Rattle.std.proofs.Common.{ℕ, List, IsTrue, All}
 use Rattle.rbg_base.specs.Names.{is_name}
-use Rattle.rbg_tokens.proofs.ZeroBytes.{text_has_no_zero_byte}
+use Rattle.rbg_macro.proofs.ZeroBytes.{text_has_no_zero_byte}
 use Rattle.rbg_wire.specs.Bytes.{LacksByte}
 use Rattle.rbg_rules.specs.Meaning.{AbstractGame}
 use Rattle.rbg_game.specs.Loading.{Loads}

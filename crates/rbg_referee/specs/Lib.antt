@@ -2,3 +2,11 @@
 pub mod Refereed
 pub mod Played
 pub mod Laws
+pub mod Answers
+pub mod Errors
+pub mod Faults
+pub mod InputLaws
+pub mod Matches
+pub mod Printed
+pub mod Runs
+pub mod Scripts

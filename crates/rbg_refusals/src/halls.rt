@@ -1,6 +1,6 @@
 //! Runs of a hall.
 ghost use Rattle.std.specs.Prelude.{IfOk};
-ghost use Rattle.rbg_floor.specs.Openings.{AreLoaded};
+ghost use Rattle.rbg_hall.specs.Openings.{AreLoaded};
 ghost use Rattle.rbg_game.specs.Loading.{Loads};
 
 use crate::copies::{add_copy, is_copy};
@@ -9,11 +9,9 @@ use crate::lines::{Plan, ROOM as LINE_ROOM, tell_served, two_lines};
 use crate::stop::Stop;
 use crate::telling::Telling;
 use crate::two_tables;
-use rbg_floor::{Hall, HallError, HallEvent, Table};
 use rbg_game::load;
-use rbg_hall::HallOut;
-use rbg_log::MemoryLog;
-use rbg_serving::ListClock;
+use rbg_hall::{Hall, HallError, HallEvent, HallOut, Table};
+use rbg_serving::{ListClock, MemoryLog};
 use std::alloc::Global;
 use std::io::Write;
 

@@ -28,10 +28,10 @@ pub fn run<W: Write>(alloc: Global, name: &str, told: &mut Telling<W>) -> Result
         // Rules that need 64 levels of macros, and 65.
         "expand-deepest" => tell_limit(alloc, b"#rules = m2", told),
         "expand-too-deep" => tell_limit(alloc, b"#rules = m1", told),
-        // A macro of two words. Behind 15 doublings 65,536 tokens are kept, of 131,071 that are read.
+        // A macro of two words. After 15 doublings 65,536 tokens are kept, of 131,071 that are read.
         "expand-most-kept" => tell_limit(alloc, b"#a0 = e e\n#rules = a15", told),
         "expand-too-many-kept" => tell_limit(alloc, b"#a0 = e e\n#rules = a16", told),
-        // A macro of two calls of one that is nothing. Behind 17 doublings 524,287 tokens are read, and none is kept.
+        // A macro of two calls of one that is nothing. After 17 doublings 524,287 tokens are read, and none is kept.
         "expand-most-read" => tell_limit(alloc, b"#z =\n#a0 = z z\n#rules = a17", told),
         "expand-too-many-read" => tell_limit(alloc, b"#z =\n#a0 = z z\n#rules = a18", told),
         _ => moves::run(alloc, name, told),

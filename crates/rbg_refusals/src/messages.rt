@@ -52,7 +52,7 @@ fn has_one(inbox: &mut Inbox) -> bool {
     inbox.take() == Some(Took::Message(b"M0 1")) && inbox.take().is_none()
 }
 
-/// Writes a message behind bytes that are there.
+/// Writes a message after bytes that are there.
 fn write<W: Write>(alloc: Global, told: &mut Telling<W>) -> Result<(), Stop> {
     let mut bytes = Vec::from_slice(alloc, KEPT)?;
     let message = read_message(b"E0 1 22 333 4444 55555 666666 7777777 88888888")?;

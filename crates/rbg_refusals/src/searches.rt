@@ -9,7 +9,7 @@ use rbg_auto::{Compact, Expr, Steps, compact};
 use rbg_base::{Pair, Position};
 use rbg_game::{Game, load};
 use rbg_moves::{Over, Place, PlayedGame, Unsettled, Workspace};
-use rbg_perft::{CountError, Extent, count_from_start};
+use rbg_questions::{CountError, Extent, count_from_start};
 use rbg_search::{Budget, Buffers, FlatPart, Origin, Search};
 use rbg_state::SemiState;
 use std::alloc::Global;
@@ -55,7 +55,7 @@ pub fn tell_over<W: Write>(over: Over, told: &mut Telling<W>) {
     });
 }
 
-/// The numbers of a pair behind a word.
+/// The numbers of a pair after a word.
 pub fn tell_pair<W: Write>(word: &str, pair: Pair, told: &mut Telling<W>) {
     told.number(word, pair.vertex as u64);
     told.number("", pair.position as u64);

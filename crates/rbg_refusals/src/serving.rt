@@ -31,7 +31,7 @@ const SILENT: Plan = Plan {
 /// Nothing comes over the line, and it takes nothing.
 const STUCK: Plan = Plan { room: 0, ..SILENT };
 
-/// The line of seat 2 fails at its second put, behind white's move.
+/// The line of seat 2 fails at its second put, after white's move.
 const FAILING: Service = Service {
     text: GAME,
     lines: [

@@ -1,11 +1,11 @@
 //! Why a run tells no more.
 
 use rbg_base::Memory;
-use rbg_floor::HallError;
 use rbg_game::LoadError;
+use rbg_hall::HallError;
+use rbg_macro::TextError;
 use rbg_match::MatchError;
 use rbg_moves::Over;
-use rbg_tokens::TextError;
 use rbg_wire::WireError;
 use std::alloc::AllocFailed;
 

@@ -60,20 +60,20 @@ impl<W: Write> Telling<W> {
         self.bytes(b"\n");
     }
 
-    /// A number behind a word.
+    /// A number after a word.
     pub fn number(&mut self, word: &str, number: u64) {
         self.text(word);
         self.bytes(b" ");
         self.shown(&number);
     }
 
-    /// A number behind a word, in a line.
+    /// A number after a word, in a line.
     pub fn count(&mut self, word: &str, number: u64) {
         self.number(word, number);
         self.bytes(b"\n");
     }
 
-    /// Numbers behind a word, in a line.
+    /// Numbers after a word, in a line.
     pub fn numbers(&mut self, word: &str, numbers: &[u32]) {
         self.text(word);
         for number in numbers {
@@ -89,7 +89,7 @@ impl<W: Write> Telling<W> {
         self.line(" bytes");
     }
 
-    /// Whether something is so, behind words.
+    /// Whether something is so, after words.
     pub fn truth(&mut self, words: &str, is_so: bool) {
         self.text(words);
         self.line(if is_so { " true" } else { " false" });

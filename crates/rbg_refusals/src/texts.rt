@@ -7,9 +7,8 @@ use crate::telling::Telling;
 use rbg_auto::{Expr, Steps, compact, compile};
 use rbg_base::Position;
 use rbg_game::{Game, load, load_with_layout};
-use rbg_macro::{MacroError, Section, Source, expand};
-use rbg_show::show;
-use rbg_tokens::{Tokens, tokens};
+use rbg_macro::{MacroError, Section, Source, Tokens, expand, tokens};
+use rbg_view::show;
 use std::alloc::Global;
 use std::io::Write;
 
@@ -132,7 +131,7 @@ fn tell_compact<W: Write>(alloc: Global, game: &Game, told: &mut Telling<W>) {
     }
 }
 
-/// What comes first, and what comes next behind each position to the last.
+/// What comes first, and what comes next after each position to the last.
 fn tell_steps<S: Steps, W: Write>(steps: &S, game: &Game, told: &mut Telling<W>) {
     let last = game.positions() as Position;
     told.numbers("first", steps.first(Expr::Rules));

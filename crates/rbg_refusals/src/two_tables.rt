@@ -1,15 +1,14 @@
 //! The run of a hall of two tables of the small game, and what each event queues.
 ghost use Rattle.std.specs.Prelude.{IfOk};
-ghost use Rattle.rbg_floor.specs.Openings.{AreLoaded};
+ghost use Rattle.rbg_hall.specs.Openings.{AreLoaded};
 
 use crate::halls::table;
 use crate::records;
 use crate::stop::Stop;
 use crate::telling::Telling;
 use rbg_base::Memory;
-use rbg_floor::{Hall, HallEvent, Table};
-use rbg_hall::HallOut;
-use rbg_log::MemoryLog;
+use rbg_hall::{Hall, HallEvent, HallOut, Table};
+use rbg_serving::MemoryLog;
 use std::alloc::Global;
 use std::io::Write;
 

@@ -17,3 +17,13 @@ pub mod TrimLemmas
 pub mod AnswerLemmas
 pub mod CutLemmas
 pub mod LocalityLemmas
+-- Lemmas for the examples.
+pub mod Standing
+pub mod ExampleLemmas
+pub mod ExampleStates
+pub mod LookingRight
+pub mod Threes
+pub mod WithoutEnd
+pub mod Offs
+-- Crates above cite LegalPairs.
+pub mod LegalPairs

@@ -1,5 +1,5 @@
--- The meaning of a game, by topic. "Paper" marks what is defined as in Regular Boardgames (AAAI 2019), "own" what
--- this project chose.
+-- The meaning of a game, by topic. "Paper" marks what is defined as in Regular Boardgames (AAAI 2019), "own" what this
+-- project chose.
 pub mod Expression
 pub mod Positions
 pub mod Words
@@ -22,3 +22,7 @@ pub mod Codes
 pub mod PlaceCodes
 pub mod Kept
 pub mod Parts
+-- The games of the examples.
+pub mod ExampleGames
+-- The law of this crate.
+pub mod SpellingLaws

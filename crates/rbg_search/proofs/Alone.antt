@@ -2,7 +2,7 @@
 use Rattle.rbg_base.proofs.Common.{ℕ, zero, suc, ◌*◌, ◌<◌, ◌≤◌, List, [], ◌∷◌, Bool, refl, sym, subst, inl, inr, arith, Contains, Decides, Contains-push, Contains-push_cases}
 use Rattle.std.proofs.lemmas.Nat.{rows as products}
 use Rattle.rbg_rules.specs.Meaning.{Expression, IsNumbered, IsPatternAt, Start, Ends, AbstractGame, AbstractState}
-use Rattle.rbg_leaps.specs.Leaps.{IsShiftAt}
+use Rattle.rbg_shifts.specs.Leaps.{IsShiftAt}
 use Rattle.rbg_auto.specs.Steps.{AreAllThatFollow}
 use Rattle.rbg_pairs.proofs.Common.{IsFlatPart, IsPositionOf, IsReached, MeetsAll, IsTrialAt, IsPart}
 use Rattle.rbg_state.specs.declared.state.trials.Trial.TheVariants.{Modifies}

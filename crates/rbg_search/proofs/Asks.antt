@@ -2,13 +2,13 @@
 use Rattle.std.proofs.Common.{◌≡◌, ℕ, ◌<◌, ◌≤◌, List, Bool, false, refl, sym, subst, arith, Result, Ok, Err, IsOk, IsErrAnd}
 use Rattle.rbg_rules.specs.Meaning.{AbstractState, Start, Question, reach, pattern}
 use Rattle.rbg_state.specs.History.{History}
-use Rattle.rbg_search.proofs.Common.{IsAnswered, CountsForced, Searching, CountsPairs, StandsInPattern, IsCounted, IsAsked, HasFound, IsAskedBehind, Over, Deep, Wide, Memory}
+use Rattle.rbg_search.proofs.Common.{IsAnswered, CountsForced, Searching, CountsTaken, StandsInPattern, IsCounted, IsAsked, HasFound, IsAskedBehind, Over, Deep, Wide, Memory}
 use Rattle.rbg_search.proofs.Counted.{memory_not_deep, memory_not_wide, counted_as, ok_not_err}
 use Rattle.rbg_search.proofs.Asking.{room_twice}
 use Rattle.rbg_search.proofs.CountedSteps.{given_up, not_memory, deep_is, asks_reached, behind_step, counted_there}
 use Rattle.rbg_search.proofs.Forcing.{all_counted, none_deep}
 use Rattle.rbg_search.proofs.Kept.{kept_twice}
-use Rattle.rbg_search.proofs.Takings.{takes_as, takes_nothing, takes_part_of, any_part, not_ok, is_answer}
+use Rattle.rbg_search.proofs.Takings.{takes_as, takes_part_of, any_part, not_ok, is_answer, held_on, ok_held}
 use Rattle.rbg_search.proofs.TakingSteps.{behind_takes}
 
 module _ {X Y : Type 0} {h k : Searching} {s l : History} {question : Question} {here : AbstractState} {f : Start} {left : ℕ} {callee : Result X Over} (is : IsAsked h k s l question here f left callee) where
@@ -19,7 +19,7 @@ module _ {X Y : Type 0} {h k : Searching} {s l : History} {question : Question} 
     given_back = is.given_back;
     room = is.room;
     counts = counted_as h.game question here f h.opened k.opened left h.openings h.modifiers _ _ _ _ (given_up callee r e Deep was gives) (given_up callee r e Wide was gives) is.counts;
-    taken = takes_as h.game question here f h.opened k.opened h.taken k.taken (IsOk callee) (IsOk r) is.taken (λ ok. absurd (not_ok r e gives ok));
+    taken = takes_as h.game question here f h.opened k.opened h.taken k.taken (IsOk callee) (IsOk r) is.taken (λ ok. absurd (not_ok r e gives ok)) (held_on callee r e was gives);
   }
 
   -- It was answered, and so is the one for which it was asked.
@@ -29,7 +29,7 @@ module _ {X Y : Type 0} {h k : Searching} {s l : History} {question : Question} 
     given_back = is.given_back;
     room = is.room;
     counts = counted_as h.game question here f h.opened k.opened left h.openings h.modifiers _ _ _ _ (λ d. absurd (ok_not_err y Deep d)) (λ w. absurd (ok_not_err y Wide w)) is.counts;
-    taken = takes_as h.game question here f h.opened k.opened h.taken k.taken (IsOk callee) _ is.taken (λ _. is_answer callee x was);
+    taken = takes_as h.game question here f h.opened k.opened h.taken k.taken (IsOk callee) _ is.taken (λ _. is_answer callee x was) (λ _. ok_held callee x was);
   }
 
 -- It is a pattern's question too, with so many modifiers left.
@@ -49,7 +49,7 @@ asked_there {h = h} {k = k} {t = t} {f = f} {n = n} {r = r} is s' l' here n' sam
   given_back = given;
   room = more;
   counts = counted_there h here t f h.opened k.opened n n' _ _ _ _ same left (λ d. d) (λ w. w) is.counts;
-  taken = subst (λ (u : AbstractState). CountsPairs h.game pattern u f h.opened k.opened h.taken k.taken (IsOk r)) (sym same) is.taken;
+  taken = subst (λ (u : AbstractState). CountsTaken h.game pattern u f h.opened k.opened h.taken k.taken (IsOk r) (¬ (r ≡ Err Memory))) (sym same) is.taken;
 }
 
 -- The question goes on behind the modifiers that were found.
@@ -61,17 +61,19 @@ asked_behind {h = h} {k = k} {k' = k'} {s = s} {l = l} {l' = l'} {f = f} {left =
   counts = behind_step h k s l f pairs pairs ends k'.opened left _ _ is.kept is.given_back refl found.lawful inside found.reaches.reached not_here is.counts.counted behind.counts;
   taken =
       behind_takes h k s l f pairs pairs ends k'.opened k'.taken (IsOk r) is.kept is.given_back refl found.lawful inside found.reaches.reached not_here
-      (takes_as h.game reach s.state f h.opened k.opened h.taken k.taken (IsOk first) (Unit {0}) is.taken (λ _. is_answer first ends was)) behind.taken;
+      (takes_as h.game reach s.state f h.opened k.opened h.taken k.taken (IsOk first) (Unit {0}) is.taken (λ _. is_answer first ends was) (λ _. ok_held first ends was)) behind.taken;
 }
 
--- No opening was taken up, so the question isn't asked.
-pub not_entered : {X Y : Type 0} (h k : Searching) (s l : History) (f : Start) (callee : Result X Over) (r : Result Y Over) (e : Over) → callee ≡ Err e → IsErrAnd r (λ y. y ≡ e) → k ≡ record h { opened = k.opened; taken = k.taken } → l ≡ record s { room = l.room } → s.room ≤ l.room → IsCounted h.game reach s.state f h.opened k.opened h.modifiers h.openings h.modifiers (callee ≡ Err Deep) (callee ≡ Err Wide) → h.opened ≤ k.opened → k.taken ≡ h.taken → IsAsked h k s l reach s.state f h.modifiers r
-not_entered h k s l f callee r e was gives kept given more counts grows none = record {
+-- No opening was taken up, or there was no room for changes, so the question isn't asked.
+pub not_entered : {X Y : Type 0} (h k : Searching) (s l : History) (f : Start) (callee : Result X Over) (r : Result Y Over) (e : Over) → callee ≡ Err e → IsErrAnd r (λ y. y ≡ e) → k ≡ record h { opened = k.opened; taken = k.taken } → l ≡ record s { room = l.room } → s.room ≤ l.room → IsCounted h.game reach s.state f h.opened k.opened h.modifiers h.openings h.modifiers (callee ≡ Err Deep) (callee ≡ Err Wide) → (let lost : Result X Over = Err e in CountsTaken h.game reach s.state f h.opened k.opened h.taken k.taken (IsOk lost) (¬ (lost ≡ Err Memory))) → IsAsked h k s l reach s.state f h.modifiers r
+not_entered {X = X} h k s l f callee r e was gives kept given more counts taken = record {
   kept = kept;
   given_back = given;
   room = more;
   counts = counted_as h.game reach s.state f h.opened k.opened h.modifiers h.openings h.modifiers _ _ _ _ (given_up callee r e Deep was gives) (given_up callee r e Wide was gives) counts;
-  taken = takes_nothing h.game reach s.state f h.opened k.opened h.taken k.taken (IsOk r) grows none (not_ok r e gives);
+  taken =
+      let lost : Result X Over = Err e in
+      takes_as h.game reach s.state f h.opened k.opened h.taken k.taken (IsOk lost) (IsOk r) taken (λ ok. absurd (not_ok r e gives ok)) (held_on lost r e refl gives);
 }
 
 -- What callers see of it.
@@ -100,7 +102,7 @@ module _ {X Y : Type 0} {h k : Searching} {s l : History} {question : Question} 
     wide = λ w. is.wide (given_up callee r e Wide was gives w);
     all_forced = λ ok. absurd (not_ok r e gives ok);
     not_deep = λ ok. absurd (not_ok r e gives ok);
-    taken = takes_as h.game question s.state f h.opened k.opened h.taken k.taken (IsOk callee) (IsOk r) is.taken (λ ok. absurd (not_ok r e gives ok));
+    taken = takes_as h.game question s.state f h.opened k.opened h.taken k.taken (IsOk callee) (IsOk r) is.taken (λ ok. absurd (not_ok r e gives ok)) (held_on callee r e was gives);
   }
 
   -- It was answered, and so is the one for which it was asked.
@@ -114,7 +116,7 @@ module _ {X Y : Type 0} {h k : Searching} {s l : History} {question : Question} 
     wide = λ w. absurd (ok_not_err y Wide w);
     all_forced = λ _. is.all_forced (is_answer callee x was);
     not_deep = λ _. is.not_deep (is_answer callee x was);
-    taken = takes_as h.game question s.state f h.opened k.opened h.taken k.taken (IsOk callee) _ is.taken (λ _. is_answer callee x was);
+    taken = takes_as h.game question s.state f h.opened k.opened h.taken k.taken (IsOk callee) _ is.taken (λ _. is_answer callee x was) (λ _. ok_held callee x was);
   }
 
   -- .. or there was no memory for that.
@@ -128,7 +130,7 @@ module _ {X Y : Type 0} {h k : Searching} {s l : History} {question : Question} 
     wide = λ w. absurd (not_memory r Memory Wide gives refl memory_not_wide w);
     all_forced = λ ok. absurd (not_ok r Memory gives ok);
     not_deep = λ ok. absurd (not_ok r Memory gives ok);
-    taken = takes_as h.game question s.state f h.opened k.opened h.taken k.taken (IsOk callee) (IsOk r) is.taken (λ _. is_answer callee x was);
+    taken = takes_as h.game question s.state f h.opened k.opened h.taken k.taken (IsOk callee) (IsOk r) is.taken (λ _. is_answer callee x was) (λ _. ok_held callee x was);
   }
 
 -- The search is the same once more.

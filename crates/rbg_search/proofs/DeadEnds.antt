@@ -4,7 +4,7 @@ use Rattle.rbg_rules.specs.Meaning.{IsNumbered, Start, AbstractGame, AbstractSta
 use Rattle.rbg_flat.proofs.Common.{IsDeadEnd, AreFound}
 use Rattle.rbg_search.specs.internal.Straight.{IsScanned, IsTold}
 use Rattle.rbg_search.proofs.BySets.{found_part, nothing_in}
-use Rattle.rbg_search.proofs.Takings.{is_candidate, no_shift}
+use Rattle.rbg_search.proofs.Takings.{is_candidate, no_shift, candidates_met}
 
 -- Its flat part is whole: it has no modifier and no pattern.
 dead_scanned : (game : AbstractGame) → IsNumbered game.rules → (s : AbstractState) (f : Start) (many : ℕ) (ends : Bool) → IsDeadEnd game s f many ends → IsScanned game s f ends
@@ -20,4 +20,4 @@ dead_scanned game numbered s f many ends dead = record {
     }
 
 pub dead_told : (game : AbstractGame) → IsNumbered game.rules → (s : AbstractState) (f : Start) (many : ℕ) (ends : Bool) → IsDeadEnd game s f many ends → IsTold game s f ends many
-dead_told game numbered s f many ends dead = record { scanned = dead_scanned game numbered s f many ends dead; few = dead.few; taken = dead.candidates }
+dead_told game numbered s f many ends dead = record { scanned = dead_scanned game numbered s f many ends dead; taken = candidates_met game numbered s f (Unit {0}) (Unit {0}) many dead.candidates dead.few }

@@ -1,10 +1,10 @@
 -- A search that finds a flat part, step by step.
-use Rattle.std.proofs.Common.{◌≡◌, ℕ, suc, ◌+◌, ◌<◌, ◌≤◌, length, List, [], ◌∷◌, ◌++◌, Bool, take, sym, ap, ◌∙◌, subst, arith, Contains, Result, Ok, Err, IsOk, IsErrAnd, Some, slice_get, IsTrue, ◌↔◌}
+use Rattle.std.proofs.Common.{◌≡◌, ℕ, suc, ◌+◌, ◌<◌, ◌≤◌, length, List, [], ◌∷◌, ◌++◌, Bool, take, refl, sym, ap, ◌∙◌, subst, arith, Contains, Result, Ok, Err, IsOk, IsErrAnd, Some, slice_get, IsTrue, ◌↔◌}
 use Rattle.rbg_rules.specs.Meaning.{IsGame, IsStart, IsPatternAt, inside, IsStateOf, Start, beginning, Applies, reach, pattern}
 use Rattle.rbg_state.specs.History.{History}
-use Rattle.rbg_pairs.proofs.Common.{at_vertex, IsReached, NestsFrom, HasPlain}
+use Rattle.rbg_pairs.proofs.Common.{at_vertex, IsReached, IsMetPart, NestsFrom}
 use Rattle.rbg_pairs.specs.declared.flat.Flat.{Flat}
-use Rattle.rbg_search.proofs.Common.{CountsForced, Searching, HasPart, CountsPairs, IsCounted, IsAsked, IsBegun, Finds, FindsByPairs, IsSpent, IsSpentButOne, CountsPart, Over, Deep, Wide, Memory}
+use Rattle.rbg_search.proofs.Common.{CountsForced, Searching, HasPart, CountsTaken, most_pairs_of, IsCounted, IsAsked, IsBegun, Finds, FindsByPairs, IsSpent, IsSpentButOne, AreMany, CountsPart, Over, Deep, Wide, Memory}
 use Rattle.rbg_search.proofs.Asking.{room_twice, reached_nests, some_nested}
 use Rattle.rbg_search.proofs.Counted.{memory_not_deep, memory_not_wide, counted_as, asked_only, onward_search, search_before}
 use Rattle.rbg_search.proofs.CountedSteps.{AskStep, ask_step_at, given_up, not_memory, taken_reached}
@@ -12,8 +12,8 @@ use Rattle.rbg_search.proofs.Countings.{asked_begin, asked_weaker}
 use Rattle.rbg_search.proofs.Forcing.{asks_begin, asks_end, asks_still}
 use Rattle.rbg_search.proofs.ForcingSteps.{ask_forced}
 use Rattle.rbg_search.proofs.Kept.{onward, onward_rules, rules_before, kept_same, kept_twice}
-use Rattle.rbg_search.proofs.Takings.{takes_none_yet, takes_own, takes_unfinished, takes_as, room_for_own, not_ok, is_answer}
-use Rattle.rbg_search.proofs.TakingSteps.{asked_takes_at, whole_takes}
+use Rattle.rbg_search.proofs.Takings.{takes_none_yet, takes_own, takes_as, room_for_own, nothing_met, reached_met, own_part, not_ok, is_answer, held_on, ok_held, not_held}
+use Rattle.rbg_search.proofs.TakingSteps.{asked_takes_at, met_takes, all_done}
 
 -- One opening is taken up, and nothing is done.
 pub finds_none : (h e k : Searching) (s l : History) (f : Start) → IsGame h.game → IsStart h.game.rules f → e ≡ record h { opened = e.opened; taken = e.taken } → k ≡ e → l ≡ record s { room = l.room } → s.room ≤ l.room → 2 ≤ l.room → e.opened ≡ h.opened + 1 → e.taken ≡ h.taken → IsSpent h.game h.opened h.taken → Finds h k s l f []
@@ -52,23 +52,37 @@ module _ {h k : Searching} {s l : History} {f : Start} {done : List (ℕ × ℕ)
     step : AskStep h s.state f (done ++ (v, p) ∷ []) h.opened k'.opened (callee ≡ Err Deep) (callee ≡ Err Wide)
     step = ask_step_at h k s l f done v p h.opened k'.opened _ _ is.kept is.given_back is.lawful reached there fresh is.counted asked.counts
 
-    pairs : (A : Type 0) → CountsPairs k.game pattern (at_vertex l.state v) (beginning (inside p)) k.opened k'.opened k.taken k'.taken A → CountsPairs h.game reach s.state f (h.opened + 1) k'.opened h.taken k'.taken A
+    pairs : {H : Type 0} (A : Type 0) → CountsTaken k.game pattern (at_vertex l.state v) (beginning (inside p)) k.opened k'.opened k.taken k'.taken A H → CountsTaken h.game reach s.state f (h.opened + 1) k'.opened h.taken k'.taken A H
     pairs A counts = asked_takes_at h k s l f v p k'.opened k'.taken A is.kept is.given_back is.lawful reached there is.taken counts
 
-    -- .. which gives up.
-    pub finds_failed : {Y : Type 0} (r : Result Y Over) (e : Over) → callee ≡ Err e → IsErrAnd r (λ y. y ≡ e) → IsAsked h k' s l' reach s.state f h.modifiers r
-    finds_failed r e was gives = record {
-      kept = kept_twice h k k' is.kept asked.kept;
+    kept_then : k' ≡ record h { opened = k'.opened; taken = k'.taken }
+    kept_then = kept_twice h k k' is.kept asked.kept
+
+    -- .. which gives up. There is room for what the flat part has met.
+    pub finds_left : IsSpentButOne k'.game k'.opened k'.taken
+    finds_left =
+        onward_rules (λ x. IsSpentButOne x k'.opened k'.taken) h k' kept_then
+        (room_for_own h.game reach s.state f h.opened k'.opened h.taken k'.taken (IsOk callee) is.spent (pairs (IsOk callee) asked.taken))
+
+    -- .. and that was counted.
+    pub finds_lost : {Y : Type 0} (r : Result Y Over) (e : Over) → callee ≡ Err e → IsErrAnd r (λ y. y ≡ e) → (last : Searching) → last ≡ record k' { opened = last.opened; taken = last.taken } → last.opened ≡ k'.opened → (many : ℕ) → HasPart h.game reach s.state f (IsOk r) (¬ (r ≡ Err Memory)) many → last.taken ≡ k'.taken + many → IsAsked h last s l' reach s.state f h.modifiers r
+    finds_lost r e was gives last kept same many part sum = record {
+      kept = kept_twice h k' last kept_then kept;
       given_back = room_twice s l l' is.given_back asked.given_back;
       room = omega (arith, is.room, asked.room);
-      counts = counted_as h.game reach s.state f h.opened k'.opened h.modifiers h.openings h.modifiers _ _ _ _ (given_up callee r e Deep was gives) (given_up callee r e Wide was gives) step.gave_up;
-      taken = takes_unfinished h.game reach s.state f h.opened k'.opened h.taken k'.taken (IsOk callee) (IsOk r) (pairs (IsOk callee) asked.taken) (not_ok r e gives);
+      counts =
+          subst (λ (n : ℕ). IsCounted h.game reach s.state f h.opened n h.modifiers h.openings h.modifiers (r ≡ Err Deep) (r ≡ Err Wide)) (sym same)
+          (counted_as h.game reach s.state f h.opened k'.opened h.modifiers h.openings h.modifiers _ _ _ _ (given_up callee r e Deep was gives) (given_up callee r e Wide was gives) step.gave_up);
+      taken =
+          subst (λ (n : ℕ). CountsTaken h.game reach s.state f h.opened n h.taken last.taken (IsOk r) (¬ (r ≡ Err Memory))) (sym same)
+          (takes_own h.game reach s.state f h.opened k'.opened h.taken k'.taken last.taken many (IsOk r)
+          (takes_as h.game reach s.state f (h.opened + 1) k'.opened h.taken k'.taken (IsOk callee) (IsOk r) (pairs (IsOk callee) asked.taken) (λ ok. absurd (not_ok r e gives ok)) (held_on callee r e was gives)) part sum);
     }
 
     -- .. or answers.
     pub finds_more : (x : X) → callee ≡ Ok x → ((cut : Bool) → CountsForced k.game cut pattern (at_vertex l.state v) (beginning (inside p)) k.opened k'.opened k.modifiers k.modifiers) → Finds h k' s l' f (done ++ (v, p) ∷ [])
     finds_more x was forced = record {
-      kept = kept_twice h k k' is.kept asked.kept;
+      kept = kept_then;
       given_back = room_twice s l l' is.given_back asked.given_back;
       room = omega (arith, is.room, asked.room);
       enough = omega (arith, is.enough, asked.room);
@@ -78,7 +92,7 @@ module _ {h k : Searching} {s l : History} {f : Start} {done : List (ℕ × ℕ)
       spent = is.spent;
       taken =
           pairs (Unit {0})
-          (takes_as k.game pattern (at_vertex l.state v) (beginning (inside p)) k.opened k'.opened k.taken k'.taken (IsOk callee) (Unit {0}) asked.taken (λ _. is_answer callee x was));
+          (takes_as k.game pattern (at_vertex l.state v) (beginning (inside p)) k.opened k'.opened k.taken k'.taken (IsOk callee) (Unit {0}) asked.taken (λ _. is_answer callee x was) (λ _. ok_held callee x was));
     }
 
   -- What one owes who asks a vertex about a pattern.
@@ -104,7 +118,7 @@ module _ {h k : Searching} {s l : History} {f : Start} {done : List (ℕ × ℕ)
 
   -- No more is asked.
   module _ (k' : Searching) (kept : k' ≡ record k { opened = k'.opened; taken = k'.taken }) (same : k'.opened ≡ k.opened) where
-    pub finds_asked : {Y : Type 0} (r : Result Y Over) → ¬ (r ≡ Err Deep) → ¬ (r ≡ Err Wide) → CountsPairs h.game reach s.state f h.opened k'.opened h.taken k'.taken (IsOk r) → IsAsked h k' s l reach s.state f h.modifiers r
+    pub finds_asked : {Y : Type 0} (r : Result Y Over) → ¬ (r ≡ Err Deep) → ¬ (r ≡ Err Wide) → CountsTaken h.game reach s.state f h.opened k'.opened h.taken k'.taken (IsOk r) (¬ (r ≡ Err Memory)) → IsAsked h k' s l reach s.state f h.modifiers r
     finds_asked r deep wide taken = record {
       kept = kept_twice h k k' is.kept kept;
       given_back = is.given_back;
@@ -115,18 +129,24 @@ module _ {h k : Searching} {s l : History} {f : Start} {done : List (ℕ × ℕ)
       taken = taken;
     }
 
-    -- The flat part is counted, or isn't.
-    pub finds_own : (A : Type 0) (many : ℕ) → HasPart h.game reach s.state f many → k'.taken ≡ k.taken + many → CountsPairs h.game reach s.state f h.opened k'.opened h.taken k'.taken A
-    finds_own A many part sum =
-        subst (λ (n : ℕ). CountsPairs h.game reach s.state f h.opened n h.taken k'.taken A) (sym same)
-        (takes_own h.game reach s.state f h.opened k.opened h.taken k.taken k'.taken many A is.taken part sum)
+    -- The flat part is counted.
+    pub finds_own : (A H : Type 0) (many : ℕ) → HasPart h.game reach s.state f A H many → k'.taken ≡ k.taken + many → CountsTaken h.game reach s.state f h.opened k'.opened h.taken k'.taken A H
+    finds_own A H many part sum =
+        subst (λ (n : ℕ). CountsTaken h.game reach s.state f h.opened n h.taken k'.taken A H) (sym same)
+        (takes_own h.game reach s.state f h.opened k.opened h.taken k.taken k'.taken many A
+        (takes_as h.game reach s.state f (h.opened + 1) k.opened h.taken k.taken (Unit {0}) A is.taken (λ _. tt) (λ _. tt)) part sum)
 
+    -- There was no memory to go on, and what was met is counted.
+    pub finds_dropped : {Y : Type 0} (r : Result Y Over) (e : Over) → IsErrAnd r (λ y. y ≡ e) → e ≡ Memory → (many : ℕ) → HasPart h.game reach s.state f (IsOk r) (¬ (r ≡ Err Memory)) many → k'.taken ≡ k.taken + many → IsAsked h k' s l reach s.state f h.modifiers r
+    finds_dropped r e gives memory many part sum =
+        finds_asked r (not_memory r e Deep gives memory memory_not_deep) (not_memory r e Wide gives memory memory_not_wide) (finds_own (IsOk r) (¬ (r ≡ Err Memory)) many part sum)
+
+    -- .. or there was none to begin.
     pub finds_refused : {Y : Type 0} (r : Result Y Over) (e : Over) → IsErrAnd r (λ y. y ≡ e) → e ≡ Memory → k'.taken ≡ k.taken → IsAsked h k' s l reach s.state f h.modifiers r
     finds_refused r e gives memory none =
-        finds_asked r (not_memory r e Deep gives memory memory_not_deep) (not_memory r e Wide gives memory memory_not_wide)
-        (subst (λ (n : ℕ). CountsPairs h.game reach s.state f h.opened n h.taken k'.taken (IsOk r)) (sym same)
-        (subst (λ (n : ℕ). CountsPairs h.game reach s.state f h.opened k.opened h.taken n (IsOk r)) (sym none)
-        (takes_unfinished h.game reach s.state f h.opened k.opened h.taken k.taken (Unit {0}) (IsOk r) is.taken (not_ok r e gives))))
+        finds_dropped r e gives memory 0
+        (own_part h.game reach s.state f 0 (nothing_met h.game s.state f (IsOk r) (¬ (r ≡ Err Memory)) (not_ok r e gives) (not_held r e gives memory)))
+        (omega (arith, none))
 
 -- ---- by pairs
 
@@ -147,6 +167,18 @@ module _ {h k : Searching} {s l : History} {f : Start} {flat : Flat} (is : Finds
     begun = search_before (λ y z. IsBegun y.game z f flat') h k s l is.finds.kept is.finds.given_back (begun begun_now);
   }
 
+-- What was met so far.
+pub begun_part : {h k : Searching} {s l : History} {f : Start} {flat : Flat} → FindsByPairs h k s l f flat → (A H : Type 0) (pairs : List (ℕ × ℕ)) → pairs ≡ flat.queue.pairs → (many : ℕ) → AreMany pairs many → many ≤ most_pairs_of h.game → ¬ A → HasPart h.game reach s.state f A H many
+begun_part {h = h} {s = s} {f = f} {flat = flat} is A H pairs same many are few none =
+    own_part h.game reach s.state f many
+    (reached_met h.game is.finds.lawful.numbered s.state f A H flat.queue.pairs many (record { sound = is.begun.part.sound; begun = is.begun.part.begun }) (subst (λ (ps : List (ℕ × ℕ)). AreMany ps many) same are) few (λ answered. absurd (none answered)))
+
+-- There was no memory to go on.
+pub pairs_stopped : {Y : Type 0} {h k : Searching} {s l : History} {f : Start} {flat : Flat} → FindsByPairs h k s l f flat → (pairs : List (ℕ × ℕ)) → IsMetPart k.game l.state f pairs → (r : Result Y Over) (e : Over) → IsErrAnd r (λ y. y ≡ e) → e ≡ Memory → (last : Searching) → last ≡ record k { opened = last.opened; taken = last.taken } → last.opened ≡ k.opened → CountsPart k.game (AreMany pairs) k.taken last.taken → IsAsked h last s l reach s.state f h.modifiers r
+pairs_stopped {h = h} {k = k} {s = s} {l = l} {f = f} is pairs met r e gives memory last kept same counts =
+    finds_dropped is.finds last kept same r e gives memory counts.many
+    (met_takes h k s l f (IsOk r) (¬ (r ≡ Err Memory)) pairs counts.many is.finds.kept is.finds.given_back is.finds.lawful met counts.has counts.few (λ ok. absurd (not_ok r e gives ok))) counts.sum
+
 -- The pair that is next is at a pattern, and isn't done.
 pub record IsNextPair (k : Searching) (flat : Flat) (v p : ℕ) : Type 0 where
   pub at : slice_get flat.queue.pairs flat.taken ≡ Some (v, p)
@@ -163,12 +195,25 @@ module _ {h k : Searching} {s l : History} {f : Start} {flat : Flat} (is : Finds
   reached_next = taken_reached h.game s.state f flat v p is.begun next.at
 
   module _ {X : Type 0} {k' : Searching} {l' : History} {callee : Result X Over} (asked : IsAsked k k' l l' pattern (at_vertex l.state v) (beginning (inside p)) k.modifiers callee) where
-    pub pairs_failed : {Y : Type 0} (r : Result Y Over) (e : Over) → callee ≡ Err e → IsErrAnd r (λ y. y ≡ e) → IsAsked h k' s l' reach s.state f h.modifiers r
-    pairs_failed r e was gives = finds_failed is.finds v p reached_next there_here next.fresh asked r e was gives
+    pub pairs_left : IsSpentButOne k'.game k'.opened k'.taken
+    pairs_left = finds_left is.finds v p reached_next there_here next.fresh asked
+
+    pub pairs_lost : {Y : Type 0} (r : Result Y Over) (e : Over) → callee ≡ Err e → IsErrAnd r (λ y. y ≡ e) → (last : Searching) → last ≡ record k' { opened = last.opened; taken = last.taken } → last.opened ≡ k'.opened → CountsPart k'.game (AreMany flat.queue.pairs) k'.taken last.taken → IsAsked h last s l' reach s.state f h.modifiers r
+    pairs_lost r e was gives last kept same counts =
+        finds_lost is.finds v p reached_next there_here next.fresh asked r e was gives last kept same counts.many
+        (begun_part is (IsOk r) (¬ (r ≡ Err Memory)) flat.queue.pairs refl counts.many counts.has
+        (rules_before (λ x. counts.many ≤ most_pairs_of x) h k' (kept_twice h k k' is.finds.kept asked.kept) counts.few) (not_ok r e gives)) counts.sum
 
     module _ (x : X) (was : callee ≡ Ok x) (forced : (cut : Bool) → CountsForced k.game cut pattern (at_vertex l.state v) (beginning (inside p)) k.opened k'.opened k.modifiers k.modifiers) where
       pub pairs_asked : Finds h k' s l' f (take flat.taken flat.queue.pairs ++ (v, p) ∷ [])
       pairs_asked = finds_more is.finds v p reached_next there_here next.fresh asked x was forced
+
+      -- There was no memory to take it.
+      pub pairs_dropped : {Y : Type 0} (r : Result Y Over) (e : Over) → IsErrAnd r (λ y. y ≡ e) → e ≡ Memory → (pairs : List (ℕ × ℕ)) → pairs ≡ flat.queue.pairs → (last : Searching) → last ≡ record k' { opened = last.opened; taken = last.taken } → last.opened ≡ k'.opened → CountsPart k'.game (AreMany pairs) k'.taken last.taken → IsAsked h last s l' reach s.state f h.modifiers r
+      pairs_dropped r e gives memory pairs same_pairs last kept same counts =
+          finds_dropped pairs_asked last kept same r e gives memory counts.many
+          (begun_part is (IsOk r) (¬ (r ≡ Err Memory)) pairs same_pairs counts.many counts.has
+          (rules_before (λ x. counts.many ≤ most_pairs_of x) h k' (kept_twice h k k' is.finds.kept asked.kept) counts.few) (not_ok r e gives)) counts.sum
 
       pub pairs_more : (flat' : Flat) (valid : Bool) → IsTrue valid ↔ Applies k.game p (at_vertex l.state v) (at_vertex l.state v) → take flat'.taken flat'.queue.pairs ≡ take flat.taken flat.queue.pairs ++ (v, p) ∷ [] → (IsTrue valid ↔ Applies k'.game p (at_vertex l.state v) (at_vertex l.state v) → IsBegun k'.game l.state f flat → IsBegun k'.game l.state f flat') → FindsByPairs h k' s l' f flat'
       pairs_more flat' valid decides done begun =
@@ -187,7 +232,9 @@ module _ {h k : Searching} {s l : History} {f : Start} {flat : Flat} (is : Finds
       finds_forced is.finds
       (λ v p reached _. search_before (λ y z. (v p : ℕ) → IsReached y.game z f v p → Contains (take flat.taken flat.queue.pairs) (v, p)) h k s l is.finds.kept is.finds.given_back met v p reached)
 
-  pub pairs_own : (k' : Searching) → k' ≡ record k { opened = k'.opened; taken = k'.taken } → k'.opened ≡ k.opened → (A : Type 0) → CountsPart k.game (HasPlain k.game.rules flat.queue.pairs) k.taken k'.taken → CountsPairs h.game reach s.state f h.opened k'.opened h.taken k'.taken A
-  pairs_own k' kept same A counts =
-      finds_own is.finds k' kept same A counts.many
-      (whole_takes h k s l f flat counts.many is.finds.kept is.finds.given_back is.finds.lawful (onward_search (λ y z. IsBegun y.game z f flat) h k s l is.finds.kept is.finds.given_back is.begun) met counts.has counts.few) counts.sum
+  pub pairs_own : (k' : Searching) → k' ≡ record k { opened = k'.opened; taken = k'.taken } → k'.opened ≡ k.opened → (A H : Type 0) → CountsPart k.game (AreMany flat.queue.pairs) k.taken k'.taken → CountsTaken h.game reach s.state f h.opened k'.opened h.taken k'.taken A H
+  pairs_own k' kept same A H counts =
+      finds_own is.finds k' kept same A H counts.many
+      (met_takes h k s l f A H flat.queue.pairs counts.many is.finds.kept is.finds.given_back is.finds.lawful
+      (onward_search (λ y z. IsMetPart y.game z f flat.queue.pairs) h k s l is.finds.kept is.finds.given_back (record { sound = is.begun.part.sound; begun = is.begun.part.begun })) counts.has counts.few
+      (λ _. all_done flat (λ v p. IsReached k.game l.state f v p) met)) counts.sum

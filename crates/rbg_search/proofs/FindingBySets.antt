@@ -1,17 +1,17 @@
 -- A search that finds a flat part by sets, step by step.
-use Rattle.std.proofs.Common.{◌≡◌, ℕ, List, [], ◌∷◌, ◌++◌, Bool, Contains, IsTrue, ◌↔◌, ◌≤◌, Result, Ok, Err, IsErrAnd}
+use Rattle.std.proofs.Common.{◌≡◌, ℕ, List, [], ◌∷◌, ◌++◌, Bool, Contains, IsTrue, ◌↔◌, ◌≤◌, Result, Ok, Err, IsOk, IsErrAnd}
 use Rattle.rbg_rules.specs.Meaning.{inside, Start, beginning, Applies, reach, pattern}
 use Rattle.rbg_state.specs.History.{History}
 use Rattle.rbg_flat.specs.declared.flat.Flat.{Flat}
-use Rattle.rbg_flat.specs.Found.{HasCandidates}
+use Rattle.rbg_flat.proofs.Common.{HasCandidates, CountsMet, IsMarked}
 use Rattle.rbg_pairs.proofs.Common.{IsFlatPart, at_vertex, IsReached}
-use Rattle.rbg_search.proofs.Common.{CountsForced, Searching, CountsPairs, most_pairs_of, IsAsked, IsBegunBySets, HasSetsFor, IsWhole, BeginsBySets, AdvancesBySets, IsToBeAsked, TakesBySets, FindsBySets, Finds, CountsPart, Over}
+use Rattle.rbg_search.proofs.Common.{CountsForced, Searching, CountsTaken, most_pairs_of, IsAsked, IsBegunBySets, HasSetsFor, IsWhole, BeginsBySets, AdvancesBySets, IsToBeAsked, TakesBySets, FindsBySets, Finds, CountsPart, IsSpentButOne, Over, Memory}
 use Rattle.rbg_search.proofs.BySets.{asked_reached, all_asked, not_asked}
 use Rattle.rbg_search.proofs.Counted.{onward_search, search_before}
-use Rattle.rbg_search.proofs.Finding.{finds_more, finds_failed, finds_forced, finds_own}
-use Rattle.rbg_search.proofs.Kept.{kept_twice}
+use Rattle.rbg_search.proofs.Finding.{finds_more, finds_left, finds_lost, finds_forced, finds_own}
+use Rattle.rbg_search.proofs.Kept.{kept_twice, rules_before}
 use Rattle.rbg_search.proofs.Asking.{room_twice}
-use Rattle.rbg_search.proofs.Takings.{own_part}
+use Rattle.rbg_search.proofs.Takings.{own_part, candidates_met, marked_met, not_ok}
 
 -- It is begun.
 pub sets_begun : {h k : Searching} {s l : History} {f : Start} (e : Searching) (flat : Flat) → Finds h k s l f [] → e ≡ record h { opened = e.opened; taken = e.taken } → BeginsBySets e.game l.state f flat → FindsBySets h k s l f flat
@@ -41,8 +41,15 @@ module _ {h k : Searching} {s l : History} {f : Start} {flat : Flat} (is : Finds
     fresh = not_asked h.game flat v p is.pairs is.asked next_here
 
     module _ {X : Type 0} {k' : Searching} {l' : History} {callee : Result X Over} (asked : IsAsked k k' l l' pattern (at_vertex l.state v) (beginning (inside p)) k.modifiers callee) where
-      pub sets_failed : {Y : Type 0} (r : Result Y Over) (e : Over) → callee ≡ Err e → IsErrAnd r (λ y. y ≡ e) → IsAsked h k' s l' reach s.state f h.modifiers r
-      sets_failed r e was gives = finds_failed is.finds v p reached_here next_here.pattern fresh asked r e was gives
+      pub sets_left : IsSpentButOne k'.game k'.opened k'.taken
+      sets_left = finds_left is.finds v p reached_here next_here.pattern fresh asked
+
+      pub sets_lost : {Y : Type 0} (r : Result Y Over) (e : Over) → callee ≡ Err e → IsErrAnd r (λ y. y ≡ e) → (last : Searching) → last ≡ record k' { opened = last.opened; taken = last.taken } → last.opened ≡ k'.opened → CountsPart k'.game (CountsMet (IsMarked flat.sets)) k'.taken last.taken → IsAsked h last s l' reach s.state f h.modifiers r
+      sets_lost r e was gives last kept same counts =
+          finds_lost is.finds v p reached_here next_here.pattern fresh asked r e was gives last kept same counts.many
+          (own_part h.game reach s.state f counts.many
+          (marked_met h.game is.finds.lawful.numbered s.state f (IsOk r) (¬ (r ≡ Err Memory)) flat counts.many is.begun counts.has
+          (rules_before (λ x. counts.many ≤ most_pairs_of x) h k' (kept_twice h k k' is.finds.kept asked.kept) counts.few) (not_ok r e gives))) counts.sum
 
       -- It was asked and taken.
       pub sets_more : (flat' : Flat) (valid : Bool) (x : X) → callee ≡ Ok x → IsTrue valid ↔ Applies k.game p (at_vertex l.state v) (at_vertex l.state v) → TakesBySets k'.game l'.state flat flat' v p valid → ((cut : Bool) → CountsForced k.game cut pattern (at_vertex l.state v) (beginning (inside p)) k.opened k'.opened k.modifiers k.modifiers) → FindsBySets h k' s l' f flat'
@@ -69,9 +76,10 @@ module _ {h k : Searching} {s l : History} {f : Start} {flat : Flat} (is : Finds
   sets_part found ends part =
       search_before (λ y z. IsBegunBySets y.game z f flat → IsFlatPart y.game z f found ends) h k s l is.finds.kept is.finds.given_back (part f) is.begun
 
-  pub sets_own : (k' : Searching) → k' ≡ record k { opened = k'.opened; taken = k'.taken } → k'.opened ≡ k.opened → (A : Type 0) → CountsPart k.game (λ many. (e : Start) → IsBegunBySets k.game l.state e flat → HasCandidates k.game l.state e many) k.taken k'.taken → CountsPairs h.game reach s.state f h.opened k'.opened h.taken k'.taken A
-  sets_own k' kept same A counts =
-      finds_own is.finds k' kept same A counts.many
+  pub sets_own : (k' : Searching) → k' ≡ record k { opened = k'.opened; taken = k'.taken } → k'.opened ≡ k.opened → (A H : Type 0) → CountsPart k.game (λ many. (e : Start) → IsBegunBySets k.game l.state e flat → HasCandidates k.game l.state e many) k.taken k'.taken → CountsTaken h.game reach s.state f h.opened k'.opened h.taken k'.taken A H
+  sets_own k' kept same A H counts =
+      finds_own is.finds k' kept same A H counts.many
       (own_part h.game reach s.state f counts.many
+      (candidates_met h.game is.finds.lawful.numbered s.state f A H counts.many
       (search_before (λ y z. IsBegunBySets y.game z f flat → HasCandidates y.game z f counts.many) h k s l is.finds.kept is.finds.given_back (counts.has f) is.begun)
-      (search_before (λ y z. counts.many ≤ most_pairs_of y.game) h k s l is.finds.kept is.finds.given_back counts.few)) counts.sum
+      (search_before (λ y z. counts.many ≤ most_pairs_of y.game) h k s l is.finds.kept is.finds.given_back counts.few))) counts.sum

@@ -5,7 +5,7 @@ use Rattle.rbg_rules.proofs.PositionLemmas.{one_stands}
 use Rattle.rbg_rules.proofs.PatternLemmas.{own_stands}
 use Rattle.rbg_rules.proofs.LevelLemmas.{one_level_law}
 use Rattle.rbg_search.specs.internal.Asked.{StandsInPattern}
-use Rattle.rbg_leaps.proofs.ShiftLemmas.{level_stands}
+use Rattle.rbg_shifts.proofs.ShiftLemmas.{level_stands}
 use Rattle.rbg_pairs.proofs.Nesting.{goes_on}
 
 -- One stands in a pattern at its beginning.

@@ -1,14 +1,14 @@
 -- A scan along a straight line, step by step.
-use Rattle.rbg_base.proofs.Common.{◌≡◌, ◌≢◌, ℕ, suc, ◌<◌, ◌≤◌, List, [], ◌∷◌, ◌++◌, length, ◌==◌, Bool, true, ◌||◌, refl, sym, subst, append-nil, arith, All, AllPairs, Contains, Decides, All-nil, All-cons, All-head, All-push, All-weaker, All-contains, Contains-push, nat_tests}
+use Rattle.rbg_base.proofs.Common.{◌≡◌, ◌≢◌, ℕ, suc, ◌<◌, ◌≤◌, List, [], ◌∷◌, ◌++◌, length, ◌==◌, Bool, true, false, ◌||◌, refl, sym, subst, append-nil, arith, All, AllPairs, Contains, Decides, All-nil, All-cons, All-head, All-push, All-weaker, All-contains, Contains-push, nat_tests}
 use Rattle.std.proofs.lemmas.List.Quantifiers.{all_pairs_push}
-use Rattle.rbg_rules.specs.Meaning.{IsNumbered, IsPatternAt, Start, after, Ends, AbstractGame, AbstractState}
+use Rattle.rbg_rules.specs.Meaning.{Expression, IsNumbered, IsPatternAt, Start, after, Ends, AbstractGame, AbstractState}
 use Rattle.rbg_auto.specs.Steps.{AreAllThatFollow}
-use Rattle.rbg_pairs.proofs.Common.{MeetsAll, IsTrialAt, IsPart, HasPlain, at_vertex}
+use Rattle.rbg_pairs.proofs.Common.{MeetsAll, IsTrialAt, IsPart, CountsPlain, at_vertex}
 use Rattle.rbg_search.proofs.Common.{most_pairs_of, IsScanned, IsScanning, IsTold}
 use Rattle.rbg_state.specs.declared.state.trials.Trial.{Trial}
 use Rattle.rbg_state.specs.declared.state.trials.Trial.TheVariants.{Invalid, Modifies, LeadsTo}
 use Rattle.rbg_pairs.proofs.Plains.{plain_none}
-use Rattle.rbg_search.proofs.Takings.{part_pairs}
+use Rattle.rbg_search.proofs.Takings.{scanned_met}
 use Rattle.rbg_pairs.proofs.Parts.{begin_part, invalid_part, leads_part, all_met, whole_part}
 
 -- One pair is met.
@@ -43,18 +43,22 @@ trial_there game s u v p o o' is trial = moved o' (subst (IsTrialAt game s v p) 
       (λ x other. only x (record { quiet = other.quiet; applies = other.applies })),
     )
 
+plain_begun : (shifts : Bool) (rules : Expression) → CountsPlain shifts rules [] 0
+plain_begun true rules = refl
+plain_begun false rules = plain_none rules
+
 module _ {game : AbstractGame} {s : AbstractState} {f : Start} where
-  pub begin_scan : (ps : List ℕ) (p : ℕ) (ends : Bool) → ps ≡ p ∷ [] → AreAllThatFollow game.rules f ps → Decides ends (Ends game.rules f []) → IsScanning game s f s.vertex p ends 0
-  begin_scan ps p ends one follow decides = record {
+  pub begin_scan : (shifts : Bool) (ps : List ℕ) (p : ℕ) (ends : Bool) → ps ≡ p ∷ [] → AreAllThatFollow game.rules f ps → Decides ends (Ends game.rules f []) → IsScanning game s f s.vertex p ends shifts 0
+  begin_scan shifts ps p ends one follow decides = record {
     done = [];
-    plain = plain_none game.rules;
+    plain = plain_begun shifts game.rules;
     different = λ i j d less within. absurd (omega (arith, less, within));
     before = All-nil (λ (q : ℕ × ℕ). q.1 < p);
     part = begin_part game s f ((s.vertex, p) ∷ []) (p ∷ []) ends (meets_one [] s.vertex p) (subst (λ (qs : List ℕ). AreAllThatFollow game.rules f qs) one follow) decides;
     quiet = All-nil (λ q. ¬ IsPatternAt game.rules q.1);
   }
 
-  module _ {v p : ℕ} {ends : Bool} {many : ℕ} (scanning : IsScanning game s f v p ends many) (plain : ¬ IsPatternAt game.rules p) where
+  module _ {v p : ℕ} {ends shifts : Bool} {many : ℕ} (scanning : IsScanning game s f v p ends shifts many) (plain : ¬ IsPatternAt game.rules p) where
     quiet_on : All (λ q. ¬ IsPatternAt game.rules q.1) (scanning.done ++ (v, p) ∷ [])
     quiet_on = All-push (λ q. ¬ IsPatternAt game.rules q.1) scanning.done (v, p) scanning.quiet plain
 
@@ -78,11 +82,14 @@ module _ {game : AbstractGame} {s : AbstractState} {f : Start} where
       quiet = λ w q reached. All-contains (λ x. ¬ IsPatternAt game.rules x.1) (scanning.done ++ (v, p) ∷ []) (w, q) quiet_on (all_met game s f numbered (scanning.done ++ (v, p) ∷ []) [] ends' part w q reached);
     }
 
-    told : IsNumbered game.rules → (ends' : Bool) (all : ℕ) → IsPart game s f (scanning.done ++ (v, p) ∷ []) (scanning.done ++ (v, p) ∷ []) [] ends' → HasPlain game.rules (scanning.done ++ (v, p) ∷ []) all → all ≤ most_pairs_of game → IsTold game s f ends' all
-    told numbered ends' all part has few = record { scanned = scanned numbered ends' part; few = few; taken = part_pairs game numbered s f (scanning.done ++ (v, p) ∷ []) [] ends' all part has }
+    told : IsNumbered game.rules → (ends' : Bool) (all : ℕ) → IsPart game s f (scanning.done ++ (v, p) ∷ []) (scanning.done ++ (v, p) ∷ []) [] ends' → CountsPlain shifts game.rules (scanning.done ++ (v, p) ∷ []) all → all ≤ most_pairs_of game → IsTold game s f ends' all
+    told numbered ends' all part has few = record {
+      scanned = scanned numbered ends' part;
+      taken = scanned_met game numbered s f (scanning.done ++ (v, p) ∷ []) shifts all (record { sound = part.sound; begun = part.begun }) once (all_met game s f numbered (scanning.done ++ (v, p) ∷ []) [] ends' part) has few;
+    }
 
     -- The last action isn't valid.
-    pub told_up_to : IsNumbered game.rules → (all : ℕ) → HasPlain game.rules (scanning.done ++ (v, p) ∷ []) all → all ≤ most_pairs_of game → IsTrialAt game s v p Invalid → IsTold game s f ends all
+    pub told_up_to : IsNumbered game.rules → (all : ℕ) → CountsPlain shifts game.rules (scanning.done ++ (v, p) ∷ []) all → all ≤ most_pairs_of game → IsTrialAt game s v p Invalid → IsTold game s f ends all
     told_up_to numbered all has few invalid = told numbered ends all (invalid_part game s f (scanning.done ++ (v, p) ∷ []) scanning.done [] ends v p scanning.part invalid) has few
 
     -- .. or nothing follows it.
@@ -99,11 +106,11 @@ module _ {game : AbstractGame} {s : AbstractState} {f : Start} where
           all = All-nil (λ (r : ℕ). Contains (scanning.done ++ (v, p) ∷ []) (u, r));
         }
 
-    pub told_through : IsNumbered game.rules → (all : ℕ) → HasPlain game.rules (scanning.done ++ (v, p) ∷ []) all → all ≤ most_pairs_of game → (u : ℕ) (ps : List ℕ) (last : Bool) → IsTrialAt game s v p (LeadsTo u) → ps ≡ [] → AreAllThatFollow game.rules (after p) ps → Decides last (Ends game.rules (after p) []) → IsTold game s f (ends || last) all
+    pub told_through : IsNumbered game.rules → (all : ℕ) → CountsPlain shifts game.rules (scanning.done ++ (v, p) ∷ []) all → all ≤ most_pairs_of game → (u : ℕ) (ps : List ℕ) (last : Bool) → IsTrialAt game s v p (LeadsTo u) → ps ≡ [] → AreAllThatFollow game.rules (after p) ps → Decides last (Ends game.rules (after p) []) → IsTold game s f (ends || last) all
     told_through numbered all has few u ps last leads none follow decides = told numbered (ends || last) all (through u ps last leads none follow decides) has few
 
     -- One more action follows.
-    pub scanned_on : (all : ℕ) → HasPlain game.rules (scanning.done ++ (v, p) ∷ []) all → (u q : ℕ) (ps : List ℕ) (last : Bool) → IsTrialAt game s v p (LeadsTo u) → ps ≡ q ∷ [] → AreAllThatFollow game.rules (after p) ps → Decides last (Ends game.rules (after p) []) → p < q → IsScanning game s f u q (ends || last) all
+    pub scanned_on : (all : ℕ) → CountsPlain shifts game.rules (scanning.done ++ (v, p) ∷ []) all → (u q : ℕ) (ps : List ℕ) (last : Bool) → IsTrialAt game s v p (LeadsTo u) → ps ≡ q ∷ [] → AreAllThatFollow game.rules (after p) ps → Decides last (Ends game.rules (after p) []) → p < q → IsScanning game s f u q (ends || last) shifts all
     scanned_on all has u q ps last leads one follow decides later = record {
       done = scanning.done ++ (v, p) ∷ [];
       plain = has;

@@ -2,18 +2,18 @@
 use Rattle.rbg_base.proofs.Common.{◌≡◌, ℕ, ◌+◌, ◌<◌, ◌≤◌, List, length, get_or, take, Bool, false, sym, subst, Contains, get_or_default, All-contains, All-contains_itself, All-take}
 use Rattle.rbg_rules.specs.Meaning.{IsPatternAt, inside, Start, beginning, after, AbstractState, Applies, IsGame, reach, pattern}
 use Rattle.rbg_state.specs.History.{History}
-use Rattle.rbg_pairs.proofs.Common.{IsFlatPart, HasPlain, at_vertex, IsReached}
-use Rattle.rbg_search.proofs.Common.{GoesOn, Searching, HasPart, CountsPairs, most_pairs_of, StandsInPattern, GoesBehind, IsBegun}
+use Rattle.rbg_pairs.proofs.Common.{IsFlatPart, IsMetPart, at_vertex, IsReached}
+use Rattle.rbg_search.proofs.Common.{GoesOn, Searching, HasPart, CountsPairs, CountsTaken, most_pairs_of, AreMany, StandsInPattern, GoesBehind}
 use Rattle.rbg_pairs.specs.declared.flat.Flat.{Flat}
 use Rattle.rbg_search.proofs.Counted.{found_behind, search_before, onward_search}
 use Rattle.rbg_search.proofs.Countings.{goes_behind}
-use Rattle.rbg_search.proofs.Takings.{is_candidate, no_shift, reached_pairs, own_part, any_part, pattern_part, behind_part, takes_then, takes_part_of}
+use Rattle.rbg_search.proofs.Takings.{is_candidate, no_shift, reached_met, own_part, any_part, pattern_part, behind_part, takes_then, takes_part_of}
 
 -- A pattern was asked in a flat part.
-pub asked_takes_at : (h k : Searching) (s u : History) (f : Start) (v p b w : ℕ) (A : Type 0) → k ≡ record h { opened = k.opened; taken = k.taken } → u ≡ record s { room = u.room } → IsGame h.game → IsReached h.game s.state f v p → IsPatternAt h.game.rules p → CountsPairs h.game reach s.state f (h.opened + 1) k.opened h.taken k.taken (Unit {0}) → CountsPairs k.game pattern (at_vertex u.state v) (beginning (inside p)) k.opened b k.taken w A → CountsPairs h.game reach s.state f (h.opened + 1) b h.taken w A
-asked_takes_at h k s u f v p b w A kept given lawful met is so_far asked =
-    let asked_here : CountsPairs h.game pattern (at_vertex s.state v) (beginning (inside p)) k.opened b k.taken w A =
-    search_before (λ y z. CountsPairs y.game pattern (at_vertex z v) (beginning (inside p)) k.opened b k.taken w A) h k s u kept given asked in
+pub asked_takes_at : {H : Type 0} (h k : Searching) (s u : History) (f : Start) (v p b w : ℕ) (A : Type 0) → k ≡ record h { opened = k.opened; taken = k.taken } → u ≡ record s { room = u.room } → IsGame h.game → IsReached h.game s.state f v p → IsPatternAt h.game.rules p → CountsPairs h.game reach s.state f (h.opened + 1) k.opened h.taken k.taken (Unit {0}) → CountsTaken k.game pattern (at_vertex u.state v) (beginning (inside p)) k.opened b k.taken w A H → CountsTaken h.game reach s.state f (h.opened + 1) b h.taken w A H
+asked_takes_at {H = H} h k s u f v p b w A kept given lawful met is so_far asked =
+    let asked_here : CountsTaken h.game pattern (at_vertex s.state v) (beginning (inside p)) k.opened b k.taken w A H =
+    search_before (λ y z. CountsTaken y.game pattern (at_vertex z v) (beginning (inside p)) k.opened b k.taken w A H) h k s u kept given asked in
     takes_then h.game reach s.state f (h.opened + 1) k.opened b h.taken k.taken w A so_far
     (takes_part_of h.game reach s.state f pattern (at_vertex s.state v) (beginning (inside p)) k.opened b k.taken w A
     (pattern_part h.game reach s.state f v p (is_candidate h.game lawful.numbered s.state f v p met (no_shift h.game.rules lawful.numbered p is)) is) asked_here)
@@ -21,33 +21,34 @@ asked_takes_at h k s u f v p b w A kept given lawful met is so_far asked =
 contains_more : (pairs : List (ℕ × ℕ)) (n : ℕ) (q : ℕ × ℕ) → Contains (take n pairs) q → Contains pairs q
 contains_more pairs n q there = All-contains (Contains pairs) (take n pairs) q (All-take (Contains pairs) n pairs (All-contains_itself pairs)) there
 
--- The flat part is whole.
-pub whole_takes : (h k : Searching) (s l : History) (f : Start) (flat : Flat) (many : ℕ) → k ≡ record h { opened = k.opened; taken = k.taken } → l ≡ record s { room = l.room } → IsGame h.game → IsBegun k.game l.state f flat → ((v p : ℕ) → IsReached k.game l.state f v p → Contains (take flat.taken flat.queue.pairs) (v, p)) → HasPlain k.game.rules flat.queue.pairs many → many ≤ most_pairs_of k.game → HasPart h.game reach s.state f many
-whole_takes h k s l f flat many kept given lawful begun met has few =
-    let pairs = flat.queue.pairs in
-    let here : IsBegun h.game s.state f flat = search_before (λ y z. IsBegun y.game z f flat) h k s l kept given begun in
-    let met_here : (v p : ℕ) → IsReached h.game s.state f v p → Contains (take flat.taken pairs) (v, p) =
-    search_before (λ y z. (v p : ℕ) → IsReached y.game z f v p → Contains (take flat.taken pairs) (v, p)) h k s l kept given met in
+-- The pairs that are done are among those that were met.
+pub all_done : (flat : Flat) (P : ℕ → ℕ → Type 0) → ((v p : ℕ) → P v p → Contains (take flat.taken flat.queue.pairs) (v, p)) → (v p : ℕ) → P v p → Contains flat.queue.pairs (v, p)
+all_done flat P met v p is = contains_more flat.queue.pairs flat.taken (v, p) (met v p is)
+
+-- The pairs of a flat part are counted, found whole or not.
+pub met_takes : (h k : Searching) (s l : History) (f : Start) (A H : Type 0) (pairs : List (ℕ × ℕ)) (many : ℕ) → k ≡ record h { opened = k.opened; taken = k.taken } → l ≡ record s { room = l.room } → IsGame h.game → IsMetPart k.game l.state f pairs → AreMany pairs many → many ≤ most_pairs_of k.game → (A → (v p : ℕ) → IsReached k.game l.state f v p → Contains pairs (v, p)) → HasPart h.game reach s.state f A H many
+met_takes h k s l f A H pairs many kept given lawful is are few all =
     own_part h.game reach s.state f many
-    (reached_pairs h.game lawful.numbered s.state f pairs many here.part.sound (λ v p is. contains_more pairs flat.taken (v, p) (met_here v p is))
-    (search_before (λ y z. HasPlain y.game.rules pairs many) h k s l kept given has))
+    (reached_met h.game lawful.numbered s.state f A H pairs many
+    (search_before (λ y z. IsMetPart y.game z f pairs) h k s l kept given is) are
     (search_before (λ y z. many ≤ most_pairs_of y.game) h k s l kept given few)
+    (λ answered. search_before (λ y z. (v p : ℕ) → IsReached y.game z f v p → Contains pairs (v, p)) h k s l kept given (all answered)))
 
 -- The search went on behind the modifiers that were found.
-pub behind_takes : (h k : Searching) (s l : History) (f : Start) (pairs pairs' : List (ℕ × ℕ)) (ends : Bool) (b w : ℕ) (A : Type 0) → k ≡ record h { opened = k.opened; taken = k.taken } → l ≡ record s { room = l.room } → pairs' ≡ pairs → IsGame h.game → StandsInPattern h.game.rules f → IsFlatPart h.game s.state f pairs ends → ends ≡ false → CountsPairs h.game reach s.state f h.opened k.opened h.taken k.taken (Unit {0}) → ((e : Start) → GoesBehind k.game l.state e pairs' → CountsPairs k.game pattern l.state e k.opened b k.taken w A) → CountsPairs h.game pattern s.state f h.opened b h.taken w A
-behind_takes h k s l f pairs pairs' ends b w A kept given same lawful in_one part not_here first behind =
+pub behind_takes : {H : Type 0} (h k : Searching) (s l : History) (f : Start) (pairs pairs' : List (ℕ × ℕ)) (ends : Bool) (b w : ℕ) (A : Type 0) → k ≡ record h { opened = k.opened; taken = k.taken } → l ≡ record s { room = l.room } → pairs' ≡ pairs → IsGame h.game → StandsInPattern h.game.rules f → IsFlatPart h.game s.state f pairs ends → ends ≡ false → CountsPairs h.game reach s.state f h.opened k.opened h.taken k.taken (Unit {0}) → ((e : Start) → GoesBehind k.game l.state e pairs' → CountsTaken k.game pattern l.state e k.opened b k.taken w A H) → CountsTaken h.game pattern s.state f h.opened b h.taken w A H
+behind_takes {H = H} h k s l f pairs pairs' ends b w A kept given same lawful in_one part not_here first behind =
     let goes : GoesBehind h.game s.state f pairs' = subst (λ (ps : List (ℕ × ℕ)). GoesBehind h.game s.state f ps) (sym same) (found_behind h.game lawful s.state f pairs ends in_one part not_here) in
     takes_then h.game pattern s.state f h.opened k.opened b h.taken k.taken w A
     (takes_part_of h.game pattern s.state f reach s.state f h.opened k.opened h.taken k.taken (Unit {0}) (any_part h.game pattern s.state f) first)
-    (search_before (λ y z. CountsPairs y.game pattern z f k.opened b k.taken w A) h k s l kept given
+    (search_before (λ y z. CountsTaken y.game pattern z f k.opened b k.taken w A H) h k s l kept given
     (behind f (onward_search (λ y z. GoesBehind y.game z f pairs') h k s l kept given goes)))
 
 -- The question was asked behind one more of the pairs.
-pub one_takes : (h k : Searching) (s l : History) (f : Start) (pairs : List (ℕ × ℕ)) (i : ℕ) (d : ℕ × ℕ) (b w : ℕ) (later : AbstractState) (A : Type 0) → k ≡ record h { opened = k.opened; taken = k.taken } → l ≡ record s { room = l.room } → GoesBehind h.game s.state f pairs → i < length pairs → Applies h.game (get_or pairs i d).1 (at_vertex s.state (get_or pairs i d).0) later → CountsPairs h.game pattern s.state f h.opened k.opened h.taken k.taken (Unit {0}) → ((t : AbstractState) → Applies k.game (get_or pairs i d).1 (at_vertex l.state (get_or pairs i d).0) t → CountsPairs k.game pattern t (after (get_or pairs i d).1) k.opened b k.taken w A) → CountsPairs h.game pattern s.state f h.opened b h.taken w A
-one_takes h k s l f pairs i d b w later A kept given goes under applies so_far behind =
+pub one_takes : {H : Type 0} (h k : Searching) (s l : History) (f : Start) (pairs : List (ℕ × ℕ)) (i : ℕ) (d : ℕ × ℕ) (b w : ℕ) (later : AbstractState) (A : Type 0) → k ≡ record h { opened = k.opened; taken = k.taken } → l ≡ record s { room = l.room } → GoesBehind h.game s.state f pairs → i < length pairs → Applies h.game (get_or pairs i d).1 (at_vertex s.state (get_or pairs i d).0) later → CountsPairs h.game pattern s.state f h.opened k.opened h.taken k.taken (Unit {0}) → ((t : AbstractState) → Applies k.game (get_or pairs i d).1 (at_vertex l.state (get_or pairs i d).0) t → CountsTaken k.game pattern t (after (get_or pairs i d).1) k.opened b k.taken w A H) → CountsTaken h.game pattern s.state f h.opened b h.taken w A H
+one_takes {H = H} h k s l f pairs i d b w later A kept given goes under applies so_far behind =
     let x : ℕ × ℕ = get_or pairs i d in
     let on : GoesOn h.game pattern s.state f x.0 x.1 pattern later = goes_behind h.game s.state later f pairs goes x.0 x.1 (i, under, get_or_default pairs i x d under) applies in
     let applies' : Applies k.game x.1 (at_vertex l.state x.0) later = onward_search (λ y z. Applies y.game x.1 (at_vertex z x.0) later) h k s l kept given applies in
     takes_then h.game pattern s.state f h.opened k.opened b h.taken k.taken w A so_far
     (takes_part_of h.game pattern s.state f pattern later (after x.1) k.opened b k.taken w A (behind_part h.game pattern pattern s.state later f x.0 x.1 on)
-    (search_before (λ y z. CountsPairs y.game pattern later (after x.1) k.opened b k.taken w A) h k s l kept given (behind later applies')))
+    (search_before (λ y z. CountsTaken y.game pattern later (after x.1) k.opened b k.taken w A H) h k s l kept given (behind later applies')))

@@ -3,13 +3,13 @@ use Rattle.rbg_base.proofs.Common.{◌≡◌, ℕ, suc, ◌-◌, ◌<◌, ◌≤
 use Rattle.rbg_rules.specs.Meaning.{AbstractState, Start, after, Applies, reach, pattern}
 use Rattle.rbg_state.specs.History.{History}
 use Rattle.rbg_pairs.specs.Closure.{at_vertex}
-use Rattle.rbg_search.proofs.Common.{CountsOpenings, CountsForced, Searching, CountsPairs, GoesBehind, IsCounted, IsAsked, IsReady, RunsBehindPair, IsAskedBehind, Stays, TriesBehind, Over, Deep, Wide}
+use Rattle.rbg_search.proofs.Common.{CountsOpenings, CountsForced, Searching, CountsTaken, GoesBehind, IsCounted, IsAsked, IsReady, RunsBehindPair, IsAskedBehind, Stays, TriesBehind, Over, Deep, Memory, Wide}
 use Rattle.rbg_search.proofs.Asking.{room_twice}
 use Rattle.rbg_search.proofs.Counted.{ok_not_err, same_error, deep_not_wide, counted_as, behind_begin, behind_only, onward_search, search_before}
 use Rattle.rbg_search.proofs.CountedSteps.{BehindStep, given_up}
 use Rattle.rbg_search.proofs.Forcing.{takes_none}
 use Rattle.rbg_search.proofs.Kept.{kept_twice}
-use Rattle.rbg_search.proofs.Takings.{takes_none_yet, takes_as, not_ok, is_answer}
+use Rattle.rbg_search.proofs.Takings.{takes_none_yet, takes_as, not_ok, is_answer, held_on, ok_held}
 use Rattle.rbg_search.proofs.Turns.{turned, turn_moves, turn_there, turn_behind, turn_too_many, turn_forced, turn_takes, turn_none}
 
 -- None is done.
@@ -32,7 +32,7 @@ module _ {h k : Searching} {s l : History} {pairs done : List (ℕ × ℕ)} {mor
   tries_end answer = record {
     stays = is.stays;
     counts = λ f a goes counts. behind_only h.game goes.lawful.numbered s.state f done a k.opened more h.openings h.modifiers _ _ (is.counted f a goes counts) (ok_not_err answer Deep) (ok_not_err answer Wide);
-    taken = λ f goes. takes_as h.game pattern s.state f h.opened k.opened h.taken k.taken (Unit {0}) _ (is.taken f goes) (λ _. tt);
+    taken = λ f goes. takes_as h.game pattern s.state f h.opened k.opened h.taken k.taken (Unit {0}) _ (is.taken f goes) (λ _. tt) (λ _. tt);
   }
 
   -- The next one is taken off those that are left.
@@ -54,7 +54,7 @@ module _ {h k : Searching} {s l : History} {pairs done : List (ℕ × ℕ)} {mor
     tries_deep few = record {
       stays = is.stays;
       counts = λ f a goes counts. turn_too_many h k s l done left q f pairs a k.opened more later _ _ moves goes applies few (is.counted f a goes counts) (λ w. deep_not_wide (same_error {X = Bool} Deep Wide w));
-      taken = λ f goes. takes_as h.game pattern s.state f h.opened k.opened h.taken k.taken (Unit {0}) _ (is.taken f goes) (λ _. tt);
+      taken = λ f goes. takes_as h.game pattern s.state f h.opened k.opened h.taken k.taken (Unit {0}) _ (is.taken f goes) (λ _. tt) (λ _. tt);
     }
 
     -- The question is asked behind it.
@@ -74,16 +74,16 @@ module _ {h k : Searching} {s l : History} {pairs done : List (ℕ × ℕ)} {mor
           turn_behind h k s l done left q f pairs a k'.opened more later _ _ is.stays.kept is.stays.given_back moves goes applies (omega (arith, some)) (is.counted f a goes counts)
           (λ t n leads same. subst (λ (m : ℕ). IsCounted k.game pattern t (after q.1) k.opened k'.opened m k.openings k.modifiers (callee ≡ Err Deep) (callee ≡ Err Wide)) (one_less more n same) (asked t leads).counts)
 
-      pairs_then : (A : Type 0) → (A → IsOk callee) → (f : Start) → GoesBehind h.game s.state f pairs → CountsPairs h.game pattern s.state f h.opened k'.opened h.taken k'.taken A
-      pairs_then A weaker f goes =
+      pairs_then : (A H : Type 0) → (A → IsOk callee) → (H → ¬ (callee ≡ Err Memory)) → (f : Start) → GoesBehind h.game s.state f pairs → CountsTaken h.game pattern s.state f h.opened k'.opened h.taken k'.taken A H
+      pairs_then A H weaker other f goes =
           turn_takes h k s l done left q f pairs k'.opened k'.taken later A is.stays.kept is.stays.given_back moves goes applies (is.taken f goes)
-          (λ t leads. takes_as k.game pattern t (after q.1) k.opened k'.opened k.taken k'.taken (IsOk callee) A (asked t leads).taken weaker)
+          (λ t leads. takes_as k.game pattern t (after q.1) k.opened k'.opened k.taken k'.taken (IsOk callee) A (asked t leads).taken weaker other)
 
       pub tries_failed : (r : Result Bool Over) (e : Over) → callee ≡ Err e → IsErrAnd r (λ y. y ≡ e) → IsAskedBehind h k' s l' pairs more r
       tries_failed r e was gives = record {
         stays = stays;
         counts = λ f a goes counts. counted_as h.game pattern s.state f a k'.opened more h.openings h.modifiers _ _ _ _ (given_up callee r e Deep was gives) (given_up callee r e Wide was gives) (step f a goes counts).gave_up;
-        taken = pairs_then (IsOk r) (λ ok. absurd (not_ok r e gives ok));
+        taken = pairs_then (IsOk r) (¬ (r ≡ Err Memory)) (λ ok. absurd (not_ok r e gives ok)) (held_on callee r e was gives);
       }
 
       module _ (runs : Bool) (was : callee ≡ Ok runs) where
@@ -92,7 +92,7 @@ module _ {h k : Searching} {s l : History} {pairs done : List (ℕ × ℕ)} {mor
         tries_yes answer = record {
           stays = stays;
           counts = λ f a goes counts. behind_only h.game goes.lawful.numbered s.state f (done ++ q ∷ []) a k'.opened more h.openings h.modifiers _ _ (step f a goes counts).counts (ok_not_err answer Deep) (ok_not_err answer Wide);
-          taken = pairs_then _ (λ _. is_answer callee runs was);
+          taken = pairs_then _ _ (λ _. is_answer callee runs was) (λ _. ok_held callee runs was);
         }
 
         module _ (forced : (cut : Bool) (t : AbstractState) → Applies k.game q.1 (at_vertex l.state q.0) t → CountsForced k.game cut pattern t (after q.1) k.opened k'.opened (more - 1) k.modifiers) where
@@ -112,5 +112,5 @@ module _ {h k : Searching} {s l : History} {pairs done : List (ℕ × ℕ)} {mor
                 counted = λ f a goes counts. (step f a goes counts).counts;
                 grows = omega (arith, is.grows, turn.grows);
                 forced = λ cut numbered. turn.forced cut numbered (is.forced cut numbered);
-                taken = pairs_then (Unit {0}) (λ _. is_answer callee runs was);
+                taken = pairs_then (Unit {0}) (Unit {0}) (λ _. is_answer callee runs was) (λ _. ok_held callee runs was);
               }

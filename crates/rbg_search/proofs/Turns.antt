@@ -5,7 +5,7 @@ use Rattle.std.proofs.lemmas.List.Sorted.{IsPermutation-sym, IsPermutation-trans
 use Rattle.rbg_rules.specs.Meaning.{IsNumbered, Start, after, AbstractGame, AbstractState, Applies, pattern}
 use Rattle.rbg_state.specs.History.{History}
 use Rattle.rbg_pairs.proofs.Common.{IsNext, at_vertex}
-use Rattle.rbg_search.proofs.Common.{Searching, CountsForced, TakesBehind, CountsUpTo, CountsPairs, GoesBehind, IsCounted, RunsBehindPair, SomeRunsBehind}
+use Rattle.rbg_search.proofs.Common.{Searching, CountsForced, TakesBehind, CountsUpTo, CountsPairs, CountsTaken, GoesBehind, IsCounted, RunsBehindPair, SomeRunsBehind}
 use Rattle.rbg_search.proofs.CountedSteps.{BehindStep, one_behind, one_too_many}
 use Rattle.rbg_search.proofs.ForcingSteps.{one_forced}
 use Rattle.rbg_search.proofs.Orders.{still_differ}
@@ -132,10 +132,10 @@ module _ (h k : Searching) (s l : History) (done left : Pairs) (q : ℕ × ℕ) 
             (one.forced cut numbered (subst (λ (ps : Pairs). TakesBehind h.game cut pattern s.state ps a k.opened more h.modifiers) (sym (turn_front done left q)) takes));
       }
 
-  pub turn_takes : (f : Start) (first : Pairs) (b w : ℕ) (later : AbstractState) (A : Type 0) → k ≡ record h { opened = k.opened; taken = k.taken } → l ≡ record s { room = l.room } → IsPermutation first (turned done left q) → GoesBehind h.game s.state f first → Applies h.game q.1 (at_vertex s.state q.0) later → CountsPairs h.game pattern s.state f h.opened k.opened h.taken k.taken (Unit {0}) → ((t : AbstractState) → Applies k.game q.1 (at_vertex l.state q.0) t → CountsPairs k.game pattern t (after q.1) k.opened b k.taken w A) → CountsPairs h.game pattern s.state f h.opened b h.taken w A
-  turn_takes f first b w later A kept given moves goes applies so_far behind =
+  pub turn_takes : {H : Type 0} (f : Start) (first : Pairs) (b w : ℕ) (later : AbstractState) (A : Type 0) → k ≡ record h { opened = k.opened; taken = k.taken } → l ≡ record s { room = l.room } → IsPermutation first (turned done left q) → GoesBehind h.game s.state f first → Applies h.game q.1 (at_vertex s.state q.0) later → CountsPairs h.game pattern s.state f h.opened k.opened h.taken k.taken (Unit {0}) → ((t : AbstractState) → Applies k.game q.1 (at_vertex l.state q.0) t → CountsTaken k.game pattern t (after q.1) k.opened b k.taken w A H) → CountsTaken h.game pattern s.state f h.opened b h.taken w A H
+  turn_takes {H = H} f first b w later A kept given moves goes applies so_far behind =
       let all : Pairs = turned done left q in
       let at : get_or all (length done) q ≡ q = turn_at done left q q in
       one_takes h k s l f all (length done) q b w later A kept given (goes_permuted h.game s.state f first all moves goes) (turn_under done left q)
       (subst (λ (r : ℕ × ℕ). Applies h.game r.1 (at_vertex s.state r.0) later) (sym at) applies) so_far
-      (subst (λ (r : ℕ × ℕ). (t : AbstractState) → Applies k.game r.1 (at_vertex l.state r.0) t → CountsPairs k.game pattern t (after r.1) k.opened b k.taken w A) (sym at) behind)
+      (subst (λ (r : ℕ × ℕ). (t : AbstractState) → Applies k.game r.1 (at_vertex l.state r.0) t → CountsTaken k.game pattern t (after r.1) k.opened b k.taken w A H) (sym at) behind)

@@ -7,9 +7,9 @@ use Rattle.rbg_pairs.specs.Start.{IsPositionOf}
 use Rattle.rbg_search.specs.Counting.{CountsOpenings, IsOverBudget}
 use Rattle.rbg_search.specs.Forced.{CountsForced, CountsAllForced}
 use Rattle.rbg_search.specs.Searching.{Searching}
-use Rattle.rbg_search.specs.Taken.{CountsPairs}
+use Rattle.rbg_search.specs.Taken.{CountsTaken}
 use Rattle.rbg_search.specs.declared.over.Over.{Over}
-use Rattle.rbg_search.specs.declared.over.Over.TheVariants.{Deep, Wide}
+use Rattle.rbg_search.specs.declared.over.Over.TheVariants.{Deep, Memory, Wide}
 
 -- The question was asked from a semi-state and f. The search was h and is k, the semi-state was s and is l.
 --   kept, given_back, room: only the counts are new, and the semi-state has as much room at least
@@ -28,7 +28,8 @@ pub record IsAnswered {X : Type 0}
     pub wide : result ≡ Err Wide → IsOverBudget h.game question s.state f h.opened h.openings
     pub all_forced : IsOk result → (cut : Bool) → CountsAllForced h.game cut question s.state f h.opened k.opened
     pub not_deep : IsOk result → (cut : Bool) → ¬ IsForcedDeep h.game cut question s.state f h.modifiers
-    pub taken : CountsPairs h.game question s.state f h.opened k.opened h.taken k.taken (IsOk result)
+    pub taken :
+        CountsTaken h.game question s.state f h.opened k.opened h.taken k.taken (IsOk result) (¬ (result ≡ Err Memory))
 
 -- What comes next from a semi-state and f was found whole, in these pairs; and `ends` tells whether a word may end.
 --   enough: there is room for what a caller does next

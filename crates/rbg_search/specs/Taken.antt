@@ -1,9 +1,8 @@
--- How many pairs of a vertex and a position a search takes: the candidates of its flat parts, so shifts are none of
--- them.
-use Rattle.std.specs.Prelude.{◌≡◌, ℕ, ◌+◌, ◌*◌, ◌≤◌, List, length, sum, All}
-use Rattle.rbg_rules.specs.Meaning.{IsPatternAt, inside, positions_of, Start, beginning, after, AbstractGame, AbstractState, Question, pattern}
+-- How many pairs of a vertex and a position a search takes: those that its flat parts meet, each when it is met.
+use Rattle.std.specs.Prelude.{◌≡◌, ◌≢◌, ℕ, ◌+◌, ◌*◌, ◌≤◌, ◌⊎◌, List, [], ◌∷◌, ◌++◌, length, sum, All, AllPairs, Contains}
+use Rattle.rbg_rules.specs.Meaning.{HasNoModifier, IsPatternAt, inside, positions_of, Start, beginning, after, Follows, AbstractGame, AbstractState, Run, Question, pattern}
+use Rattle.rbg_shifts.specs.Leaps.{IsShiftAt}
 use Rattle.rbg_flat.specs.Candidates.{IsCandidate}
-use Rattle.rbg_flat.specs.Found.{HasCandidates}
 use Rattle.rbg_search.specs.Passing.{GoesOn}
 
 -- A question comes to the flat part from t and g: it begins with it, or a pattern does that may come next there or
@@ -26,23 +25,64 @@ pub data ComesTo (game : AbstractGame) (t : AbstractState) (g : Start) : Questio
 abbrev pub most_pairs_of : AbstractGame → ℕ
 most_pairs_of game = length (positions_of game.rules) * length game.board.first
 
--- A flat part to which the question comes has so many candidates.
-pub record HasPart (game : AbstractGame) (question : Question) (s : AbstractState) (f : Start) (many : ℕ) : Type 0 where
-  pub state : AbstractState
-  pub start : Start
-  pub comes : ComesTo game state start question s f
-  pub has : HasCandidates game state start many
-  pub few : many ≤ most_pairs_of game
+-- Position p may come next at vertex v, with no modifier before it: some positions without a modifier run from s to a
+-- semi-state at v, and p follows them there. It may be a shift.
+pub record MayCome (game : AbstractGame) (s : AbstractState) (f : Start) (v p : ℕ) : Type 0 where
+  pub before : List ℕ
+  pub here : AbstractState
+  pub no_modifier : HasNoModifier game.rules before
+  pub runs : Run game before s here
+  pub vertex : here.vertex ≡ v
+  pub follows : Follows game.rules f (before ++ p ∷ [])
+
+-- The pairs are all that a flat part has: each candidate. Where shifts are followed one by one, they are among the pairs,
+-- each with each vertex at which it may come next; where leaps tell to where they lead, no shift is.
+pub record AreWhole (game : AbstractGame) (s : AbstractState) (f : Start) (pairs : List (ℕ × ℕ)) : Type 0 where
+  pub all : (v p : ℕ) → IsCandidate game s f v p → Contains pairs (v, p)
+  pub shifts :
+      ((v p : ℕ) → Contains pairs (v, p) → ¬ IsShiftAt game.rules p)
+      ⊎ ((v p : ℕ) → MayCome game s f v p → Contains pairs (v, p))
+
+-- So many pairs were met in a flat part, each once, and each may come next there. Where no memory was refused, those that
+-- may come first are among them, but for shifts; and where the question was answered, they are all.
+pub record HasMet
+    (game : AbstractGame) (s : AbstractState) (f : Start) (Answered Held : Type 0) (many : ℕ)
+    : Type 0
+  where
+    pub pairs : List (ℕ × ℕ)
+    pub met : (v p : ℕ) → Contains pairs (v, p) → MayCome game s f v p
+    pub different : AllPairs (λ a b. a ≢ b) pairs
+    pub count : length pairs ≡ many
+    pub few : many ≤ most_pairs_of game
+    pub begun :
+        Held → (p : ℕ) → Follows game.rules f (p ∷ []) → ¬ IsShiftAt game.rules p → Contains pairs (s.vertex, p)
+    pub whole : Answered → AreWhole game s f pairs
+
+-- So many were met in a flat part to which the question comes.
+pub record HasPart
+    (game : AbstractGame) (question : Question) (s : AbstractState) (f : Start) (Answered Held : Type 0) (many : ℕ)
+    : Type 0
+  where
+    pub state : AbstractState
+    pub start : Start
+    pub comes : ComesTo game state start question s f
+    pub has : HasMet game state start Answered Held many
 
 -- While the count of openings went from the old number to the new one, that of pairs went from `taken` to `all`. It
--- counts the pairs of the flat parts that were found whole, of no more than were opened; and of each that was opened
--- where the question was answered.
-pub record CountsPairs
-    (game : AbstractGame) (question : Question) (s : AbstractState) (f : Start) (old new taken all : ℕ) (Answered : Type 0)
+-- counts the pairs that were met in one flat part for each opening, also in those that were not found whole.
+--   Answered: the question was answered
+--   Held: no memory was refused
+pub record CountsTaken
+    (game : AbstractGame) (question : Question) (s : AbstractState) (f : Start) (old new taken all : ℕ)
+    (Answered Held : Type 0)
     : Type 0
   where
     pub parts : List ℕ
-    pub found : All (HasPart game question s f) parts
+    pub found : All (HasPart game question s f Answered Held) parts
     pub total : all ≡ taken + sum parts
-    pub few : old + length parts ≤ new
-    pub whole : Answered → old + length parts ≡ new
+    pub each : new ≡ old + length parts
+
+-- The same where the question is sure to be answered in the one case of which more is told.
+abbrev pub CountsPairs :
+    AbstractGame → Question → AbstractState → Start → (old new taken all : ℕ) → (Answered : Type 0) → Type 0
+CountsPairs game question s f old new taken all Answered = CountsTaken game question s f old new taken all Answered Answered

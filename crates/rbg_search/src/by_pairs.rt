@@ -1,13 +1,13 @@
 //! Flat parts that are found by pairs: what a search does with one.
-ghost use Rattle.std.specs.Prelude.{◌≡◌, ℕ, ◌+◌, ◌^◌, ◌<◌, ◌≤◌, ◌↔◌, length, slice_get, Some, IfOk, OnOk, IfSome, IfNone, IsTrue, [], ◌∷◌, ◌++◌, take, Contains, IfErr};
+ghost use Rattle.std.specs.Prelude.{◌≡◌, ℕ, ◌+◌, ◌^◌, ◌<◌, ◌≤◌, ◌↔◌, length, slice_get, Some, IfOk, OnOk, IfSome, IfNone, IsTrue, [], ◌∷◌, ◌++◌, take, Contains, IfErr, OnErr};
 ghost use Rattle.rbg_rules.specs.Meaning.{AbstractState, IsStateOf, IsPatternAt, Start, Applies, IsGame};
 ghost use Rattle.rbg_pairs.specs.Flat.{IsFlatPart};
 ghost use Rattle.rbg_pairs.specs.Start.{start_of};
 ghost use Rattle.rbg_search.specs.internal.Begun.{IsBegun};
 ghost use Rattle.rbg_pairs.specs.Closure.{at_vertex, IsReached as Meets};
 ghost use Rattle.rbg_pairs.specs.Part.{HasMarksOf};
-ghost use Rattle.rbg_pairs.specs.Plain.{HasPlain};
-ghost use Rattle.rbg_search.specs.internal.Spent.{CountsPart, IsSpentButOne};
+ghost use Rattle.rbg_pairs.specs.Met.{IsMetPart};
+ghost use Rattle.rbg_search.specs.internal.Spent.{AreMany, CountsPart, IsSpentButOne};
 
 use crate::answer::trial_of;
 use crate::over::Over;
@@ -81,6 +81,9 @@ impl<'a, S: Steps> Search<'a, S> {
             → Contains (take flat.new.value.taken flat.new.value.queue.pairs) (v, p))) }
         ensures fresh { IfOk result (λ next. IfSome next (λ pair.
             ¬ Contains (take flat.new.value.taken flat.new.value.queue.pairs) pair)) }
+        ensures lost { OnErr result ((f : Start)
+            → IsBegun self.now.game state.now.state f flat.old.value
+            → IsMetPart self.now.game state.now.state f flat.new.value.queue.pairs) }
     {
         // The game is lawful.
         let _game = self.rules.game();
@@ -108,6 +111,8 @@ impl<'a, S: Steps> Search<'a, S> {
         ensures small { OnOk result (flat.new.value.taken < 2 ^ 64) }
         ensures done { OnOk result (take flat.new.value.taken flat.new.value.queue.pairs
             ≡ take flat.old.value.taken flat.old.value.queue.pairs ++ (vertex, position) ∷ []) }
+        ensures marks { HasMarksOf self.now.game flat.new.value.queue }
+        ensures refused { OnErr result (flat.new.value.queue.pairs ≡ flat.old.value.queue.pairs) }
     {
         // The game is lawful, and the position is a number of 32 bits.
         let _game = self.rules.game();
@@ -125,17 +130,32 @@ impl<'a, S: Steps> Search<'a, S> {
         requires one { IsSpentButOne self.old.game self.old.opened self.old.taken }
         ensures kept { self.new ≡ record self.old { opened = self.new.opened; taken = self.new.taken } }
         ensures opened { self.new.opened ≡ self.old.opened }
-        ensures taken { CountsPart self.old.game
-            (HasPlain self.old.game.rules flat.value.queue.pairs) self.old.taken self.new.taken }
+        ensures taken { CountsPart self.old.game (AreMany flat.value.queue.pairs) self.old.taken
+            self.new.taken }
         ensures pairs { OnOk result (pairs.new ≡ flat.value.found.items) }
         ensures ends { IfOk result (λ ends. ends ≡ flat.value.ends) }
         ensures memory { IfErr result (λ over. over ≡ Over.Memory) }
     {
         let ends = flat.ends;
-        let many = flat.candidates(&self.rules);
-        self.count_pairs(many);
+        self.count_pairs(flat.met());
         pairs.refill(&flat.found)?;
         self.buffers.flats.keep(flat);
         Ok(ends)
+    }
+
+    /// Counts what a flat part has met that is given up. Returns why it is.
+    #[cold]
+    #[inline(never)]
+    pub(crate) fn lose(&mut self, flat: Box<Flat>, over: Over) -> Over
+        requires marks { HasMarksOf self.old.game flat.value.queue }
+        requires one { IsSpentButOne self.old.game self.old.opened self.old.taken }
+        ensures kept { self.new ≡ record self.old { opened = self.new.opened; taken = self.new.taken } }
+        ensures opened { self.new.opened ≡ self.old.opened }
+        ensures taken { CountsPart self.old.game (AreMany flat.value.queue.pairs) self.old.taken
+            self.new.taken }
+        ensures over { result ≡ over }
+    {
+        self.count_pairs(flat.met());
+        over
     }
 }

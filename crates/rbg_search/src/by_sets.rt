@@ -1,9 +1,11 @@
 //! Flat parts that are found by sets of vertices: what a search does with one.
-ghost use Rattle.std.specs.Prelude.{◌≡◌, ◌<◌, IfOk, IfErr, IfSome, IfNone, OnOk, OnErr};
+ghost use Rattle.std.specs.Prelude.{◌≡◌, ◌<◌, IfOk, IfErr, IfSome, IfNone};
 ghost use Rattle.rbg_rules.specs.Meaning.{IsStart, IsStateOf, Start};
 ghost use Rattle.rbg_flat.specs.Found.{HasCandidates};
+ghost use Rattle.rbg_flat.specs.Met.{CountsMet};
 ghost use Rattle.rbg_flat.specs.Paths.{ArePathsOf};
 ghost use Rattle.rbg_flat.specs.internal.Leading.{AreSizedFor};
+ghost use Rattle.rbg_flat.specs.internal.Sets.{IsMarked};
 ghost use Rattle.rbg_pairs.specs.Flat.{IsFlatPart};
 ghost use Rattle.rbg_pairs.specs.Start.{start_of};
 ghost use Rattle.rbg_search.specs.internal.BySets.{IsBegunBySets, HasSetsFor, IsWhole, BeginsBySets, AdvancesBySets, IsToBeAsked, TakesBySets};
@@ -117,17 +119,41 @@ impl<'a, S: Steps> Search<'a, S> {
         ensures part { IfOk result (λ ends. (f : Start)
             → IsBegunBySets self.old.game state.now.state f flat.value
             → IsFlatPart self.old.game state.now.state f pairs.new ends) }
-        ensures taken { OnOk result (CountsPart self.old.game (λ many. (f : Start)
+        ensures taken { CountsPart self.old.game (λ many. (f : Start)
             → IsBegunBySets self.old.game state.now.state f flat.value
-            → HasCandidates self.old.game state.now.state f many) self.old.taken self.new.taken) }
-        ensures none_taken { OnErr result (self.new.taken ≡ self.old.taken) }
+            → HasCandidates self.old.game state.now.state f many) self.old.taken self.new.taken }
         ensures memory { IfErr result (λ over. over ≡ Over.Memory) }
     {
         let mut flat = flat;
         let ends = flat.ends();
-        let many = flat.finish(self.rules.game(), paths, state, pairs)?;
+        match flat.finish(self.rules.game(), paths, state, pairs) {
+            Ok(many) => {
+                self.count_pairs(many);
+                self.buffers.flats.keep_sets(flat);
+                Ok(ends)
+            }
+            Err(lost) => {
+                self.count_pairs(lost.many);
+                Err(Over::Memory)
+            }
+        }
+    }
+
+    /// Counts what a flat part has met that is given up. Returns why it is.
+    #[cold]
+    #[inline(never)]
+    pub(crate) fn lose_sets(&mut self, flat: Box<SetFlat>, over: Over) -> Over
+        requires sets { HasSetsFor self.old.game flat.value }
+        requires one { IsSpentButOne self.old.game self.old.opened self.old.taken }
+        ensures kept { self.new ≡ record self.old { opened = self.new.opened; taken = self.new.taken } }
+        ensures opened { self.new.opened ≡ self.old.opened }
+        ensures taken { CountsPart self.old.game (CountsMet (IsMarked flat.value.sets))
+            self.old.taken self.new.taken }
+        ensures over { result ≡ over }
+    {
+        let mut flat = flat;
+        let many = flat.count_met(self.rules.game());
         self.count_pairs(many);
-        self.buffers.flats.keep_sets(flat);
-        Ok(ends)
+        over
     }
 }

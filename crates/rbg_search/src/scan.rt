@@ -2,10 +2,9 @@
 //! from the beginning. They are answered by a scan.
 ghost use Rattle.std.specs.Prelude.{◌≡◌, ◌<◌, ◌≤◌, ◌↔◌, length, Bool, Err, IfOk, IfSome, IsOk, IsTrue, OnOk};
 ghost use Rattle.rbg_rules.specs.Meaning.{Applies, IsPatternAt, inside, pattern, AbstractState, IsStateOf, beginning};
-ghost use Rattle.rbg_flat.specs.Found.{HasCandidates};
 ghost use Rattle.rbg_pairs.specs.Closure.{at_vertex};
 ghost use Rattle.rbg_search.specs.Forced.{CountsForced};
-ghost use Rattle.rbg_search.specs.Taken.{CountsPairs, most_pairs_of};
+ghost use Rattle.rbg_search.specs.Taken.{CountsTaken, HasMet, most_pairs_of};
 ghost use Rattle.rbg_search.specs.internal.Asked.{IsCounted};
 ghost use Rattle.rbg_search.specs.internal.Straight.{IsScanned, IsTold};
 
@@ -22,18 +21,19 @@ use rbg_state::{SemiState, Trial};
 pub(crate) struct PatternScan {
     /// Whether a word ends on the way.
     pub ends: bool,
-    /// How many pairs were tried that are no shifts.
+    /// How many pairs were met, without shifts where the game has leaps.
     pub pairs: usize,
 }
 
 /// Scans along the inside of a pattern, from a vertex up to the first action that isn't valid, or to the last one. None
 /// where there isn't exactly one first action, where more than one may come next, or where a pattern, a valid modifier
-/// or an action that stands no later comes next.
+/// or an action that stands no later comes next. Shifts count where they are said to.
 pub(crate) fn scan_inside<S: Steps>(
     rules: &GameSteps<'_, S>,
     state: &SemiState,
     vertex: Vertex,
     pattern: Position,
+    shifts: bool,
 ) -> Option<PatternScan>
     requires fits { IsStateOf rules.now state.now.state }
     requires there { vertex < length rules.now.board.first }
@@ -46,7 +46,7 @@ pub(crate) fn scan_inside<S: Steps>(
     let mut ends = rules.may_end(begin);
     let mut pairs = 0;
     loop {
-        pairs = one_more(rules, position, pairs);
+        pairs = one_more(rules, position, pairs, shifts);
         match tried(rules, state, vertex, position)? {
             Trial::Invalid => return Some(PatternScan { ends, pairs }),
             Trial::Modifies => return None,
@@ -86,9 +86,10 @@ impl<'a, S: Steps> Search<'a, S> {
             → CountsForced self.old.game cut pattern s (beginning (inside position))
             self.old.opened self.new.opened self.old.modifiers self.old.modifiers) }
         ensures taken { (s : AbstractState)
-            → HasCandidates self.old.game s (beginning (inside position)) scan.pairs
-            → CountsPairs self.old.game pattern s (beginning (inside position))
-            self.old.opened self.new.opened self.old.taken self.new.taken (IsOk result) }
+            → HasMet self.old.game s (beginning (inside position)) (Unit {0}) (Unit {0}) scan.pairs
+            → CountsTaken self.old.game pattern s (beginning (inside position))
+            self.old.opened self.new.opened self.old.taken self.new.taken (IsOk result)
+            (¬ (result ≡ Err Over.Memory)) }
     {
         self.open()?;
         self.count_pairs(scan.pairs);

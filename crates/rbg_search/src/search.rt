@@ -1,9 +1,9 @@
 //! A search in a game: what is reached without a modifier, and whether patterns hold, on one budget.
-ghost use Rattle.std.specs.Prelude.{◌≡◌, ℕ, ◌+◌, ◌-◌, ◌*◌, ◌^◌, ◌<◌, ◌≤◌, ◌↔◌, suc, length, Some, All, AllPairs, IfOk, OnOk, IfSome, IsTrue, [], ◌∷◌, take, OnErr, IfErr, Err, Bool, max, min};
+ghost use Rattle.std.specs.Prelude.{◌≡◌, ℕ, ◌+◌, ◌-◌, ◌*◌, ◌^◌, ◌<◌, ◌≤◌, ◌↔◌, suc, length, Some, All, AllPairs, IfOk, IsOk, OnOk, IfSome, IsTrue, [], ◌∷◌, take, OnErr, IfErr, Err, Bool, max, min};
 ghost use Rattle.rbg_rules.specs.Meaning.{AbstractState, IsStateOf, IsModifierAt, IsPatternAt, inside, Start, beginning, after, Applies, SomeWordRuns, reach, pattern, IsGame, IsStart};
 ghost use Rattle.rbg_search.specs.Forced.{CountsForced};
 ghost use Rattle.rbg_flat.specs.Paths.{ArePathsOf};
-ghost use Rattle.rbg_search.specs.Taken.{most_pairs_of};
+ghost use Rattle.rbg_search.specs.Taken.{CountsTaken, most_pairs_of};
 ghost use Rattle.rbg_search.specs.internal.Taking.{RanBehind};
 ghost use Rattle.rbg_search.specs.Answered.{IsAnswered, HasReached};
 ghost use Rattle.rbg_search.specs.internal.Asked.{StandsInPattern, IsCounted, IsAsked};
@@ -167,8 +167,9 @@ impl<'a, S: Steps> Search<'a, S> {
         self.opened
     }
 
-    /// How many candidates the flat parts had that were found whole, those of patterns among them: each vertex with each
-    /// position that may come next there and is no shift, once. Modifiers count too.
+    /// How many pairs of a vertex and a position the flat parts have met that were opened, those of patterns among them,
+    /// and those that were given up: each pair once in each part. Modifiers count too. Shifts count where they are followed
+    /// one by one; where the game has leaps, none is met.
     pub fn taken(&self) -> u64
         ensures taken { result ≡ self.now.taken }
         ensures few { self.now.taken ≤ self.now.opened * most_pairs_of self.now.game }
@@ -316,7 +317,7 @@ impl<'a, S: Steps> Search<'a, S> {
         Ok(())
     }
 
-    /// Counts the pairs of a flat part that is found whole. It was opened, and isn't counted yet.
+    /// Counts the pairs of a flat part. It was opened, and isn't counted yet.
     pub(crate) fn count_pairs(&mut self, pairs: usize)
         requires few { pairs ≤ most_pairs_of self.old.game }
         requires one { IsSpentButOne self.old.game self.old.opened self.old.taken }
@@ -344,7 +345,9 @@ impl<'a, S: Steps> Search<'a, S> {
             (result ≡ Err Over.Deep) (result ≡ Err Over.Wide) }
         ensures none_taken { self.new.taken ≡ self.old.taken }
         ensures spent { IsSpent self.old.game self.old.opened self.old.taken }
-        ensures grows { self.old.opened ≤ self.new.opened }
+        ensures lost { OnErr result ((s : AbstractState) (f : Start)
+            → CountsTaken self.old.game reach s f self.old.opened self.new.opened self.old.taken
+            self.new.taken (IsOk result) (¬ (result ≡ Err Over.Memory))) }
     {
         self.open()?;
         state.reserve(2)?;
@@ -388,7 +391,8 @@ impl<'a, S: Steps> Search<'a, S> {
         ensures { IfSome result (λ scan. IsTold self.now.game (at_vertex state.now.state vertex)
             (beginning (inside position)) scan.ends scan.pairs) }
     {
-        if let Some(scan) = scan_inside(&self.rules, state, vertex, position) {
+        let shifts = self.rules.paths().is_none();
+        if let Some(scan) = scan_inside(&self.rules, state, vertex, position, shifts) {
             return Some(scan);
         }
         let paths = self.rules.paths()?;
@@ -443,12 +447,22 @@ impl<'a, S: Steps> Search<'a, S> {
     {
         self.enter(state)?;
         let mut flat = self.begun(origin, state.vertex())?;
-        while let Some(Pair { vertex, position }) = self.advance(&mut flat, state)? {
-            let valid = self.ask(state, vertex, position, nested)?;
-            self.take(&mut flat, vertex, position, valid)?;
+        loop {
+            let Ok(next) = self.advance(&mut flat, state) else {
+                return Err(self.lose(flat, Over::Memory));
+            };
+            let Some(Pair { vertex, position }) = next else {
+                let ends = self.finish(flat, pairs)?;
+                return Ok(ends);
+            };
+            let valid = match self.ask(state, vertex, position, nested) {
+                Ok(answer) => answer,
+                Err(over) => return Err(self.lose(flat, over)),
+            };
+            let Ok(_taken) = self.take(&mut flat, vertex, position, valid) else {
+                return Err(self.lose(flat, Over::Memory));
+            };
         }
-        let ends = self.finish(flat, pairs)?;
-        Ok(ends)
     }
 
     /// The same by sets, along the paths of the game.
@@ -473,7 +487,10 @@ impl<'a, S: Steps> Search<'a, S> {
         self.enter(state)?;
         let mut flat = self.begun_by_sets(paths, state, origin)?;
         while let Some(Pair { vertex, position }) = self.advance_by_sets(paths, &mut flat, state) {
-            let valid = self.ask(state, vertex, position, nested)?;
+            let valid = match self.ask(state, vertex, position, nested) {
+                Ok(answer) => answer,
+                Err(over) => return Err(self.lose_sets(flat, over)),
+            };
             self.take_by_sets(paths, &mut flat, state, vertex, position, valid);
         }
         let ends = self.finish_by_sets(paths, flat, state, pairs)?;

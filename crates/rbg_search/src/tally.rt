@@ -36,7 +36,7 @@ impl Tally {
         self.openings
     }
 
-    /// How many candidates the searches took: pairs of a position and a vertex, shifts left out.
+    /// How many pairs of a position and a vertex the searches met, without shifts where the game has leaps.
     pub fn pairs(&self) -> u64
         ensures { result ≡ self.now.pairs }
     {

@@ -8,3 +8,9 @@ pub mod PassingLemmas
 pub mod PollLemmas
 pub mod SaidLemmas
 pub mod MemoryLemmas
+-- What the proofs of this crate share.
+pub mod CuttingLemmas
+pub mod Replaying
+pub mod Logging
+pub mod WritingLemmas
+pub mod LogClockLemmas

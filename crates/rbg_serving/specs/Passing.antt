@@ -35,11 +35,11 @@ AllOffered lines heard queued since now =
     ((intake_at now index).taken ≡ length (queued_at queued index))
     ⊎ ((intake_at since index).stalls < (intake_at now index).stalls)
 
--- Behind the bytes that were queued more are queued.
+-- After the bytes that were queued more are queued.
 abbrev pub Extends : (queued now : List ℕ) → Type 0
 Extends queued now = (more : List ℕ) × (now ≡ queued ++ more)
 
--- Nothing is queued but behind what was.
+-- Nothing is queued but after what was.
 abbrev pub ExtendAll : (queued now : List (List ℕ)) → Type 0
 ExtendAll queued now = (index : ℕ) → index < length queued → Extends (queued_at queued index) (queued_at now index)
 

@@ -13,7 +13,7 @@ pub struct Faulty<L> {
     line: L,
     /// The number of the call that fails. 0 if there is none.
     call: u64,
-    /// How many calls have come. Those behind the one that fails aren't counted.
+    /// How many calls have come. Those after the one that fails aren't counted.
     calls: u64,
     failures: u64,
     ghost counted: { calls ≤ call },

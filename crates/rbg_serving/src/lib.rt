@@ -1,29 +1,49 @@
-//! Lines to players and clocks, and the serving of a match over them.
+//! Lines to players, clocks and logs, and the serving of a match over them. With a log, each event is written before
+//! the match handles it, so that what the log holds is a script of the match.
 #![tactic(auto)]
 
 mod answer;
 mod call;
 mod clock;
+mod cutting;
 mod ending;
 mod engine;
 mod faulty;
 mod give;
+mod keeping;
+mod later_clock;
+pub mod laws;
 mod line;
 mod line_state;
 mod list_clock;
+mod log_engine;
+mod log_serving;
+mod logged;
 mod memory_line;
+mod memory_log;
+mod opening;
 mod passing;
 mod rounds;
 mod served;
 mod serving;
+mod stumps;
+mod writing;
 
 pub use answer::{Polled, Put};
 pub use clock::{Clock, Pause};
+pub use cutting::whole_lines;
 pub use engine::Engine;
 pub use faulty::Faulty;
 pub use give::{Give, Take};
+pub use keeping::{Log, LogFailure, WriteError};
+pub use later_clock::LaterClock;
 pub use line::Line;
 pub use list_clock::ListClock;
+pub use logged::{LoggedMatch, Stop};
 pub use memory_line::MemoryLine;
+pub use memory_log::MemoryLog;
+pub use opening::{OpenError, write_first};
 pub use served::{ServeError, Served};
 pub use serving::{serve, serve_engine};
+pub use stumps::cut_stumps;
+pub use writing::write_event;

@@ -34,7 +34,7 @@ fn pass_to<L: Line>(line: &mut L, bytes: &[u8], state: &mut LineState)
     }
 }
 
-/// Passes on to each live line in turn what is left of its bytes. Returns the index of a line that failed; those behind
+/// Passes on to each live line in turn what is left of its bytes. Returns the index of a line that failed; those after
 /// it are left out.
 fn pass_to_each<L: Line, E: Engine>(
     lines: &mut [L],

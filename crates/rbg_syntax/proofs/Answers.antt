@@ -1,6 +1,6 @@
 -- What is answered for one section, from what was read of its tokens.
 use Rattle.std.proofs.Common.{◌≡◌, ℕ, List, [], ◌∷◌, Result, Ok, Err, refl, ◌∙◌}
-use Rattle.rbg_tokens.specs.Token.{Lexeme}
+use Rattle.rbg_macro.specs.Token.{Lexeme}
 use Rattle.rbg_syntax.specs.declared.error.ReadError.{ReadError}
 use Rattle.rbg_grammar.specs.Reading.{Fault, Reading, ended_at, whole_at}
 use Rattle.rbg_syntax.specs.internal.Giving.{Fails, FailsWithin}

@@ -1,10 +1,10 @@
 -- What is answered for the whole description, from the answers for its sections.
 use Rattle.std.proofs.Common.{◌≡◌, ◌≤◌, List, [], ◌∷◌, length, ℕ, Option, Some, None, Result, Ok, Err, refl, sym, ap, ◌∙◌, subst, arith, inl, inr, slice_get}
-use Rattle.rbg_tokens.proofs.Common.{Lexeme, is_name_kind, is_symbol}
+use Rattle.rbg_macro.proofs.TextCommon.{Lexeme, is_name_kind, is_symbol}
 use Rattle.rbg_macro.specs.Sections.{SectionTokens}
 use Rattle.rbg_macro.specs.declared.source.SectionKind.{SectionKind}
 use Rattle.rbg_macro.specs.declared.source.SectionKind.TheVariants.{Players, Pieces, Variables, Board, Rules}
-use Rattle.rbg_tokens.specs.declared.token.Symbol.TheVariants.{Comma}
+use Rattle.rbg_macro.specs.declared.token.Symbol.TheVariants.{Comma}
 use Rattle.rbg_syntax.specs.declared.error.ReadError.{ReadError}
 use Rattle.rbg_syntax.specs.declared.error.ReadError.TheVariants as faults
 use Rattle.rbg_syntax.specs.declared.error.SyntaxError.{SyntaxError}

@@ -1,9 +1,9 @@
 -- A first part and further ones, as the parser reads them.
 use Rattle.std.proofs.Common.{◌≡◌, ◌-◌, ℕ, zero, suc, List, [], ◌∷◌, Bool, true, false, None, Result, Ok, Err, refl, ap, ◌∙◌, arith}
-use Rattle.rbg_tokens.proofs.Common.{Lexeme, opens, is_symbol}
-use Rattle.rbg_tokens.specs.declared.token.Symbol.{Symbol}
-use Rattle.rbg_tokens.specs.declared.token.Symbol.TheVariants.{Plus, OpenParenthesis, CloseParenthesis, Question, Exclamation}
-use Rattle.rbg_tokens.specs.declared.token.TokenKind.{TokenKind}
+use Rattle.rbg_macro.proofs.TextCommon.{Lexeme, opens, is_symbol}
+use Rattle.rbg_macro.specs.declared.token.Symbol.{Symbol}
+use Rattle.rbg_macro.specs.declared.token.Symbol.TheVariants.{Plus, OpenParenthesis, CloseParenthesis, Question, Exclamation}
+use Rattle.rbg_macro.specs.declared.token.TokenKind.{TokenKind}
 use Rattle.rbg_grammar.specs.declared.expression.Rank.{Rank}
 use Rattle.rbg_grammar.proofs.Common.{SpeltExpression, SpeltOperand, SpeltRule, first_of, in_chain, act, positive, negative, sequence_of, Fault, misfit, too_deep, Reading, TakesSome, ◌>>=◌, next_is, symbol_at, repeated_at, after_at, separated_at, within_at, further_at, in_sequence, open_atom_at, too_deep_at, chain_at, further_operand_at, in_choice, is_operator, number_or_name_at, primary_at, sum_at, atom_at, begins_atom, bracket_atom_at, item_at, sequence_at, rules_over_at, rules_at, pattern_at, positive_at, negative_at}
 use Rattle.rbg_grammar.proofs.PhraseLaws.{item_takes_some, sequence_takes_some}

@@ -1,7 +1,7 @@
 -- The turns of a loop that reads a part, and goes on where the symbol between two parts is next.
 use Rattle.rbg_base.proofs.Common.{◌≡◌, ◌<◌, List, [], ◌∷◌, ◌++◌, length, drop, true, false, Ok, Err, refl, sym, ap, ◌∙◌, arith, append_assoc, length-drop}
-use Rattle.rbg_tokens.proofs.Common.{Lexeme, is_symbol}
-use Rattle.rbg_tokens.specs.declared.token.Symbol.{Symbol}
+use Rattle.rbg_macro.proofs.TextCommon.{Lexeme, is_symbol}
+use Rattle.rbg_macro.specs.declared.token.Symbol.{Symbol}
 use Rattle.rbg_grammar.specs.Reading.{Fault, TakesSome, Reading, next_is, repeated_at, after_at, separated_at}
 use Rattle.rbg_grammar.proofs.Turns.{prepend, prepend-nil, after_at-taken, after_some, repeated_turn, repeated_fails, repeated_ends, separated_begins, separated_begin_fails}
 

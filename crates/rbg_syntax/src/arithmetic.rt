@@ -12,7 +12,7 @@ use crate::error::{Expectation, Reading};
 use crate::parser::Parser;
 use crate::sequences::only_part;
 use rbg_grammar::{Expression, Operand, Operator, Rank};
-use rbg_tokens::{Symbol, TokenKind};
+use rbg_macro::{Symbol, TokenKind};
 use std::alloc::Global;
 
 impl<'a> Parser<'a> {

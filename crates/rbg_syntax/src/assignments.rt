@@ -1,6 +1,6 @@
 //! The readers of the actions with arithmetic: comparisons and assignment lists.
 ghost use Rattle.std.specs.Prelude.{◌≡◌, map};
-ghost use Rattle.rbg_tokens.specs.declared.token.Symbol.TheVariants as symbols;
+ghost use Rattle.rbg_macro.specs.declared.token.Symbol.TheVariants as symbols;
 ghost use Rattle.rbg_syntax.specs.internal.Giving.{Gives, GivesWithin};
 ghost use Rattle.rbg_grammar.specs.Reading.{after_at, one_of_at, separated_at, within_at};
 ghost use Rattle.rbg_grammar.specs.Grammar.{relation_of};
@@ -12,7 +12,7 @@ use crate::parser::Parser;
 use crate::sequences::in_sequence;
 use rbg_base::Relation;
 use rbg_grammar::{Action, Rule};
-use rbg_tokens::{Symbol, TokenKind};
+use rbg_macro::{Symbol, TokenKind};
 use std::alloc::Global;
 
 impl<'a> Parser<'a> {

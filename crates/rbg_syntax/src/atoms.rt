@@ -6,7 +6,7 @@ ghost use Rattle.rbg_grammar.specs.Views.{rule_of};
 use crate::error::{Expectation, Reading};
 use crate::parser::Parser;
 use rbg_grammar::{Action, Rule};
-use rbg_tokens::Symbol;
+use rbg_macro::Symbol;
 use std::alloc::Global;
 
 impl<'a> Parser<'a> {

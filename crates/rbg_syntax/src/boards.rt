@@ -7,7 +7,7 @@ ghost use Rattle.rbg_grammar.specs.Views.{board_of, name_of};
 use crate::error::{Expectation, Reading};
 use crate::parser::Parser;
 use rbg_grammar::{Board, HexagonDirections, Name, RectangleDirections};
-use rbg_tokens::Symbol;
+use rbg_macro::Symbol;
 use std::alloc::Global;
 
 /// What makes a board of its contents.

@@ -2,15 +2,15 @@
 ghost use Rattle.rbg_grammar.specs.Reading.{bounded_at, edge_at, name_at, row_at, vertex_at};
 ghost use Rattle.rbg_grammar.specs.Tree.{SpeltBounded, SpeltEdge, SpeltName, SpeltVertex};
 ghost use Rattle.rbg_grammar.specs.Views.{bounded_of, edge_of, name_of, names_of, vertex_of};
-ghost use Rattle.rbg_tokens.specs.declared.token.Symbol.TheVariants.{OpenBracket};
-ghost use Rattle.rbg_tokens.specs.Kinds.{is_name_kind, is_symbol};
+ghost use Rattle.rbg_macro.specs.declared.token.Symbol.TheVariants.{OpenBracket};
+ghost use Rattle.rbg_macro.specs.Kinds.{is_name_kind, is_symbol};
 ghost use Rattle.std.specs.Prelude.{◌≡◌, List};
 
 use crate::error::{Expectation, Reading};
 use crate::parser::Parser;
 use crate::phrase::Phrase;
 use rbg_grammar::{Bounded, Edge, Name, Vertex};
-use rbg_tokens::{Symbol, TokenKind};
+use rbg_macro::{Symbol, TokenKind};
 use std::alloc::Global;
 
 impl<'a> Phrase<'a> for Name<'a> {

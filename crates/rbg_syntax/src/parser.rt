@@ -1,8 +1,8 @@
 //! What is left of a section's tokens, and the readers of single tokens.
 ghost use Rattle.std.specs.Prelude.{◌≡◌, [], ◌∷◌, drop, List, IfOk, IfSome, IsTrue, MatchOption};
 ghost use Rattle.rbg_base.specs.Names.{is_name as is_a_name};
-ghost use Rattle.rbg_tokens.specs.Token.{Lexeme, lexeme_of};
-ghost use Rattle.rbg_tokens.specs.Kinds.{is_name_kind, is_number_kind, is_symbol};
+ghost use Rattle.rbg_macro.specs.Token.{Lexeme, lexeme_of};
+ghost use Rattle.rbg_macro.specs.Kinds.{is_name_kind, is_number_kind, is_symbol};
 ghost use Rattle.rbg_syntax.specs.internal.Giving.{FailsWithin, Gives};
 ghost use Rattle.rbg_syntax.specs.internal.Kinds.{is_kind};
 ghost use Rattle.rbg_grammar.specs.Reading.{Takes, ended_at, front_at, next_is, next_word, name_at, number_at, place_of, symbol_at, token_at, word_at};
@@ -13,8 +13,7 @@ ghost use Rattle.rbg_grammar.specs.Views.{name_of, number_of};
 use crate::error::{Expectation, ReadError, Reading};
 use rbg_base::number_of_digits;
 use rbg_grammar::{Name, Number};
-use rbg_macro::Section;
-use rbg_tokens::{Symbol, Token, TokenKind};
+use rbg_macro::{Section, Symbol, Token, TokenKind};
 use std::marker::Model;
 
 /// What is left of a section's tokens.
@@ -27,7 +26,7 @@ pub(crate) struct Parser<'a> {
 impl<'a> Model for Parser<'a> {
     ghost use Rattle.std.specs.Prelude.{List, ◌≤◌, drop, length};
     ghost use Rattle.rbg_base.specs.Names.{is_name as is_a_name};
-    ghost use Rattle.rbg_tokens.specs.Token.{Lexeme};
+    ghost use Rattle.rbg_macro.specs.Token.{Lexeme};
 
     ghost Value = { List Lexeme };
 

@@ -1,8 +1,8 @@
 //! The reader of a whole description.
 ghost use Rattle.std.specs.Prelude.{◌≡◌, slice_get, IfErr, IfOk};
 ghost use Rattle.rbg_macro.specs.declared.source.SectionKind.TheVariants.{Variables};
-ghost use Rattle.rbg_tokens.specs.declared.token.Symbol.TheVariants.{Comma};
-ghost use Rattle.rbg_tokens.specs.Kinds.{is_name_kind};
+ghost use Rattle.rbg_macro.specs.declared.token.Symbol.TheVariants.{Comma};
+ghost use Rattle.rbg_macro.specs.Kinds.{is_name_kind};
 ghost use Rattle.rbg_grammar.specs.Descriptions.{description_of, description_of_parts};
 ghost use Rattle.rbg_syntax.specs.internal.Giving.{Gives, GivesAt, GivesWithin, placed, start_of};
 ghost use Rattle.rbg_grammar.specs.Reading.{board_at, bounded_at, listed_at, name_at, separated_at, variables_at, whole_at};
@@ -18,8 +18,7 @@ use crate::error::{Expectation, Reading, SyntaxError};
 use crate::parser::Parser;
 use crate::sections::{find, refuse_twice};
 use rbg_grammar::{Board, Bounded, Description, DescriptionParts, Name, Rule};
-use rbg_macro::{Section, SectionKind, Source};
-use rbg_tokens::Symbol;
+use rbg_macro::{Section, SectionKind, Source, Symbol};
 use std::alloc::Global;
 
 /// How many brackets may be open at once.

@@ -5,14 +5,14 @@ ghost use Rattle.rbg_grammar.specs.Reading.{TakesSome, listed_at, next_is, repea
 
 use crate::error::Reading;
 use crate::parser::Parser;
-use rbg_tokens::{Symbol, TokenKind};
+use rbg_macro::{Symbol, TokenKind};
 use std::alloc::Global;
 
 /// A phrase of the grammar that is read from the front of the tokens.
 pub(crate) trait Phrase<'a>: Sized + Drop {
     ghost use Rattle.std.specs.Prelude.{◌≡◌, List, Bool};
-    ghost use Rattle.rbg_tokens.specs.Token.{Lexeme};
-    ghost use Rattle.rbg_tokens.specs.declared.token.TokenKind.{TokenKind};
+    ghost use Rattle.rbg_macro.specs.Token.{Lexeme};
+    ghost use Rattle.rbg_macro.specs.declared.token.TokenKind.{TokenKind};
     ghost use Rattle.rbg_syntax.specs.internal.Giving.{Gives};
     ghost use Rattle.rbg_grammar.specs.Reading.{Reading};
 

@@ -4,7 +4,7 @@ ghost use Rattle.std.specs.Prelude.{◌≡◌, map};
 ghost use Rattle.rbg_syntax.specs.internal.Giving.{GivesWithin};
 ghost use Rattle.rbg_syntax.specs.internal.Levels.{further_part_at, goes_on, joined, list_at, part_at};
 ghost use Rattle.rbg_grammar.specs.Reading.{further_at, next_is};
-ghost use Rattle.rbg_tokens.specs.Kinds.{opens};
+ghost use Rattle.rbg_macro.specs.Kinds.{opens};
 ghost use Rattle.rbg_grammar.specs.RuleReading.{atom_at, begins_atom, bracket_atom_at, in_braces_at, in_choice, item_at, pattern_at, rules_at, sum_at};
 ghost use Rattle.rbg_grammar.specs.Views.{rule_of};
 
@@ -12,7 +12,7 @@ use crate::error::{Expectation, Reading};
 use crate::parser::Parser;
 use crate::sequences::{in_sequence, only_part};
 use rbg_grammar::{Action, Rule};
-use rbg_tokens::{Symbol, TokenKind};
+use rbg_macro::{Symbol, TokenKind};
 use std::alloc::Global;
 
 /// What rules are made of: sums of sequences, and sequences of items.

@@ -182,7 +182,7 @@ fn equal_lists_are_kept_once(rt: HostRuntime) -> Result<(), Fail> {
 const ACTIONS: &str =
     "->white {w} {w,e} {? right} right [w] {w,e,b} {$ n < 2} [$ n = n + 1] ->black";
 
-/// What is told at a glance of the positions of these rules, from 0 on to the one behind the last.
+/// What is told at a glance of the positions of these rules, from 0 on to the one after the last.
 const TOLD: [Glance; 13] = [
     Glance::Unknown,
     Glance::Modifies,

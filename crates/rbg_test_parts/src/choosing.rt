@@ -41,7 +41,7 @@ impl Chooser for Nth {
     }
 }
 
-/// Whether a new player goes on behind each byte of the stream. What it says is appended to `said`.
+/// Whether a new player goes on after each byte of the stream. What it says is appended to `said`.
 fn goes_on(alloc: Global, chooser: &mut Nth, said: &mut Vec<u8>) -> bool {
     let mut player = Player::new(alloc);
     let mut going = true;

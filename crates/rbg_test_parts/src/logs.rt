@@ -1,6 +1,6 @@
 //! A log in memory takes what it has room for, and of what it hasn't room for nothing.
 
-use rbg_log::{Log, MemoryLog};
+use rbg_serving::{Log, MemoryLog};
 use std::alloc::Global;
 
 /// Whether a log of five bytes takes three bytes, not three more, and then two.

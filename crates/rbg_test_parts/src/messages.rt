@@ -50,7 +50,7 @@ fn refused(alloc: Global) -> Result<Vec<u8>, Fail> {
     Ok(bytes)
 }
 
-/// Whether a match in which white sends these messages sends white this, and black nothing behind the opening.
+/// Whether a match in which white sends these messages sends white this, and black nothing after the opening.
 fn is_sent(alloc: Global, messages: &[u8], sent: &[u8]) -> bool {
     let events = [Event::Piece {
         seat: 1,

@@ -1,6 +1,6 @@
 //! Why a match or a hall is not made. The programs read no config that is outside its limits, and no more than 16 files.
 use crate::tables::tables;
-use rbg_floor::{HallError, whole_hall};
+use rbg_hall::{HallError, whole_hall};
 use rbg_match::{Config, MAX_REFUSALS, MAX_TURN_MS};
 use rbg_referee::{RefereeError, referee};
 use std::alloc::Global;

@@ -37,7 +37,7 @@ const OPENED: u64 = 186;
 /// How many bytes it is sent up to white's move.
 const MOVED: usize = 199;
 
-/// The call of the line of seat 2 that polls it, behind one for each byte up to white's move.
+/// The call of the line of seat 2 that polls it, after one for each byte up to white's move.
 const POLLED: u64 = 200;
 
 /// How often the line of seat 2 is called in the whole match: it is polled once, and each byte is put to it.

@@ -1,10 +1,10 @@
 //! Tables for the tests.
 ghost use Rattle.std.specs.Prelude.{IfOk};
-ghost use Rattle.rbg_floor.specs.Openings.{AreLoaded};
+ghost use Rattle.rbg_hall.specs.Openings.{AreLoaded};
 ghost use Rattle.rbg_game.specs.Loading.{Loads};
 
-use rbg_floor::Table;
 use rbg_game::load;
+use rbg_hall::Table;
 use rbg_match::Config;
 use std::alloc::Global;
 use std::test::Fail;

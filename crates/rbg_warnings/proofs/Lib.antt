@@ -1,4 +1,5 @@
 -- Lemmas, by topic.
+mod Parts
 mod Names
 mod Sifting
 mod Standing

@@ -4,7 +4,7 @@ use Rattle.rbg_rules.specs.Meaning.{AbstractAction, Expression, skip, HasAction,
 use Rattle.rbg_rules.specs.declared.rule.Action.{Action}
 use Rattle.rbg_rules.specs.declared.rule.Action.TheVariants.{Shift, On, Off, Assign, Compare, Switch, Positive, Negative}
 use Rattle.rbg_rules.proofs.PositionLemmas.{Among, Among-range_with_len, has_position, one_stands}
-use Rattle.rbg_warnings.specs.declared.thing.Thing.{Thing}
+use Rattle.rbg_warnings.specs.declared.named_thing.NamedThing.{NamedThing}
 use Rattle.rbg_warnings.specs.Warnings.{IsWritten, HasTooGreat, uses, assigns_too_much}
 use Rattle.rbg_warnings.specs.internal.Walking.{IsUnusedUpTo}
 
@@ -32,7 +32,7 @@ too_great game numbered p i b stands is =
       λ found. tested (assigns_too_much game.bounds) game.rules numbered p i b stands is found.action found.stands ∙ found.too_great,
     )
 
-pub written : (game : AbstractGame) (thing : Thing) (p : ℕ) (i : Action) (b : Bool) → Stands game.rules p i → ((x : Expression) → b ≡ uses thing (action_of i x)) → IsTrue b → IsWritten game thing
+pub written : (game : AbstractGame) (thing : NamedThing) (p : ℕ) (i : Action) (b : Bool) → Stands game.rules p i → ((x : Expression) → b ≡ uses thing (action_of i x)) → IsTrue b → IsWritten game thing
 written game thing p i b stands is used =
     let there = standing game.rules p i stands in
     record { position = p; action = action_of i there.0; stands = there.1; is_used = sym (is there.0) ∙ used }
@@ -41,7 +41,7 @@ at_last : (p q : ℕ) → q ≤ p + 1 → (q ≤ p) ⊎ (q ≡ p + 1)
 at_last p q below = elim (cases_lt p q) [ inl more ↦ inr (omega arith) | inr less ↦ inl less ]
 
 -- the positions up to the next one
-pub unused_more : (game : AbstractGame) (thing : Thing) (p : ℕ) (i : Action) (b : Bool) → IsNumbered game.rules → Stands game.rules (p + 1) i → ((x : Expression) → b ≡ uses thing (action_of i x)) → b ≡ false → IsUnusedUpTo game thing p → IsUnusedUpTo game thing (p + 1)
+pub unused_more : (game : AbstractGame) (thing : NamedThing) (p : ℕ) (i : Action) (b : Bool) → IsNumbered game.rules → Stands game.rules (p + 1) i → ((x : Expression) → b ≡ uses thing (action_of i x)) → b ≡ false → IsUnusedUpTo game thing p → IsUnusedUpTo game thing (p + 1)
 unused_more game thing p i b numbered stands is none before q a below here used =
     elim (at_last p q below) [
       | inl earlier ↦ before q a earlier here used
@@ -62,10 +62,10 @@ position_within rules numbered p a here =
     let high : p < 1 + length (positions_of rules) = among_below 1 (length (positions_of rules)) p among in
     (omega arith, omega arith)
 
-pub unused_none : (game : AbstractGame) (thing : Thing) → IsNumbered game.rules → IsUnusedUpTo game thing 0
+pub unused_none : (game : AbstractGame) (thing : NamedThing) → IsNumbered game.rules → IsUnusedUpTo game thing 0
 unused_none game thing numbered p a below here used = let within = position_within game.rules numbered p a here in absurd (omega arith)
 
-pub unused_all : (game : AbstractGame) (thing : Thing) (last : ℕ) → IsNumbered game.rules → last ≡ length (positions_of game.rules) → IsUnusedUpTo game thing last → IsWritten game thing → ⊥
+pub unused_all : (game : AbstractGame) (thing : NamedThing) (last : ℕ) → IsNumbered game.rules → last ≡ length (positions_of game.rules) → IsUnusedUpTo game thing last → IsWritten game thing → ⊥
 unused_all game thing last numbered is none written =
     let within = position_within game.rules numbered written.position written.action written.stands in
     none written.position written.action (omega arith) written.stands written.is_used

@@ -1,3 +1,5 @@
+pub mod Actions
+pub mod Excerpts
 -- What an author is warned of.
 pub mod Sifting
 pub mod Warnings

@@ -2,8 +2,8 @@
 use Rattle.std.specs.Prelude.{ℕ, ◌-◌, ◌==◌, ◌||◌, nat_lt, Bool, false, IsTrue, List, ◌++◌, map, length, slice_index, Contains}
 use Rattle.std.specs.List.{range_with_len}
 use Rattle.rbg_rules.specs.Meaning.{AbstractArithmetic, number, variable, piece_count, negated, sum, difference, product, quotient, AbstractAction, shift, off, assignment, comparison, switch, HasAction, positions_of, AbstractGame}
-use Rattle.rbg_warnings.specs.declared.thing.Thing.{Thing}
-use Rattle.rbg_warnings.specs.declared.thing.Thing.TheVariants.{Player, Piece, Variable, Direction}
+use Rattle.rbg_warnings.specs.declared.named_thing.NamedThing.{NamedThing}
+use Rattle.rbg_warnings.specs.declared.named_thing.NamedThing.TheVariants.{Player, Piece, Variable, Direction}
 use Rattle.rbg_warnings.specs.declared.warning.Warning.{Warning}
 use Rattle.rbg_warnings.specs.declared.warning.Warning.TheVariants.{TooGreat, Unused}
 
@@ -20,7 +20,7 @@ names_variable v (quotient e f) = names_variable v e || names_variable v f
 
 -- Whether the action uses the thing: it gives the turn to the player, puts the piece on the board, goes in the
 -- direction, or names the variable.
-abbrev pub uses : Thing → AbstractAction → Bool
+abbrev pub uses : NamedThing → AbstractAction → Bool
 uses (Player m) (switch n) = n == m
 uses (Piece y) (off x) = x == y
 uses (Direction e) (shift d) = d == e
@@ -29,14 +29,14 @@ uses (Variable w) (comparison e r f) = names_variable w e || names_variable w f
 uses _ _ = false
 
 -- The board has the thing at the beginning: a piece on one of its vertices.
-abbrev pub BoardHas : AbstractGame → Thing → Type 0
+abbrev pub BoardHas : AbstractGame → NamedThing → Type 0
 BoardHas game (Piece x) = Contains game.board.first x
 BoardHas game (Player n) = ⊥
 BoardHas game (Variable v) = ⊥
 BoardHas game (Direction d) = ⊥
 
 -- some action of the rules, also one inside a pattern, uses the thing
-pub record IsWritten (game : AbstractGame) (thing : Thing) : Type 0 where
+pub record IsWritten (game : AbstractGame) (thing : NamedThing) : Type 0 where
   pub position : ℕ
   pub action : AbstractAction
   pub stands : HasAction game.rules position action
@@ -59,7 +59,7 @@ pub record HasTooGreat (game : AbstractGame) (position : ℕ) : Type 0 where
   pub too_great : IsTrue (assigns_too_much game.bounds action)
 
 -- the thing is neither on the board at the beginning nor used by the rules
-pub record IsUnused (game : AbstractGame) (thing : Thing) : Type 0 where
+pub record IsUnused (game : AbstractGame) (thing : NamedThing) : Type 0 where
   pub no_board : BoardHas game thing → ⊥
   pub no_action : IsWritten game thing → ⊥
 

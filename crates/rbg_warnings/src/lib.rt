@@ -1,12 +1,17 @@
-//! What an author is warned of: what a game has and its rules never use, and numbers that a variable can't hold.
+//! Passages of a text: the actions that the tokens of its rules spell, and lines with carets below a place. And what an
+//! author is warned of in right rules.
 #![tactic(auto)]
 
-mod actions;
+mod action_warnings;
 mod arithmetic;
-mod finding;
-mod thing;
+mod excerpt;
+mod named_thing;
+mod rule_actions;
+mod rule_warnings;
 mod warning;
 
-pub use finding::warnings;
-pub use thing::Thing;
+pub use excerpt::Excerpt;
+pub use named_thing::NamedThing;
+pub use rule_actions::{actions, push_action};
+pub use rule_warnings::warnings;
 pub use warning::Warning;

@@ -1,6 +1,6 @@
 //! Warnings.
 
-use crate::thing::Thing;
+use crate::named_thing::NamedThing;
 use rbg_base::Position;
 
 /// What an author is warned of.
@@ -10,5 +10,5 @@ pub enum Warning {
     TooGreat { position: Position },
     /// A player to whom no switch gives the turn, a piece that is on no vertex at the beginning and in no off, a
     /// variable that the rules never name, or a direction that they never write.
-    Unused { thing: Thing },
+    Unused { thing: NamedThing },
 }

@@ -1,16 +1,18 @@
 //! The bench: a game's file, the game that it held last, and a session of questions about it.
 
+use crate::answer::{HttpStatus, Reply};
 use crate::page::{BODY, END, HEAD};
-use crate::reading::{Described, Reader, Reading};
-use crate::recording::record_of;
-use crate::script::PLAY_SCRIPT;
-use rbg_ask::{Session, Unsettled};
+use crate::page_script::PLAY_SCRIPT;
+use crate::reader::{Described, Reader, Reading};
+use crate::request::{Method, Request};
+use crate::server::Site;
+use crate::text_record::record_of;
 use rbg_base::number_of_decimal;
 use rbg_console::{Files, Input};
-use rbg_drawing::{BOARD_SCRIPT, BOARD_STYLE, push_game};
 use rbg_game::LoadedGame;
-use rbg_tokens::MAX_TEXT;
-use rbg_web::{Method, Reply, Request, Site, Status};
+use rbg_macro::MAX_TEXT;
+use rbg_questions::{Session, Unsettled};
+use rbg_view::{BOARD_SCRIPT, BOARD_STYLE, push_game};
 use rbg_wire::{after_text, cut_at, write_number};
 use std::alloc::{AllocError, Global};
 
@@ -19,7 +21,7 @@ const MAX_ANSWER: usize = 16_777_216;
 
 /// A game's file, and what is played of it.
 #[derive(Drop)]
-pub struct Bench<'a, F: Files + Drop, R: Reader + Drop> {
+pub(crate) struct Bench<'a, F: Files + Drop, R: Reader + Drop> {
     alloc: Global,
     files: F,
     reader: R,
@@ -29,8 +31,8 @@ pub struct Bench<'a, F: Files + Drop, R: Reader + Drop> {
     /// Whether this text was refused, and what is said of it.
     is_refused: bool,
     notes: Vec<u8>,
-    /// The last game that the file held, as it is told to the page; its text; and how many there were.
-    told: Vec<u8>,
+    /// The last game that the file held, as it is sent to the page; its text; and how many there were.
+    shown: Vec<u8>,
     good: Vec<u8>,
     version: u64,
     session: Option<Session>,
@@ -54,7 +56,7 @@ impl<'a, F: Files + Drop, R: Reader + Drop> Bench<'a, F, R> {
             text: Vec::new(alloc),
             is_refused: true,
             notes: Vec::new(alloc),
-            told: Vec::new(alloc),
+            shown: Vec::new(alloc),
             good: Vec::new(alloc),
             version: 0,
             session: None,
@@ -108,13 +110,13 @@ impl<'a, F: Files + Drop, R: Reader + Drop> Bench<'a, F, R> {
     /// Takes a game in place of the last one, if play of it begins.
     fn take_game(&mut self, loaded: LoadedGame, notes: Vec<u8>) -> Result<(), AllocError> {
         let version = self.version.saturating_add(1);
-        let mut told = Vec::new(self.alloc);
-        push_game(&loaded, version, self.file, &self.text, &mut told)?;
+        let mut shown = Vec::new(self.alloc);
+        push_game(&loaded, version, self.file, &self.text, &mut shown)?;
         match begin(self.alloc, loaded)? {
             Ok(session) => {
                 self.good = self.text.clone()?;
                 self.session = Some(session);
-                self.told = told;
+                self.shown = shown;
                 self.version = version;
                 self.is_refused = false;
                 self.notes = notes;
@@ -137,16 +139,16 @@ impl<'a, F: Files + Drop, R: Reader + Drop> Bench<'a, F, R> {
             (Method::Get, "/") => push_page(text),
             (Method::Get, "/state") => self.push_state(text),
             (Method::Get, "/game") => {
-                text.extend_from_slice(&self.told)?;
-                Ok(Reply::plain(Status::Done))
+                text.extend_from_slice(&self.shown)?;
+                Ok(Reply::plain(HttpStatus::Done))
             }
             (Method::Post, "/ask") => self.answer_questions(request, text),
             (Method::Post, "/record") => self.push_record(request.body, text),
             (Method::Post, "/position") => self.push_position(request.body, text),
             (_, "/" | "/state" | "/game" | "/ask" | "/record" | "/position") => {
-                Ok(Reply::plain(Status::NoMethod))
+                Ok(Reply::plain(HttpStatus::NoMethod))
             }
-            _ => Ok(Reply::plain(Status::NotFound)),
+            _ => Ok(Reply::plain(HttpStatus::NotFound)),
         }
     }
 
@@ -158,7 +160,7 @@ impl<'a, F: Files + Drop, R: Reader + Drop> Bench<'a, F, R> {
         push_count(b"made ", self.moves_made(), text)?;
         text.extend_from_slice(b"notes\n")?;
         text.extend_from_slice(&self.notes)?;
-        Ok(Reply::plain(Status::Done))
+        Ok(Reply::plain(HttpStatus::Done))
     }
 
     fn moves_made(&self) -> u64 {
@@ -176,23 +178,23 @@ impl<'a, F: Files + Drop, R: Reader + Drop> Bench<'a, F, R> {
         text: &mut Vec<u8>,
     ) -> Result<Reply, AllocError> {
         if !is_after(request.path, self.stamp) {
-            return Ok(Reply::plain(Status::Changed));
+            return Ok(Reply::plain(HttpStatus::Changed));
         }
         self.stamp = self.stamp.saturating_add(1);
         match &mut self.session {
             Some(session) => hear_lines(session, request.body, text),
-            None => Ok(Reply::plain(Status::NotFound)),
+            None => Ok(Reply::plain(HttpStatus::NotFound)),
         }
     }
 
-    /// Appends the record of the match that a script tells.
+    /// Appends the record of the match of a script.
     fn push_record(&self, script: &[u8], text: &mut Vec<u8>) -> Result<Reply, AllocError> {
         match record_of(self.alloc, &self.good, script)? {
             Some(record) => {
                 text.extend_from_slice(&record)?;
-                Ok(Reply::plain(Status::Done))
+                Ok(Reply::plain(HttpStatus::Done))
             }
-            None => Ok(Reply::plain(Status::Malformed)),
+            None => Ok(Reply::plain(HttpStatus::Malformed)),
         }
     }
 
@@ -200,7 +202,7 @@ impl<'a, F: Files + Drop, R: Reader + Drop> Bench<'a, F, R> {
     fn push_position(&mut self, script: &[u8], text: &mut Vec<u8>) -> Result<Reply, AllocError> {
         match record_of(self.alloc, &self.good, script)? {
             Some(record) => self.push_described(&record, text),
-            None => Ok(Reply::plain(Status::Malformed)),
+            None => Ok(Reply::plain(HttpStatus::Malformed)),
         }
     }
 
@@ -212,11 +214,11 @@ impl<'a, F: Files + Drop, R: Reader + Drop> Bench<'a, F, R> {
         {
             Described::Text(described) => {
                 text.extend_from_slice(&described)?;
-                Ok(Reply::plain(Status::Done))
+                Ok(Reply::plain(HttpStatus::Done))
             }
             Described::Nothing { reason } => {
                 text.extend_from_slice(&reason)?;
-                Ok(Reply::plain(Status::NotFound))
+                Ok(Reply::plain(HttpStatus::NotFound))
             }
         }
     }
@@ -243,7 +245,7 @@ fn begin(alloc: Global, loaded: LoadedGame) -> Result<Result<Session, &'static [
     }
 }
 
-/// The path without what stands behind a `?`.
+/// The path without what stands after a `?`.
 fn path_of(path: &str) -> &str {
     match path.split_once('?') {
         Some((front, _)) => front,
@@ -279,7 +281,7 @@ fn hear_lines(
             break;
         };
         if text.len() > MAX_ANSWER {
-            return Ok(Reply::plain(Status::TooLong));
+            return Ok(Reply::plain(HttpStatus::TooLong));
         }
         session.hear(line, text)?;
         rest = later;
@@ -287,7 +289,7 @@ fn hear_lines(
     if !rest.is_empty() {
         session.hear(rest, text)?;
     }
-    Ok(Reply::plain(Status::Done))
+    Ok(Reply::plain(HttpStatus::Done))
 }
 
 /// Appends a word and a number as a line.

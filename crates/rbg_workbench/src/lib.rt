@@ -1,15 +1,20 @@
-//! A game that is played by hand in a browser: the page, what is told of the game, and the answers to what is asked.
+//! A game that is played on a page: a server of pages for one person, and the play that it shows.
 #![tactic(auto)]
 
+mod answer;
 mod bench;
-mod listed;
+mod browser;
+mod connection;
+mod move_list;
 mod page;
-mod playing;
-mod reading;
-mod recording;
-mod script;
+mod page_script;
+mod reader;
+mod request;
+mod request_fields;
+mod server;
+mod text_record;
 
-pub use bench::Bench;
-pub use playing::play;
-pub use reading::{Described, Reader, Reading};
-pub use recording::{Recorded, record_text};
+pub use browser::play;
+pub use reader::{Described, Reader, Reading};
+pub use request_fields::{is_own_host, is_own_origin};
+pub use text_record::{TextRecord, record_text};

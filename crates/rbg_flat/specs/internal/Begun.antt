@@ -1,7 +1,7 @@
 -- A flat part that is being found: what is marked, and what of it is still to be looked at.
 use Rattle.std.specs.Prelude.{◌≡◌, ℕ, Bool, true}
 use Rattle.rbg_rules.specs.Meaning.{Start, after, AbstractGame, AbstractState}
-use Rattle.rbg_leaps.specs.Leaps.{IsLeap, EndsAcross}
+use Rattle.rbg_shifts.specs.Leaps.{IsLeap, EndsAcross}
 use Rattle.rbg_flat.specs.Chains.{Holds, IsMet, EndsMet}
 use Rattle.rbg_flat.specs.internal.Passing.{IsToTry}
 

@@ -1,7 +1,7 @@
 -- Targets from which nothing goes on.
 use Rattle.std.specs.Prelude.{◌≡◌, ◌≢◌, ◌↔◌, ◌<◌, ◌≤◌, ℕ, List, length, All, AllPairs, Contains}
 use Rattle.rbg_rules.specs.Meaning.{IsModifierAt, positions_of, AbstractGame, AbstractState}
-use Rattle.rbg_leaps.specs.declared.target.Target.{Target}
+use Rattle.rbg_shifts.specs.declared.target.Target.{Target}
 use Rattle.rbg_flat.specs.internal.Leading.{IsAmong, IsTargetFor}
 use Rattle.rbg_flat.specs.internal.Passing.{IsToTry}
 use Rattle.rbg_flat.specs.internal.Sets.{IsInWord}

@@ -2,9 +2,9 @@
 use Rattle.std.specs.Prelude.{◌≡◌, ◌⊎◌, ◌+◌, ◌*◌, ◌%◌, ◌<◌, ◌≤◌, ℕ, List, length, Bool, true, Contains}
 use Rattle.std.specs.Int.{bit_at}
 use Rattle.rbg_rules.specs.Meaning.{positions_of, AbstractGame, after}
-use Rattle.rbg_leaps.specs.declared.target.Target.{Target}
-use Rattle.rbg_leaps.specs.Leaps.{IsLeap, EndsAcross}
-use Rattle.rbg_leaps.specs.Limits.{row_words}
+use Rattle.rbg_shifts.specs.declared.target.Target.{Target}
+use Rattle.rbg_shifts.specs.Leaps.{IsLeap, EndsAcross}
+use Rattle.rbg_shifts.specs.Limits.{row_words}
 use Rattle.rbg_flat.specs.internal.Sets.{SetsOfVertices, IsInWord, IsMarked}
 
 -- The sets have a row for each position from 0 on, of at least as many words as the board takes, and at most 64.

@@ -10,7 +10,7 @@ use Rattle.rbg_rules.specs.Meaning.{most_directions, most_vertices, AreDifferent
 use Rattle.rbg_game.specs.declared.checking.boards.NamedBoard.{NamedBoard}
 use Rattle.rbg_game.specs.declared.game_error.GameError.{GameError}
 use Rattle.rbg_game.specs.declared.game_error.GameError.TheVariants as errors
-use Rattle.rbg_numbering.specs.Names.{IsNumberOf, texts_of}
+use Rattle.rbg_game.specs.NameNumbers.{IsNumberOf, texts_of}
 use Rattle.rbg_game.specs.Descriptions.{BoardIs}
 
 -- The board has vertices, no more than are allowed, and edges between them alone.

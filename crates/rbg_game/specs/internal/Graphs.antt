@@ -3,7 +3,7 @@ use Rattle.std.specs.Prelude.{◌≡◌, ℕ, ◌⊎◌, List, ◌++◌, length,
 use Rattle.std.specs.List.{AllZip}
 use Rattle.rbg_board.specs.Written.{Written}
 use Rattle.rbg_grammar.specs.Tree.{SpeltName, SpeltEdge, SpeltVertex}
-use Rattle.rbg_numbering.specs.Names.{IsNumberOf}
+use Rattle.rbg_game.specs.NameNumbers.{IsNumberOf}
 use Rattle.rbg_game.specs.Descriptions.{IsOrderOfFirstUse}
 
 -- the names of the directions of edges

@@ -3,8 +3,8 @@ use Rattle.std.specs.Prelude.{ℕ, List, map}
 use Rattle.rbg_grammar.specs.Tree.{SpeltBounded}
 use Rattle.rbg_game.specs.declared.game_error.GameError.{GameError}
 use Rattle.rbg_game.specs.declared.game_error.GameError.TheVariants.{Bound}
-use Rattle.rbg_numbering.specs.declared.error.NumberingError.{NumberingError}
-use Rattle.rbg_numbering.specs.NameTables.{HasNameFault}
+use Rattle.rbg_game.specs.declared.numbering_error.NumberingError.{NumberingError}
+use Rattle.rbg_game.specs.NameTables.{HasNameFault}
 use Rattle.rbg_game.specs.GameErrors.{game_error_of}
 use Rattle.rbg_game.specs.Faults.{HasGreatBound}
 

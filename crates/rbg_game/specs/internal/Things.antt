@@ -4,7 +4,7 @@ use Rattle.rbg_grammar.specs.Tree.{SpeltBounded, SpeltDescription}
 use Rattle.rbg_rules.specs.Meaning.{Expression, AbstractGame, most_players, most_pieces, most_variables, greatest_bound, AreLawfulNames}
 use Rattle.rbg_game.specs.declared.checking.boards.NamedBoard.{NamedBoard}
 use Rattle.rbg_game.specs.declared.checking.names.Things.{Things}
-use Rattle.rbg_numbering.specs.Names.{texts_of}
+use Rattle.rbg_game.specs.NameNumbers.{texts_of}
 use Rattle.rbg_game.specs.Descriptions.{holder_names, holders_of, AreBounds}
 
 -- The bounds of the players or variables stand after the others, and none is too great.

@@ -4,17 +4,18 @@ ghost use Rattle.std.specs.List.{AllZip};
 ghost use Rattle.rbg_board.specs.Cells.{rows_of};
 ghost use Rattle.rbg_grammar.specs.Views.{name_of, names_of, board_of};
 ghost use Rattle.rbg_rules.specs.Meaning.{AreLawfulNames};
-ghost use Rattle.rbg_numbering.specs.Names.{IsNumberOf};
-ghost use Rattle.rbg_numbering.specs.NameTables.{HasLookUpFault};
+ghost use Rattle.rbg_game.specs.NameNumbers.{IsNumberOf};
+ghost use Rattle.rbg_game.specs.NameTables.{HasLookUpFault};
 ghost use Rattle.rbg_game.specs.Faults.{HasBoardFault};
 ghost use Rattle.rbg_game.specs.internal.Boards.{MakesBoard, HasVertices, NumbersDirections, IsNamed, IsRefusedFor, refusal_of};
 
 use crate::checking::directions::number_directions;
 use crate::checking::graphs::make_graph;
 use crate::game_error::GameError;
+use crate::name_table::NameTable;
+use crate::numbering_error::NumberingError;
 use rbg_board::{Board, BoardError, MAX_VERTICES, hexagon, rectangle};
 use rbg_grammar::Name;
-use rbg_numbering::{NameTable, NumberingError};
 use rbg_rules::limits::{MAX_DIRECTIONS, MAX_PIECES};
 use std::alloc::Global;
 

@@ -3,8 +3,9 @@ ghost use Rattle.std.specs.Prelude.{◌≡◌, ◌≤◌, map, length, IfOk, IfE
 ghost use Rattle.rbg_grammar.specs.Views.{name_of};
 ghost use Rattle.rbg_game.specs.internal.Boards.{Joins, NumbersDirections};
 
+use crate::name_table::NameTable;
+use crate::numbering_error::NumberingError;
 use rbg_grammar::Name;
-use rbg_numbering::{NameTable, NumberingError};
 use rbg_rules::limits::MAX_DIRECTIONS;
 use std::alloc::Global;
 

@@ -5,19 +5,20 @@ ghost use Rattle.rbg_board.specs.Vertices.{written_of};
 ghost use Rattle.rbg_grammar.specs.Tree.{graph};
 ghost use Rattle.rbg_grammar.specs.Views.{edge_of, vertex_of};
 ghost use Rattle.rbg_rules.specs.Meaning.{AreDifferentNames};
-ghost use Rattle.rbg_numbering.specs.Names.{IsNumberOf};
+ghost use Rattle.rbg_game.specs.NameNumbers.{IsNumberOf};
 ghost use Rattle.rbg_game.specs.Descriptions.{IsOrderOfFirstUse, directions_named, vertex_names};
 ghost use Rattle.rbg_game.specs.Faults.{HasBoardFault, board_pieces};
-ghost use Rattle.rbg_numbering.specs.NameTables.{HasLookUpFault};
+ghost use Rattle.rbg_game.specs.NameTables.{HasLookUpFault};
 ghost use Rattle.rbg_game.specs.internal.Boards.{MakesBoard};
 ghost use Rattle.rbg_game.specs.internal.Graphs.{AddsInOrder, edge_directions, IsEdge, IsCell};
 
 use crate::checking::boards::{NamedBoard, named};
 use crate::checking::directions::join;
 use crate::game_error::{GameError, Thing, refuse_many};
+use crate::name_table::NameTable;
+use crate::numbering_error::NumberingError;
 use rbg_board::{BoardError, Cell, MAX_VERTICES, graph};
 use rbg_grammar::{Edge, Vertex};
-use rbg_numbering::{NameTable, NumberingError};
 use rbg_rules::limits::{MAX_DIRECTIONS, MAX_PIECES};
 use std::alloc::Global;
 

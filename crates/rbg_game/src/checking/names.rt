@@ -2,16 +2,17 @@
 ghost use Rattle.std.specs.Prelude.{◌≡◌, ◌≤◌, [], ◌∷◌, ◌++◌, map, Some, OnOk, IfOk, IfErr};
 ghost use Rattle.rbg_grammar.specs.Views.{name_of, number_of, bounded_of};
 ghost use Rattle.rbg_grammar.specs.Descriptions.{description_of_parts};
-ghost use Rattle.rbg_numbering.specs.Names.{texts_of};
+ghost use Rattle.rbg_game.specs.NameNumbers.{texts_of};
 ghost use Rattle.rbg_game.specs.Descriptions.{holder_names};
 ghost use Rattle.rbg_game.specs.Faults.{IsNoBound, HasFault};
-ghost use Rattle.rbg_numbering.specs.NameTables.{HasNameFault};
+ghost use Rattle.rbg_game.specs.NameTables.{HasNameFault};
 ghost use Rattle.rbg_game.specs.internal.Holders.{HasHolderFault};
 ghost use Rattle.rbg_game.specs.internal.Things.{AddsBounds, AreThingsOf};
 
 use crate::game_error::{GameError, Thing, refuse_many};
+use crate::name_table::NameTable;
+use crate::numbering_error::NumberingError;
 use rbg_grammar::{Bounded, DescriptionParts, Name, Number};
-use rbg_numbering::{NameTable, NumberingError};
 use rbg_rules::limits::{MAX_BOUND, MAX_PIECES, MAX_PLAYERS, MAX_VARIABLES};
 use std::alloc::Global;
 

@@ -1,38 +1,82 @@
--- What a table of the code stands for.
-use Rattle.std.specs.Prelude.{◌≡◌, ℕ, List, [], length, Option, Some, None}
-use Rattle.rbg_wire.specs.Bytes.{LacksByte}
-use Rattle.rbg_rules.specs.Meaning.{skip, AbstractGame}
-use Rattle.rbg_match.specs.declared.config.Config.{Config}
+-- What the parts of a hall of the code stand for.
+use Rattle.std.specs.Prelude.{◌≡◌, ◌+◌, ◌<◌, ℕ, List, [], All, length, map, replicate, slice_get, Some}
+use Rattle.rbg_wire.specs.Streams.{Stream, incomplete}
 use Rattle.rbg_match.specs.Config.{IsWithinLimits}
-use Rattle.rbg_match.specs.Matches.{MatchState}
-use Rattle.rbg_match.specs.PlayingOn.{seats_of}
-use Rattle.rbg_hall.specs.declared.table.Phase.{Phase}
-use Rattle.rbg_hall.specs.declared.table.Phase.TheVariants.{Waiting, Begun, Failed}
+use Rattle.rbg_match.specs.Limits.{message_limit}
+use Rattle.rbg_hall.specs.TableLimits.{lines_in_all}
+use Rattle.rbg_hall.specs.Tables.{TableState, new_table}
+use Rattle.rbg_hall.specs.Kept.{KeptState, Ledger, no_log}
+use Rattle.rbg_hall.specs.declared.line.LinePhase.{LinePhase}
+use Rattle.rbg_hall.specs.declared.line.LinePhase.TheVariants.{Silent, Asks, Over}
+use Rattle.rbg_hall.specs.declared.table.Table.{Table}
+use Rattle.rbg_hall.specs.Halls.{HallState}
+use Rattle.rbg_hall.specs.Lines.{HallLine, silent, asks, over}
 
--- what stands for the game of a table whose match could not be made
-abbrev pub no_game : AbstractGame
-no_game = record {
-  players = [];
-  pieces = [];
-  variables = [];
-  bounds = [];
-  directions = [];
-  board = record { first = []; ways = [] };
-  rules = skip;
-}
+abbrev pub line_of : LinePhase → HallLine
+line_of (Silent inbox) = silent inbox.rest
+line_of (Asks index inbox) = asks (index + 1) inbox.rest
+line_of Over = over
 
-abbrev pub game_in : Phase → AbstractGame
-game_in (Waiting game) = game
-game_in (Begun running) = running.game
-game_in Failed = no_game
+abbrev pub lines_of : List LinePhase → List HallLine
+lines_of lines = map line_of lines
 
-abbrev pub begun_in : Phase → Option MatchState
-begun_in (Waiting game) = None
-begun_in (Begun running) = Some running
-begun_in Failed = None
+-- tables, and ledgers, of tables with their ledgers
+abbrev pub states_of : {W : Type 0} → List (KeptState W) → List TableState
+states_of tables = map (λ one. one.table) tables
 
--- There is a seat for each player. While a game waits, no byte of its text is zero and the config is within its limits.
-abbrev pub IsSeated : (text : List ℕ) → Config → List (Option ℕ) → Phase → Type 0
-IsSeated text config seats (Waiting game) = LacksByte 0 text × (IsWithinLimits config × (length seats ≡ seats_of game))
-IsSeated text config seats (Begun running) = length seats ≡ seats_of running.game
-IsSeated text config seats Failed = Unit {0}
+abbrev pub ledgers_of : {W : Type 0} → List (KeptState W) → List (Ledger W)
+ledgers_of tables = map (λ one. one.ledger) tables
+
+-- tables and lines as a hall
+abbrev pub hall_of : {W : Type 0} → List (KeptState W) → List LinePhase → HallState
+hall_of tables lines = record { tables = states_of tables; lines = lines_of lines }
+
+-- The table of this number, of so many, is at this index.
+pub record IsPlaced (table tables index : ℕ) : Type 0 where
+  pub number : table ≡ index + 1
+  pub within : index < tables
+
+-- The inbox has the limit of a message, and no complete item is left in it.
+pub record IsEmptied (inbox : Stream) : Type 0 where
+  pub limit : inbox.limit ≡ message_limit
+  pub empty : inbox.items ≡ []
+
+-- The inbox of a line is emptied, and there is the table for which it asks.
+abbrev pub IsReady : (tables : ℕ) → LinePhase → Type 0
+IsReady tables (Silent inbox) = IsEmptied inbox
+IsReady tables (Asks index inbox) = IsEmptied inbox × (index < tables)
+IsReady tables Over = Unit {0}
+
+-- There are all lines, and each of them is ready.
+pub record AreReady (tables : ℕ) (lines : List LinePhase) : Type 0 where
+  pub count : length lines ≡ lines_in_all
+  pub each : All (IsReady tables) lines
+
+-- a line of which nothing was heard
+abbrev pub new_line : LinePhase
+new_line = Silent (record { limit = message_limit; items = []; rest = incomplete [] })
+
+abbrev pub AreNew : (count : ℕ) → List LinePhase → Type 0
+AreNew count lines = lines ≡ replicate count new_line
+
+-- the config of each of the first tables, so many, is within its limits
+abbrev pub FirstHaveLimits : (count : ℕ) → List Table → Type 0
+FirstHaveLimits count tables = (other : ℕ) (table : Table) → other < count → slice_get tables other ≡ Some table → IsWithinLimits table.config
+
+-- The table at this index is the first whose config is outside its limits.
+pub record IsFaulty (tables : List Table) (index : ℕ) : Type 0 where
+  pub table : Table
+  pub there : slice_get tables index ≡ Some table
+  pub faulty : ¬ IsWithinLimits table.config
+  pub first : FirstHaveLimits index tables
+
+-- the config of each table is within its limits
+abbrev pub HaveLimits : List Table → Type 0
+HaveLimits tables = All (λ (table : Table). IsWithinLimits table.config) tables
+
+-- the tables, where nobody sits, with no logs
+abbrev pub new_kept : {W : Type 0} → Table → KeptState W
+new_kept table = record { table = new_table table.game table.text.items table.config; ledger = no_log }
+
+abbrev pub new_tables : {W : Type 0} → List Table → List (KeptState W)
+new_tables tables = map (λ (table : Table). new_kept table) tables

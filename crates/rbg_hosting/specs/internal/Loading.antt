@@ -1,8 +1,8 @@
 -- Why a table is not made, or not all are.
 use Rattle.std.specs.Prelude.{ℕ, List}
 use Rattle.rbg_game.specs.Loading.{IsRefused, IsMemory}
-use Rattle.rbg_refereeing.specs.declared.error.RefereeingError.{RefereeingError}
-use Rattle.rbg_refereeing.specs.declared.error.RefereeingError.TheVariants.{Load, Script, Memory}
+use Rattle.rbg_referee.specs.declared.input_error.RefereeingError.{RefereeingError}
+use Rattle.rbg_referee.specs.declared.input_error.RefereeingError.TheVariants.{Load, Script, Memory}
 use Rattle.rbg_hosting.specs.Tables.{HasRefused}
 
 -- the description is refused, or there was no memory

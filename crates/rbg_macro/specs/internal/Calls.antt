@@ -5,12 +5,12 @@ use Rattle.rbg_macro.specs.declared.call.Effect.TheVariants as effects
 use Rattle.rbg_macro.specs.declared.error.MacroError.{MacroError}
 use Rattle.rbg_macro.specs.declared.error.MacroError.TheVariants.{ArgumentCount}
 use Rattle.rbg_macro.specs.declared.macros.Template.{Template}
-use Rattle.rbg_tokens.specs.Kinds.{is_symbol}
-use Rattle.rbg_tokens.specs.declared.token.Symbol.TheVariants as symbols
+use Rattle.rbg_macro.specs.Kinds.{is_symbol}
+use Rattle.rbg_macro.specs.declared.token.Symbol.TheVariants as symbols
 use Rattle.rbg_macro.specs.Call.{Arguments, arguments, Nesting, Within, Cuts, Ends, Mismatched, Calls, NoCall, meets, met}
 use Rattle.rbg_macro.specs.Macro.{Macro, filled}
 use Rattle.rbg_macro.specs.internal.Template.{item_in, macro_of}
-use Rattle.rbg_tokens.specs.Token.{Lexeme}
+use Rattle.rbg_macro.specs.Token.{Lexeme}
 
 abbrev pub nesting_of : Effect → Nesting
 nesting_of (effects.Within n) = Within n

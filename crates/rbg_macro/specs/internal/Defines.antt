@@ -6,9 +6,9 @@ use Rattle.rbg_macro.specs.declared.macros.Template.{Template}
 use Rattle.rbg_macro.specs.Definition.{Definitions, Defined, A_Section, A_Macro, Part, behind_name, defined, is_new_name}
 use Rattle.rbg_macro.specs.Macro.{body_of}
 use Rattle.rbg_macro.specs.internal.Template.{item_in}
-use Rattle.rbg_tokens.specs.Kinds.{is_symbol}
-use Rattle.rbg_tokens.specs.declared.token.Symbol.TheVariants as symbols
-use Rattle.rbg_tokens.specs.Token.{Lexeme, lexeme_of}
+use Rattle.rbg_macro.specs.Kinds.{is_symbol}
+use Rattle.rbg_macro.specs.declared.token.Symbol.TheVariants as symbols
+use Rattle.rbg_macro.specs.Token.{Lexeme, lexeme_of}
 use Rattle.rbg_macro.specs.Sections.{SectionTokens}
 
 abbrev pub section_of : SectionBody → SectionTokens

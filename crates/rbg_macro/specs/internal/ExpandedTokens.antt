@@ -9,7 +9,7 @@ use Rattle.rbg_macro.specs.Call.{Calls, meets}
 use Rattle.rbg_macro.specs.Expansion.{Expands, Reads, FailsReading}
 use Rattle.rbg_macro.specs.Joining.{joined}
 use Rattle.rbg_macro.specs.Macro.{Macro}
-use Rattle.rbg_tokens.specs.Token.{Lexeme}
+use Rattle.rbg_macro.specs.Token.{Lexeme}
 use Rattle.rbg_macro.specs.Sections.{SectionTokens}
 
 -- no more tokens were read and kept than the limits allow

@@ -4,13 +4,13 @@ use Rattle.std.specs.Bool.{IsFalse}
 use Rattle.rbg_macro.specs.declared.error.MacroError.{MacroError}
 use Rattle.rbg_macro.specs.declared.joining.JoinedToken.{JoinedToken}
 use Rattle.rbg_macro.specs.declared.joining.JoinedToken.TheVariants.{Single, Joined}
-use Rattle.rbg_tokens.specs.declared.token.TokenKind.{TokenKind}
+use Rattle.rbg_macro.specs.declared.token.TokenKind.{TokenKind}
 use Rattle.rbg_macro.specs.Joining.{joined_from, joined_token}
-use Rattle.rbg_tokens.specs.Kinds.{is_symbol}
-use Rattle.rbg_tokens.specs.declared.token.Symbol.TheVariants as symbols
+use Rattle.rbg_macro.specs.Kinds.{is_symbol}
+use Rattle.rbg_macro.specs.declared.token.Symbol.TheVariants as symbols
 use Rattle.rbg_macro.specs.internal.Marks.{Word, word_of}
 use Rattle.rbg_macro.specs.internal.Span.{lexeme_in, IsSpanWithin}
-use Rattle.rbg_tokens.specs.Token.{Lexeme}
+use Rattle.rbg_macro.specs.Token.{Lexeme}
 
 abbrev pub joined_word : List ℕ → JoinedToken → Word
 joined_word texts (Single t) = word_of t

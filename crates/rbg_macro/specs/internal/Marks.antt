@@ -9,7 +9,7 @@ use Rattle.rbg_macro.specs.declared.read_token.ReadToken.{ReadToken}
 use Rattle.rbg_macro.specs.Macro.{Macro, macro_named}
 use Rattle.rbg_macro.specs.internal.Template.{macro_of, item_in}
 use Rattle.rbg_macro.specs.internal.ReadTokens.{read_lexeme}
-use Rattle.rbg_tokens.specs.Token.{Lexeme}
+use Rattle.rbg_macro.specs.Token.{Lexeme}
 
 -- a token and its mark
 pub record Word : Type 0 where

@@ -3,7 +3,7 @@ use Rattle.std.specs.Prelude.{ℕ, List}
 use Rattle.rbg_macro.specs.declared.read_token.Bytes.{Bytes}
 use Rattle.rbg_macro.specs.declared.read_token.Bytes.TheVariants.{OfText, Joined}
 use Rattle.rbg_macro.specs.declared.read_token.ReadToken.{ReadToken}
-use Rattle.rbg_tokens.specs.Token.{Lexeme}
+use Rattle.rbg_macro.specs.Token.{Lexeme}
 
 -- the bytes, wherever they lie
 abbrev pub bytes_in : Bytes → List ℕ

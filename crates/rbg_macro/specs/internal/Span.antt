@@ -5,7 +5,7 @@ use Rattle.rbg_macro.specs.declared.buffer.KeptToken.TheVariants.{OfText, Joined
 use Rattle.rbg_macro.specs.declared.buffer.Span.{Span}
 use Rattle.rbg_macro.specs.declared.source.SectionSpan.{SectionSpan}
 use Rattle.rbg_macro.specs.Sections.{AreLexemes, SectionTokens}
-use Rattle.rbg_tokens.specs.Token.{Lexeme, lexeme_of}
+use Rattle.rbg_macro.specs.Token.{Lexeme, lexeme_of}
 
 -- the token whose bytes are at a place of the buffer
 abbrev pub lexeme_in : List ℕ → Span → Lexeme

@@ -7,7 +7,7 @@ use Rattle.rbg_macro.specs.declared.macros.Template.{Template}
 use Rattle.rbg_macro.specs.declared.read_token.ReadToken.{ReadToken}
 use Rattle.rbg_macro.specs.Macro.{Macro, BodyItem, Word, Place, macro_named}
 use Rattle.rbg_macro.specs.internal.ReadTokens.{read_lexeme}
-use Rattle.rbg_tokens.specs.Token.{Lexeme}
+use Rattle.rbg_macro.specs.Token.{Lexeme}
 
 abbrev pub item_in : KeptItem → BodyItem
 item_in (kept.Word t) = Word (read_lexeme t)

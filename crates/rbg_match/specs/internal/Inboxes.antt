@@ -15,7 +15,7 @@ AreReady inboxes = All IsReady inboxes
 abbrev pub rests_of : List Stream → List Rest
 rests_of inboxes = map (λ inbox. inbox.rest) inboxes
 
--- what is left in the inboxes is what is left of their streams behind an event
+-- what is left in the inboxes is what is left of their streams after an event
 abbrev pub HaveTaken : List Stream → AbstractEvent → List Stream → Type 0
 HaveTaken old event new = rests_of new ≡ rests_after (rests_of old) event
 

@@ -36,7 +36,7 @@ pub record IsReferee (game : AbstractGame) (config : Config) (moment : ℕ) (pla
   pub in_game : IsPlayOf game play
   pub seats : length outbox ≡ seats_of game
 
--- the same referee, with play at another state, and with these messages behind what each seat had
+-- the same referee, with play at another state, and with these messages after what each seat had
 abbrev pub gone_on : RefereeState → AbstractPlay → List Delivery → RefereeState
 gone_on referee play said = record referee { play = play; outbox = delivered referee.outbox said }
 

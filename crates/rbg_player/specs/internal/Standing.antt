@@ -24,7 +24,7 @@ stage_of (Failed error) = failed error
 abbrev pub player_of : CodeStage → Stream → AbstractPlayer
 player_of stage inbox = record { stage = stage_of stage; rest = inbox.rest }
 
--- A message is heard, and what is said stands behind the bytes that were there.
+-- A message is heard, and what is said stands after the bytes that were there.
 pub record HearsAndSays (old : Stage) (message : AbstractMessage) (new : Stage) (before after : List ℕ) : Type 0 where
   pub said : List AbstractMessage
   pub hears : Hears old message new said
@@ -37,7 +37,7 @@ pub record HearsOrFails (old : Stage) (message : AbstractMessage) (new : Stage) 
   pub fault : IfErr result (HasFault old message)
   pub out : OnErr result (after ≡ before)
 
--- An item is read as a message that is heard, and what is said stands behind the bytes that were there.
+-- An item is read as a message that is heard, and what is said stands after the bytes that were there.
 pub record HearsItem (old : Stage) (item : Item) (new : Stage) (before after : List ℕ) : Type 0 where
   pub text : List ℕ
   pub message : AbstractMessage

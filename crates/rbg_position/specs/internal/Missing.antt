@@ -1,7 +1,7 @@
 -- A text without a board.
 use Rattle.std.specs.Prelude.{ℕ, List}
-use Rattle.rbg_tokens.specs.Text.{HasTokens}
-use Rattle.rbg_tokens.specs.Token.{Lexeme}
+use Rattle.rbg_macro.specs.Text.{HasTokens}
+use Rattle.rbg_macro.specs.Token.{Lexeme}
 use Rattle.rbg_position.specs.Boards.{BeginsBoard}
 
 -- No `#board` stands in the text.

@@ -1,23 +1,23 @@
 -- How the section of a board is written from its first token to its last.
 use Rattle.std.specs.Prelude.{◌≡◌, ℕ, ◌&&◌, ◌||◌, Bool, true, false, List, Some, slice_get}
 use Rattle.rbg_macro.specs.Sections.{SectionTokens}
-use Rattle.rbg_tokens.specs.Kinds.{is_name_kind, is_symbol}
-use Rattle.rbg_tokens.specs.Token.{Lexeme}
-use Rattle.rbg_tokens.specs.declared.token.Symbol.TheVariants.{OpenBracket, CloseBracket, CloseBrace, Comma, Colon}
-use Rattle.rbg_tokens.specs.declared.token.TokenKind.{TokenKind}
-use Rattle.rbg_tokens.specs.declared.token.TokenKind.TheVariants.{Symbol}
+use Rattle.rbg_macro.specs.Kinds.{is_name_kind, is_symbol}
+use Rattle.rbg_macro.specs.Token.{Lexeme}
+use Rattle.rbg_macro.specs.declared.token.Symbol.TheVariants.{OpenBracket, CloseBracket, CloseBrace, Comma, Colon}
+use Rattle.rbg_macro.specs.declared.token.TokenKind.{TokenKind}
+use Rattle.rbg_macro.specs.declared.token.TokenKind.TheVariants.{Symbol}
 
--- whether what stands behind a token is in brackets, where the token itself is or isn't
-abbrev pub is_inside_behind : (inside : Bool) → TokenKind → Bool
-is_inside_behind inside (Symbol OpenBracket) = true
-is_inside_behind inside (Symbol CloseBracket) = false
-is_inside_behind inside _ = inside
+-- whether what stands after a token is in brackets, where the token itself is or isn't
+abbrev pub is_inside_after : (inside : Bool) → TokenKind → Bool
+is_inside_after inside (Symbol OpenBracket) = true
+is_inside_after inside (Symbol CloseBracket) = false
+is_inside_after inside _ = inside
 
--- what stands before a row: another one, or the comma behind it
+-- what stands before a row: another one, or the comma after it
 abbrev pub ends_row : TokenKind → Bool
 ends_row kind = is_symbol Comma kind || is_symbol CloseBracket kind
 
--- what has a space behind it
+-- what has a space after it
 abbrev pub is_spaced : TokenKind → Bool
 is_spaced kind = is_symbol Comma kind || is_symbol Colon kind
 

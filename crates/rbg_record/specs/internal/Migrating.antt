@@ -2,11 +2,11 @@
 use Rattle.std.specs.Prelude.{◌≡◌, ℕ, ◌+◌, List, [], ◌∷◌, ◌++◌, map, All, Option}
 use Rattle.rbg_wire.specs.declared.outcome.Outcome.{Outcome}
 use Rattle.rbg_rules.specs.Meaning.{AbstractGame}
-use Rattle.rbg_lines.specs.declared.entry.Entry.{Entry}
-use Rattle.rbg_lines.specs.declared.entry.Entry.TheVariants.{Move, End}
-use Rattle.rbg_lines.specs.declared.heading.Version.TheVariants.{One, Two}
-use Rattle.rbg_lines.specs.Entries.{entry_text, timed_text, EntryHasSpelling, SpellsEntry}
-use Rattle.rbg_lines.specs.Heading.{version_text, players_text, start_text}
+use Rattle.rbg_record.specs.declared.entry.Entry.{Entry}
+use Rattle.rbg_record.specs.declared.entry.Entry.TheVariants.{Move, End}
+use Rattle.rbg_record.specs.declared.heading.Version.TheVariants.{One, Two}
+use Rattle.rbg_record.specs.Entries.{entry_text, timed_text, EntryHasSpelling, SpellsEntry}
+use Rattle.rbg_record.specs.Heading.{version_text, players_text, start_text}
 use Rattle.rbg_wire.specs.Lines.{line_of, lines_of}
 use Rattle.rbg_record.specs.declared.migrating.Part.{Part}
 use Rattle.rbg_record.specs.declared.migrating.Part.TheVariants.{Version, Moves, Nothing}

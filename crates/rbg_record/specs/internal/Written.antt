@@ -3,11 +3,11 @@ use Rattle.std.specs.Prelude.{ℕ, List, ◌++◌, Option, Some, None}
 use Rattle.std.specs.List.{flat_map}
 use Rattle.rbg_match.specs.declared.made.Made.{Made}
 use Rattle.rbg_match.specs.Matches.{MatchState}
-use Rattle.rbg_lines.specs.declared.entry.Entry.{Entry}
-use Rattle.rbg_lines.specs.declared.entry.Entry.TheVariants.{Move, End}
-use Rattle.rbg_lines.specs.declared.heading.Version.{Version}
-use Rattle.rbg_lines.specs.declared.heading.Version.TheVariants.{One, Two}
-use Rattle.rbg_lines.specs.Entries.{entry_text, moment_text}
+use Rattle.rbg_record.specs.declared.entry.Entry.{Entry}
+use Rattle.rbg_record.specs.declared.entry.Entry.TheVariants.{Move, End}
+use Rattle.rbg_record.specs.declared.heading.Version.{Version}
+use Rattle.rbg_record.specs.declared.heading.Version.TheVariants.{One, Two}
+use Rattle.rbg_record.specs.Entries.{entry_text, moment_text}
 use Rattle.rbg_wire.specs.Lines.{line_of}
 
 -- the moment as a version tells it: version 1 tells none

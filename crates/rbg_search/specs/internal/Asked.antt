@@ -7,9 +7,9 @@ use Rattle.rbg_pairs.specs.Flat.{IsNext}
 use Rattle.rbg_search.specs.Counting.{CountsOpenings, IsOverBudget}
 use Rattle.rbg_search.specs.Passing.{CountsBeginning, IsTooDeep}
 use Rattle.rbg_search.specs.Searching.{Searching}
-use Rattle.rbg_search.specs.Taken.{CountsPairs}
+use Rattle.rbg_search.specs.Taken.{CountsTaken}
 use Rattle.rbg_search.specs.declared.over.Over.{Over}
-use Rattle.rbg_search.specs.declared.over.Over.TheVariants.{Deep, Wide}
+use Rattle.rbg_search.specs.declared.over.Over.TheVariants.{Deep, Memory, Wide}
 use Rattle.rbg_pairs.specs.Nesting.{StandsIn}
 
 -- One stands in the inside of a pattern.
@@ -61,4 +61,5 @@ pub record IsAsked {X : Type 0}
     pub counts :
         IsCounted h.game question here f h.opened k.opened left h.openings h.modifiers (result ≡ Err Deep)
         (result ≡ Err Wide)
-    pub taken : CountsPairs h.game question here f h.opened k.opened h.taken k.taken (IsOk result)
+    pub taken :
+        CountsTaken h.game question here f h.opened k.opened h.taken k.taken (IsOk result) (¬ (result ≡ Err Memory))

@@ -1,5 +1,5 @@
 -- How many pairs a search has taken at most.
-use Rattle.std.specs.Prelude.{◌≡◌, ℕ, ◌+◌, ◌*◌, ◌≤◌}
+use Rattle.std.specs.Prelude.{◌≡◌, ◌≢◌, ℕ, ◌+◌, ◌*◌, ◌≤◌, List, length, AllPairs}
 use Rattle.rbg_rules.specs.Meaning.{AbstractGame}
 use Rattle.rbg_search.specs.Taken.{most_pairs_of}
 
@@ -17,3 +17,8 @@ pub record CountsPart (game : AbstractGame) (Has : ℕ → Type 0) (old new : �
   pub has : Has many
   pub sum : new ≡ old + many
   pub few : many ≤ most_pairs_of game
+
+-- The pairs differ, and there are so many.
+pub record AreMany (pairs : List (ℕ × ℕ)) (many : ℕ) : Type 0 where
+  pub different : AllPairs (λ a b. a ≢ b) pairs
+  pub count : many ≡ length pairs

@@ -6,11 +6,11 @@ use Rattle.rbg_search.specs.Counting.{CountsOpenings}
 use Rattle.rbg_search.specs.Forced.{TakesBehind}
 use Rattle.rbg_search.specs.Passing.{CountsUpTo}
 use Rattle.rbg_search.specs.Searching.{Searching}
-use Rattle.rbg_search.specs.Taken.{CountsPairs}
+use Rattle.rbg_search.specs.Taken.{CountsPairs, CountsTaken}
 use Rattle.rbg_search.specs.internal.Asked.{GoesBehind, IsCounted}
 use Rattle.rbg_search.specs.internal.Behind.{RunsBehindPair}
 use Rattle.rbg_search.specs.declared.over.Over.{Over}
-use Rattle.rbg_search.specs.declared.over.Over.TheVariants.{Deep, Wide}
+use Rattle.rbg_search.specs.declared.over.Over.TheVariants.{Deep, Memory, Wide}
 
 -- A search was h and is k, and the semi-state was s and is l: only the counts are new, and there is as much room at least.
 pub record Stays (h k : Searching) (s l : History) : Type 0 where
@@ -31,7 +31,7 @@ pub record IsAskedBehind {X : Type 0}
         (result ≡ Err Wide)
     pub taken :
         (f : Start) → GoesBehind h.game s.state f pairs →
-        CountsPairs h.game pattern s.state f h.opened k.opened h.taken k.taken (IsOk result)
+        CountsTaken h.game pattern s.state f h.opened k.opened h.taken k.taken (IsOk result) (¬ (result ≡ Err Memory))
 
 -- Behind those of the pairs that are done no word runs.
 pub record TriesBehind

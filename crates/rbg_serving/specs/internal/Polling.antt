@@ -4,7 +4,7 @@ use Rattle.rbg_serving.specs.declared.answer.Polled.{Polled}
 use Rattle.rbg_serving.specs.declared.answer.Polled.TheVariants.{Got, Nothing, Ended, Failed}
 use Rattle.rbg_serving.specs.Heard.{Heard, gave, ended, failed_to_give}
 
--- whether nothing more is heard of a line behind this answer
+-- whether nothing more is heard of a line after this answer
 abbrev pub is_last : Polled → Bool
 is_last (Got n) = false
 is_last Nothing = false

@@ -1,6 +1,6 @@
 -- What stands in the parentheses behind the name of a generator of boards.
 use Rattle.std.specs.Prelude.{List}
-use Rattle.rbg_tokens.specs.Token.{Lexeme}
+use Rattle.rbg_macro.specs.Token.{Lexeme}
 use Rattle.rbg_grammar.specs.Reading.{Reading, graph_at, hexagon_at, rectangle_at}
 use Rattle.rbg_grammar.specs.Tree.{SpeltBoard}
 use Rattle.rbg_syntax.specs.declared.boards.Generator.{Generator}

@@ -1,9 +1,9 @@
 -- What rules are made of, level by level: sums of sequences, and sequences of items.
 use Rattle.std.specs.Prelude.{ℕ, Bool, List}
-use Rattle.rbg_tokens.specs.Kinds.{is_symbol}
-use Rattle.rbg_tokens.specs.Token.{Lexeme}
-use Rattle.rbg_tokens.specs.declared.token.Symbol.TheVariants.{Plus}
-use Rattle.rbg_tokens.specs.declared.token.TokenKind.{TokenKind}
+use Rattle.rbg_macro.specs.Kinds.{is_symbol}
+use Rattle.rbg_macro.specs.Token.{Lexeme}
+use Rattle.rbg_macro.specs.declared.token.Symbol.TheVariants.{Plus}
+use Rattle.rbg_macro.specs.declared.token.TokenKind.{TokenKind}
 use Rattle.rbg_grammar.specs.Reading.{Reading, after_at, in_sequence}
 use Rattle.rbg_grammar.specs.RuleReading.{atom_at, begins_atom, in_choice, item_at, rules_at, sequence_at}
 use Rattle.rbg_grammar.specs.Tree.{SpeltRule}

@@ -11,7 +11,7 @@ use std::alloc::Global;
 use std::test::Fail;
 
 /// A board of one row, rules with a pattern at position 2, and the openings and modifiers of a budget; and what the pattern
-/// answers when white is to move, how many openings it takes up, and how many candidates.
+/// answers when white is to move, how many openings it takes up, and how many pairs it meets.
 type Example = (
     &'static str,
     &'static str,
@@ -49,10 +49,10 @@ const EXAMPLES: [Example; 13] = [
     (ONE, CHOICE, 3, 1, Err(Over::Deep), 1, 2),
     (ONE, CHOICE, 3, 0, Err(Over::Deep), 1, 2),
     (ONE, CHOICE, 1, 1, Err(Over::Deep), 1, 2),
-    (TWO, HEAVY_FIRST, 2, 1, Err(Over::Deep), 2, 1),
-    (TWO, LIGHT_FIRST, 2, 1, Err(Over::Wide), 2, 1),
-    (TWO, BEHIND_A_SHIFT, 2, 1, Err(Over::Deep), 2, 1),
-    (TWO, BESIDE_AN_END, 2, 1, Err(Over::Deep), 2, 1),
+    (TWO, HEAVY_FIRST, 2, 1, Err(Over::Deep), 2, 3),
+    (TWO, LIGHT_FIRST, 2, 1, Err(Over::Wide), 2, 3),
+    (TWO, BEHIND_A_SHIFT, 2, 1, Err(Over::Deep), 2, 4),
+    (TWO, BESIDE_AN_END, 2, 1, Err(Over::Deep), 2, 3),
     (ONE, MAY_END, 1, 1, Ok(true), 1, 1),
 ];
 

@@ -2,7 +2,7 @@
 use Rattle.std.specs.Prelude.{ℕ, ◌≤◌, ◌||◌, Bool, false, IsTrue, List, [], ◌∷◌, ◌++◌, Option, Some, None}
 use Rattle.rbg_rules.specs.declared.arithmetic.Operation.{Operation}
 use Rattle.rbg_rules.specs.Meaning.{AbstractArithmetic, number, AbstractAction, HasAction, arithmetic_of, AbstractGame}
-use Rattle.rbg_warnings.specs.declared.thing.Thing.{Thing}
+use Rattle.rbg_warnings.specs.declared.named_thing.NamedThing.{NamedThing}
 use Rattle.rbg_warnings.specs.declared.warning.Warning.{Warning}
 use Rattle.rbg_warnings.specs.Sifting.{Keeps}
 use Rattle.rbg_warnings.specs.Warnings.{IsWarned, names_variable, uses}
@@ -18,7 +18,7 @@ number_in (number n) = Some n
 number_in _ = None
 
 -- no action at a position up to this one uses the thing
-abbrev pub IsUnusedUpTo : AbstractGame → Thing → ℕ → Type 0
+abbrev pub IsUnusedUpTo : AbstractGame → NamedThing → ℕ → Type 0
 IsUnusedUpTo game thing last =
     (p : ℕ) (a : AbstractAction) → p ≤ last → HasAction game.rules p a → IsTrue (uses thing a) → ⊥
 

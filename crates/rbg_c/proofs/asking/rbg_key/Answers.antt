@@ -1,7 +1,7 @@
 -- The key is told.
 use Rattle.std.proofs.Common.{refl, ap, ◌∙◌}
-use Rattle.rbg_ask.specs.Keys.{key_of}
-use Rattle.rbg_states.specs.States.{AbstractState}
+use Rattle.rbg_questions.specs.Keys.{key_of}
+use Rattle.rbg_c.specs.States.{AbstractState}
 use Rattle.rbg_c.specs.Calls.{told}
 use Rattle.rbg_c.proofs.asking.rbg_key.Goals as goal
 

@@ -1,6 +1,6 @@
 -- The number of moves is told.
 use Rattle.std.proofs.Common.{refl, ap, ◌∙◌, length}
-use Rattle.rbg_states.specs.States.{AbstractState}
+use Rattle.rbg_c.specs.States.{AbstractState}
 use Rattle.rbg_c.specs.Calls.{told}
 use Rattle.rbg_c.proofs.asking.rbg_moves_made.Goals as goal
 

@@ -1,6 +1,6 @@
 -- The copy is kept.
 use Rattle.std.proofs.Common.{subst}
-use Rattle.rbg_states.specs.States.{AbstractState, beginning_at}
+use Rattle.rbg_c.specs.States.{AbstractState, beginning_at}
 use Rattle.rbg_c.specs.Opening.{Keeps, copied}
 use Rattle.rbg_c.proofs.opening.rbg_copy.Goals as goal
 

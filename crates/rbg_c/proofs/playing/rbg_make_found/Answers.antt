@@ -1,7 +1,7 @@
 -- The move is made, or it isn't.
 use Rattle.std.proofs.Common.{refl, subst}
-use Rattle.rbg_states.specs.States.{AbstractState, MakesFound}
-use Rattle.rbg_states.specs.Stepping.{IsUnmadeAt}
+use Rattle.rbg_c.specs.States.{AbstractState, MakesFound}
+use Rattle.rbg_c.specs.Stepping.{IsUnmadeAt}
 use Rattle.rbg_c.specs.Calls.{done, failed}
 use Rattle.rbg_c.proofs.Kept.{kept_there}
 use Rattle.rbg_c.proofs.playing.rbg_make_found.Goals as goal

@@ -1,9 +1,8 @@
 -- The move is undone, or there is none.
-use Rattle.std.proofs.Common.{◌≡◌, List, [], refl, ap, subst, ◌∙◌}
+use Rattle.std.proofs.Common.{◌≡◌, List, [], refl, subst}
 use Rattle.std.proofs.lemmas.Bool.{false≢true}
-use Rattle.std.specs.Prelude.{Option, Some}
 use Rattle.rbg_rules.specs.Meaning.{AbstractPlace}
-use Rattle.rbg_states.specs.States.{AbstractState, Undoes}
+use Rattle.rbg_c.specs.States.{AbstractState, Undoes}
 use Rattle.rbg_c.specs.Calls.{done, failed}
 use Rattle.rbg_c.proofs.Kept.{kept_there}
 use Rattle.rbg_c.proofs.playing.rbg_undo.Goals as goal

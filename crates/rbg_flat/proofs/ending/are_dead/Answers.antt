@@ -1,5 +1,5 @@
 use Rattle.std.proofs.Common.{◌<◌, get_or, arith}
-use Rattle.rbg_leaps.specs.declared.target.Target.{Target}
+use Rattle.rbg_shifts.specs.declared.target.Target.{Target}
 use Rattle.rbg_flat.proofs.Endings.{one_more_dead}
 use Rattle.rbg_flat.proofs.ending.are_dead.Goals as goal
 

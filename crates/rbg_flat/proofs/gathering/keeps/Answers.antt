@@ -1,4 +1,4 @@
-use Rattle.rbg_leaps.proofs.ShiftLemmas.{action_within}
+use Rattle.rbg_shifts.proofs.ShiftLemmas.{action_within}
 use Rattle.rbg_flat.proofs.ModifierLemmas.{sure_keeps}
 use Rattle.rbg_flat.proofs.gathering.keeps.Goals as goal
 

@@ -1,6 +1,6 @@
 use Rattle.std.proofs.Common.{List, subst}
 use Rattle.std.proofs.lemmas.List.{take_all}
-use Rattle.rbg_leaps.specs.declared.target.Target.{Target}
+use Rattle.rbg_shifts.specs.declared.target.Target.{Target}
 use Rattle.rbg_flat.proofs.Common.{IsToTryIn, Meets, IsAmongBits}
 use Rattle.rbg_flat.proofs.Stills.{meets_bits_more}
 use Rattle.rbg_flat.proofs.leading.meet_bits.Goals as goal

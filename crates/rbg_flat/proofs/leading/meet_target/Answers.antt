@@ -1,5 +1,5 @@
 use Rattle.std.proofs.Common.{◌≡◌, ℕ, ◌<◌, ◌≤◌, subst, arith}
-use Rattle.rbg_leaps.specs.Limits.{row_words}
+use Rattle.rbg_shifts.specs.Limits.{row_words}
 use Rattle.rbg_flat.proofs.Common.{IsToTryIn, IsInWord, Meets}
 use Rattle.rbg_flat.proofs.leading.meet_target.Goals as goal
 

@@ -1,6 +1,6 @@
 use Rattle.std.proofs.Common.{◌≡◌, map, take}
 use Rattle.rbg_grammar.specs.Views.{vertex_of}
-use Rattle.rbg_numbering.specs.NameTables.{bytes_of}
+use Rattle.rbg_game.specs.NameTables.{bytes_of}
 use Rattle.rbg_game.specs.Descriptions.{vertex_names}
 use Rattle.rbg_game.proofs.layout.copy_names.Given as goal
 

@@ -1,7 +1,7 @@
 -- There are as many tables as there may be, and their config is that of the script.
 use Rattle.std.proofs.Common.{◌∙◌, ap, map, sym, subst}
 use Rattle.std.proofs.lemmas.Simd.{map-map}
-use Rattle.rbg_floor.proofs.Common.{event_of, starts_of}
+use Rattle.rbg_hall.proofs.Common.{event_of, starts_of}
 use Rattle.rbg_hosting.specs.Tables.{AreTablesOf, texts_of}
 use Rattle.rbg_hosting.specs.Scripts.{event_for}
 use Rattle.rbg_script.specs.Events.{event_of as scripted_event}

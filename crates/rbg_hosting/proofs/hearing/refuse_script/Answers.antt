@@ -1,5 +1,5 @@
 -- The fault is the script's.
-use Rattle.rbg_floor.specs.Openings.{starts_of}
+use Rattle.rbg_hall.specs.Openings.{starts_of}
 use Rattle.rbg_hosting.specs.Tables.{texts_of}
 use Rattle.rbg_hosting.proofs.HallLemmas.{script_not_heard}
 use Rattle.rbg_hosting.proofs.TableLemmas.{games_in}

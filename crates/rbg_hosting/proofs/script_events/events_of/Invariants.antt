@@ -1,6 +1,6 @@
 -- The events so far are those of the script's first ones.
 use Rattle.std.proofs.Common.{◌≡◌, map, take}
-use Rattle.rbg_floor.specs.Events.{event_of}
+use Rattle.rbg_hall.specs.Events.{event_of}
 use Rattle.rbg_hosting.specs.Scripts.{event_for}
 use Rattle.rbg_script.specs.Events.{event_of as scripted_event}
 use Rattle.rbg_hosting.proofs.script_events.events_of.Given as goal

@@ -1,6 +1,6 @@
 -- A log changes nothing of the state of the hall.
 use Rattle.std.proofs.Common.{ap, ◌∙◌}
-use Rattle.rbg_floor.specs.Failing.{HeldHall}
+use Rattle.rbg_hall.specs.Failing.{HeldHall}
 use Rattle.rbg_hosting.proofs.serving.keep_logs.Goals as goal
 
 pub loop-index-preserved : goal.loop-index-preserved

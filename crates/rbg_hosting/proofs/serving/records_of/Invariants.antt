@@ -1,6 +1,6 @@
 -- The matches of the first tables are printed.
 use Rattle.std.proofs.Common.{◌≡◌, List, length, take}
-use Rattle.rbg_floor.specs.Halls.{AbstractTable}
+use Rattle.rbg_hall.specs.Halls.{AbstractTable}
 use Rattle.rbg_hosting.specs.Records.{ArePrintedMatches, HasEnded}
 use Rattle.rbg_hosting.proofs.serving.records_of.Given as goal
 

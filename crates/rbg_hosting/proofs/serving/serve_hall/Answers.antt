@@ -1,6 +1,6 @@
 -- The hall that is served is the new one, since a log changes nothing of its state.
 use Rattle.rbg_base.proofs.Common.{◌∙◌, rules, length-map}
-use Rattle.rbg_floor.specs.Openings.{IsNewHall, starts_of, start_of}
+use Rattle.rbg_hall.specs.Openings.{IsNewHall, starts_of, start_of}
 use Rattle.rbg_hosting.proofs.serving.serve_hall.Goals as goal
 
 pub returns : goal.returns

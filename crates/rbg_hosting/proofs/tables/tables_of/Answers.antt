@@ -1,6 +1,6 @@
 -- One more table is made, or its description is refused.
 use Rattle.std.proofs.Common.{subst, rules}
-use Rattle.rbg_floor.specs.Openings.{start_of, starts_of}
+use Rattle.rbg_hall.specs.Openings.{start_of, starts_of}
 use Rattle.rbg_hosting.specs.Tables.{IsTableOf}
 use Rattle.rbg_hosting.specs.internal.Loading.{IsNotTable}
 use Rattle.rbg_hosting.proofs.TableLemmas.{no_tables, not_loaded, one_more_loaded, one_more_table}

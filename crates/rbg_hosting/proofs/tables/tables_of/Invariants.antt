@@ -1,6 +1,6 @@
 -- There is a table for each of the first descriptions.
 use Rattle.std.proofs.Common.{take}
-use Rattle.rbg_floor.specs.Openings.{AreLoaded, starts_of}
+use Rattle.rbg_hall.specs.Openings.{AreLoaded, starts_of}
 use Rattle.rbg_hosting.specs.Tables.{AreTablesOf, texts_of}
 use Rattle.rbg_hosting.proofs.tables.tables_of.Given as goal
 

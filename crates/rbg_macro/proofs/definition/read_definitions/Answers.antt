@@ -1,7 +1,7 @@
 -- Definitions are read part by part.
 use Rattle.rbg_base.proofs.Common.{◌≡◌, Err, ◌+◌, ◌≤◌, length, map, arith, err_from_is_err_and, take_rest}
 use Rattle.rbg_macro.proofs.Common.{defines_of, definitions_of}
-use Rattle.rbg_tokens.specs.Token.{lexeme_of}
+use Rattle.rbg_macro.specs.Token.{lexeme_of}
 use Rattle.rbg_macro.proofs.Defined.{first_is_hash, defined_behind, faults_behind}
 use Rattle.rbg_macro.proofs.Exits.{unless_weaker}
 use Rattle.rbg_macro.proofs.definition.read_definitions.Goals as goal

@@ -1,7 +1,7 @@
 -- A section's list is counted and read.
 use Rattle.rbg_base.proofs.Common.{length, refl, arith, length-map, err_from_is_err_and}
 use Rattle.rbg_macro.proofs.Common.{section_of, Fails}
-use Rattle.rbg_tokens.specs.Token.{lexeme_of}
+use Rattle.rbg_macro.specs.Token.{lexeme_of}
 use Rattle.rbg_macro.proofs.Exits.{unless_weaker}
 use Rattle.rbg_macro.proofs.Reading.{counted_all}
 use Rattle.rbg_macro.proofs.Sections.{section_too_long, section_read, section_fails}

@@ -1,6 +1,6 @@
 -- A parameter's name is the place of its argument.
 use Rattle.std.proofs.Common.{◌∙◌, sym}
-use Rattle.rbg_tokens.specs.Token.{lexeme_of}
+use Rattle.rbg_macro.specs.Token.{lexeme_of}
 use Rattle.rbg_macro.proofs.Names.{place_of, word_of}
 use Rattle.rbg_macro.proofs.macros.word_or_place.Goals as goal
 

@@ -1,4 +1,4 @@
--- What stands behind the digest's line decides, and without that line the text is no game file for the description.
+-- What stands after the digest's line decides, and without that line the text is no game file for the description.
 use Rattle.std.proofs.Common.{ℕ, List, ◌++◌, sym, ◌∙◌, ap}
 use Rattle.sha2.specs.Sha256.{sha256}
 use Rattle.rbg_network.proofs.GameFileLemmas.{naming_by_tail, no_naming}

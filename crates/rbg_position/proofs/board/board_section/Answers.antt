@@ -4,7 +4,7 @@ use Rattle.rbg_grammar.specs.Spells.{HasSection}
 use Rattle.rbg_macro.proofs.Common.{HasSections, SectionTokens}
 use Rattle.rbg_macro.specs.declared.source.SectionKind.TheVariants.{Board}
 use Rattle.rbg_macro.proofs.OneExpansion.{sections_once}
-use Rattle.rbg_tokens.specs.Token.{Lexeme}
+use Rattle.rbg_macro.specs.Token.{Lexeme}
 use Rattle.rbg_position.specs.Sections.{ExpandsBoard, section_text}
 use Rattle.rbg_position.proofs.board.board_section.Goals as goal
 

@@ -1,7 +1,7 @@
 -- The section that was found is the one of the board.
 use Rattle.rbg_base.proofs.Common.{◌≡◌, ℕ, ◌++◌, List, Some, slice_get, sym, ap, subst, ◌∙◌, OnOk, same_Some}
 use Rattle.rbg_macro.specs.Sections.{SectionTokens}
-use Rattle.rbg_tokens.specs.Token.{Lexeme}
+use Rattle.rbg_macro.specs.Token.{Lexeme}
 use Rattle.rbg_position.specs.Sections.{section_text}
 use Rattle.rbg_position.specs.internal.Walking.{IsSectionAt}
 use Rattle.rbg_position.proofs.board.put_board.Goals as goal

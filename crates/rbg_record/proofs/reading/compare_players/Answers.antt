@@ -1,6 +1,6 @@
 use Rattle.std.proofs.Common.{List, ℕ, rules, subst, ap, ◌∙◌}
 use Rattle.rbg_rules.specs.Meaning.{AbstractGame}
-use Rattle.rbg_lines.specs.Heading.{SpellsPlayers}
+use Rattle.rbg_record.specs.Heading.{SpellsPlayers}
 use Rattle.rbg_record.specs.Lines as lines
 use Rattle.rbg_record.proofs.reading.compare_players.Goals as goal
 

@@ -9,7 +9,7 @@ pub loop-to-init : goal.loop-to-init
 loop-to-init g c =
     let position : IsPositionOf c.args.rules.now.rules c.in_ok-position.position = one_within (IsPositionOf c.args.rules.now.rules) _ c.in_ok-position.position c.in_ok-position.ensures c.following.ensures.within in
     record {
-      scanning = begin_scan c.following.result.now c.in_ok-position.position c.may_end-ends.result c.in_ok-position.ensures c.following.ensures.follow c.may_end-ends.ensures;
+      scanning = begin_scan c.args.shifts c.following.result.now c.in_ok-position.position c.may_end-ends.result c.in_ok-position.ensures c.following.ensures.follow c.may_end-ends.ensures;
       there = c.requires.there;
       position = position;
       few = position.from_one;

@@ -7,7 +7,7 @@ use Rattle.rbg_search.proofs.scan.scan_inside.Given as goal
 
 abbrev pub invariant-loop-to : goal.invariant-loop-to
 invariant-loop-to g l = record {
-  scanning : IsScanning l.rules (at_vertex l.state.state l.fn.vertex) (beginning (inside l.pattern)) l.vertex l.position l.ends l.pairs;
+  scanning : IsScanning l.rules (at_vertex l.state.state l.fn.vertex) (beginning (inside l.pattern)) l.vertex l.position l.ends l.shifts l.pairs;
   there : l.vertex < length l.rules.board.first;
   position : IsPositionOf l.rules.rules l.position;
   few : l.pairs < l.position;

@@ -1,8 +1,8 @@
 -- One table more is that of its game.
 use Rattle.std.proofs.Common.{sym, subst}
 use Rattle.std.proofs.lemmas.List.Elements.{All-push}
-use Rattle.rbg_floor.specs.Openings.{AreLoaded}
-use Rattle.rbg_floor.specs.declared.table.Table.{Table}
+use Rattle.rbg_hall.specs.Openings.{AreLoaded}
+use Rattle.rbg_hall.specs.declared.table.Table.{Table}
 use Rattle.rbg_game.specs.Loading.{Loads}
 use Rattle.rbg_test_parts.proofs.tables.tables.Goals as goal
 

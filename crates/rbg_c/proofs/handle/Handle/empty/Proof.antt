@@ -1,8 +1,7 @@
 -- `empty` owns nothing.
-use Rattle.std.proofs.Common.{◌≡◌, List, [], ◌∷◌, refl, lit<}
+use Rattle.std.proofs.Common.{◌≡◌, [], ◌∷◌, refl, lit<}
 use Rattle.std.specs.Prelude.{Option, None}
-use mir.Val.{Val, vint}
-use mir.Syntax.{w64}
+use mir.Val.{Val}
 use base.Logic.{SProp, emp}
 use base.Fml.{ftrue}
 use types.Kit.{‵, raw, ◌⊛◌, ◌$◌, ◌∵◌, !, qed, by, keep, split, use0, feq_i}
@@ -18,7 +17,7 @@ use denote.Steps.{nothing}
 use denote.Triple.Walked.{Stays, walk_of}
 use Rattle.std.proofs.raw_atomic.Walks.{proved_at, leaves}
 use Rattle.rbg_c.proofs.Handles.{one, handle_in}
-use Rattle.rbg_states.specs.States.{AbstractState}
+use Rattle.rbg_c.specs.States.{AbstractState}
 use Rattle.rbg_c.specs.contracts.handle.Handle.empty.{ended, clauses}
 use Rattle.rbg_c.specs.contracts.handle.Handle.empty.Key.{name as #self}
 use Rattle.rbg_c.proofs.handle.Handle.empty.Statement.{statement}

@@ -1,6 +1,6 @@
 -- `into_loose` tests the pointer, and takes over what the handle holds.
-use Rattle.std.proofs.Common.{◌≡◌, ℕ, List, [], ◌∷◌, ◌++◌, refl, sym, ap, ◌∙◌, subst, lit<}
-use Rattle.std.specs.Prelude.{Option, None, Some}
+use Rattle.std.proofs.Common.{◌≡◌, List, [], ◌∷◌, ◌++◌, refl, sym, ap, ◌∙◌, subst, lit<}
+use Rattle.std.specs.Prelude.{None, Some}
 use mir.Syntax.{impl, tnil, dnil}
 use mir.Val.{Val, vptr, vcons, vnil}
 use base.Logic.{SProp, ent, emp, id⊢}
@@ -31,7 +31,7 @@ use Rattle.std_alloc.proofs.ResultValues.{and_tt}
 use Rattle.std.proofs.raw_atomic.Walks.{proved_at, leaves}
 use Rattle.rbg_c.proofs.Values.{both, Loose, loose_good, loose_in}
 use Rattle.rbg_c.proofs.Handles.{one, Hd, either_held, handle_out}
-use Rattle.rbg_states.specs.contracts.state.State.{the_row as Row}
+use Rattle.rbg_c.specs.contracts.state.State.{the_row as Row}
 use Rattle.rbg_c.specs.contracts.handle.Handle.into_loose.{ended, clauses}
 use Rattle.rbg_c.specs.contracts.handle.Handle.into_loose.Key.{name as #self}
 use Rattle.rbg_c.proofs.handle.Handle.into_loose.Statement.{statement}

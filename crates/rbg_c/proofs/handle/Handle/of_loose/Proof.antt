@@ -1,6 +1,6 @@
 -- `of_loose` keeps the pointer, and forgets the allocator, which has no bytes.
 use Rattle.std.proofs.Common.{◌≡◌, List, [], ◌∷◌, ◌++◌, refl, sym, subst}
-use Rattle.std.specs.Prelude.{Option, Some}
+use Rattle.std.specs.Prelude.{Some}
 use mir.Val.{Val, vptr}
 use base.Logic.{SProp, ent, emp, id⊢}
 use base.Fml.{ftrue}
@@ -24,8 +24,7 @@ use Rattle.std.specs.contracts.impls.GlobalAllocator.TheImpl.{ghosts}
 use Rattle.std.proofs.raw_atomic.Walks.{proved_at, leaves}
 use Rattle.rbg_c.proofs.Values.{both, Loose, loose_good, loose_out}
 use Rattle.rbg_c.proofs.Handles.{one, handle_in}
-use Rattle.rbg_states.specs.States.{AbstractState}
-use Rattle.rbg_states.specs.contracts.state.State.{the_row as Row}
+use Rattle.rbg_c.specs.contracts.state.State.{the_row as Row}
 use Rattle.rbg_c.specs.contracts.handle.Handle.of_loose.{ended, clauses}
 use Rattle.rbg_c.specs.contracts.handle.Handle.of_loose.Key.{name as #self}
 use Rattle.rbg_c.proofs.handle.Handle.of_loose.Statement.{statement}

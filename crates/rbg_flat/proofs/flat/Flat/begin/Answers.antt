@@ -1,5 +1,5 @@
 use Rattle.std.proofs.Common.{ℕ, ◌<◌, length, false, subst, sym}
-use Rattle.rbg_leaps.proofs.Common.{IsLeap, EndsAcross, start_of}
+use Rattle.rbg_shifts.proofs.Common.{IsLeap, EndsAcross, start_of}
 use Rattle.rbg_flat.proofs.Common.{LearnsEnd, IsToTry, Meets}
 use Rattle.rbg_flat.proofs.Doing.{nothing_done}
 use Rattle.rbg_flat.proofs.Takings.{begins}

@@ -1,5 +1,5 @@
 use Rattle.std.proofs.Common.{ℕ}
-use Rattle.rbg_leaps.proofs.Common.{IsLeap, EndsAcross, start_of}
+use Rattle.rbg_shifts.proofs.Common.{IsLeap, EndsAcross, start_of}
 use Rattle.rbg_flat.proofs.Common.{IsAmong, IsToTryIn}
 use Rattle.rbg_flat.proofs.Leaping.{targets_for, among_leap, leap_among, same_size, still_on}
 use Rattle.rbg_flat.proofs.Meetings.{meets_same}

@@ -1,6 +1,6 @@
 use Rattle.rbg_base.proofs.Common.{◌≡◌, ℕ, ◌+◌, ◌*◌, ◌/◌, ◌%◌, ◌<◌, refl, subst, arith, bit_at}
 use Rattle.rbg_rules.specs.Meaning.{IsStart, after}
-use Rattle.rbg_leaps.proofs.Common.{AreTargetsFrom, EndsAcross}
+use Rattle.rbg_shifts.proofs.Common.{AreTargetsFrom, EndsAcross}
 use Rattle.rbg_flat.proofs.Common.{IsInWord, IsToTryIn}
 use Rattle.rbg_flat.proofs.Leaping.{same_size}
 use Rattle.rbg_flat.proofs.Stills.{meets_still, targets_in, still_on_board, learns_or, ends_still}

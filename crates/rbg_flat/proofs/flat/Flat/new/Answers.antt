@@ -1,6 +1,6 @@
 use Rattle.std.proofs.Common.{ℕ, ◌≤◌, sym, subst, rules}
 use Rattle.std.proofs.Math.Pow.{pow_mono}
-use Rattle.rbg_leaps.specs.Limits.{row_words}
+use Rattle.rbg_shifts.specs.Limits.{row_words}
 use Rattle.rbg_flat.proofs.flat.Flat.new.Goals as goal
 
 pub returns : goal.returns

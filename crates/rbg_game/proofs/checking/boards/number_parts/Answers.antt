@@ -1,7 +1,7 @@
 use Rattle.std.proofs.Common.{sym, subst, map, flat_map}
 use Rattle.rbg_grammar.specs.Views.{names_of}
-use Rattle.rbg_numbering.specs.declared.error.NumberingError.{NumberingError}
-use Rattle.rbg_numbering.specs.NameTables.{HasLookUpFault, no_memory}
+use Rattle.rbg_game.specs.declared.numbering_error.NumberingError.{NumberingError}
+use Rattle.rbg_game.specs.NameTables.{HasLookUpFault, no_memory}
 use Rattle.rbg_base.proofs.Errors.{passed_on}
 use Rattle.rbg_game.proofs.checking.boards.number_parts.Goals as goal
 

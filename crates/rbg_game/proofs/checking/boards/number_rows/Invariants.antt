@@ -1,7 +1,7 @@
 use Rattle.rbg_base.proofs.Common.{map, take, AllZip}
 use Rattle.rbg_board.specs.Cells.{rows_of}
 use Rattle.rbg_grammar.specs.Views.{names_of}
-use Rattle.rbg_numbering.specs.Names.{IsNumberOf}
+use Rattle.rbg_game.specs.NameNumbers.{IsNumberOf}
 use Rattle.rbg_game.proofs.checking.boards.number_rows.Given as goal
 
 abbrev pub invariant-loop-row : goal.invariant-loop-row

@@ -7,7 +7,7 @@ use Rattle.rbg_grammar.proofs.Common.{SpeltVertex, graph, vertex_of}
 use Rattle.rbg_rules.specs.Meaning.{AreDifferentNames}
 use Rattle.rbg_game.proofs.Common.{game_error_of, GameError, TooMany, Directions, MakesBoard, vertex_names, board_pieces, HasBoardFault, many_directions, no_graph, many_vertices, board_memory, IsCell}
 use Rattle.rbg_game.specs.declared.checking.boards.NamedBoard.{NamedBoard}
-use Rattle.rbg_numbering.specs.Names.{IsNumberOf}
+use Rattle.rbg_game.specs.NameNumbers.{IsNumberOf}
 use Rattle.rbg_base.proofs.Errors.{passed_on}
 use Rattle.rbg_game.proofs.NamedRows.{of_ok, of_err, cells_fault, by_refusal}
 use Rattle.rbg_game.proofs.NamedGraphs.{graph_made, graph_fault}

@@ -1,7 +1,7 @@
 use Rattle.rbg_base.proofs.Common.{ℕ, List, map, take, AllZip}
 use Rattle.rbg_board.specs.Vertices.{written_of}
 use Rattle.rbg_grammar.proofs.Common.{graph, vertex_of}
-use Rattle.rbg_numbering.specs.Names.{IsNumberOf}
+use Rattle.rbg_game.specs.NameNumbers.{IsNumberOf}
 use Rattle.rbg_game.proofs.Common.{board_pieces, IsCell}
 use Rattle.rbg_game.proofs.checking.graphs.number_cells.Given as goal
 

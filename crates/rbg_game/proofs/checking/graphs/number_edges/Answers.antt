@@ -1,7 +1,7 @@
 use Rattle.rbg_base.proofs.Common.{sym, subst, Contains, err_from_is_err_and}
 use Rattle.rbg_grammar.specs.Views.{name_of, edge_of}
 use Rattle.rbg_grammar.specs.declared.description.Edge.{Edge}
-use Rattle.rbg_numbering.proofs.Lists.{AllZip-step}
+use Rattle.rbg_game.proofs.Lists.{AllZip-step}
 use Rattle.rbg_game.specs.internal.Graphs.{IsTarget, IsEdge}
 use Rattle.rbg_game.proofs.GraphSteps.{known_found, target_of}
 use Rattle.rbg_game.proofs.checking.graphs.number_edges.Goals as goal

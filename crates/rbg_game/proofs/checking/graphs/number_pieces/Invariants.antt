@@ -1,6 +1,6 @@
 use Rattle.rbg_base.proofs.Common.{map, take, AllZip}
 use Rattle.rbg_grammar.proofs.Common.{graph, vertex_of}
-use Rattle.rbg_numbering.specs.Names.{IsNumberOf}
+use Rattle.rbg_game.specs.NameNumbers.{IsNumberOf}
 use Rattle.rbg_game.specs.Faults.{board_pieces}
 use Rattle.rbg_game.proofs.checking.graphs.number_pieces.Given as goal
 

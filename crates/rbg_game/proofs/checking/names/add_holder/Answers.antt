@@ -1,7 +1,7 @@
 use Rattle.std.proofs.Common.{[], ◌∷◌, refl, subst, sym, arith}
 use Rattle.rbg_grammar.specs.Views.{bounded_of}
 use Rattle.rbg_game.proofs.Common.{game_error_of, GameError, Memory, HasHolderFault, by_name, by_bound}
-use Rattle.rbg_numbering.specs.NameTables.{no_memory}
+use Rattle.rbg_game.specs.NameTables.{no_memory}
 use Rattle.rbg_base.proofs.Errors.{passed_on}
 use Rattle.rbg_game.proofs.checking.names.add_holder.Goals as goal
 

@@ -1,8 +1,8 @@
 use Rattle.rbg_base.proofs.Common.{◌≡◌, ◌++◌, List, map, take, ap, sym, ◌∙◌, take-map}
 use Rattle.rbg_grammar.proofs.Common.{name_of, SpeltName}
-use Rattle.rbg_numbering.proofs.Common.{texts_of, HasNameFault}
-use Rattle.rbg_numbering.proofs.Lists.{slice_get-map_read}
-use Rattle.rbg_numbering.proofs.LookUps.{name_fault_at}
+use Rattle.rbg_game.proofs.NumberingCommon.{texts_of, HasNameFault}
+use Rattle.rbg_game.proofs.Lists.{slice_get-map_read}
+use Rattle.rbg_game.proofs.LookUps.{name_fault_at}
 use Rattle.rbg_base.proofs.Errors.{passed_on}
 use Rattle.rbg_game.proofs.checking.names.add_names.Goals as goal
 

@@ -1,6 +1,6 @@
 use Rattle.std.proofs.Common.{◌≡◌, ◌++◌, map, take}
 use Rattle.rbg_grammar.specs.Views.{name_of}
-use Rattle.rbg_numbering.specs.Names.{texts_of}
+use Rattle.rbg_game.specs.NameNumbers.{texts_of}
 use Rattle.rbg_game.proofs.checking.names.add_names.Given as goal
 
 abbrev pub invariant-loop-name : goal.invariant-loop-name

@@ -3,7 +3,7 @@ use Rattle.rbg_grammar.proofs.Common.{description_of_parts, name_of, bounded_of,
 use Rattle.rbg_grammar.specs.declared.names.Name.{Name}
 use Rattle.rbg_grammar.specs.declared.description.Bounded.{Bounded}
 use Rattle.rbg_game.proofs.Common.{TooMany, Players, Pieces, Variables, game_error_of, holder_names, holders_of, HasHolderFault, AddsBounds, HasFault, many_players, many_pieces, many_variables}
-use Rattle.rbg_numbering.proofs.Common.{texts_of, HasNameFault}
+use Rattle.rbg_game.proofs.NumberingCommon.{texts_of, HasNameFault}
 use Rattle.rbg_base.proofs.Errors.{passed_on}
 use Rattle.rbg_game.proofs.NameFaults.{AddsBounds-append, players_fault, variables_fault, pieces_fault}
 use Rattle.rbg_game.proofs.checking.names.number_things.Goals as goal

@@ -1,5 +1,5 @@
 use Rattle.std.proofs.Common.{◌≡◌, length}
-use Rattle.rbg_hall.proofs.Common.{lines_in_all, bytes_in, undone}
+use Rattle.rbg_hall.proofs.TableCommon.{lines_in_all, bytes_in, undone}
 use Rattle.rbg_hall.proofs.queues.HallOut.take_back.Given as goal
 
 abbrev pub invariant-loop-mark : goal.invariant-loop-mark

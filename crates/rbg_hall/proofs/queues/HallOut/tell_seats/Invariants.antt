@@ -1,5 +1,5 @@
 use Rattle.std.proofs.Common.{◌≡◌, take}
-use Rattle.rbg_hall.proofs.Common.{to_lines, told_to, undone}
+use Rattle.rbg_hall.proofs.TableCommon.{to_lines, told_to, undone}
 use Rattle.rbg_hall.proofs.queues.HallOut.tell_seats.Given as goal
 
 abbrev pub invariant-loop-index : goal.invariant-loop-index

@@ -1,7 +1,7 @@
 -- The earlier tokens stay, and the new one is the last.
 use Rattle.std.proofs.Common.{◌∷◌, [], ◌++◌, List, ◌∙◌, ap}
 use Rattle.rbg_macro.specs.internal.ReadTokens.{read_lexeme}
-use Rattle.rbg_tokens.specs.Token.{Lexeme}
+use Rattle.rbg_macro.specs.Token.{Lexeme}
 use Rattle.rbg_macro.proofs.Spans.{kept_more}
 use Rattle.rbg_macro.proofs.buffer.TokenBuffer.push.Goals as goal
 

@@ -1,7 +1,7 @@
 -- The body so far is that of the tokens so far.
 use Rattle.std.proofs.Common.{◌≡◌, map, take}
 use Rattle.rbg_macro.proofs.Common.{body_of, item_in, texts_in}
-use Rattle.rbg_tokens.specs.Token.{lexeme_of}
+use Rattle.rbg_macro.specs.Token.{lexeme_of}
 use Rattle.rbg_macro.proofs.macros.Template.new.Given as goal
 
 abbrev pub invariant-loop-token : goal.invariant-loop-token

@@ -1,7 +1,7 @@
 -- The tokens so far are marked.
 use Rattle.std.proofs.Common.{◌≡◌, map, take, All}
 use Rattle.rbg_macro.proofs.Common.{IsMarked, read_lexeme}
-use Rattle.rbg_tokens.specs.Token.{lexeme_of}
+use Rattle.rbg_macro.specs.Token.{lexeme_of}
 use Rattle.rbg_macro.proofs.marking.MarkedMacros.mark_all.Given as goal
 
 abbrev pub invariant-loop-token : goal.invariant-loop-token

@@ -1,8 +1,8 @@
--- A byte that is passed on is written behind the ones before it.
+-- A byte that is passed on is written after the ones before it.
 use Rattle.std.proofs.Common.{ℕ, ◌<◌, List, [], ◌∷◌, ◌++◌, length, take, drop, slice_index, ap, sym, ◌∙◌, arith, append-nil}
 use Rattle.std.proofs.lemmas.List.{length-append}
 use Rattle.rbg_network.specs.Passing.{passed}
-use Rattle.rbg_network.proofs.PassedLemmas.{byte_at, passed_more, begun_more, written_behind}
+use Rattle.rbg_network.proofs.PassedLemmas.{byte_at, passed_more, begun_more, written_after}
 use Rattle.rbg_network.proofs.passing.Passing.pass.Goals as goal
 use Rattle.rbg_network.proofs.passing.Passing.pass.Goals.{then-takes, else-takes}
 
@@ -28,7 +28,7 @@ loop-index-preserved c =
           record {
             kept = omega (arith, w.kept-is, so_far.kept, long, one);
             behind = omega (arith, w.kept-is, so_far.behind);
-            buffer = w.buffer-is ∙ (written_behind before old buffer kept byte so_far.kept (omega (arith, so_far.behind, within)) so_far.buffer ∙ (ap (λ n. (before ++ byte ∷ []) ++ drop n old) (sym w.kept-is) ∙ ap (λ front. front ++ drop c.if-takes.kept old) (sym more)));
+            buffer = w.buffer-is ∙ (written_after before old buffer kept byte so_far.kept (omega (arith, so_far.behind, within)) so_far.buffer ∙ (ap (λ n. (before ++ byte ∷ []) ++ drop n old) (sym w.kept-is) ∙ ap (λ front. front ++ drop c.if-takes.kept old) (sym more)));
             begun = begun_then;
           })
       | else-takes w ↦ (

@@ -1,6 +1,7 @@
-use Rattle.rbg_base.proofs.Common.{rules, ◌≡◌, ℕ, List, [], ◌∷◌, ◌++◌, take, sym, subst, arith, Contains, Contains-append_left}
+use Rattle.rbg_base.proofs.Common.{rules, ◌≡◌, ℕ, List, [], ◌∷◌, ◌++◌, take, sym, subst, arith, Contains, Contains-append_left, Result, Ok, Err, OnErr}
 use Rattle.std.proofs.lemmas.List.{take_all}
 use Rattle.rbg_rules.specs.Meaning.{IsPatternAt}
+use Rattle.rbg_pairs.specs.Met.{IsMetPart}
 use Rattle.rbg_pairs.specs.Part.{IsPart, IsTrialAt}
 use Rattle.rbg_pairs.proofs.Parts.{whole_part}
 use Rattle.rbg_pairs.proofs.Takings.{quiet_before}
@@ -48,4 +49,15 @@ returns-in_default-tried g c = record {
   fresh = c.pair-pair.ensures.once;
   done = search rules;
   whole = search rules;
+  lost = tt;
 }
+
+on_err : {X E : Type 0} (r : Result X E) (P : Type 0) → P → OnErr r P
+on_err (Ok x) P is = tt
+on_err (Err e) P is = is
+
+-- There was no memory for what follows: what was met so far is right.
+pub returns-in_err-self-clause-lost : goal.returns-in_err-self-clause-lost
+returns-in_err-self-clause-lost g c = on_err c.from_residual.result _ (λ f part.
+    let here = c.take_told.ensures.part f (c.loop-taken.invariant.part f part) in
+    subst (λ (ps : List (ℕ × ℕ)). IsMetPart c.args.rules.now c.args.state.now.state f ps) (sym c.in_err-self.ensures.refused) (record { sound = here.sound; begun = here.begun }))

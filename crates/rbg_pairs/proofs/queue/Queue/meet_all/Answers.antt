@@ -1,4 +1,4 @@
-use Rattle.rbg_base.proofs.Common.{◌≡◌, ℕ, List, take, true, refl, ap, ◌∙◌, subst, arith, All, with_items_is}
+use Rattle.rbg_base.proofs.Common.{◌≡◌, ℕ, List, take, true, refl, ap, ◌∙◌, subst, arith, All, with_items_is, Result, Ok, Err, OnErr}
 use Rattle.rbg_pairs.specs.Meeting.{Met, HasMark, AreMarked, MeetsAll, is_marked, mark_at}
 use Rattle.rbg_pairs.proofs.Meetings.{met_all_before}
 use Rattle.rbg_pairs.proofs.queue.Queue.meet_all.Goals as goal
@@ -37,3 +37,10 @@ returns-then-are_marked-clause-met c =
     let pairs : take q.met c.make_room.new.room.items ≡ c.args.self.now.pairs = same ∙ ap (λ (m : Met). m.pairs) c.self.view_is in
     subst (λ (xs : List (ℕ × ℕ)). MeetsAll xs (take q.met c.make_room.new.room.items) c.args.vertex c.args.positions.now) pairs
     (met_all_before q.vertices q.marks q.rows q.words.items (take q.met c.make_room.new.room.items) c.args.vertex c.args.positions.now are has marked)
+
+on_err : {X E : Type 0} (r : Result X E) (P : Type 0) → P → OnErr r P
+on_err (Ok x) P is = tt
+on_err (Err e) P is = is
+
+pub returns-in_err-make_room-clause-refused : goal.returns-in_err-make_room-clause-refused
+returns-in_err-make_room-clause-refused c = on_err c.from_residual.result _ (ap (take c.self.inside.met) c.in_err-make_room.ensures.refused ∙ ap (λ (m : Met). m.pairs) c.self.view_is)

@@ -17,8 +17,8 @@ use Rattle.rbg_search.proofs.Patterns.{pattern_inside, inside_start}
 use Rattle.rbg_search.proofs.Counted.{memory_not_deep, memory_not_wide, ok_not_err}
 use Rattle.rbg_search.proofs.CountedSteps.{not_memory, inside_pairs}
 use Rattle.rbg_search.proofs.Asks.{asked_since, found_since, handed_on, answered_on, not_entered, as_pattern, asked_there, asked_behind, asked_same}
-use Rattle.rbg_search.proofs.Finding.{IsNextPair, finds_none, finds_room, finds_asked, finds_refused, asks_within, reached_next, pairs_begun, begun_now, pairs_on, pairs_failed, pairs_asked, pairs_more, pairs_forced, pairs_own}
-use Rattle.rbg_search.proofs.FindingBySets.{sets_begun, sets_on, sets_now, reached_here, sets_failed, sets_more, sets_forced, sets_part, sets_own}
+use Rattle.rbg_search.proofs.Finding.{IsNextPair, finds_none, finds_room, finds_asked, finds_refused, asks_within, reached_next, pairs_begun, begun_now, pairs_on, pairs_stopped, pairs_left, pairs_lost, pairs_dropped, pairs_more, pairs_forced, pairs_own}
+use Rattle.rbg_search.proofs.FindingBySets.{sets_begun, sets_on, sets_now, reached_here, sets_left, sets_lost, sets_more, sets_forced, sets_part, sets_own}
 use Rattle.rbg_search.proofs.Orders.{positions_within}
 use Rattle.rbg_search.proofs.Trying.{tries_none, tries_end, tries_deep, tries_failed, tries_yes, tries_grow, tries_more}
 use Rattle.rbg_search.proofs.search.Search.+search.Goals as goal
@@ -45,6 +45,9 @@ ask-word_runs-runs-requires g t c κs within =
     let fits : IsStateOf c.args.self.now.game c.stand.new.state.state = c.stand.ensures.fits c.args.self.now.game c.requires.fits in
     let nested : NestsFrom c.args.self.now.game.rules (c.args.nested - 1) (beginning (inside c.args.position)) = c.requires.nested (c.args.nested - 1) (omega (arith, c.requires.some)) in
     (search rules, (within, (fits, (nested, pattern_inside c.args.self.now.game.rules c.args.position c.requires.there))))
+
+pub ask-answer-requires-clause-few : goal.ask-answer-requires-clause-few
+ask-answer-requires-clause-few g t c = c.in-Some.ensures.taken.few
 
 pub ask-returns-in-Some-clause-asked : goal.ask-returns-in-Some-clause-asked
 ask-returns-in-Some-clause-asked g t c = record {
@@ -83,7 +86,7 @@ pairs_part-begun-requires g t c =
 pub pairs_part-returns-in_err-enter-clause-asked : goal.pairs_part-returns-in_err-enter-clause-asked
 pairs_part-returns-in_err-enter-clause-asked g t c =
     not_entered c.args.self.now c.enter.new.self c.args.state.now c.enter.new.state (start_of c.args.origin) c.enter.result c.from_residual.result c.in_err-enter.field-0.0 c.in_err-enter.was c.from_residual.ensures.1 c.enter.ensures.kept c.enter.ensures.given_back c.enter.ensures.room
-    (c.enter.ensures.counts c.args.state.now.state (start_of c.args.origin) c.requires.start) c.enter.ensures.grows c.enter.ensures.none_taken
+    (c.enter.ensures.counts c.args.state.now.state (start_of c.args.origin) c.requires.start) (c.in_err-enter.ensures.lost c.args.state.now.state (start_of c.args.origin))
 
 pub pairs_part-returns-in_err-flat-clause-asked : goal.pairs_part-returns-in_err-flat-clause-asked
 pairs_part-returns-in_err-flat-clause-asked g t c =
@@ -91,8 +94,8 @@ pairs_part-returns-in_err-flat-clause-asked g t c =
     (finds_none c.args.self.now c.enter.new.self c.begun.new.self c.args.state.now c.enter.new.state (start_of c.args.origin) c.enter.ensures.lawful c.requires.start c.enter.ensures.kept c.begun.ensures.kept c.enter.ensures.given_back c.enter.ensures.room c.in_ok-enter.ensures.enough c.in_ok-enter.ensures.opened c.enter.ensures.none_taken c.enter.ensures.spent)
     c.begun.new.self refl refl c.from_residual-in_err-flat.result c.in_err-flat.field-0.0 c.from_residual-in_err-flat.ensures.1 c.in_err-flat.ensures.memory refl
 
-pub pairs_part-loop-flat-init : goal.pairs_part-loop-flat-init
-pairs_part-loop-flat-init g t c =
+pub pairs_part-loop-next-init : goal.pairs_part-loop-next-init
+pairs_part-loop-next-init g t c =
     let here : c.args.state.now.state.vertex ≡ c.vertex.result = sym (c.vertex.ensures ∙ ap (λ (h : History). h.state.vertex) c.enter.ensures.given_back) in
     pairs_begun c.in_ok-flat.flat.value
     (finds_none c.args.self.now c.enter.new.self c.begun.new.self c.args.state.now c.enter.new.state (start_of c.args.origin) c.enter.ensures.lawful c.requires.start c.enter.ensures.kept c.begun.ensures.kept c.enter.ensures.given_back c.enter.ensures.room c.in_ok-enter.ensures.enough c.in_ok-enter.ensures.opened c.enter.ensures.none_taken c.enter.ensures.spent)
@@ -101,101 +104,128 @@ pairs_part-loop-flat-init g t c =
 
 pub pairs_part-advance-requires-clause-fits : goal.pairs_part-advance-requires-clause-fits
 pairs_part-advance-requires-clause-fits g t c =
-    onward IsStateOf c.args.self.now c.loop-flat.self c.args.state.now c.loop-flat.state c.loop-flat.invariant.finds.kept c.loop-flat.invariant.finds.given_back c.requires.fits
+    onward IsStateOf c.args.self.now c.loop-next.self c.args.state.now c.loop-next.state c.loop-next.invariant.finds.kept c.loop-next.invariant.finds.given_back c.requires.fits
 
 pub pairs_part-advance-requires-clause-marks : goal.pairs_part-advance-requires-clause-marks
 pairs_part-advance-requires-clause-marks g t c =
-    onward_rules (λ x. HasMarksOf x c.loop-flat.flat.value.queue) c.args.self.now c.loop-flat.self c.loop-flat.invariant.finds.kept c.loop-flat.invariant.begun.marks
+    onward_rules (λ x. HasMarksOf x c.loop-next.flat.value.queue) c.args.self.now c.loop-next.self c.loop-next.invariant.finds.kept c.loop-next.invariant.begun.marks
 
 pub pairs_part-advance-requires-clause-within : goal.pairs_part-advance-requires-clause-within
-pairs_part-advance-requires-clause-within g t c = c.loop-flat.invariant.begun.within
+pairs_part-advance-requires-clause-within g t c = c.loop-next.invariant.begun.within
 
-pub pairs_part-returns-in_err-vertex-clause-asked : goal.pairs_part-returns-in_err-vertex-clause-asked
-pairs_part-returns-in_err-vertex-clause-asked g t c =
-    finds_refused c.loop-flat.invariant.finds c.loop-flat.self refl refl c.from_residual-in_err-vertex.result Memory c.from_residual-in_err-vertex.ensures.1 refl refl
+pub pairs_part-lose-requires-clause-marks : goal.pairs_part-lose-requires-clause-marks
+pairs_part-lose-requires-clause-marks g t c = c.advance.ensures.marks
+
+pub pairs_part-lose-requires-clause-one : goal.pairs_part-lose-requires-clause-one
+pairs_part-lose-requires-clause-one g t c = finds_room c.loop-next.invariant.finds
+
+pub pairs_part-returns-in_default-clause-asked : goal.pairs_part-returns-in_default-clause-asked
+pairs_part-returns-in_default-clause-asked g t c =
+    let flat = c.advance.new.flat.value in
+    pairs_stopped c.loop-next.invariant flat.queue.pairs (c.in_default.ensures.lost (start_of c.args.origin) (begun_now c.loop-next.invariant flat)) _ Memory c.lose.ensures.over refl c.lose.new.self c.lose.ensures.kept c.lose.ensures.opened c.lose.ensures.taken
 
 pub pairs_part-ask-requires : goal.pairs_part-ask-requires
 pairs_part-ask-requires g t c κs within =
     let flat = c.advance.new.flat.value in
-    let is = pairs_on c.loop-flat.invariant flat (c.in_ok-vertex.ensures.begun (start_of c.args.origin)) c.in_ok-vertex.ensures.still_done c.in_ok-vertex.ensures.quiet in
-    let next : IsNextPair c.loop-flat.self flat c.in-Some.field-0.vertex c.in-Some.field-0.position = search rules in
+    let is = pairs_on c.loop-next.invariant flat (c.in-Ok.ensures.begun (start_of c.args.origin)) c.in-Ok.ensures.still_done c.in-Ok.ensures.quiet in
+    let next : IsNextPair c.loop-next.self flat c.in-Some.field-0.vertex c.in-Some.field-0.position = search rules in
     (search rules, (within, asks_within is.finds c.requires.fits c.args.nested c.requires.nested _ _ (reached_next is _ _ next) next.vertex next.pattern))
 
-pub pairs_part-returns-in_err-valid-clause-asked : goal.pairs_part-returns-in_err-valid-clause-asked
-pairs_part-returns-in_err-valid-clause-asked g t c =
+pub pairs_part-lose-requires-in-Err-clause-marks : goal.pairs_part-lose-requires-in-Err-clause-marks
+pairs_part-lose-requires-in-Err-clause-marks g t c = onward_rules (λ x. HasMarksOf x c.advance.new.flat.value.queue) c.loop-next.self c.ask.new.self c.ask.ensures.asked.kept c.advance.ensures.marks
+
+pub pairs_part-lose-requires-in-Err-clause-one : goal.pairs_part-lose-requires-in-Err-clause-one
+pairs_part-lose-requires-in-Err-clause-one g t c =
     let flat = c.advance.new.flat.value in
-    let is = pairs_on c.loop-flat.invariant flat (c.in_ok-vertex.ensures.begun (start_of c.args.origin)) c.in_ok-vertex.ensures.still_done c.in_ok-vertex.ensures.quiet in
-    let next : IsNextPair c.loop-flat.self flat c.in-Some.field-0.vertex c.in-Some.field-0.position = search rules in
-    pairs_failed is _ _ next c.ask.ensures.asked c.from_residual-in_err-valid.result c.in_err-valid.field-0.0 c.in_err-valid.was c.from_residual-in_err-valid.ensures.1
+    let is = pairs_on c.loop-next.invariant flat (c.in-Ok.ensures.begun (start_of c.args.origin)) c.in-Ok.ensures.still_done c.in-Ok.ensures.quiet in
+    let next : IsNextPair c.loop-next.self flat c.in-Some.field-0.vertex c.in-Some.field-0.position = search rules in
+    pairs_left is _ _ next c.ask.ensures.asked
+
+pub pairs_part-returns-in-Err-clause-asked : goal.pairs_part-returns-in-Err-clause-asked
+pairs_part-returns-in-Err-clause-asked g t c =
+    let flat = c.advance.new.flat.value in
+    let is = pairs_on c.loop-next.invariant flat (c.in-Ok.ensures.begun (start_of c.args.origin)) c.in-Ok.ensures.still_done c.in-Ok.ensures.quiet in
+    let next : IsNextPair c.loop-next.self flat c.in-Some.field-0.vertex c.in-Some.field-0.position = search rules in
+    pairs_lost is _ _ next c.ask.ensures.asked _ c.in-Err.over c.in-Err.is c.lose-in-Err.ensures.over c.lose-in-Err.new.self c.lose-in-Err.ensures.kept c.lose-in-Err.ensures.opened c.lose-in-Err.ensures.taken
 
 pub pairs_part-take-requires-clause-marks : goal.pairs_part-take-requires-clause-marks
-pairs_part-take-requires-clause-marks g t c = onward_rules (λ x. HasMarksOf x c.advance.new.flat.value.queue) c.loop-flat.self c.ask.new.self c.ask.ensures.asked.kept c.advance.ensures.marks
+pairs_part-take-requires-clause-marks g t c = onward_rules (λ x. HasMarksOf x c.advance.new.flat.value.queue) c.loop-next.self c.ask.new.self c.ask.ensures.asked.kept c.advance.ensures.marks
 
 pub pairs_part-take-requires-clause-vertex : goal.pairs_part-take-requires-clause-vertex
 pairs_part-take-requires-clause-vertex g t c =
-    let next : IsNextPair c.loop-flat.self c.advance.new.flat.value c.in-Some.field-0.vertex c.in-Some.field-0.position = search rules in
-    onward_rules (λ x. c.in-Some.field-0.vertex < length x.board.first) c.loop-flat.self c.ask.new.self c.ask.ensures.asked.kept next.vertex
+    let next : IsNextPair c.loop-next.self c.advance.new.flat.value c.in-Some.field-0.vertex c.in-Some.field-0.position = search rules in
+    onward_rules (λ x. c.in-Some.field-0.vertex < length x.board.first) c.loop-next.self c.ask.new.self c.ask.ensures.asked.kept next.vertex
 
 pub pairs_part-take-requires-clause-there : goal.pairs_part-take-requires-clause-there
 pairs_part-take-requires-clause-there g t c =
-    let next : IsNextPair c.loop-flat.self c.advance.new.flat.value c.in-Some.field-0.vertex c.in-Some.field-0.position = search rules in
-    onward_rules (λ x. IsPatternAt x.rules c.in-Some.field-0.position) c.loop-flat.self c.ask.new.self c.ask.ensures.asked.kept next.pattern
+    let next : IsNextPair c.loop-next.self c.advance.new.flat.value c.in-Some.field-0.vertex c.in-Some.field-0.position = search rules in
+    onward_rules (λ x. IsPatternAt x.rules c.in-Some.field-0.position) c.loop-next.self c.ask.new.self c.ask.ensures.asked.kept next.pattern
 
-pub pairs_part-returns-in_err-take-clause-asked : goal.pairs_part-returns-in_err-take-clause-asked
-pairs_part-returns-in_err-take-clause-asked g t c =
+pub pairs_part-lose-requires-in_default-take-clause-marks : goal.pairs_part-lose-requires-in_default-take-clause-marks
+pairs_part-lose-requires-in_default-take-clause-marks g t c = c.take.ensures.marks
+
+pub pairs_part-lose-requires-in_default-take-clause-one : goal.pairs_part-lose-requires-in_default-take-clause-one
+pairs_part-lose-requires-in_default-take-clause-one g t c =
     let flat = c.advance.new.flat.value in
-    let is = pairs_on c.loop-flat.invariant flat (c.in_ok-vertex.ensures.begun (start_of c.args.origin)) c.in_ok-vertex.ensures.still_done c.in_ok-vertex.ensures.quiet in
-    let next : IsNextPair c.loop-flat.self flat c.in-Some.field-0.vertex c.in-Some.field-0.position = search rules in
-    finds_refused (pairs_asked is _ _ next c.ask.ensures.asked c.in_ok-valid.valid c.in_ok-valid.was c.in_ok-valid.ensures.forced) c.ask.new.self refl refl c.from_residual-in_err-take.result Memory c.from_residual-in_err-take.ensures.1 refl refl
+    let is = pairs_on c.loop-next.invariant flat (c.in-Ok.ensures.begun (start_of c.args.origin)) c.in-Ok.ensures.still_done c.in-Ok.ensures.quiet in
+    let next : IsNextPair c.loop-next.self flat c.in-Some.field-0.vertex c.in-Some.field-0.position = search rules in
+    pairs_left is _ _ next c.ask.ensures.asked
 
-pub pairs_part-loop-flat-preserved : goal.pairs_part-loop-flat-preserved
-pairs_part-loop-flat-preserved g t c =
+pub pairs_part-returns-in_default-take-clause-asked : goal.pairs_part-returns-in_default-take-clause-asked
+pairs_part-returns-in_default-take-clause-asked g t c =
     let flat = c.advance.new.flat.value in
-    let is = pairs_on c.loop-flat.invariant flat (c.in_ok-vertex.ensures.begun (start_of c.args.origin)) c.in_ok-vertex.ensures.still_done c.in_ok-vertex.ensures.quiet in
-    let next : IsNextPair c.loop-flat.self flat c.in-Some.field-0.vertex c.in-Some.field-0.position = search rules in
-    pairs_more is _ _ next c.ask.ensures.asked c.in_ok-valid.valid c.in_ok-valid.was c.in_ok-valid.ensures.forced c.take.new.flat.value c.in_ok-valid.valid c.in_ok-valid.ensures.valid c.in_ok-take.ensures.done (c.in_ok-take.ensures.begun c.loop-flat.state.state (start_of c.args.origin))
+    let is = pairs_on c.loop-next.invariant flat (c.in-Ok.ensures.begun (start_of c.args.origin)) c.in-Ok.ensures.still_done c.in-Ok.ensures.quiet in
+    let next : IsNextPair c.loop-next.self flat c.in-Some.field-0.vertex c.in-Some.field-0.position = search rules in
+    pairs_dropped is _ _ next c.ask.ensures.asked c.in-Ok-ask.answer c.in-Ok-ask.is c.in-Ok-ask.ensures.forced _ Memory c.lose-in_default-take.ensures.over refl c.take.new.flat.value.queue.pairs c.in_default-take.ensures.refused c.lose-in_default-take.new.self c.lose-in_default-take.ensures.kept c.lose-in_default-take.ensures.opened c.lose-in_default-take.ensures.taken
 
-pub pairs_part-loop-flat-smaller : goal.pairs_part-loop-flat-smaller
-pairs_part-loop-flat-smaller g t c =
-    further_on (2 ^ 64) c.loop-flat.flat.value.taken c.advance.new.flat.value.taken c.take.new.flat.value.taken c.in_ok-vertex.ensures.further c.in_ok-take.ensures.taken c.in_ok-take.ensures.small
+pub pairs_part-loop-next-preserved : goal.pairs_part-loop-next-preserved
+pairs_part-loop-next-preserved g t c =
+    let flat = c.advance.new.flat.value in
+    let is = pairs_on c.loop-next.invariant flat (c.in-Ok.ensures.begun (start_of c.args.origin)) c.in-Ok.ensures.still_done c.in-Ok.ensures.quiet in
+    let next : IsNextPair c.loop-next.self flat c.in-Some.field-0.vertex c.in-Some.field-0.position = search rules in
+    pairs_more is _ _ next c.ask.ensures.asked c.in-Ok-ask.answer c.in-Ok-ask.is c.in-Ok-ask.ensures.forced c.take.new.flat.value c.in-Ok-ask.answer c.in-Ok-ask.ensures.valid c.in-Ok-take.ensures.done (c.in-Ok-take.ensures.begun c.loop-next.state.state (start_of c.args.origin))
+
+pub pairs_part-loop-next-smaller : goal.pairs_part-loop-next-smaller
+pairs_part-loop-next-smaller g t c =
+    further_on (2 ^ 64) c.loop-next.flat.value.taken c.advance.new.flat.value.taken c.take.new.flat.value.taken c.in-Ok.ensures.further c.in-Ok-take.ensures.taken c.in-Ok-take.ensures.small
 
 pub pairs_part-finish-requires-clause-marks : goal.pairs_part-finish-requires-clause-marks
 pairs_part-finish-requires-clause-marks g t c = c.advance.ensures.marks
 
 pub pairs_part-finish-requires-clause-one : goal.pairs_part-finish-requires-clause-one
-pairs_part-finish-requires-clause-one g t c = finds_room c.loop-flat.invariant.finds
+pairs_part-finish-requires-clause-one g t c = finds_room c.loop-next.invariant.finds
 
 pub pairs_part-returns-in_err-ends-clause-asked : goal.pairs_part-returns-in_err-ends-clause-asked
 pairs_part-returns-in_err-ends-clause-asked g t c =
     let flat = c.advance.new.flat.value in
-    let is = pairs_on c.loop-flat.invariant flat (c.in_ok-vertex.ensures.begun (start_of c.args.origin)) c.in_ok-vertex.ensures.still_done c.in_ok-vertex.ensures.quiet in
-    let met : (e : Start) → IsBegun c.loop-flat.self.game c.loop-flat.state.state e c.loop-flat.flat.value → (w q : ℕ) → IsReached c.loop-flat.self.game c.loop-flat.state.state e w q → Contains (take flat.taken flat.queue.pairs) (w, q) = search rules in
+    let is = pairs_on c.loop-next.invariant flat (c.in-Ok.ensures.begun (start_of c.args.origin)) c.in-Ok.ensures.still_done c.in-Ok.ensures.quiet in
+    let met : (e : Start) → IsBegun c.loop-next.self.game c.loop-next.state.state e c.loop-next.flat.value → (w q : ℕ) → IsReached c.loop-next.self.game c.loop-next.state.state e w q → Contains (take flat.taken flat.queue.pairs) (w, q) = search rules in
     let r = c.from_residual-in_err-ends.result in
     finds_asked is.finds c.finish.new.self c.finish.ensures.kept c.finish.ensures.opened r
     (not_memory r c.in_err-ends.field-0.0 Deep c.from_residual-in_err-ends.ensures.1 c.in_err-ends.ensures.memory memory_not_deep)
     (not_memory r c.in_err-ends.field-0.0 Wide c.from_residual-in_err-ends.ensures.1 c.in_err-ends.ensures.memory memory_not_wide)
-    (pairs_own is (met _ (begun_now c.loop-flat.invariant flat)) c.finish.new.self c.finish.ensures.kept c.finish.ensures.opened _ c.finish.ensures.taken)
+    (pairs_own is (met _ (begun_now c.loop-next.invariant flat)) c.finish.new.self c.finish.ensures.kept c.finish.ensures.opened _ _ c.finish.ensures.taken)
 
-pub pairs_part-returns-clause-asked : goal.pairs_part-returns-clause-asked
-pairs_part-returns-clause-asked g t c =
+pub pairs_part-returns-in_default-next-clause-asked : goal.pairs_part-returns-in_default-next-clause-asked
+pairs_part-returns-in_default-next-clause-asked g t c =
     let flat = c.advance.new.flat.value in
-    let is = pairs_on c.loop-flat.invariant flat (c.in_ok-vertex.ensures.begun (start_of c.args.origin)) c.in_ok-vertex.ensures.still_done c.in_ok-vertex.ensures.quiet in
-    let met : (e : Start) → IsBegun c.loop-flat.self.game c.loop-flat.state.state e c.loop-flat.flat.value → (w q : ℕ) → IsReached c.loop-flat.self.game c.loop-flat.state.state e w q → Contains (take flat.taken flat.queue.pairs) (w, q) = search rules in
+    let is = pairs_on c.loop-next.invariant flat (c.in-Ok.ensures.begun (start_of c.args.origin)) c.in-Ok.ensures.still_done c.in-Ok.ensures.quiet in
+    let met : (e : Start) → IsBegun c.loop-next.self.game c.loop-next.state.state e c.loop-next.flat.value → (w q : ℕ) → IsReached c.loop-next.self.game c.loop-next.state.state e w q → Contains (take flat.taken flat.queue.pairs) (w, q) = search rules in
     finds_asked is.finds c.finish.new.self c.finish.ensures.kept c.finish.ensures.opened _ (ok_not_err c.in_ok-ends.ends Deep) (ok_not_err c.in_ok-ends.ends Wide)
-    (pairs_own is (met _ (begun_now c.loop-flat.invariant flat)) c.finish.new.self c.finish.ensures.kept c.finish.ensures.opened _ c.finish.ensures.taken)
+    (pairs_own is (met _ (begun_now c.loop-next.invariant flat)) c.finish.new.self c.finish.ensures.kept c.finish.ensures.opened _ _ c.finish.ensures.taken)
 
-pub pairs_part-returns-clause-found : goal.pairs_part-returns-clause-found
-pairs_part-returns-clause-found g t c =
+pub pairs_part-returns-in_default-next-clause-found : goal.pairs_part-returns-in_default-next-clause-found
+pairs_part-returns-in_default-next-clause-found g t c =
     let h = c.args.self.now in
-    let k = c.loop-flat.self in
+    let k = c.loop-next.self in
     let s = c.args.state.now in
-    let l = c.loop-flat.state in
+    let l = c.loop-next.state in
     let f : Start = start_of c.args.origin in
     let flat = c.advance.new.flat.value in
-    let is : FindsByPairs h k s l f flat = pairs_on c.loop-flat.invariant flat (c.in_ok-vertex.ensures.begun f) c.in_ok-vertex.ensures.still_done c.in_ok-vertex.ensures.quiet in
-    let met : (e : Start) → IsBegun k.game l.state e c.loop-flat.flat.value → (w q : ℕ) → IsReached k.game l.state e w q → Contains (take flat.taken flat.queue.pairs) (w, q) = search rules in
-    let begun = begun_now c.loop-flat.invariant flat in
-    let whole : (e : Start) → IsBegun k.game l.state e c.loop-flat.flat.value → IsFlatPart k.game l.state e flat.found.items flat.ends = search rules in
+    let is : FindsByPairs h k s l f flat = pairs_on c.loop-next.invariant flat (c.in-Ok.ensures.begun f) c.in-Ok.ensures.still_done c.in-Ok.ensures.quiet in
+    let met : (e : Start) → IsBegun k.game l.state e c.loop-next.flat.value → (w q : ℕ) → IsReached k.game l.state e w q → Contains (take flat.taken flat.queue.pairs) (w, q) = search rules in
+    let begun = begun_now c.loop-next.invariant flat in
+    let whole : (e : Start) → IsBegun k.game l.state e c.loop-next.flat.value → IsFlatPart k.game l.state e flat.found.items flat.ends = search rules in
     let part : IsFlatPart h.game s.state f flat.found.items flat.ends = before (λ x u. IsFlatPart x u f flat.found.items flat.ends) h k s l is.finds.kept is.finds.given_back (whole f begun) in
     let handed : IsFlatPart h.game s.state f c.finish.new.pairs c.in_ok-ends.ends =
     subst (λ (ps : List (ℕ × ℕ)). IsFlatPart h.game s.state f ps c.in_ok-ends.ends) (sym c.in_ok-ends.ensures.pairs) (subst (λ (e : Bool). IsFlatPart h.game s.state f flat.found.items e) (sym c.in_ok-ends.ensures.ends) part) in
@@ -226,7 +256,7 @@ sets_part-begun_by_sets-requires-clause-stands g t c = onward_rules (λ x. IsSta
 pub sets_part-returns-in_err-enter-clause-asked : goal.sets_part-returns-in_err-enter-clause-asked
 sets_part-returns-in_err-enter-clause-asked g t c =
     not_entered c.args.self.now c.enter.new.self c.args.state.now c.enter.new.state (start_of c.args.origin) c.enter.result c.from_residual.result c.in_err-enter.field-0.0 c.in_err-enter.was c.from_residual.ensures.1 c.enter.ensures.kept c.enter.ensures.given_back c.enter.ensures.room
-    (c.enter.ensures.counts c.args.state.now.state (start_of c.args.origin) c.requires.start) c.enter.ensures.grows c.enter.ensures.none_taken
+    (c.enter.ensures.counts c.args.state.now.state (start_of c.args.origin) c.requires.start) (c.in_err-enter.ensures.lost c.args.state.now.state (start_of c.args.origin))
 
 pub sets_part-returns-in_err-flat-clause-asked : goal.sets_part-returns-in_err-flat-clause-asked
 sets_part-returns-in_err-flat-clause-asked g t c =
@@ -278,16 +308,26 @@ pub sets_part-loop-vertex-preserved : goal.sets_part-loop-vertex-preserved
 sets_part-loop-vertex-preserved g t c =
     let is = sets_on c.loop-vertex.invariant c.advance_by_sets.new.flat.value c.advance_by_sets.ensures.advances in
     let next : IsToBeAsked c.loop-vertex.self.game c.advance_by_sets.new.flat.value c.in-Some.field-0.vertex c.in-Some.field-0.position = search rules in
-    sets_more is _ _ next c.ask.ensures.asked c.take_by_sets.new.flat.value c.in_ok-valid.valid c.in_ok-valid.valid c.in_ok-valid.was c.in_ok-valid.ensures.valid c.take_by_sets.ensures.takes c.in_ok-valid.ensures.forced
+    sets_more is _ _ next c.ask.ensures.asked c.take_by_sets.new.flat.value c.in-Ok.answer c.in-Ok.answer c.in-Ok.is c.in-Ok.ensures.valid c.take_by_sets.ensures.takes c.in-Ok.ensures.forced
 
 pub sets_part-loop-vertex-smaller : goal.sets_part-loop-vertex-smaller
 sets_part-loop-vertex-smaller g t c = omega (arith, c.advance_by_sets.ensures.advances.lighter, c.take_by_sets.ensures.takes.lighter)
 
-pub sets_part-returns-in_err-valid-clause-asked : goal.sets_part-returns-in_err-valid-clause-asked
-sets_part-returns-in_err-valid-clause-asked g t c =
+pub sets_part-lose_sets-requires-clause-sets : goal.sets_part-lose_sets-requires-clause-sets
+sets_part-lose_sets-requires-clause-sets g t c =
+    onward_rules (λ x. HasSetsFor x c.advance_by_sets.new.flat.value) c.loop-vertex.self c.ask.new.self c.ask.ensures.asked.kept c.advance_by_sets.ensures.advances.sets
+
+pub sets_part-lose_sets-requires-clause-one : goal.sets_part-lose_sets-requires-clause-one
+sets_part-lose_sets-requires-clause-one g t c =
     let is = sets_on c.loop-vertex.invariant c.advance_by_sets.new.flat.value c.advance_by_sets.ensures.advances in
     let next : IsToBeAsked c.loop-vertex.self.game c.advance_by_sets.new.flat.value c.in-Some.field-0.vertex c.in-Some.field-0.position = search rules in
-    sets_failed is _ _ next c.ask.ensures.asked c.from_residual-in_err-valid.result c.in_err-valid.field-0.0 c.in_err-valid.was c.from_residual-in_err-valid.ensures.1
+    sets_left is _ _ next c.ask.ensures.asked
+
+pub sets_part-returns-in-Err-clause-asked : goal.sets_part-returns-in-Err-clause-asked
+sets_part-returns-in-Err-clause-asked g t c =
+    let is = sets_on c.loop-vertex.invariant c.advance_by_sets.new.flat.value c.advance_by_sets.ensures.advances in
+    let next : IsToBeAsked c.loop-vertex.self.game c.advance_by_sets.new.flat.value c.in-Some.field-0.vertex c.in-Some.field-0.position = search rules in
+    sets_lost is _ _ next c.ask.ensures.asked _ c.in-Err.over c.in-Err.is c.lose_sets.ensures.over c.lose_sets.new.self c.lose_sets.ensures.kept c.lose_sets.ensures.opened c.lose_sets.ensures.taken
 
 pub sets_part-finish_by_sets-requires-clause-paths : goal.sets_part-finish_by_sets-requires-clause-paths
 sets_part-finish_by_sets-requires-clause-paths g t c = onward_rules (λ x. ArePathsOf x c.args.paths.now) c.args.self.now c.loop-vertex.self c.loop-vertex.invariant.finds.kept c.requires.paths
@@ -307,13 +347,18 @@ sets_part-finish_by_sets-requires-clause-one g t c = finds_room c.loop-vertex.in
 
 pub sets_part-returns-in_err-ends-clause-asked : goal.sets_part-returns-in_err-ends-clause-asked
 sets_part-returns-in_err-ends-clause-asked g t c =
-    finds_refused c.loop-vertex.invariant.finds c.finish_by_sets.new.self c.finish_by_sets.ensures.kept c.finish_by_sets.ensures.opened c.from_residual-in_err-ends.result c.in_err-ends.field-0.0 c.from_residual-in_err-ends.ensures.1 c.in_err-ends.ensures.memory c.in_err-ends.ensures.none_taken
+    let is = sets_on c.loop-vertex.invariant c.advance_by_sets.new.flat.value c.advance_by_sets.ensures.advances in
+    let r = c.from_residual-in_err-ends.result in
+    finds_asked is.finds c.finish_by_sets.new.self c.finish_by_sets.ensures.kept c.finish_by_sets.ensures.opened r
+    (not_memory r c.in_err-ends.field-0.0 Deep c.from_residual-in_err-ends.ensures.1 c.in_err-ends.ensures.memory memory_not_deep)
+    (not_memory r c.in_err-ends.field-0.0 Wide c.from_residual-in_err-ends.ensures.1 c.in_err-ends.ensures.memory memory_not_wide)
+    (sets_own is c.finish_by_sets.new.self c.finish_by_sets.ensures.kept c.finish_by_sets.ensures.opened _ _ c.finish_by_sets.ensures.taken)
 
 pub sets_part-returns-clause-asked : goal.sets_part-returns-clause-asked
 sets_part-returns-clause-asked g t c =
     let is = sets_on c.loop-vertex.invariant c.advance_by_sets.new.flat.value c.advance_by_sets.ensures.advances in
     finds_asked is.finds c.finish_by_sets.new.self c.finish_by_sets.ensures.kept c.finish_by_sets.ensures.opened _ (ok_not_err c.in_ok-ends.ends Deep) (ok_not_err c.in_ok-ends.ends Wide)
-    (sets_own is c.finish_by_sets.new.self c.finish_by_sets.ensures.kept c.finish_by_sets.ensures.opened _ c.in_ok-ends.ensures.taken)
+    (sets_own is c.finish_by_sets.new.self c.finish_by_sets.ensures.kept c.finish_by_sets.ensures.opened _ _ c.finish_by_sets.ensures.taken)
 
 pub sets_part-returns-clause-found : goal.sets_part-returns-clause-found
 sets_part-returns-clause-found g t c =

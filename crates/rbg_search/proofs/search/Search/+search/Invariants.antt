@@ -26,11 +26,11 @@ decreases-runs_behind g l = l.nested * 1000000 + l.modifiers * 10 + 4
 abbrev pub decreases-runs_behind_one : goal.decreases-runs_behind_one
 decreases-runs_behind_one g l = l.nested * 1000000 + l.modifiers * 10 + 3
 
-abbrev pub invariant-pairs_part-loop-flat : goal.invariant-pairs_part-loop-flat
-invariant-pairs_part-loop-flat g l = FindsByPairs l.fn.self l.self l.fn.state l.state (start_of l.fn.origin) l.flat.value
+abbrev pub invariant-pairs_part-loop-next : goal.invariant-pairs_part-loop-next
+invariant-pairs_part-loop-next g l = FindsByPairs l.fn.self l.self l.fn.state l.state (start_of l.fn.origin) l.flat.value
 
-abbrev pub decreases-pairs_part-loop-flat : goal.decreases-pairs_part-loop-flat
-decreases-pairs_part-loop-flat g l = 2 ^ 64 - l.flat.value.taken
+abbrev pub decreases-pairs_part-loop-next : goal.decreases-pairs_part-loop-next
+decreases-pairs_part-loop-next g l = 2 ^ 64 - l.flat.value.taken
 
 abbrev pub invariant-sets_part-loop-vertex : goal.invariant-sets_part-loop-vertex
 invariant-sets_part-loop-vertex g l = FindsBySets l.fn.self l.self l.fn.state l.state (start_of l.fn.origin) l.flat.value

@@ -1,7 +1,7 @@
-use Rattle.std.proofs.Common.{◌≡◌, ◌+◌, ◌≤◌, sym, ◌∙◌, arith, IsTrue, ◌↔◌}
+use Rattle.std.proofs.Common.{◌≡◌, ◌+◌, ◌≤◌, sym, ◌∙◌, IsTrue, ◌↔◌}
 use Rattle.rbg_search.proofs.Common.{most_pairs_of, Deep, Wide}
 use Rattle.rbg_search.proofs.Fewness.{one_opened}
-use Rattle.rbg_search.proofs.Takings.{takes_nothing, takes_none_yet, takes_own, own_part, not_ok}
+use Rattle.rbg_search.proofs.Takings.{takes_none_yet, takes_own, own_part, met_as}
 use Rattle.rbg_rules.specs.Meaning.{inside, beginning, Applies, IsStart, SomeWordRuns, pattern}
 use Rattle.rbg_search.proofs.Countings.{none_counted}
 use Rattle.rbg_search.proofs.Counted.{wide_not_deep, ok_not_err, counted_only, opened_one, refused_one}
@@ -50,8 +50,7 @@ count_pairs-requires-clause-one g c = one_opened c.args.self.now c.open.new.self
 
 pub returns-in_err-open-clause-taken : goal.returns-in_err-open-clause-taken
 returns-in_err-open-clause-taken g c = λ s has.
-    takes_nothing c.args.self.now.game pattern s (beginning (inside c.args.position)) c.args.self.now.opened c.open.new.self.opened c.args.self.now.taken c.open.new.self.taken _ (omega (arith, c.in_err-open.ensures.unopened)) c.open.ensures.none_taken
-    (not_ok c.from_residual.result c.in_err-open.field-0.0 c.from_residual.ensures.1)
+    takes_none_yet c.args.self.now.game pattern s (beginning (inside c.args.position)) c.args.self.now.opened c.open.new.self.opened c.args.self.now.taken c.open.new.self.taken _ (sym c.in_err-open.ensures.unopened) c.open.ensures.none_taken
 
 pub returns-clause-taken : goal.returns-clause-taken
 returns-clause-taken g c = λ s has.
@@ -59,5 +58,5 @@ returns-clause-taken g c = λ s has.
     let f = beginning (inside c.args.position) in
     let opened : c.count_pairs.new.self.opened ≡ now.opened + 1 = c.count_pairs.ensures.opened ∙ c.in_ok-open.ensures.opened in
     takes_own now.game pattern s f now.opened c.count_pairs.new.self.opened now.taken c.open.new.self.taken c.count_pairs.new.self.taken c.args.scan.pairs _
-    (takes_none_yet now.game pattern s f (now.opened + 1) c.count_pairs.new.self.opened now.taken c.open.new.self.taken (Unit {0}) (sym opened) c.open.ensures.none_taken)
-    (own_part now.game pattern s f c.args.scan.pairs has c.requires.few) c.count_pairs.ensures.taken
+    (takes_none_yet now.game pattern s f (now.opened + 1) c.count_pairs.new.self.opened now.taken c.open.new.self.taken _ (sym opened) c.open.ensures.none_taken)
+    (own_part now.game pattern s f c.args.scan.pairs (met_as now.game s f c.args.scan.pairs (λ _. tt) (λ _. tt) has)) c.count_pairs.ensures.taken

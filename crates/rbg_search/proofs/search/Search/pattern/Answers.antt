@@ -1,5 +1,5 @@
 use Rattle.std.proofs.Common.{◌≡◌, ℕ, suc, ◌+◌, ◌<◌, ap, ◌∙◌, subst, arith, refl, IsTrue, ◌↔◌, ◌≤◌, Result, sym}
-use Rattle.rbg_search.proofs.Takings.{takes_nothing, not_ok}
+use Rattle.rbg_search.proofs.Takings.{takes_none_yet, not_ok}
 use Rattle.rbg_rules.specs.Meaning.{inside, Start, beginning, AbstractGame, AbstractState, Applies, pattern}
 use Rattle.rbg_state.specs.History.{History}
 use Rattle.rbg_search.proofs.Common.{Searching, IsAsked, Over, Deep, Wide, Memory, CountsForced}
@@ -47,7 +47,7 @@ returns-in_err-reserve-clause-answered g c =
       wide = λ w. absurd (not_memory r Memory Wide gives refl memory_not_wide w);
       all_forced = λ ok. absurd (not_ok r Memory gives ok);
       not_deep = λ ok. absurd (not_ok r Memory gives ok);
-      taken = takes_nothing c.args.self.now.game pattern c.args.state.now.state f c.args.self.now.opened c.args.self.now.opened c.args.self.now.taken c.args.self.now.taken _ (omega arith) refl (not_ok r Memory gives);
+      taken = takes_none_yet c.args.self.now.game pattern c.args.state.now.state f c.args.self.now.opened c.args.self.now.opened c.args.self.now.taken c.args.self.now.taken _ refl refl;
     }
 
 pub returns-in_err-valid-clause-answered : goal.returns-in_err-valid-clause-answered

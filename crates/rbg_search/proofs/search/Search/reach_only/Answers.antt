@@ -2,11 +2,11 @@ use Rattle.rbg_base.proofs.Common.{◌≡◌, ℕ, ◌+◌, ◌-◌, ◌*◌, �
 use Rattle.rbg_rules.specs.Meaning.{positions_of, IsNumbered, Start, Ends, reach, AbstractGame, AbstractState, IsStateOf}
 use Rattle.rbg_auto.specs.Steps.{AreAllThatFollow}
 use Rattle.rbg_state.specs.History.{History}
-use Rattle.rbg_search.proofs.Common.{Searching, most_pairs_of, Deep, Wide, HasReached, IsAsked, Finds}
+use Rattle.rbg_search.proofs.Common.{Searching, most_pairs_of, Deep, Memory, Wide, HasReached, IsAsked, Finds}
 use Rattle.rbg_pairs.proofs.Common.{start_of, IsPositionOf, IsTrialAt}
 use Rattle.rbg_search.proofs.Alone.{only_position, some_pair, alone_whole, alone_met, alone_pairs, alone_quiet}
 use Rattle.rbg_search.proofs.Fewness.{one_opened}
-use Rattle.rbg_search.proofs.Takings.{own_part, not_ok}
+use Rattle.rbg_search.proofs.Takings.{own_part, candidates_met, not_ok}
 use Rattle.rbg_search.proofs.Kept.{onward_rules, rules_before}
 use Rattle.rbg_search.proofs.Asks.{answered, not_entered}
 use Rattle.rbg_search.proofs.Counted.{ok_not_err}
@@ -32,8 +32,11 @@ decided h e f ends inner kept game is = rules_before (λ x. Decides ends (Ends x
 module _ {h e k : Searching} {s l : History} {f : Start} {p : ℕ} {ends : Bool} (begun : Finds h e s l f []) (fits : IsStateOf h.game s.state) (only : AreAllThatFollow h.game.rules f (p ∷ [])) (decides : Decides ends (Ends h.game.rules f [])) (modifies : IsTrialAt h.game s.state s.state.vertex p Modifies) (kept : k ≡ record e { opened = k.opened; taken = k.taken }) (opened : k.opened ≡ e.opened) (taken : k.taken ≡ e.taken + 1) where
   asked : {X : Type 0} (r : Result X AnyOver) → ¬ (r ≡ Err Deep) → ¬ (r ≡ Err Wide) → IsAsked h k s l reach s.state f h.modifiers r
   asked r deep wide =
-      let part = own_part h.game reach s.state f 1 (alone_pairs h.game begun.lawful.numbered s.state f p ends only decides modifies) (few h s.state f p fits begun.lawful.numbered only) in
-      finds_asked begun k kept opened r deep wide (finds_own begun k kept opened (IsOk r) 1 part taken)
+      let numbered = begun.lawful.numbered in
+      finds_asked begun k kept opened r deep wide
+      (finds_own begun k kept opened (IsOk r) (¬ (r ≡ Err Memory)) 1
+      (own_part h.game reach s.state f 1
+      (candidates_met h.game numbered s.state f (IsOk r) (¬ (r ≡ Err Memory)) 1 (alone_pairs h.game numbered s.state f p ends only decides modifies) (few h s.state f p fits numbered only))) taken)
 
   found : HasReached h k s l f ((s.state.vertex, p) ∷ []) ends
   found =
@@ -61,7 +64,7 @@ returns-in_err-enter-clause-answered g c =
     let some : 0 < c.args.self.now.modifiers = subst (λ (m : ℕ). 0 < m) (ap (λ (x : Searching). x.modifiers) c.self.view_is) c.self.invariant.3 in
     answered some
     (not_entered c.args.self.now c.enter.new.self c.args.state.now c.enter.new.state (start_of c.args.origin) c.enter.result c.from_residual.result c.in_err-enter.field-0.0 c.in_err-enter.was c.from_residual.ensures.1 c.enter.ensures.kept c.enter.ensures.given_back c.enter.ensures.room
-    (c.enter.ensures.counts c.args.state.now.state (start_of c.args.origin) c.requires.stands) c.enter.ensures.grows c.enter.ensures.none_taken)
+    (c.enter.ensures.counts c.args.state.now.state (start_of c.args.origin) c.requires.stands) (c.in_err-enter.ensures.lost c.args.state.now.state (start_of c.args.origin)))
     (λ ok. absurd (not_ok c.from_residual.result c.in_err-enter.field-0.0 c.from_residual.ensures.1 ok))
 
 pub returns-clause-answered : goal.returns-clause-answered

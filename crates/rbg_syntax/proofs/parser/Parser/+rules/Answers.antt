@@ -1,6 +1,6 @@
 use Rattle.std.proofs.Common.{rules, ◌≡◌, [], ◌∷◌, map, true, false, sym, ◌∙◌}
 use Rattle.rbg_grammar.proofs.Common.{next_is, atom_at, too_deep_at, rule_of}
-use Rattle.rbg_tokens.specs.Kinds.{opens}
+use Rattle.rbg_macro.specs.Kinds.{opens}
 use Rattle.rbg_syntax.specs.internal.Levels.{further_part_at, goes_on}
 use Rattle.rbg_syntax.proofs.Parts.{atom_inside, atom_open, atom_none, same_deep, further_part_takes_some, list_fail, list_alone, list_more, list_more_fail}
 use Rattle.rbg_syntax.proofs.Exits.{FailsWithin-from, GivesWithin-shallow, GivesWithin-from_err}

@@ -1,6 +1,6 @@
 use Rattle.std.proofs.Common.{rules, ◌≡◌, [], ◌∷◌, map, true, false, sym, ◌∙◌, ◌-◌}
-use Rattle.rbg_tokens.specs.declared.token.Symbol.TheVariants.{OpenParenthesis, CloseParenthesis}
-use Rattle.rbg_tokens.specs.Kinds.{is_symbol}
+use Rattle.rbg_macro.specs.declared.token.Symbol.TheVariants.{OpenParenthesis, CloseParenthesis}
+use Rattle.rbg_macro.specs.Kinds.{is_symbol}
 use Rattle.rbg_grammar.proofs.Common.{next_is, further_operand_at, is_operator, operand_at, primary_at, sum_at, too_deep_at, first_of, expression_of, operand_of}
 use Rattle.rbg_syntax.proofs.Parts.{primary_inside, primary_open, primary_none, same_deep, within_no_opening, within_no_inside, within_no_closing, within_whole, chain_fail, chain_alone, chain_more, chain_more_fail}
 use Rattle.rbg_grammar.proofs.PhraseLaws.{further_operand_takes_some}

@@ -1,5 +1,5 @@
 use Rattle.std.proofs.Common.{◌≡◌, length, map}
-use Rattle.rbg_tokens.specs.declared.token.Symbol.TheVariants as symbols
+use Rattle.rbg_macro.specs.declared.token.Symbol.TheVariants as symbols
 use Rattle.rbg_grammar.proofs.Common.{separated_at, assignment_at, sum_at, rule_of}
 use Rattle.rbg_grammar.proofs.Turns.{prepend}
 use Rattle.rbg_syntax.proofs.parser.Parser.assignments.Given as goal

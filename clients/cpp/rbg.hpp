@@ -1,0 +1,193 @@
+// States of games in C++, over the library of rbg.h. Each class lets go what it holds.
+#ifndef RBG_HPP
+#define RBG_HPP
+
+#include <rbg.h>
+
+#include <stdexcept>
+#include <string>
+#include <utility>
+#include <vector>
+
+namespace rbg {
+
+/// What a call answers that wasn't done: one of the numbers of rbg.h, as RBG_ILLEGAL.
+class Refused : public std::runtime_error {
+public:
+  explicit Refused(rbg_result result) : std::runtime_error("rbg answers " + std::to_string(result)), number(result) {}
+  rbg_result number;
+};
+
+inline void must(rbg_result result) {
+  if (result != RBG_OK) throw Refused(result);
+}
+
+/// A move: the pairs of a vertex and a position, as in messages.
+using Move = std::vector<rbg_pair>;
+
+/// The text of a move, as in messages.
+inline std::string text_of(const Move &move) {
+  std::string text;
+  for (const rbg_pair &pair : move)
+    text += (text.empty() ? "" : " ") + std::to_string(pair.vertex) + " " + std::to_string(pair.position);
+  return text;
+}
+
+/// The move of a text, as in messages.
+inline Move move_of(const std::string &text) {
+  Move move;
+  const char *at = text.c_str();
+  for (char *end = nullptr; *at; at = end) {
+    rbg_pair pair;
+    pair.vertex = static_cast<uint32_t>(std::strtoul(at, &end, 10));
+    pair.position = static_cast<uint32_t>(std::strtoul(end, &end, 10));
+    move.push_back(pair);
+  }
+  return move;
+}
+
+/// How random matches ended that ended alike: the players' scores, and how many matches they are.
+struct Ending {
+  std::vector<uint64_t> scores;
+  uint64_t matches;
+};
+
+/// A state of play. It can be copied: the copy can't undo the moves of before. It is used by one thread.
+class State {
+public:
+  State() = default;
+  State(const State &other) { copy(other); }
+  State(State &&other) noexcept : held(std::exchange(other.held, rbg_state RBG_NO_STATE)) {}
+  State &operator=(State other) noexcept {
+    std::swap(held, other.held);
+    return *this;
+  }
+  ~State() { rbg_free(&held); }
+
+  /// The state to which the keeper's first moves lead in the game of a description.
+  static State open(const std::string &text) {
+    State state;
+    must(rbg_open(bytes(text), text.size(), &state.held));
+    return state;
+  }
+
+  /// The state where the rules begin: a match is followed from there by `hear`.
+  static State begin(const std::string &text) {
+    State state;
+    must(rbg_begin(bytes(text), text.size(), &state.held));
+    return state;
+  }
+
+  /// The player to move, from 1; 0 is the keeper, or nobody.
+  uint32_t player() const {
+    uint32_t found = 0;
+    must(rbg_player(at(), &found));
+    return found;
+  }
+
+  /// A number that is the same for equal places, and hardly ever for others.
+  uint64_t key() const { return number(rbg_key); }
+
+  /// How many moves can be undone.
+  uint64_t moves_made() const { return number(rbg_moves_made); }
+
+  /// The piece on each vertex, what each variable holds, and what each player has scored.
+  std::vector<uint16_t> board() const { return items<uint16_t>(rbg_board, at()); }
+  std::vector<uint32_t> values() const { return items<uint32_t>(rbg_values, at()); }
+  std::vector<uint64_t> scores() const { return items<uint64_t>(rbg_scores, at()); }
+
+  /// The names of the players, the pieces or the variables: RBG_PLAYERS, RBG_PIECES, RBG_VARIABLES.
+  std::vector<std::string> names(uint32_t kind) const {
+    std::vector<std::string> found;
+    for (;;) {
+      uint64_t needed = 0;
+      uint8_t none = 0;
+      rbg_result result = rbg_name(at(), kind, found.size(), &none, 0, &needed);
+      if (result == RBG_RANGE) return found;
+      std::string name(needed + 1, 0);
+      must(rbg_name(at(), kind, found.size(), reinterpret_cast<uint8_t *>(&name[0]), needed, &needed));
+      name.resize(needed);
+      found.push_back(name);
+    }
+  }
+
+  /// How many legal moves there are. Play is finished where there is none.
+  uint64_t count() { return number(rbg_find_moves); }
+
+  /// The legal move of this index. `count` has found the moves.
+  Move move(uint64_t index) const {
+    Move found(RBG_MOST_PAIRS);
+    uint64_t length = 0;
+    must(rbg_move(at(), index, found.data(), found.size(), &length));
+    found.resize(length);
+    return found;
+  }
+
+  /// Makes the move of this index, or these pairs, and the keeper's moves after it.
+  void make(uint64_t index) { must(rbg_make_found(&held, index)); }
+  void make(const Move &move) { must(rbg_make(&held, pairs(move), move.size())); }
+
+  /// Makes a move as a referee passes it on: the keeper's moves are passed on too, so none is made after it.
+  void hear(const Move &move) { must(rbg_hear(&held, pairs(move), move.size())); }
+
+  /// Undoes the last move of a player.
+  void undo() { must(rbg_undo(&held)); }
+
+  /// How so many matches by chance from here end. Those that are stopped after 10,000 moves aren't among them.
+  std::vector<Ending> playouts(uint64_t seed, uint64_t count = 1) {
+    uint64_t needed = 0, width = scores().size() + 1;
+    std::vector<uint64_t> rows(width * count);
+    must(rbg_playouts(&held, seed, count, rows.data(), rows.size(), &needed));
+    std::vector<Ending> endings;
+    for (uint64_t row = 0; row < needed; row += width)
+      endings.push_back({{&rows[row] + 1, &rows[row] + width}, rows[row]});
+    return endings;
+  }
+
+  /// A copy on which moves were made by chance, at most so many, until play is finished. They can be undone there.
+  State play_on(uint64_t seed, uint64_t most) const {
+    State to;
+    uint64_t made = 0;
+    must(rbg_play_on(at(), &to.held, seed, most, &made));
+    return to;
+  }
+
+private:
+  rbg_state held = RBG_NO_STATE;
+
+  // The calls that leave a state as it is take it without `const`, since they look into it by moving it.
+  rbg_state *at() const { return const_cast<rbg_state *>(&held); }
+
+  static const uint8_t *bytes(const std::string &text) { return reinterpret_cast<const uint8_t *>(text.c_str()); }
+
+  static const rbg_pair *pairs(const Move &move) {
+    static const rbg_pair none = {0, 0}; // no pointer may be null
+    return move.empty() ? &none : move.data();
+  }
+
+  void copy(const State &other) {
+    rbg_result result = rbg_copy(other.at(), &held);
+    if (result != RBG_EMPTY) must(result);
+  }
+
+  uint64_t number(rbg_result (*call)(rbg_state *, uint64_t *)) const {
+    uint64_t found = 0;
+    must(call(at(), &found));
+    return found;
+  }
+
+  template <typename T> static std::vector<T> items(rbg_result (*call)(rbg_state *, T *, size_t, uint64_t *), rbg_state *of) {
+    uint64_t needed = 0;
+    T none = 0;
+    rbg_result result = call(of, &none, 0, &needed);
+    if (result != RBG_OK && result != RBG_SMALL) throw Refused(result);
+    std::vector<T> found(needed + 1);
+    must(call(of, found.data(), needed, &needed));
+    found.resize(needed);
+    return found;
+  }
+};
+
+} // namespace rbg
+
+#endif

@@ -1,0 +1,145 @@
+"""Games and places over a session of `rbg ask`, for where there is no library.
+
+>>> ground = AskedGround("crates/rbg_games/data/tictactoe.rbg")
+>>> place = ground.place()
+>>> place.make("4 9 4 10")
+>>> place.look().player, len(place.moves(None)), ground.names()[0]
+(2, 8, ['first', 'second'])
+>>> place.undo(1, [])
+>>> place.look().moves, sum(ending.matches for ending in place.playouts(10, 1))
+(9, 10)
+>>> ground.close()
+"""
+
+from typing import Optional
+
+from rbg.backend import Answer, Backend, Question, Refused
+from rbg.told import Ending, Move, Place, Tried, tried
+
+
+def endings_of(answer: Answer) -> list[Ending]:
+    """The endings that an answer to `random` tells."""
+    found = []
+    for *scores, matches in answer[1:]:
+        found.append(Ending(None if scores == ["-"] else list(map(int, scores)), int(matches)))
+    return found
+
+
+class AskedGround:
+    """A game, and one session in which its places are looked at."""
+
+    def __init__(self, file: str, program: Optional[str] = None):
+        self.session = Backend(file, program)
+        self.made: list[Move] = []  # the moves that the session has made since the last one that it heard
+        self.heard = 0
+
+    def close(self) -> None:
+        """Ends the session."""
+        self.session.close()
+
+    def names(self) -> list[list[str]]:
+        """The names of the players, the pieces and the variables."""
+        [names] = self.session.ask(["names"])
+        return [line[1:] for line in names]
+
+    def hear(self, move: Move) -> None:
+        """Follows a move as a referee passes it on. Places of before can't be asked any more."""
+        self.ask_at(self.made, ["heard " + move])
+        self.made = []
+        self.heard += 1
+
+    def place(self) -> "AskedPlace":
+        """Where play begins, or stands after the moves that were heard."""
+        return AskedPlace(self, [])
+
+    def ask_at(self, history: list[Move], questions: list[Question]) -> list[Answer]:
+        """The answers after so many moves. What has to be undone and made is asked in the same write."""
+        same = 0
+        for one, other in zip(self.made, history):
+            if one != other:
+                break
+            same += 1
+        undone = len(self.made) - same
+        way = ["back %d" % undone] if undone else []
+        way += ["make " + move for move in history[same:]]
+        answers = self.session.ask(way + questions)
+        if undone:
+            del self.made[same:]
+        for move, answer in zip(history[same:], answers[len(way) - (len(history) - same) :]):
+            if answer[0][0] == "error":
+                break
+            self.made.append(move)
+        for question, answer in zip(way + questions, answers):
+            if answer[0][0] == "error":
+                raise Refused(answer[0][1], question)
+        return answers[len(way) :]
+
+
+class AskedPlace:
+    """A place, by the moves that lead there."""
+
+    def __init__(self, ground: AskedGround, history: list[Move]):
+        self.ground, self.history, self.after = ground, history, ground.heard
+
+    def ask(self, *questions: Question) -> list[Answer]:
+        """The answers to questions about this place."""
+        if self.after != self.ground.heard:
+            raise ValueError("the game has heard moves since")
+        return self.ground.ask_at(self.history, list(questions))
+
+    def look(self) -> Place:
+        """All that is told of it."""
+        [[first, standing, board, values]] = self.ask("state")
+        numbers = list(map(int, standing[1:]))
+        over = standing[0] == "finished"
+        return Place(
+            player=0 if over else numbers[0],
+            scores=numbers if over else None,
+            moves=int(first[1]),
+            key=int(first[2]),
+            board=list(map(int, board[1:])),
+            values=list(map(int, values[1:])),
+        )
+
+    def moves(self, most: Optional[int]) -> list[Move]:
+        """The legal moves, or `most` of them where there are more."""
+        [answer] = self.ask("moves" if most is None else "moves %d" % most)
+        return [" ".join(line) for line in answer[1:]]
+
+    def make(self, move: Move) -> None:
+        """Makes a move, and the keeper's moves after it."""
+        before = self.history
+        self.history = before + [move]
+        try:
+            self.ask()
+        except Refused:
+            self.history = before
+            raise
+
+    def undo(self, moves: int, history: list[Move]) -> None:
+        """Undoes moves, so that this history is left."""
+        self.history = history
+
+    def copy(self) -> "AskedPlace":
+        """A place of its own."""
+        copy = AskedPlace(self.ground, self.history)
+        copy.after = self.after
+        return copy
+
+    def playouts(self, count: int, seed: int) -> list[Ending]:
+        """How so many random matches from here end."""
+        [answer] = self.ask("random %d %d" % (seed, count))
+        return endings_of(answer)
+
+    def try_out(self, moves: list[Move], count: int, seed: int, players: int) -> list[Tried]:
+        """Plays so many random matches after each of these moves. All is asked at once."""
+        questions: list[Question] = []
+        for index, move in enumerate(moves):
+            questions += ["make " + move, "random %d %d" % ((seed + index) % 2**64, count), "back"]
+        answers = self.ask(*questions)
+        found = []
+        for index, move in enumerate(moves):
+            [standing], played, _ = answers[3 * index : 3 * index + 3]
+            scores = list(map(int, standing[1:])) if standing[0] == "finished" else None
+            found.append(tried(move, scores, endings_of(played), players))
+        return found

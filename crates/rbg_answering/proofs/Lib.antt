@@ -1,8 +1,0 @@
--- Lemmas, by topic.
-pub mod AnswerLemmas
-mod JudgingLemmas
-mod LawLemmas
-mod ReadingLemmas
-mod RecordRunLemmas
-mod RecordedLemmas
-mod RunLemmas

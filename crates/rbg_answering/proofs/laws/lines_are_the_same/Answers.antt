@@ -1,6 +1,0 @@
--- The lemma is the law.
-use Rattle.rbg_answering.proofs.RecordedLemmas.{same_lines}
-use Rattle.rbg_answering.proofs.laws.lines_are_the_same.Goals as goal
-
-pub returns : goal.returns
-returns c = same_lines

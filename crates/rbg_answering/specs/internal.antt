@@ -1,3 +1,0 @@
--- Definitions that only this crate's proofs use.
-pub mod Parts
-pub mod RecordParts

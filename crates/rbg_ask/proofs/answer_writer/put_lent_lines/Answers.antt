@@ -1,6 +1,0 @@
--- If an item is not written, the bytes from before the first one are still there.
-use Rattle.rbg_wire.proofs.Kept.{broken_off}
-use Rattle.rbg_ask.proofs.answer_writer.put_lent_lines.Goals as goal
-
-pub returns-in_err-put_move_line : goal.returns-in_err-put_move_line
-returns-in_err-put_move_line c = broken_off _ _ _ _ _ _ c.from_residual.result c.from_residual.ensures.1 c.loop-pairs.invariant c.put_move_line.ensures.kept

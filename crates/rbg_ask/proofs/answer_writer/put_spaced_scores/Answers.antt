@@ -1,6 +1,0 @@
--- If an item is not written, the bytes from before the first one are still there.
-use Rattle.rbg_wire.proofs.Kept.{broken_off}
-use Rattle.rbg_ask.proofs.answer_writer.put_spaced_scores.Goals as goal
-
-pub returns-in_err-put_spaced_score : goal.returns-in_err-put_spaced_score
-returns-in_err-put_spaced_score c = broken_off _ _ _ _ _ _ c.from_residual.result c.from_residual.ensures.1 c.loop-score.invariant c.put_spaced_score.ensures.kept

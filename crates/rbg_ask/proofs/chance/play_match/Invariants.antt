@@ -1,7 +1,0 @@
--- So many moves were made from the first place.
-use Rattle.rbg_rules.specs.Meaning.{IsPlaceOf}
-use Rattle.rbg_ask.proofs.Matches.{PlayedSo}
-use Rattle.rbg_ask.proofs.chance.play_match.Given as goal
-
-abbrev pub invariant-loop-moves : goal.invariant-loop-moves
-invariant-loop-moves l = IsPlaceOf l.fn.game l.place × PlayedSo l.fn.game l.fn.from l.moves l.place

@@ -1,7 +1,0 @@
--- The matches so far are counted.
-use Rattle.std.proofs.Common.{map}
-use Rattle.rbg_ask.specs.Chance.{AreTallied, counted_by}
-use Rattle.rbg_ask.proofs.chance.play_matches.Given as goal
-
-abbrev pub invariant-loop : goal.invariant-loop
-invariant-loop l = AreTallied l.fn.game l.fn.from l.counter (map counted_by l.tallies.items)

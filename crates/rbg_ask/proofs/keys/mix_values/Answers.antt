@@ -1,6 +1,0 @@
--- One more number.
-use Rattle.rbg_ask.proofs.Mixing.{mixes_on}
-use Rattle.rbg_ask.proofs.keys.mix_values.Goals as goal
-
-pub loop-value-preserved : goal.loop-value-preserved
-loop-value-preserved c = mixes_on _ _ _ _ _ _ c.loop-value-test.true c.loop-value.invariant c.from.ensures c.mix-key.ensures

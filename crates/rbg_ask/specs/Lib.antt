@@ -1,9 +1,0 @@
--- What a session of questions is, and what it answers. Each file builds on those above it.
-pub mod Limits
-pub mod Keys
-pub mod Questions
-pub mod Sessions
-pub mod Chance
-pub mod Answers
-pub mod Answering
-pub mod internal

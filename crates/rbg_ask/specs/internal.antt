@@ -1,9 +1,0 @@
--- Definitions that only this crate's own proofs and private contracts use.
-pub mod Codes
-pub mod Counting
-pub mod Moving
-pub mod Ordering
-pub mod Places
-pub mod Reading
-pub mod Refusing
-pub mod Telling

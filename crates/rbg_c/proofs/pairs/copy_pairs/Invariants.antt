@@ -1,0 +1,6 @@
+-- The pairs so far stand at the beginning of the buffer.
+use Rattle.std.proofs.Common.{◌≡◌, ◌++◌, take, drop}
+use Rattle.rbg_c.proofs.pairs.copy_pairs.Given as goal
+
+abbrev pub invariant-loop-index : goal.invariant-loop-index
+invariant-loop-index l = l.buffer ≡ take l.index l.pairs ++ drop l.index l.initial.buffer

@@ -1,0 +1,310 @@
+//! A state of a game, as a value.
+ghost use Rattle.std.specs.Prelude.{◌≡◌, ◌<◌, ◌^◌, [], length, map, slice_get, take, All, IfErr, IfOk, IsTrue, None, OnErr, OnOk, Some};
+ghost use Rattle.std.specs.Option.{MatchOption};
+ghost use Rattle.rbg_rules.specs.Meaning.{IsGame, most_players};
+ghost use Rattle.rbg_moves.specs.Settling.{IsEndless, MeetsHeavy, Settles};
+ghost use Rattle.rbg_questions.specs.declared.refusal.Refusal.TheVariants.{Keeper, Over};
+ghost use Rattle.rbg_questions.specs.Chance.{AreTallied, IsUnplayed, counted_by};
+ghost use Rattle.rbg_questions.specs.Keys.{key_of};
+ghost use Rattle.rbg_questions.specs.Limits.{IsCount};
+ghost use Rattle.rbg_questions.specs.Sessions.{HasLedTo, beginning_of};
+ghost use Rattle.rbg_questions.specs.internal.Places.{IsUnfollowed, IsUnlisted, IsUnmade};
+ghost use Rattle.rbg_c.specs.States.{AreMoves, FindsMoves, Hears, Makes, MakesFound, Undoes, beginning_at};
+ghost use Rattle.rbg_c.specs.Stepping.{IsUnmadeAt};
+
+use crate::keys::key_at;
+use crate::stepping::{first_place, follow, lead, moves_at, step};
+use arrayvec::ArrayVec;
+use rbg_base::{Memory, Move, MoveList, Piece, Player, Variable};
+use rbg_moves::{Place, PlayedGame, Workspace};
+use rbg_questions::{Refusal, Tally, play_matches};
+use rbg_rules::Game;
+use rbg_rules::limits::MAX_PLAYERS;
+use std::alloc::Global;
+use std::marker::Model;
+use std::mem::replace;
+use std::ops::Deref;
+use std::sync::Arc;
+
+/// A state of a game: where play stands. States of one game share it. Contracts see the game, the places before, the
+/// place, and the legal moves there, where they were asked for.
+pub struct State {
+    alloc: Global,
+    game: Arc<PlayedGame>,
+    before: Vec<Place>,
+    place: Place,
+    found: Option<MoveList>,
+    /// What questions leave to later ones. Contracts don't see it.
+    workspace: Workspace,
+}
+
+impl Model for State {
+    ghost use Rattle.rbg_c.specs.States.{AbstractState, IsState};
+
+    ghost Value = { AbstractState };
+
+    ghost use Rattle.rbg_c.specs.Codes.{coded_state};
+
+    ghost coded = { coded_state };
+
+    ghost view = { λ s. record { game = s.game.value; before = s.before.items; place = s.place; found = s.found } };
+
+    ghost invariant = { λ s.
+        IsState (record { game = s.game.value; before = s.before.items; place = s.place; found = s.found }) };
+}
+
+/// Written out, so that letting a state go is one call in the proofs of those who hold one, not a step for each part.
+impl Drop for State {
+    fn drop(self) {
+        let State {
+            alloc: _,
+            game: _,
+            before: _,
+            place: _,
+            found: _,
+            workspace: _,
+        } = self;
+    }
+}
+
+/// A game that states share.
+fn shared(alloc: Global, game: PlayedGame) -> Result<Arc<PlayedGame>, Memory>
+    ensures { IfOk result (λ shared. shared.value ≡ game) }
+{
+    match Arc::new(alloc, game) {
+        Ok(shared) => Ok(shared),
+        Err(_) => Err(Memory),
+    }
+}
+
+impl State {
+    /// The state to which the keeper's first moves lead.
+    pub fn open(alloc: Global, game: Game) -> Result<State, Refusal>
+        ensures game { IfOk result (λ state. state ≡ beginning_at game state.place) }
+        ensures place { IfOk result (λ state. Settles game (beginning_of game) state.place) }
+    {
+        let game = PlayedGame::new(alloc, game)?;
+        let mut workspace = Workspace::new(alloc);
+        let place = first_place(&game, &mut workspace)?;
+        let game = shared(alloc, game)?;
+        Ok(State {
+            alloc,
+            game,
+            before: Vec::new(alloc),
+            place,
+            found: None,
+            workspace,
+        })
+    }
+
+    /// The state where the rules begin: the keeper's first moves aren't made.
+    pub fn begin(alloc: Global, game: Game) -> Result<State, Memory>
+        ensures { IfOk result (λ state. state ≡ beginning_at game (beginning_of game)) }
+    {
+        let game = PlayedGame::new(alloc, game)?;
+        let place = game.start()?;
+        let game = shared(alloc, game)?;
+        Ok(State {
+            alloc,
+            game,
+            before: Vec::new(alloc),
+            place,
+            found: None,
+            workspace: Workspace::new(alloc),
+        })
+    }
+
+    /// A copy of the state, of the same game, from which no move can be undone.
+    pub fn try_clone(&self) -> Result<State, Memory>
+        ensures { IfOk result (λ copy. copy ≡ beginning_at self.now.game self.now.place) }
+    {
+        let game = Arc::try_clone(&self.game)?;
+        let place = self.place.try_clone()?;
+        Ok(State {
+            alloc: self.alloc,
+            game,
+            before: Vec::new(self.alloc),
+            place,
+            found: None,
+            workspace: Workspace::new(self.alloc),
+        })
+    }
+
+    /// The game.
+    pub fn game(&self) -> &Game
+        ensures game { result.now ≡ self.now.game }
+        ensures lawful { IsGame result.now }
+    {
+        self.game.deref().as_game()
+    }
+
+    /// How many moves of players can be undone.
+    pub fn moves_made(&self) -> usize
+        ensures count { result ≡ length self.now.before }
+        ensures led { HasLedTo self.now.game self.now.before self.now.place }
+    {
+        self.before.len()
+    }
+
+    /// The player to move; 0 is the keeper.
+    pub fn player(&self) -> Player
+        ensures { result ≡ self.now.place.state.player }
+    {
+        self.place.state.player()
+    }
+
+    /// The piece on each vertex.
+    pub fn pieces(&self) -> &[Piece]
+        ensures { result.now ≡ self.now.place.state.pieces }
+    {
+        self.place.state.pieces()
+    }
+
+    /// What a variable holds.
+    pub fn value(&self, variable: Variable) -> u32
+        requires { variable < length self.now.place.state.values }
+        ensures { slice_get self.now.place.state.values variable ≡ Some result }
+    {
+        self.place.state.value(variable)
+    }
+
+    /// How many variables there are.
+    pub fn variables(&self) -> usize
+        ensures values { result ≡ length self.now.place.state.values }
+        ensures small { result < 2 ^ 16 }
+    {
+        self.game.deref().as_game().variables()
+    }
+
+    /// What the players have scored, in order.
+    pub fn scores(&self) -> ArrayVec<u64, MAX_PLAYERS>
+        ensures values { result.items
+            ≡ take (length self.now.game.players) self.now.place.state.values }
+    {
+        self.game.deref().scores(&self.place)
+    }
+
+    /// The key of the place: the one that a session of questions tells.
+    pub fn key(&self) -> u64
+        ensures { result ≡ key_of self.now.place }
+    {
+        key_at(self.game.deref(), &self.place)
+    }
+
+    /// Finds the legal moves, and tells how many they are. Play is finished where there is none.
+    pub fn find_moves(&mut self) -> Result<usize, Refusal>
+        ensures found { IfOk result (λ count. FindsMoves self.old count self.new) }
+        ensures unlisted { IfErr result (IsUnlisted self.old.game self.old.place) }
+        ensures kept { OnErr result (self.new ≡ self.old) }
+    {
+        if let Some(moves) = &self.found {
+            return Ok(moves.len());
+        }
+        let gathered = moves_at(
+            self.game.deref(),
+            &self.place,
+            usize::MAX,
+            &mut self.workspace,
+        )?;
+        let count = gathered.moves.len();
+        self.found = Some(gathered.moves);
+        Ok(count)
+    }
+
+    /// The legal moves, where they were found.
+    pub fn moves(&self) -> Option<&MoveList>
+        ensures { MatchOption result (self.now.found ≡ None)
+            (λ moves. (self.now.found ≡ Some moves.now)
+            × AreMoves self.now.game self.now.place moves.now) }
+    {
+        match &self.found {
+            Some(moves) => Some(moves),
+            None => None,
+        }
+    }
+
+    /// Makes the move that stands at an index among those that were found, and the keeper's moves after it.
+    pub fn make_found(&mut self, index: usize) -> Result<(), Refusal>
+        ensures made { OnOk result (MakesFound self.old index self.new) }
+        ensures refused { IfErr result (IsUnmadeAt self.old index) }
+        ensures kept { OnErr result (self.new ≡ self.old) }
+    {
+        let Some(moves) = &self.found else {
+            return Err(Refusal::Illegal);
+        };
+        if moves.len() <= index {
+            return Err(Refusal::Illegal);
+        }
+        let to = step(
+            self.game.deref(),
+            &self.place,
+            moves.get(index),
+            &mut self.workspace,
+        )?;
+        self.before.reserve(1)?;
+        self.before.push_reserved(replace(&mut self.place, to));
+        self.found = None;
+        Ok(())
+    }
+
+    /// Makes the move of these pairs, if it is legal, and the keeper's moves after it.
+    pub fn make(&mut self, pairs: &Move) -> Result<(), Refusal>
+        ensures made { OnOk result (Makes self.old pairs.now self.new) }
+        ensures refused { IfErr result (IsUnmade self.old.game self.old.place pairs.now) }
+        ensures kept { OnErr result (self.new ≡ self.old) }
+    {
+        let to = lead(self.game.deref(), &self.place, pairs, &mut self.workspace)?;
+        self.before.reserve(1)?;
+        self.before.push_reserved(replace(&mut self.place, to));
+        self.found = None;
+        Ok(())
+    }
+
+    /// Makes the move of these pairs, if it is legal, as a referee passes it on: the keeper's moves are passed on too, so
+    /// none is made after it. None of the moves so far can be undone then.
+    pub fn hear(&mut self, pairs: &Move) -> Result<(), Refusal>
+        ensures heard { OnOk result (Hears self.old pairs.now self.new) }
+        ensures refused { IfErr result (IsUnfollowed self.old.game self.old.place pairs.now) }
+        ensures kept { OnErr result (self.new ≡ self.old) }
+    {
+        let to = follow(self.game.deref(), &self.place, pairs, &mut self.workspace)?;
+        self.before.clear();
+        self.workspace.keep(replace(&mut self.place, to));
+        self.found = None;
+        Ok(())
+    }
+
+    /// Undoes the last move of a player, with the keeper's moves after it. False where there is none.
+    pub fn undo(&mut self) -> bool
+        ensures undone { IsTrue result → Undoes self.old self.new }
+        ensures none { ¬ IsTrue result → self.old.before ≡ [] }
+        ensures kept { ¬ IsTrue result → self.new ≡ self.old }
+    {
+        match self.before.pop() {
+            Some(place) => {
+                self.workspace.keep(replace(&mut self.place, place));
+                self.found = None;
+                true
+            }
+            None => false,
+        }
+    }
+
+    /// Plays so many matches by chance from here, and counts how they end. A seed always gives the same matches.
+    pub fn play_matches(&mut self, seed: u64, count: u64) -> Result<Vec<Tally>, Refusal>
+        requires { IsCount count }
+        ensures tallied { IfOk result (λ tallies.
+            AreTallied self.old.game self.old.place count (map counted_by tallies.items)) }
+        ensures unplayed { IfErr result (IsUnplayed self.old.game self.old.place) }
+        ensures kept { self.new ≡ self.old }
+    {
+        play_matches(
+            self.alloc,
+            self.game.deref(),
+            &self.place,
+            seed,
+            count,
+            &mut self.workspace,
+        )
+    }
+}

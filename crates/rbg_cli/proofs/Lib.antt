@@ -1,0 +1,3 @@
+-- Lemmas, by topic.
+mod WishLemmas
+mod WordLemmas

@@ -1,0 +1,4 @@
+pub mod Served
+pub mod Runs
+pub mod Wishes
+pub mod Words

@@ -1,2 +1,0 @@
--- The games of the examples.
-pub mod ExampleGames

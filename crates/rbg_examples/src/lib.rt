@@ -1,4 +1,0 @@
-//! Small facts of small games, each proved: what the definitions of a game's meaning say.
-#![tactic(auto)]
-
-pub mod examples;

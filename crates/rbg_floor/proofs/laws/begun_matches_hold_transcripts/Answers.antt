@@ -1,5 +1,0 @@
-use Rattle.rbg_floor.proofs.Beginnings.{begun_matches_hold_transcripts}
-use Rattle.rbg_floor.proofs.laws.begun_matches_hold_transcripts.Goals as goal
-
-pub returns : goal.returns
-returns c = begun_matches_hold_transcripts

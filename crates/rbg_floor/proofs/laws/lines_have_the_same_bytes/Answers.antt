@@ -1,5 +1,0 @@
-use Rattle.rbg_floor.proofs.Same.{lines_have_the_same_bytes}
-use Rattle.rbg_floor.proofs.laws.lines_have_the_same_bytes.Goals as goal
-
-pub returns : goal.returns
-returns c = lines_have_the_same_bytes

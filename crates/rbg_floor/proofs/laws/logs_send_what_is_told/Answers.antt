@@ -1,5 +1,0 @@
-use Rattle.rbg_floor.proofs.Sending.{logs_send_what_is_told}
-use Rattle.rbg_floor.proofs.laws.logs_send_what_is_told.Goals as goal
-
-pub returns : goal.returns
-returns g c = logs_send_what_is_told g.W.Log.told

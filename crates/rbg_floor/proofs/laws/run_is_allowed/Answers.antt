@@ -1,5 +1,0 @@
-use Rattle.rbg_floor.proofs.Permitted.{run_is_allowed}
-use Rattle.rbg_floor.proofs.laws.run_is_allowed.Goals as goal
-
-pub returns : goal.returns
-returns c = run_is_allowed

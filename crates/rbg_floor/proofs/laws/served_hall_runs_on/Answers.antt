@@ -1,5 +1,0 @@
-use Rattle.rbg_floor.proofs.Sending.{served_hall_runs_on}
-use Rattle.rbg_floor.proofs.laws.served_hall_runs_on.Goals as goal
-
-pub returns : goal.returns
-returns g c = served_hall_runs_on g.W.Log.told

@@ -1,5 +1,0 @@
-use Rattle.rbg_floor.proofs.Same.{tables_are_apart}
-use Rattle.rbg_floor.proofs.laws.tables_are_apart.Goals as goal
-
-pub returns : goal.returns
-returns c = tables_are_apart

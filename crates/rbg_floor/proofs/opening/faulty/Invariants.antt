@@ -1,5 +1,0 @@
-use Rattle.rbg_floor.specs.internal.Parts.{FirstHaveLimits}
-use Rattle.rbg_floor.proofs.opening.faulty.Given as goal
-
-abbrev pub invariant-loop-index : goal.invariant-loop-index
-invariant-loop-index l = FirstHaveLimits l.index l.tables

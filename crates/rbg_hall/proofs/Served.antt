@@ -1,0 +1,96 @@
+-- A hall that is served.
+use Rattle.rbg_base.proofs.Common.{◌≡◌, ℕ, zero, suc, ◌<◌, Bool, List, [], ◌∷◌, length, true, false, refl, sym, ap, ◌∙◌, subst, arith, append-nil, Result, Ok, Err, inl, inr, map-append, OnOk, OnErr, is_err}
+use Rattle.rbg_hall.specs.Tellings.{Telling, bytes_to, told_from}
+use Rattle.rbg_hall.proofs.Telling.{length-told_to}
+use Rattle.rbg_serving.specs.declared.served.Served.{Served}
+use Rattle.rbg_serving.specs.declared.served.ServeError.{ServeError}
+use Rattle.rbg_serving.specs.declared.served.ServeError.TheVariants.{Rounds, Memory}
+use Rattle.rbg_serving.proofs.Common.{Heard, event_of, Intake, Handles, Extends, ExtendAll, queued_at}
+use Rattle.rbg_serving.specs.Passing as passing
+use Rattle.rbg_hall.proofs.Common.{HeldHall, AbstractTable, HallState, HallHears, AbstractHallEvent, ServedHallIsAllowed, HallStops, HallWrites, IsNewHall, IsServedHall, hall_event, hall_events, of_hall, HasRun, IsOfHall}
+use Rattle.rbg_hall.proofs.Wholes.{run_on, new_run, run_allowed}
+
+-- what each line has after it is told something
+told_extends : (line : ℕ) (queues : List (List ℕ)) (told : List Telling) (index : ℕ) → index < length queues → Extends (queued_at queues index) (queued_at (told_from line queues told) index)
+told_extends line [] told index within = ([], refl)
+told_extends line (bytes ∷ others) told zero within = (bytes_to line told, refl)
+told_extends line (bytes ∷ others) told (suc index) within = told_extends (suc line) others told index (omega (arith, within))
+
+pub hearing_extends : {old new : HallState} {event : AbstractHallEvent} {before after : List (List ℕ)} → HallHears old event new before after → ExtendAll before after
+hearing_extends {before = before} hears = λ index within.
+    subst (λ queues. Extends (queued_at before index) (queued_at queues index)) (sym hears.queued)
+    (told_extends 0 before hears.told index within)
+
+-- what the step of a hall answers, as a call hears it
+pub stepped_so : {E W : Type 0} (told : W → List ℕ → Type 0) (old new : HeldHall W) (before after : List (List ℕ)) (result : Result (Unit {0}) E) (heard wanted : AbstractHallEvent) → heard ≡ wanted → new.failed ≡ is_err result → OnOk result (HallWrites told old.state old.ledgers heard new.state new.ledgers before after) → OnOk result (HallWrites told old.state old.ledgers wanted new.state new.ledgers before after × (new.failed ≡ false))
+stepped_so told old new before after (Ok done) heard wanted same failing writes = (subst (λ event. HallWrites told old.state old.ledgers event new.state new.ledgers before after) same writes, failing)
+stepped_so told old new before after (Err error) heard wanted same failing writes = tt
+
+pub failed_so : {E W : Type 0} (told : W → List ℕ → Type 0) (old new : HeldHall W) (before after : List (List ℕ)) (result : Result (Unit {0}) E) → new.failed ≡ is_err result → OnErr result (after ≡ before) → OnErr result (HallStops told old.state.tables old.ledgers new.state.tables new.ledgers) → OnErr result ((after ≡ before) × ((new.failed ≡ true) × HallStops told old.state.tables old.ledgers new.state.tables new.ledgers))
+failed_so told old new before after (Ok done) failing kept stops = tt
+failed_so told old new before after (Err error) failing kept stops = (kept, (failing, stops))
+
+pub works_so : {E : Type 0} (was failed : Bool) (result : Result (Unit {0}) E) → failed ≡ is_err result → OnOk result (was ≡ false → failed ≡ false)
+works_so was failed (Ok done) failing = λ _. failing
+works_so was failed (Err error) failing = tt
+
+pub as_many_so : {E : Type 0} (old new : HallState) (event : AbstractHallEvent) (before after : List (List ℕ)) (result : Result (Unit {0}) E) → OnOk result (HallHears old event new before after) → OnErr result (after ≡ before) → length after ≡ length before
+as_many_so old new event before after (Ok done) hears kept = ap length hears.queued ∙ length-told_to before hears.told
+as_many_so old new event before after (Err error) hears kept = ap length kept
+
+-- a hall that handles what is heard has run through it
+pub handled_run : {W : Type 0} {told : W → List ℕ → Type 0} {starts : List AbstractTable} {lines : ℕ} {old : HeldHall W} {before : List (List ℕ)} {heard : List Heard} {new : HeldHall W} {queued : List (List ℕ)} {since : List Intake} →
+    HasRun starts [] old.state before →
+    Handles (of_hall told) lines old before heard new queued since →
+    HasRun starts (hall_events heard) new.state queued
+handled_run run passing.nothing = run
+handled_run {starts = starts} {new = new} {queued = queued} run (passing.more {heard} handles now one may step) =
+    subst (λ events. HasRun starts events new.state queued) (sym (map-append (λ (one : Heard). hall_event (event_of one)) heard (one ∷ [])))
+    (run_on (handled_run run handles) step.0.hears)
+
+allowed_so : {W : Type 0} {told : W → List ℕ → Type 0} {starts : List AbstractTable} {lines : ℕ} {old new : HeldHall W} {before queued : List (List ℕ)} {heard : List Heard} {since : List Intake} →
+    IsNewHall starts old before →
+    Handles (of_hall told) lines old before heard new queued since →
+    IsOfHall starts (hall_events heard) queued
+allowed_so {starts = starts} {old = old} {before = before} new handles = record {
+  lawful = new.lawful;
+  configs = new.configs;
+  allowed = run_allowed (handled_run (new_run starts old before new) handles);
+}
+
+-- all that was heard was handled
+all_so : {W : Type 0} {told : W → List ℕ → Type 0} {starts : List AbstractTable} {lines : ℕ} {old new : HeldHall W} {before queued : List (List ℕ)} {since : List Intake} (heard : List Heard) (result : Result Served ServeError) →
+    IsNewHall starts old before →
+    Handles (of_hall told) lines old before heard new queued since →
+    IsServedHall starts heard queued result
+all_so heard result new handles = record {
+  handled = heard;
+  left = [];
+  split = sym (append-nil heard);
+  all = λ _. refl;
+  allowed = allowed_so new handles;
+}
+
+pub served_hall_is_allowed : {W : Type 0} (told : W → List ℕ → Type 0) → ServedHallIsAllowed told
+served_hall_is_allowed told starts rounds before after moments old new queued_before queued (Ok served) made serves =
+    all_so serves.heard (Ok served) made serves.ends.0.handles
+served_hall_is_allowed told starts rounds before after moments old new queued_before queued (Err Rounds) made serves =
+    all_so serves.heard (Err Rounds) made serves.ends.0.handles
+served_hall_is_allowed told starts rounds before after moments old new queued_before queued (Err Memory) made serves =
+    elim serves.ends.1 [
+      | inl lacks ↦ record {
+        handled = lacks.handled;
+        left = lacks.refused ∷ [];
+        split = lacks.split;
+        all = λ other. absurd (other refl);
+        allowed = allowed_so made lacks.handles;
+      }
+      | inr nothing ↦ record {
+        handled = [];
+        left = [];
+        split = nothing.0;
+        all = λ other. absurd (other refl);
+        allowed = subst (λ queues. IsOfHall starts [] queues) (sym nothing.3)
+            (allowed_so {told = told} {lines = 0} made passing.nothing);
+      }
+    ]

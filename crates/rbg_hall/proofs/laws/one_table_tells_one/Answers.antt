@@ -1,5 +1,0 @@
-use Rattle.rbg_hall.proofs.Alike.{one_table}
-use Rattle.rbg_hall.proofs.laws.one_table_tells_one.Goals as goal
-
-pub returns : goal.returns
-returns c = one_table

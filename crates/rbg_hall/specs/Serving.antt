@@ -1,0 +1,71 @@
+-- A hall as a call of `run` knows it. Seat 1 of such a call is line 0 of the hall.
+use Rattle.std.specs.Prelude.{◌≡◌, ◌-◌, ℕ, Bool, true, false, List, [], ◌++◌, All, Option, Some, None, is_some, Result, IsErrOf, map, slice_get}
+use Rattle.rbg_match.specs.Inputs.{AbstractEvent, piece, end_of_stream, moment_alone}
+use Rattle.rbg_match.specs.Matches.{MatchState}
+use Rattle.rbg_hall.specs.Tables.{TableState, HasSeat}
+use Rattle.rbg_serving.specs.declared.served.Served.{Served}
+use Rattle.rbg_serving.specs.declared.served.ServeError.{ServeError}
+use Rattle.rbg_serving.specs.declared.served.ServeError.TheVariants.{Memory}
+use Rattle.rbg_serving.specs.Heard.{Heard, event_of}
+use Rattle.rbg_serving.specs.Passing.{Behaviour}
+use Rattle.rbg_hall.specs.Events.{AbstractHallEvent, sends, ends, ticks}
+use Rattle.rbg_hall.specs.Failing.{HeldHall}
+use Rattle.rbg_hall.specs.Halls.{AbstractTable, HallState, line_at}
+use Rattle.rbg_hall.specs.Ledgers.{HallStops, HallWrites}
+use Rattle.rbg_hall.specs.Lines.{HallLine, silent, asks, over}
+use Rattle.rbg_hall.specs.Wholes.{IsOfHall}
+
+-- what a hall hears where a call hears this
+abbrev pub hall_event : AbstractEvent → AbstractHallEvent
+hall_event (piece seat at bytes) = sends (seat - 1) at bytes
+hall_event (end_of_stream seat at) = ends (seat - 1) at
+hall_event (moment_alone at) = ticks at
+
+-- the same of all that a call has heard
+abbrev pub hall_events : List Heard → List AbstractHallEvent
+hall_events heard = map (λ one. hall_event (event_of one)) heard
+
+-- whether a match has begun and ended
+abbrev pub has_ended : Option MatchState → Bool
+has_ended (Some playing) = is_some playing.play.outcome
+has_ended None = false
+
+-- the match of each of these tables has begun and ended
+abbrev pub HaveAllEnded : List TableState → Type 0
+HaveAllEnded tables = All (λ (table : TableState). has_ended table.begun ≡ true) tables
+
+-- the line has a seat at this table, if it is there
+abbrev pub HasSeatThere : Option TableState → (line : ℕ) → Type 0
+HasSeatThere (Some table) line = HasSeat table line
+HasSeatThere None line = ⊥
+
+-- Something may still be heard of a line that stands so: it hasn't asked for a table yet, or has a seat at that table.
+abbrev pub SpeaksAs : List TableState → (line : ℕ) → HallLine → Type 0
+SpeaksAs tables line (silent rest) = Unit {0}
+SpeaksAs tables line (asks table rest) = HasSeatThere (slice_get tables (table - 1)) line
+SpeaksAs tables line over = ⊥
+
+abbrev pub MaySpeak : HallState → (line : ℕ) → Type 0
+MaySpeak hall line = SpeaksAs hall.tables line (line_at hall.lines line)
+
+-- A hall is over once every match has ended, and hears each line that may speak until then. What the matches are handed
+-- of an event is written to their logs before. It fails where it has no memory for an event, or a log fails.
+abbrev pub of_hall : {W : Type 0} → (told : W → List ℕ → Type 0) → Behaviour (HeldHall W)
+of_hall told = record {
+  steps = λ old event new before after.
+      HallWrites told old.state old.ledgers (hall_event event) new.state new.ledgers before after
+      × (new.failed ≡ false);
+  lacks = λ old new. (new.failed ≡ true) × HallStops told old.state.tables old.ledgers new.state.tables new.ledgers;
+  listens = λ hall seat. (¬ HaveAllEnded hall.state.tables) × MaySpeak hall.state (seat - 1);
+  over = λ hall. HaveAllEnded hall.state.tables;
+}
+
+-- A new hall with these tables was served, and this was heard in the call. The hall heard it from the first on, all of it
+-- unless memory ran out, and these bytes may be queued for its lines then.
+pub record IsServedHall (starts : List AbstractTable) (heard : List Heard) (queues : List (List ℕ))
+    (result : Result Served ServeError) : Type 0 where
+  pub handled : List Heard
+  pub left : List Heard
+  pub split : heard ≡ handled ++ left
+  pub all : (¬ IsErrOf result Memory) → left ≡ []
+  pub allowed : IsOfHall starts (hall_events handled) queues

@@ -1,0 +1,72 @@
+//! A hall as something that can be served.
+ghost use Rattle.std.specs.Prelude.{◌≡◌};
+ghost use Rattle.rbg_match.specs.Inputs.{event_of as match_event};
+ghost use Rattle.rbg_hall.specs.Events.{event_of};
+ghost use Rattle.rbg_hall.specs.Serving.{hall_event};
+
+use crate::queues::HallOut;
+use crate::{Hall, HallEvent};
+use rbg_base::Memory;
+use rbg_match::Event;
+use rbg_serving::{Engine, Log};
+
+/// What a hall hears where the line of a seat is heard. Seat 1 is line 0.
+fn hall_event(event: Event<'_>) -> HallEvent<'_>
+    ensures { event_of result ≡ hall_event (match_event event.entry) }
+{
+    match event {
+        Event::Piece { seat, at, bytes } => HallEvent::Piece {
+            line: seat.saturating_sub(1),
+            at,
+            bytes,
+        },
+        Event::Ended { seat, at } => HallEvent::Ended {
+            line: seat.saturating_sub(1),
+            at,
+        },
+        Event::Tick { at } => HallEvent::Tick { at },
+    }
+}
+
+impl<W: Log> Engine for Hall<W> {
+    ghost use Rattle.std.specs.Prelude.{◌≡◌, false};
+    ghost use Rattle.rbg_hall.specs.TableLimits.{lines_in_all};
+    ghost use Rattle.rbg_hall.specs.Due.{IsFirstDue};
+    ghost use Rattle.rbg_hall.specs.Serving.{of_hall};
+
+    type Outbox = HallOut;
+
+    ghost queued = { λ out. out };
+
+    ghost behaviour = { of_hall W.told };
+
+    ghost Fixed = { Unit {0} };
+
+    ghost fixed = { λ _. tt };
+
+    ghost lines = { λ _. lines_in_all };
+
+    ghost valid = { λ hall. hall.failed ≡ false };
+
+    ghost first_due = { λ hall due. IsFirstDue hall.state.tables due };
+
+    fn handle(&mut self, event: Event<'_>, outbox: &mut HallOut) -> Result<(), Memory> {
+        self.step(hall_event(event), outbox)
+    }
+
+    fn listens(&self, seat: usize) -> bool {
+        !self.have_all_ended() && self.may_speak(seat.saturating_sub(1))
+    }
+
+    fn is_over(&self) -> bool {
+        self.have_all_ended()
+    }
+
+    fn due(&self) -> Option<u64> {
+        Hall::due(self)
+    }
+
+    fn bytes(outbox: &HallOut, line: usize) -> &[u8] {
+        outbox.bytes(line as u64 - 1)
+    }
+}

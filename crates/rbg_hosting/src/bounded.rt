@@ -1,0 +1,72 @@
+//! A match that is served until it has ended, or the bound on it is used up.
+ghost use Rattle.std.specs.Prelude.{◌≡◌, ℕ, List, length, IfOk, OnOk};
+ghost use Rattle.rbg_match.specs.PlayingOn.{seats_of};
+ghost use Rattle.rbg_hosting.specs.Played.{IsPlayedMatch};
+
+use crate::{Serving, ServingFault};
+use rbg_match::{Match, Outbox};
+use rbg_serving::{Clock, Line, Log, LoggedMatch, ServeError};
+use std::alloc::{AllocError, Global};
+
+/// Serves a match from this moment on.
+pub(crate) fn play_on<W: Log, L: Line, C: Clock>(
+    alloc: Global,
+    logged: LoggedMatch<W>,
+    serving: &Serving<'_>,
+    now: u64,
+    lines: &mut [L],
+    outbox: &mut Outbox,
+    clock: &mut C,
+) -> Result<Match, ServingFault>
+    requires lines { length lines.old ≡ seats_of logged.played.game }
+    requires seats { length outbox.old ≡ seats_of logged.played.game }
+    ensures { (text : List ℕ) → IsPlayedMatch text logged.played →
+        IfOk result (λ played. IsPlayedMatch text played) }
+{
+    let mut logged = logged;
+    let rounds = begin_bound(&mut logged, serving, now);
+    serve_rounds(alloc, &mut logged, rounds, lines, outbox, clock)?;
+    Ok(logged.into_played())
+}
+
+/// Serves a match for so many rounds at most.
+fn serve_rounds<W: Log, L: Line, C: Clock>(
+    alloc: Global,
+    logged: &mut LoggedMatch<W>,
+    rounds: u64,
+    lines: &mut [L],
+    outbox: &mut Outbox,
+    clock: &mut C,
+) -> Result<(), ServingFault>
+    requires lines { length lines.old ≡ seats_of logged.old.played.game }
+    requires seats { length outbox.old ≡ seats_of logged.old.played.game }
+    ensures { (text : List ℕ) → IsPlayedMatch text logged.old.played →
+        OnOk result (IsPlayedMatch text logged.new.played) }
+{
+    match logged.serve(alloc, lines, outbox, clock, rounds) {
+        Ok(_) => Ok(()),
+        Err(ServeError::Rounds) => Err(ServingFault::Rounds),
+        Err(ServeError::Memory) => Err(fault_of(logged)),
+    }
+}
+
+/// Sets how long a match may take, and returns the most rounds.
+fn begin_bound<W: Log>(logged: &mut LoggedMatch<W>, serving: &Serving<'_>, now: u64) -> u64
+    ensures { logged.new.played ≡ logged.old.played }
+{
+    match serving.keeping.minutes {
+        Some(minutes) => {
+            logged.stop_at(now.saturating_add(minutes.saturating_mul(60_000)));
+            u64::MAX
+        }
+        None => serving.rounds,
+    }
+}
+
+/// Why a match handles no more events.
+fn fault_of<W: Log>(logged: &LoggedMatch<W>) -> ServingFault {
+    match logged.stopped() {
+        Some(stop) => ServingFault::from(stop),
+        None => ServingFault::Memory(AllocError),
+    }
+}

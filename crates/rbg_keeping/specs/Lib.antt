@@ -1,3 +1,0 @@
--- Matches that outlive the process that served them.
-pub mod Played
-pub mod Runs

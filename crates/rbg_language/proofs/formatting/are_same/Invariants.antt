@@ -1,7 +1,0 @@
--- So far the tokens are the same.
-use Rattle.std.proofs.Common.{◌≡◌, map, take}
-use Rattle.rbg_language.specs.Formatting.{spelled_as}
-use Rattle.rbg_language.proofs.formatting.are_same.Given as goal
-
-abbrev pub invariant-loop-index : goal.invariant-loop-index
-invariant-loop-index l = map spelled_as (take l.index l.old) ≡ map spelled_as (take l.index l.new)

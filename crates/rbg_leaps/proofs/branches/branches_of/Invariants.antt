@@ -1,6 +1,0 @@
--- The branches of the positions so far.
-use Rattle.rbg_leaps.specs.internal.Branches.{AreBranchesUpTo}
-use Rattle.rbg_leaps.proofs.branches.branches_of.Given as goal
-
-abbrev pub invariant-loop-position : goal.invariant-loop-position
-invariant-loop-position l = AreBranchesUpTo l.ground.rules l.afters l.positions l.branches.items l.position-index

@@ -1,6 +1,0 @@
--- The entries of the vertices so far were filled.
-use Rattle.rbg_leaps.specs.internal.Tables.{FillsUpTo}
-use Rattle.rbg_leaps.proofs.filling.share_node.Given as goal
-
-abbrev pub invariant-loop-index : goal.invariant-loop-index
-invariant-loop-index l = FillsUpTo l.ground l.lists l.fn.table l.table l.node l.index

@@ -1,7 +1,0 @@
--- The entries of the nodes so far are side by side.
-use Rattle.std.proofs.Common.{take}
-use Rattle.rbg_leaps.specs.internal.Tables.{AreLaid}
-use Rattle.rbg_leaps.proofs.laying.lay.Given as goal
-
-abbrev pub invariant-loop-node : goal.invariant-loop-node
-invariant-loop-node l = AreLaid l.vertices l.all (take l.node-index l.nodes) l.entries.items

@@ -1,7 +1,0 @@
-use Rattle.std.proofs.Common.{subst}
-use Rattle.rbg_rules.specs.Meaning.{AbstractGame}
-use Rattle.rbg_leaps.specs.Made.{AreLeapsOf}
-use Rattle.rbg_leaps.proofs.making.leaps.Goals as goal
-
-pub returns-clause-made : goal.returns-clause-made
-returns-clause-made g c = subst (λ (game : AbstractGame). AreLeapsOf game c.in_ok-laid.laid) c.new-ground.ensures c.in_ok-laid.ensures

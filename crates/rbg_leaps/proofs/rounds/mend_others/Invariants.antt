@@ -1,6 +1,0 @@
--- Nothing is missing in what is marked.
-use Rattle.rbg_leaps.specs.internal.Tables.{AreFilled}
-use Rattle.rbg_leaps.proofs.rounds.mend_others.Given as goal
-
-abbrev pub invariant-loop-done : goal.invariant-loop-done
-invariant-loop-done l = AreFilled l.ground l.lists l.table l.filled

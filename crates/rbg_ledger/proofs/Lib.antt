@@ -1,4 +1,0 @@
--- What the proofs of this crate share.
-pub mod Failing
-pub mod Keeping
-pub mod Sending

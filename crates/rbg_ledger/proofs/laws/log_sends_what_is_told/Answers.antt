@@ -1,5 +1,0 @@
-use Rattle.rbg_ledger.proofs.Sending.{log_sends_what_is_told}
-use Rattle.rbg_ledger.proofs.laws.log_sends_what_is_told.Goals as goal
-
-pub returns : goal.returns
-returns g c = log_sends_what_is_told g.W.Log.told

@@ -1,3 +1,0 @@
--- Definitions that only the proofs and the contracts of private functions use.
-pub mod Codes
-pub mod Parts

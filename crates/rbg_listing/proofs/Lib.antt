@@ -1,3 +1,0 @@
--- Lemmas, by topic.
-mod Following
-mod ListingLemmas

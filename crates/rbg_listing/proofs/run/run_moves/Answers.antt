@@ -1,8 +1,0 @@
--- The answer is written.
-use Rattle.rbg_listing.specs.Runs.{IsFilesMoves}
-use Rattle.rbg_refereeing.proofs.CallerLemmas.{run_of}
-use Rattle.rbg_listing.proofs.run.run_moves.Goals as goal
-
-pub returns : goal.returns
-returns g c =
-    run_of (IsFilesMoves (g.F.Files.told c.args.files.now c.args.file.now)) _ _ c.answer_file-answered.result c.write_answer.result c.answer_file-answered.ensures c.write_answer.ensures

@@ -1,5 +1,0 @@
-use Rattle.rbg_numbering.proofs.RuleFaults.{rule_fault_fails}
-use Rattle.rbg_numbering.proofs.laws.faults_leave_no_numbers.Goals as goal
-
-pub returns : goal.returns
-returns c = λ names rule error fault other x is. rule_fault_fails names rule error x fault other is.positions is.nesting is.switches is.is_rule

@@ -1,7 +1,0 @@
-use Rattle.rbg_base.proofs.Common.{map, take, AllZip}
-use Rattle.rbg_grammar.specs.Views.{name_of}
-use Rattle.rbg_numbering.specs.Names.{IsNumberOf}
-use Rattle.rbg_numbering.proofs.name_table.NameTable.find_all.Given as goal
-
-abbrev pub invariant-loop-name : goal.invariant-loop-name
-invariant-loop-name l = AllZip (IsNumberOf l.self) (map name_of (take l.name-index l.names)) l.numbers.items

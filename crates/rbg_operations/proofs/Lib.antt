@@ -1,0 +1,11 @@
+-- Lemmas, by topic.
+mod Following
+mod ListingLemmas
+pub mod AnswerLemmas
+mod JudgingLemmas
+mod LawLemmas
+mod OpeningLemmas
+mod ReadingLemmas
+mod RecordRunLemmas
+mod RecordedLemmas
+mod RunLemmas

@@ -1,0 +1,10 @@
+-- What is written to no bytes is the text.
+use Rattle.std.proofs.Common.{◌≡◌, sym, subst, rules}
+use Rattle.rbg_operations.specs.Behind.{GoesOnAt}
+use Rattle.rbg_operations.proofs.place.place_lines.Goals as goal
+
+pub returns : goal.returns
+returns c =
+    let text = c.in_ok-write_place.ensures in
+    let same : c.write_place.new.out.items ≡ text.0 = search rules in
+    subst (GoesOnAt c.args.game.now c.args.place.now) (sym same) text.1

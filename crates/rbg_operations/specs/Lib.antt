@@ -1,0 +1,12 @@
+pub mod ListingAnswers
+pub mod Behind
+pub mod Lines
+pub mod Openings
+pub mod ListingRuns
+pub mod internal
+pub mod Answers
+pub mod Laws
+pub mod RecordRuns
+pub mod Recorded
+pub mod Runs
+pub mod Tasks

@@ -1,0 +1,55 @@
+//! The lines that are answered to a record.
+ghost use Rattle.std.specs.Prelude.{◌≡◌, IfOk};
+ghost use Rattle.rbg_operations.specs.Answers.{bad_line, form_line, good_line, over_line};
+ghost use Rattle.rbg_operations.specs.internal.Parts.{SaysFault};
+
+use rbg_console::Status;
+use rbg_record::RecordError;
+use rbg_referee::{Answer, answer_line};
+use std::alloc::{AllocError, Global};
+
+/// `good`
+pub(crate) fn answer_good(alloc: Global) -> Result<Answer, AllocError>
+    ensures text { IfOk result (λ answer. answer.text.items ≡ good_line) }
+    ensures status { IfOk result (λ answer. answer.status ≡ Status.Success) }
+{
+    Ok(Answer {
+        text: b"good\n".to_vec(alloc)?,
+        status: Status::Success,
+    })
+}
+
+/// `bad <line>`
+pub(crate) fn answer_bad(alloc: Global, line: usize) -> Result<Answer, AllocError>
+    ensures text { IfOk result (λ answer. answer.text.items ≡ bad_line line) }
+    ensures status { IfOk result (λ answer. answer.status ≡ Status.BadInput) }
+{
+    answer_line(alloc, "bad ", line)
+}
+
+/// `form <line>`
+pub fn answer_form(alloc: Global, line: usize) -> Result<Answer, AllocError>
+    ensures text { IfOk result (λ answer. answer.text.items ≡ form_line line) }
+    ensures status { IfOk result (λ answer. answer.status ≡ Status.BadInput) }
+{
+    answer_line(alloc, "form ", line)
+}
+
+/// `over <line>`
+pub(crate) fn answer_over(alloc: Global, line: usize) -> Result<Answer, AllocError>
+    ensures text { IfOk result (λ answer. answer.text.items ≡ over_line line) }
+    ensures status { IfOk result (λ answer. answer.status ≡ Status.BadInput) }
+{
+    answer_line(alloc, "over ", line)
+}
+
+/// The line of a record's fault.
+pub(crate) fn answer_record_fault(alloc: Global, error: RecordError) -> Result<Answer, AllocError>
+    ensures { IfOk result (λ answer. SaysFault error answer.text.items answer.status) }
+{
+    match error {
+        RecordError::Form { line } => answer_form(alloc, line),
+        RecordError::Over { line } => answer_over(alloc, line),
+        RecordError::Memory => Err(AllocError),
+    }
+}

@@ -1,9 +1,0 @@
--- Lemmas, by topic.
-mod Changes
-mod Parts
-mod Plain
-mod Reading
-mod Spots
-mod Standing
-mod Taking
-mod Writing

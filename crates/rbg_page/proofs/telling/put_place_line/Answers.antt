@@ -1,9 +1,0 @@
--- Both places have as many vertices and variables.
-use Rattle.rbg_page.proofs.Standing.{same_pieces, same_variables}
-use Rattle.rbg_page.proofs.telling.put_place_line.Goals as goal
-
-pub put_place-requires-clause-pieces : goal.put_place-requires-clause-pieces
-put_place-requires-clause-pieces c = same_pieces _ _ _ c.requires.before c.requires.place
-
-pub put_place-requires-clause-variables : goal.put_place-requires-clause-variables
-put_place-requires-clause-variables c = same_variables _ _ _ c.requires.before c.requires.place

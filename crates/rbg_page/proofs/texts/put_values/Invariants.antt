@@ -1,7 +1,0 @@
--- The text so far is that of the values so far.
-use Rattle.std.proofs.Common.{◌≡◌, ◌++◌, take}
-use Rattle.rbg_page.specs.Texts.{values_text}
-use Rattle.rbg_page.proofs.texts.put_values.Given as goal
-
-abbrev pub invariant-loop-value : goal.invariant-loop-value
-invariant-loop-value l = l.out.items ≡ l.fn.out.items ++ values_text (take l.value-index l.values)

@@ -1,2 +1,0 @@
--- What only this crate's own proofs use.
-pub mod Reading

@@ -1,3 +1,0 @@
--- Lemmas, by topic.
-mod Refusing
-mod Sums

@@ -1,4 +1,0 @@
--- Lemmas, by topic.
-mod Totals
-mod Lines
-mod Beginning

@@ -1,8 +1,0 @@
--- The sum over the tallies so far.
-use Rattle.std.proofs.Common.{◌≡◌, map, take, sum_by}
-use Rattle.rbg_ask.specs.Chance.{counted_by}
-use Rattle.rbg_playouts.specs.internal.Counts.{number_in}
-use Rattle.rbg_playouts.proofs.sums.sum_of.Given as goal
-
-abbrev pub invariant-loop-tally : goal.invariant-loop-tally
-invariant-loop-tally l = l.sum ≡ sum_by (number_in l.counting) (map counted_by (take l.tally-index l.tallies))

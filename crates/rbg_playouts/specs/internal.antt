@@ -1,3 +1,0 @@
--- Definitions that only this crate's own proofs and private contracts use.
-pub mod Bounds
-pub mod Counts

@@ -1,0 +1,126 @@
+-- The places of a session.
+use Rattle.rbg_base.proofs.Common.{◌≡◌, ℕ, ◌+◌, ◌-◌, ◌<◌, ◌⊎◌, inl, inr, List, [], ◌∷◌, ◌++◌, length, take, drop, All, slice_get, Some, ap, sym, ◌∙◌, refl, subst, arith, append_assoc, length-append, All-head, All-tail, All-nil, All-cons, All-append}
+use Rattle.std.proofs.lemmas.List.{take-append-drop, length-drop}
+use Rattle.rbg_base.proofs.CallerLemmas.{slice_get-append_right}
+use Rattle.rbg_rules.specs.Meaning.{AbstractGame, AbstractPlace, Legal, Finished, IsPlaceOf}
+use Rattle.rbg_moves.specs.Settling.{Settles}
+use Rattle.rbg_questions.specs.Sessions.{AreHeard, no_move, one_more, HasLedTo, at_start, at_heard, by_move, Leads, beginning_of, AbstractSession}
+use Rattle.rbg_questions.specs.Answering.{GoesBack}
+use Rattle.rbg_questions.specs.internal.Places.{AreReached, IsHeardPlace}
+
+no_end : {X : Type 0} (xs : List X) (x : X) (ys : List X) → [] ≡ xs ++ x ∷ ys → ⊥
+no_end [] x ys same = let apart : [] ≡ x ∷ ys = same in cc
+no_end (y ∷ xs) x ys same = let apart : [] ≡ y ∷ (xs ++ x ∷ ys) = same in cc
+
+-- an item of a list is its last one, or one of those before
+last_or_before : {X : Type 0} (front : List X) (last : X) (before : List X) (x : X) (later : List X) → front ++ last ∷ [] ≡ before ++ x ∷ later → ((front ≡ before) × (last ≡ x)) ⊎ ((others : List X) × (front ≡ before ++ x ∷ others))
+last_or_before [] last [] x later same = let parts : last ∷ [] ≡ x ∷ later = same in inl (refl, cc)
+last_or_before [] last (b ∷ before) x later same =
+    let parts : last ∷ [] ≡ b ∷ (before ++ x ∷ later) = same in
+    absurd (no_end before x later cc)
+last_or_before (f ∷ front) last [] x later same =
+    let parts : f ∷ (front ++ last ∷ []) ≡ x ∷ later = same in
+    let first : f ≡ x = cc in
+    inr (front, λ i. first i ∷ front)
+last_or_before (f ∷ front) last (b ∷ before) x later same =
+    let parts : f ∷ (front ++ last ∷ []) ≡ b ∷ (before ++ x ∷ later) = same in
+    let first : f ≡ b = cc in
+    elim (last_or_before front last before x later cc) [
+      | inl found ↦ inl ((λ i. first i ∷ found.0 i), found.1)
+      | inr found ↦ inr (found.0, (λ i. first i ∷ found.1 i))
+    ]
+
+-- A move was made at the place.
+pub record WasMade (game : AbstractGame) (place : AbstractPlace) : Type 0 where
+  pub pairs : List (ℕ × ℕ)
+  pub to : AbstractPlace
+  pub legal : Legal game place pairs to
+
+-- Play has led to each of the places before, and a move was made there.
+pub led_before : (game : AbstractGame) (all : List AbstractPlace) (to : AbstractPlace) → HasLedTo game all to → (front : List AbstractPlace) (place : AbstractPlace) (later : List AbstractPlace) → all ≡ front ++ place ∷ later → HasLedTo game front place × WasMade game place
+led_before game _ to (at_start settles) front place later same = absurd (no_end front place later same)
+led_before game _ to (at_heard heard) front place later same = absurd (no_end front place later same)
+led_before game _ to (by_move {before} {from} {pairs} led leads) front place later same =
+    elim (last_or_before before from front place later same) [
+      | inl last ↦ (subst (λ (p : AbstractPlace). HasLedTo game front p) last.1 (subst (λ ps. HasLedTo game ps from) last.0 led), subst (WasMade game) last.1 (record { pairs = pairs; to = leads.middle; legal = leads.legal }))
+      | inr others ↦ led_before game before from led front place others.0 others.1
+    ]
+
+all_before : {X : Type 0} (P : X → Type 0) (before : List X) (x : X) (later : List X) → All P (before ++ x ∷ later) → All P before × P x
+all_before P [] x later h = (All-nil P, All-head P x later h)
+all_before P (b ∷ before) x later h =
+    let others = all_before P before x later (All-tail P b (before ++ x ∷ later) h) in
+    (All-cons P b before (All-head P b (before ++ x ∷ later) h) others.0, others.1)
+
+-- what holds of the places holds of those before one of them
+pub reached_before : (game : AbstractGame) (all : List AbstractPlace) (to : AbstractPlace) → AreReached game all to → (before : List AbstractPlace) (place : AbstractPlace) (later : List AbstractPlace) → all ≡ before ++ place ∷ later → AreReached game before place
+reached_before game all to reached before place later same =
+    let places = all_before (IsPlaceOf game) before place later (subst (All (IsPlaceOf game)) same reached.earlier) in
+    record { earlier = places.0; here = places.1; led = (led_before game all to reached.led before place later same).0 }
+
+-- and of one more place
+pub reached_next : (game : AbstractGame) (before : List AbstractPlace) (from to : AbstractPlace) (pairs : List (ℕ × ℕ)) → AreReached game before from → Leads game from pairs to → IsPlaceOf game to → AreReached game (before ++ from ∷ []) to
+reached_next game before from to pairs reached leads fits = record {
+  earlier = All-append (IsPlaceOf game) before (from ∷ []) reached.earlier (All-cons (IsPlaceOf game) from [] reached.here (All-nil (IsPlaceOf game)));
+  here = fits;
+  led = by_move reached.led leads;
+}
+
+-- play isn't finished where a move was made
+pub not_finished : (game : AbstractGame) (place : AbstractPlace) → WasMade game place → ¬ Finished game place
+not_finished game place made finished = finished.no_move made.pairs made.to made.legal
+
+-- what stands after so many items of a list, of which the last is known
+pub cut_after : {X : Type 0} (all front : List X) (x : X) (index : ℕ) → take (index + 1) all ≡ front ++ x ∷ [] → all ≡ front ++ x ∷ drop (index + 1) all
+cut_after all front x index same =
+    sym (take-append-drop (index + 1) all) ∙ (ap (λ some. some ++ drop (index + 1) all) same ∙ append_assoc front (x ∷ []) (drop (index + 1) all))
+
+-- the place to which one goes back is the one at its index
+pub place_at : (all : List AbstractPlace) (index : ℕ) (found : AbstractPlace) (before : List AbstractPlace) (place : AbstractPlace) (later : List AbstractPlace) → index < length all → slice_get all index ≡ Some found → all ≡ before ++ place ∷ later → length all - index ≡ length later + 1 → found ≡ place
+place_at all index found before place later within there same many =
+    let long : length all ≡ length before + length (place ∷ later) = ap length same ∙ length-append before (place ∷ later) in
+    let here : index ≡ length before + 0 = omega (arith, within, long, many) in
+    let found_there : slice_get (before ++ place ∷ later) (length before + 0) ≡ Some found = subst (λ i. slice_get (before ++ place ∷ later) i ≡ Some found) here (subst (λ (xs : List AbstractPlace). slice_get xs index ≡ Some found) same there) in
+    let placed : slice_get (before ++ place ∷ later) (length before + 0) ≡ Some place = slice_get-append_right before (place ∷ later) 0 place refl in
+    let both : Some found ≡ Some place = sym found_there ∙ placed in
+    cc
+
+-- the first place
+pub reached_first : (game : AbstractGame) (first place : AbstractPlace) → first ≡ beginning_of game → Settles game first place → IsPlaceOf game place → AreReached game [] place
+reached_first game first place start settles fits = record {
+  earlier = All-nil (IsPlaceOf game);
+  here = fits;
+  led = at_start (subst (λ (p : AbstractPlace). Settles game p place) start settles);
+}
+
+-- the session that goes back to a place
+pub goes_back_to : (session : AbstractSession) (index : ℕ) (front : List AbstractPlace) (place : AbstractPlace) → index < length session.before → session.before ≡ front ++ place ∷ drop (index + 1) session.before → GoesBack session (length session.before - index) (record { game = session.game; heard = session.heard; before = front; place = place })
+goes_back_to session index front place within same = record {
+  game = refl;
+  later = drop (index + 1) session.before;
+  places = same;
+  all = let left : length (drop (index + 1) session.before) ≡ length session.before - (index + 1) = length-drop (index + 1) session.before in omega (arith, within, left);
+}
+
+-- what holds of the places after one more move
+pub reached_made : (game : AbstractGame) (before : List AbstractPlace) (place to : AbstractPlace) (pairs : List (ℕ × ℕ)) (items kept : List AbstractPlace) (value now : AbstractPlace) → AreReached game before place → Leads game place pairs to → IsPlaceOf game to → kept ≡ before → value ≡ place → now ≡ to → items ≡ kept ++ value ∷ [] → AreReached game items now
+reached_made game before place to pairs items kept value now reached leads fits same_before same_place same_to is =
+    let all : items ≡ before ++ place ∷ [] = is ∙ (λ i. same_before i ++ same_place i ∷ []) in
+    subst (λ (p : AbstractPlace). AreReached game items p) (sym same_to)
+    (subst (λ ps. AreReached game ps to) (sym all) (reached_next game before place to pairs reached leads fits))
+
+-- where the rules begin, no move was heard
+pub heard_first : (game : AbstractGame) (first : AbstractPlace) → first ≡ beginning_of game → IsPlaceOf game first → IsHeardPlace game first
+heard_first game first start fits = record { fits = fits; heard = subst (λ (p : AbstractPlace). AreHeard game p) (sym start) no_move }
+
+-- the place to which one more move leads that was heard
+pub heard_next : (game : AbstractGame) (from to : AbstractPlace) (pairs : List (ℕ × ℕ)) → IsHeardPlace game from → Legal game from pairs to → AreHeard game to
+heard_next game from to pairs from_there legal = one_more from_there.heard legal
+
+-- the places of a session that stands where the moves lead that were heard
+pub reached_heard : (game : AbstractGame) (items : List AbstractPlace) (place now heard kept : AbstractPlace) → items ≡ [] → place ≡ heard → now ≡ place → kept ≡ heard → IsPlaceOf game heard → AreHeard game heard → AreReached game items now × IsHeardPlace game kept
+reached_heard game items place now heard kept none same is same_kept fits heard_there = (
+  subst (λ (p : AbstractPlace). AreReached game items p) (sym (is ∙ same))
+      (subst (λ ps. AreReached game ps heard) (sym none) (record { earlier = All-nil (IsPlaceOf game); here = fits; led = at_heard heard_there })),
+  subst (λ (p : AbstractPlace). IsHeardPlace game p) (sym same_kept) (record { fits = fits; heard = heard_there }),
+)

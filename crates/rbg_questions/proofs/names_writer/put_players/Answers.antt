@@ -1,0 +1,13 @@
+-- If a name is not written, the bytes from before the first one are still there.
+use Rattle.std.proofs.Common.{◌≡◌, ◌+◌, ◌-◌, arith}
+use Rattle.rbg_wire.proofs.Kept.{broken_off}
+use Rattle.rbg_questions.proofs.Naming.{names_more}
+use Rattle.rbg_questions.proofs.names_writer.put_players.Goals as goal
+
+pub returns-in_err-put_name : goal.returns-in_err-put_name
+returns-in_err-put_name c = broken_off _ _ _ _ _ _ c.from_residual.result c.from_residual.ensures.1 c.loop-index.invariant c.put_name.ensures.kept
+
+pub loop-index-preserved : goal.loop-index-preserved
+loop-index-preserved c =
+    let same : c.loop-index.index + 1 - 1 ≡ c.loop-index.index = omega arith in
+    names_more _ _ _ _ _ _ c.loop-index.invariant (rw same at c.player_name.ensures) c.in_ok-put_name.ensures.written

@@ -1,0 +1,206 @@
+-- What a session answers to a question, and why it refuses one.
+use Rattle.std.specs.Prelude.{◌≡◌, ◌≢◌, ℕ, ◌+◌, ◌<◌, ◌≤◌, List, [], ◌∷◌, ◌++◌, length, take, All, AllPairs, Contains, Bool, false, Option, Some, None}
+use Rattle.rbg_rules.specs.Meaning.{AbstractGame, AbstractPlace, IsLegal, Legal, Finished, list_moves, IsHeavyToFind, IsHeavyToTry, IsTooHard}
+use Rattle.rbg_moves.specs.Listing.{IsListed}
+use Rattle.rbg_moves.specs.Settling.{IsEndless, MeetsHeavy}
+use Rattle.rbg_questions.specs.declared.question.Question.{Question}
+use Rattle.rbg_questions.specs.declared.question.Question.TheVariants.{Moves, Make, Back, Heard, Place, State, Key, Values, Board, Names, Random, Quit}
+use Rattle.rbg_questions.specs.declared.refusal.Refusal.{Refusal}
+use Rattle.rbg_questions.specs.declared.refusal.Refusal.TheVariants.{Long, Form, Illegal, Start, Over, Keeper, Memory}
+use Rattle.rbg_questions.specs.Limits.{longest_line}
+use Rattle.rbg_questions.specs.Questions.{SpellsQuestion}
+use Rattle.rbg_questions.specs.Keys.{key_of}
+use Rattle.rbg_questions.specs.Answers.{Answer, moves, to_move, finished, state, key, values, board, names, by_chance, farewell, answer_text, refusal_text}
+use Rattle.rbg_questions.specs.Sessions.{AbstractSession, Leads}
+use Rattle.rbg_questions.specs.Chance.{Counted, AreTallied, IsUnplayed}
+
+-- How play stands at the place.
+--   goes_on: there is a legal move, and this player is to move.
+--   is_over: there is none, and these are the scores.
+pub data StandsAt (game : AbstractGame) (place : AbstractPlace) : Answer → Type 0 where
+  goes_on : ¬ Finished game place → StandsAt game place (to_move place.state.player)
+  is_over : Finished game place → StandsAt game place (finished (take (length game.players) place.state.values))
+
+-- The place has so many legal moves.
+pub record HasMoves (game : AbstractGame) (place : AbstractPlace) (count : ℕ) : Type 0 where
+  pub all : List (List (ℕ × ℕ))
+  pub legal : All (IsLegal game place) all
+  pub different : AllPairs (λ a b. a ≢ b) all
+  pub whole : (pairs : List (ℕ × ℕ)) → IsLegal game place pairs → Contains all pairs
+  pub many : count ≡ length all
+
+-- the session where a move that was heard leads to that place
+abbrev pub heard_to : AbstractSession → AbstractPlace → AbstractSession
+heard_to session to = record session { heard = to; before = []; place = to }
+
+-- the session after a move to that place
+abbrev pub moved_to : AbstractSession → AbstractPlace → AbstractSession
+moved_to session to = record session { before = session.before ++ session.place ∷ []; place = to }
+
+-- So many moves are undone: the new place is the one before them, and as many places stood before it as then.
+pub record GoesBack (old : AbstractSession) (many : ℕ) (new : AbstractSession) : Type 0 where
+  pub game : new.game ≡ old.game
+  pub later : List AbstractPlace
+  pub places : old.before ≡ new.before ++ new.place ∷ later
+  pub all : many ≡ length later + 1
+
+-- how many moves are undone: one, where the question has no number
+abbrev pub undone : Option ℕ → ℕ
+undone None = 1
+undone (Some many) = many
+
+-- What a session answers, and where it stands then.
+--   lists: at most so many legal moves.
+--   lists_all: all of them.
+--   makes: a legal move is made, and the keeper's moves after it; how play stands there.
+--   undoes: so many moves are undone; how play stands there.
+--   hears: a legal move is heard, and play stands where it leads; how play stands there.
+--   tells: how play stands.
+--   tells_state: how many legal moves there are, the key, how play stands, what stands on the vertices and what the
+--   variables hold.
+--   tells_key: the key of the place.
+--   tells_values, tells_board: what the variables hold, and what stands on the vertices.
+--   tells_names: the names of the game's players, pieces and variables.
+--   plays: so many matches were played by chance, and how many of them ended in which way.
+--   ends: nothing.
+pub data Answers (old : AbstractSession) : Question → (new : AbstractSession) → Answer → Type 0 where
+  lists : {max : ℕ} {all : List (List (ℕ × ℕ))} {cut : Bool} →
+      IsListed old.game old.place max all cut →
+      Answers old (Moves (Some max)) old (moves all cut)
+  lists_all : {max : ℕ} {all : List (List (ℕ × ℕ))} →
+      IsListed old.game old.place max all false →
+      Answers old (Moves None) old (moves all false)
+  makes : {pairs : List (ℕ × ℕ)} {to : AbstractPlace} {answer : Answer} →
+      Leads old.game old.place pairs to →
+      StandsAt old.game to answer →
+      Answers old (Make pairs) (moved_to old to) answer
+  undoes : {many : Option ℕ} {new : AbstractSession} {answer : Answer} →
+      GoesBack old (undone many) new →
+      StandsAt new.game new.place answer →
+      Answers old (Back many) new answer
+  hears : {pairs : List (ℕ × ℕ)} {to : AbstractPlace} {answer : Answer} →
+      Legal old.game old.heard pairs to →
+      StandsAt old.game to answer →
+      Answers old (Heard pairs) (heard_to old to) answer
+  tells_state : {count : ℕ} {standing : Answer} →
+      HasMoves old.game old.place count →
+      StandsAt old.game old.place standing →
+      Answers old State old (state count (key_of old.place) standing old.place.state.pieces old.place.state.values)
+  tells_key :
+      Answers old Key old (key (key_of old.place))
+  tells : {answer : Answer} →
+      StandsAt old.game old.place answer →
+      Answers old Place old answer
+  tells_values :
+      Answers old Values old (values old.place.state.values)
+  tells_board :
+      Answers old Board old (board old.place.state.pieces)
+  tells_names :
+      Answers old Names old (names old.game.players old.game.pieces old.game.variables)
+  plays : {seed count : ℕ} {counted : List Counted} →
+      AreTallied old.game old.place count counted →
+      Answers old (Random seed count) old (by_chance count counted)
+  ends :
+      Answers old Quit old farewell
+
+-- Why a session refuses a question.
+--   illegal: the move isn't legal.
+--   heavy_to_try: the question whether it is legal is above the limits.
+--   heavy_to_settle: a question for a move of the keeper after it is.
+--   endless: the keeper is to move after 1,000 of its moves after it.
+--   heavy_after: the question whether play is finished where the move leads is above the limits.
+--   too_far: fewer moves were made than are to be undone.
+--   not_heard: the move isn't legal where the moves lead that were heard.
+--   heavy_to_hear: the question whether it is legal there is above the limits.
+--   heavy_where_heard: the question whether play is finished where it leads is above the limits.
+--   heavy_to_list, heavy_to_count: the question for the legal moves is above the limits.
+--   heavy_to_find: the question whether play is finished is above the limits.
+--   unplayed: a match by chance isn't played to its end.
+--   no_memory: it says nothing of the question.
+pub data IsRefused (session : AbstractSession) : Question → Refusal → Type 0 where
+  illegal : {pairs : List (ℕ × ℕ)} →
+      ((to : AbstractPlace) → ¬ Legal session.game session.place pairs to) →
+      IsRefused session (Make pairs) Illegal
+  heavy_to_try : {pairs : List (ℕ × ℕ)} →
+      IsHeavyToTry session.game session.place pairs →
+      IsRefused session (Make pairs) Over
+  heavy_to_settle : {pairs : List (ℕ × ℕ)} {middle : AbstractPlace} →
+      Legal session.game session.place pairs middle →
+      MeetsHeavy session.game middle →
+      IsRefused session (Make pairs) Over
+  endless : {pairs : List (ℕ × ℕ)} {middle : AbstractPlace} →
+      Legal session.game session.place pairs middle →
+      IsEndless session.game middle →
+      IsRefused session (Make pairs) Keeper
+  heavy_after : {pairs : List (ℕ × ℕ)} {to : AbstractPlace} →
+      Leads session.game session.place pairs to →
+      IsHeavyToFind session.game to →
+      IsRefused session (Make pairs) Over
+  too_far : {many : Option ℕ} →
+      length session.before < undone many →
+      IsRefused session (Back many) Start
+  not_heard : {pairs : List (ℕ × ℕ)} →
+      ((to : AbstractPlace) → ¬ Legal session.game session.heard pairs to) →
+      IsRefused session (Heard pairs) Illegal
+  heavy_to_hear : {pairs : List (ℕ × ℕ)} →
+      IsHeavyToTry session.game session.heard pairs →
+      IsRefused session (Heard pairs) Over
+  heavy_where_heard : {pairs : List (ℕ × ℕ)} {to : AbstractPlace} →
+      Legal session.game session.heard pairs to →
+      IsHeavyToFind session.game to →
+      IsRefused session (Heard pairs) Over
+  heavy_to_list : {max : Option ℕ} →
+      IsTooHard session.game list_moves session.place →
+      IsRefused session (Moves max) Over
+  heavy_to_count :
+      IsTooHard session.game list_moves session.place →
+      IsRefused session State Over
+  heavy_to_find :
+      IsHeavyToFind session.game session.place →
+      IsRefused session Place Over
+  unplayed : {seed count : ℕ} {refusal : Refusal} →
+      IsUnplayed session.game session.place refusal →
+      IsRefused session (Random seed count) refusal
+  no_memory : {question : Question} →
+      IsRefused session question Memory
+
+-- The question is answered so, and the answer's lines stand after the bytes that were there.
+pub record AnswersIn
+    (old : AbstractSession) (question : Question) (new : AbstractSession) (before after : List ℕ)
+    : Type 0
+  where
+    pub answer : Answer
+    pub answers : Answers old question new answer
+    pub told : after ≡ before ++ answer_text answer
+
+-- Why a session refuses a line.
+--   too_long: it has more than 4,096 bytes.
+--   no_question: it is not too long, and no question.
+--   refused: it is a question that is refused.
+pub data IsLineRefused (session : AbstractSession) (line : List ℕ) : Refusal → Type 0 where
+  too_long :
+      longest_line < length line →
+      IsLineRefused session line Long
+  no_question :
+      length line ≤ longest_line →
+      ((question : Question) → ¬ SpellsQuestion line question) →
+      IsLineRefused session line Form
+  refused : {question : Question} {refusal : Refusal} →
+      SpellsQuestion line question →
+      IsRefused session question refusal →
+      IsLineRefused session line refusal
+
+-- What a session does where it hears a line.
+--   answered: the line is a question, and its answer stands after the bytes that were there.
+--   refused_line: the session is as before, and the line of the refusal stands there.
+pub data Hears
+    (old : AbstractSession) (line : List ℕ)
+    : (new : AbstractSession) → (before after : List ℕ) → Type 0
+  where
+    answered : {question : Question} {new : AbstractSession} {before after : List ℕ} →
+        SpellsQuestion line question →
+        AnswersIn old question new before after →
+        Hears old line new before after
+    refused_line : {refusal : Refusal} {before : List ℕ} →
+        IsLineRefused old line refusal →
+        Hears old line old before (before ++ refusal_text refusal)

@@ -1,0 +1,15 @@
+-- What a session of questions is, and what it answers. Each file builds on those above it.
+pub mod Limits
+pub mod Keys
+pub mod Questions
+pub mod Sessions
+pub mod Chance
+pub mod Answers
+pub mod Answering
+pub mod internal
+-- What is counted. Why it is not.
+pub mod Counting
+pub mod Refusals
+-- What is told of matches that were played by chance. Such matches from the beginning of play.
+pub mod Summary
+pub mod Playing

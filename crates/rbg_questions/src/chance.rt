@@ -1,0 +1,127 @@
+//! Matches that are played by chance.
+ghost use Rattle.std.specs.Prelude.{◌<◌, IfErr, IfOk, OnOk, map};
+ghost use Rattle.rbg_rules.specs.Meaning.{IsPlaceOf};
+ghost use Rattle.rbg_questions.specs.Chance.{AreTallied, IsUnmoved, IsUnplayed, counted_by, scores_of};
+ghost use Rattle.rbg_questions.specs.Limits.{IsCount};
+ghost use Rattle.rbg_questions.specs.internal.Moving.{IsPlayedTo, MovesOn};
+
+use crate::chosen::Chosen;
+use crate::refusal::Refusal;
+use crate::tally::{Ending, Played, Tally, count_in};
+use rand_core::{Rng, SeedableRng};
+use rand_pcg::Pcg32;
+use rbg_moves::{Place, PlayedGame, Workspace};
+use std::alloc::Global;
+
+/// The most moves of the players in a match that is played by chance.
+pub const MAX_PLAYED: u32 = 10_000;
+
+/// Plays so many matches by chance from a place, and counts how they end and their moves. A seed always gives the same
+/// matches.
+pub fn play_matches(
+    alloc: Global,
+    game: &PlayedGame,
+    from: &Place,
+    seed: u64,
+    count: u64,
+    workspace: &mut Workspace,
+) -> Result<Vec<Tally>, Refusal>
+    requires place { IsPlaceOf game.now from.now }
+    requires count { IsCount count }
+    ensures tallied { IfOk result (λ tallies.
+        AreTallied game.now from.now count (map counted_by tallies.items)) }
+    ensures unplayed { IfErr result (IsUnplayed game.now from.now) }
+{
+    let mut chance = Pcg32::seed_from_u64(seed);
+    let mut chosen = Chosen::counted();
+    let mut tallies = Vec::new(alloc);
+    for _ in 0..count {
+        let played = play_match(game, from, &mut chance, &mut chosen, workspace)?;
+        count_in(played, &mut tallies)?;
+    }
+    Ok(tallies)
+}
+
+/// Plays a match by chance from a place, and adds what is chosen. A seed always gives the same match, the first one of
+/// `play_matches`.
+pub fn play_seeded(
+    game: &PlayedGame,
+    from: &Place,
+    seed: u64,
+    chosen: &mut Chosen,
+    workspace: &mut Workspace,
+) -> Result<Played, Refusal>
+    requires { IsPlaceOf game.now from.now }
+    ensures ends { IfOk result (λ played.
+        IsPlayedTo game.now from.now (scores_of played.ending) played.moves) }
+    ensures unplayed { IfErr result (IsUnplayed game.now from.now) }
+{
+    let mut chance = Pcg32::seed_from_u64(seed);
+    play_match(game, from, &mut chance, chosen, workspace)
+}
+
+/// Plays a match by chance from a place.
+fn play_match(
+    game: &PlayedGame,
+    from: &Place,
+    chance: &mut Pcg32,
+    chosen: &mut Chosen,
+    workspace: &mut Workspace,
+) -> Result<Played, Refusal>
+    requires { IsPlaceOf game.now from.now }
+    ensures ends { IfOk result (λ played.
+        IsPlayedTo game.now from.now (scores_of played.ending) played.moves) }
+    ensures unplayed { IfErr result (IsUnplayed game.now from.now) }
+{
+    let mut place = workspace.copy_of(from)?;
+    for moves in 0..MAX_PLAYED {
+        if !move_on(game, &mut place, chance, chosen, workspace)? {
+            let scores = game.scores(&place);
+            workspace.keep(place);
+            return Ok(Played {
+                ending: Ending::Finished { scores },
+                moves: u64::from(moves),
+            });
+        }
+    }
+    workspace.keep(place);
+    Ok(Played {
+        ending: Ending::Stopped,
+        moves: u64::from(MAX_PLAYED),
+    })
+}
+
+/// Makes a move by chance, and the keeper's moves after it. False where there is no legal move.
+fn move_on(
+    game: &PlayedGame,
+    place: &mut Place,
+    chance: &mut Pcg32,
+    chosen: &mut Chosen,
+    workspace: &mut Workspace,
+) -> Result<bool, Refusal>
+    requires { IsPlaceOf game.now place.old }
+    ensures moves { IfOk result (λ moved. MovesOn game.now place.old moved place.new) }
+    ensures in_game { OnOk result (IsPlaceOf game.now place.new) }
+    ensures unmoved { IfErr result (IsUnmoved game.now place.old) }
+{
+    let gathered = game.gather_moves(place, usize::MAX, workspace)?;
+    let moves = gathered.moves;
+    let count = moves.len();
+    if count == 0 {
+        return Ok(false);
+    }
+    let index = choose(count, chance);
+    game.make_move(place, moves.get(index))?;
+    chosen.add(count, moves.get(index))?;
+    game.settle(place, workspace)?;
+    workspace.keep_moves(moves);
+    Ok(true)
+}
+
+/// A number below another one, by chance.
+fn choose(count: usize, chance: &mut Pcg32) -> usize
+    requires { 0 < count }
+    ensures { result < count }
+{
+    (chance.next_u64() % count as u64) as usize
+}

@@ -1,0 +1,407 @@
+//! A session: the places that play has reached, and what is answered there.
+ghost use Rattle.std.specs.Prelude.{◌≡◌, ◌↔◌, ◌+◌, ◌-◌, ◌<◌, ◌≤◌, ◌^◌, [], length, Err, IfErr, IfNone, IfOk, IfSome, IsTrue, OnErr, OnOk, Option, Some, None};
+ghost use Rattle.rbg_moves.specs.declared.unsettled.Unsettled.TheVariants.{Heavy, Endless};
+ghost use Rattle.rbg_moves.specs.Settling.{IsEndless, MeetsHeavy, Settles};
+ghost use Rattle.rbg_questions.specs.declared.question.Question.TheVariants as questions;
+ghost use Rattle.rbg_questions.specs.Answering.{AnswersIn, GoesBack, Hears, IsLineRefused, IsRefused, StandsAt, undone};
+ghost use Rattle.rbg_questions.specs.Answers.{to_move};
+ghost use Rattle.rbg_questions.specs.Limits.{longest_line};
+ghost use Rattle.rbg_questions.specs.Questions.{QuestionHasSpelling};
+ghost use Rattle.rbg_questions.specs.Sessions.{AbstractSession, HasLedTo, beginning_of};
+ghost use Rattle.rbg_questions.specs.internal.Codes.{coded_session};
+ghost use Rattle.rbg_questions.specs.internal.Places.{AreReached, IsHeardPlace};
+ghost use Rattle.rbg_questions.specs.internal.Telling.{Tells};
+
+use crate::answer_writer::{
+    write_board, write_key, write_matches, write_refusal, write_standing, write_state, write_values,
+};
+use crate::chance::play_matches;
+use crate::keys::key_at;
+use crate::names_writer::write_names;
+use crate::ordering::write_in_order;
+use crate::question::Question;
+use crate::question_reader::read_question;
+use crate::refusal::Refusal;
+use crate::standing::Standing;
+use crate::stepping::{
+    count_at, follow, lead, moves_at, pieces_at, standing_at, standing_of, values_at,
+};
+use rbg_base::{Memory, Move, MoveList, Player};
+use rbg_moves::{Place, PlayedGame, Unsettled, Workspace};
+use rbg_rules::Game;
+use std::alloc::Global;
+use std::marker::Model;
+use std::mem::replace;
+
+/// The most bytes of a line that is read as a question.
+pub const MAX_LINE: usize = 4096;
+
+/// The places that play has reached, from the start on or from the place that was heard of last. Contracts see the game,
+/// that place, the last place and those before it.
+pub struct Session {
+    alloc: Global,
+    game: PlayedGame,
+    heard: Place,
+    before: Vec<Place>,
+    place: Place,
+    workspace: Workspace,
+}
+
+impl Model for Session {
+    ghost Value = { AbstractSession };
+
+    ghost coded = { coded_session };
+
+    ghost view = { λ s. record { game = s.game; heard = s.heard; before = s.before.items; place = s.place } };
+
+    ghost invariant = { λ s. AreReached s.game s.before.items s.place × IsHeardPlace s.game s.heard };
+}
+
+/// Written out, so that letting a session go is one call in the proofs of those who hold one, not a step for each part.
+impl Drop for Session {
+    fn drop(self) {
+        let Session {
+            alloc: _,
+            game: _,
+            heard: _,
+            before: _,
+            place: _,
+            workspace: _,
+        } = self;
+    }
+}
+
+/// The place to which the keeper's first moves lead.
+fn first_place(game: &PlayedGame, workspace: &mut Workspace) -> Result<Place, Unsettled>
+    ensures place { IfOk result (λ place. Settles game.now (beginning_of game.now) place) }
+    ensures reached { IfOk result (AreReached game.now []) }
+    ensures heavy { result ≡ Err Heavy → MeetsHeavy game.now (beginning_of game.now) }
+    ensures endless { result ≡ Err Endless → IsEndless game.now (beginning_of game.now) }
+{
+    let mut place = game.start()?;
+    game.settle(&mut place, workspace)?;
+    Ok(place)
+}
+
+impl Session {
+    /// A session at the place to which the keeper's first moves lead.
+    pub fn new(alloc: Global, game: Game) -> Result<Session, Unsettled>
+        ensures game { IfOk result (λ session. session.game ≡ game) }
+        ensures heard { IfOk result (λ session. session.heard ≡ beginning_of game) }
+        ensures before { IfOk result (λ session. session.before ≡ []) }
+        ensures place { IfOk result (λ session.
+            Settles game (beginning_of game) session.place) }
+        ensures heavy { result ≡ Err Heavy → MeetsHeavy game (beginning_of game) }
+        ensures endless { result ≡ Err Endless → IsEndless game (beginning_of game) }
+    {
+        let game = PlayedGame::new(alloc, game)?;
+        let mut workspace = Workspace::new(alloc);
+        let heard = game.start()?;
+        let place = first_place(&game, &mut workspace)?;
+        Ok(Session {
+            alloc,
+            game,
+            heard,
+            before: Vec::new(alloc),
+            place,
+            workspace,
+        })
+    }
+
+    /// How many moves of players can be undone.
+    pub fn moves_made(&self) -> usize
+        ensures count { result ≡ length self.now.before }
+        ensures led { HasLedTo self.now.game self.now.before self.now.place }
+    {
+        self.before.len()
+    }
+
+    /// Hears a line, without its line feed, and appends the lines of the answer or of the refusal to `out`. Where there
+    /// is no memory even for a refusal, nothing has changed.
+    pub fn hear(&mut self, line: &[u8], out: &mut Vec<u8>) -> Result<(), Memory>
+        ensures hears { OnOk result (Hears self.old line.now self.new out.old.items
+            out.new.items) }
+        ensures kept { OnErr result (self.new ≡ self.old) }
+        ensures out { OnErr result (out.new.items ≡ out.old.items) }
+    {
+        match self.hear_question(line, out) {
+            Ok(()) => Ok(()),
+            Err(refusal) => write_refusal(refusal, out),
+        }
+    }
+
+    /// Answers the question of a line.
+    fn hear_question(&mut self, line: &[u8], out: &mut Vec<u8>) -> Result<(), Refusal>
+        ensures hears { OnOk result (Hears self.old line.now self.new out.old.items
+            out.new.items) }
+        ensures refused { IfErr result (IsLineRefused self.old line.now) }
+        ensures kept { OnErr result (self.new ≡ self.old) }
+        ensures out { OnErr result (out.new.items ≡ out.old.items) }
+    {
+        if is_too_long(line) {
+            return Err(Refusal::Long);
+        }
+        match read_question(line) {
+            Some(question) => self.answer(&question, out),
+            None => Err(Refusal::Form),
+        }
+    }
+
+    /// Answers a question: appends the lines of the answer to `out`. Where the question is refused, nothing has changed.
+    pub fn answer(&mut self, question: &Question, out: &mut Vec<u8>) -> Result<(), Refusal>
+        requires { QuestionHasSpelling question.now }
+        ensures answers { OnOk result (AnswersIn self.old question.now self.new out.old.items
+            out.new.items) }
+        ensures refused { IfErr result (IsRefused self.old question.now) }
+        ensures kept { OnErr result (self.new ≡ self.old) }
+        ensures out { OnErr result (out.new.items ≡ out.old.items) }
+    {
+        match question {
+            Question::Moves { max } => self.list_moves(*max, out),
+            Question::Make { pairs } => self.make(pairs, out),
+            Question::Back { moves } => self.go_back(*moves, out),
+            Question::Heard { pairs } => self.hear_move(pairs, out),
+            Question::Place => self.tell_place(out),
+            Question::State => self.tell_state(out),
+            Question::Key => self.tell_key(out),
+            Question::Values => self.tell_values(out),
+            Question::Board => self.tell_board(out),
+            Question::Names => self.tell_names(out),
+            Question::Random { seed, count } => self.play_by_chance(*seed, *count, out),
+            Question::Quit => Ok(()),
+        }
+    }
+
+    /// Lists the legal moves: so many of them, or all.
+    #[tactic(auto, using(crate::proofs::OutOfMemory::memory_refused))]
+    fn list_moves(&mut self, max: Option<u64>, out: &mut Vec<u8>) -> Result<(), Refusal>
+        requires { QuestionHasSpelling (questions.Moves max) }
+        ensures answers { OnOk result (AnswersIn self.old (questions.Moves max) self.new
+            out.old.items out.new.items) }
+        ensures refused { IfErr result (IsRefused self.old (questions.Moves max)) }
+        ensures kept { self.new ≡ self.old }
+        ensures out { OnErr result (out.new.items ≡ out.old.items) }
+    {
+        let gathered = moves_at(&self.game, &self.place, limit_of(max), &mut self.workspace)?;
+        is_in_memory(&gathered.moves);
+        write_in_order(self.alloc, &gathered.moves, gathered.cut, out)?;
+        self.workspace.keep_moves(gathered.moves);
+        Ok(())
+    }
+
+    /// Makes a move, and the keeper's moves after it.
+    #[tactic(auto, using(crate::proofs::OutOfMemory::memory_refused))]
+    fn make(&mut self, pairs: &Move, out: &mut Vec<u8>) -> Result<(), Refusal>
+        ensures answers { OnOk result (AnswersIn self.old (questions.Make pairs.now) self.new
+            out.old.items out.new.items) }
+        ensures refused { IfErr result (IsRefused self.old (questions.Make pairs.now)) }
+        ensures kept { OnErr result (self.new ≡ self.old) }
+        ensures out { OnErr result (out.new.items ≡ out.old.items) }
+    {
+        let to = lead(&self.game, &self.place, pairs, &mut self.workspace)?;
+        let standing = standing_at(&self.game, &to, &mut self.workspace)?;
+        self.before.reserve(1)?;
+        write_standing(&standing, out)?;
+        self.before.push_reserved(replace(&mut self.place, to));
+        Ok(())
+    }
+
+    /// Hears a move, and stands where it leads.
+    #[tactic(auto, using(crate::proofs::OutOfMemory::memory_refused))]
+    fn hear_move(&mut self, pairs: &Move, out: &mut Vec<u8>) -> Result<(), Refusal>
+        ensures answers { OnOk result (AnswersIn self.old (questions.Heard pairs.now) self.new
+            out.old.items out.new.items) }
+        ensures refused { IfErr result (IsRefused self.old (questions.Heard pairs.now)) }
+        ensures kept { OnErr result (self.new ≡ self.old) }
+        ensures out { OnErr result (out.new.items ≡ out.old.items) }
+    {
+        let heard = follow(&self.game, &self.heard, pairs, &mut self.workspace)?;
+        let standing = standing_at(&self.game, &heard, &mut self.workspace)?;
+        let place = self.workspace.copy_of(&heard)?;
+        write_standing(&standing, out)?;
+        self.before.clear();
+        self.workspace.keep(replace(&mut self.heard, heard));
+        self.workspace.keep(replace(&mut self.place, place));
+        Ok(())
+    }
+
+    /// Undoes moves.
+    #[tactic(auto, using(crate::proofs::OutOfMemory::memory_refused))]
+    fn go_back(&mut self, moves: Option<u64>, out: &mut Vec<u8>) -> Result<(), Refusal>
+        requires { QuestionHasSpelling (questions.Back moves) }
+        ensures answers { OnOk result (AnswersIn self.old (questions.Back moves) self.new
+            out.old.items out.new.items) }
+        ensures refused { IfErr result (IsRefused self.old (questions.Back moves)) }
+        ensures kept { OnErr result (self.new ≡ self.old) }
+        ensures out { OnErr result (out.new.items ≡ out.old.items) }
+    {
+        let many = count_of(moves);
+        let Some(index) = self.index_before(many) else {
+            return Err(Refusal::Start);
+        };
+        let player = self.player_before(index);
+        write_standing(&Standing::ToMove { player }, out)?;
+        self.return_to(index);
+        Ok(())
+    }
+
+    /// The index of the place before the last so many moves, if so many were made.
+    fn index_before(&self, many: u64) -> Option<usize>
+        requires { 0 < many }
+        ensures found { IfSome result (λ index. (index < length self.now.before)
+            × (length self.now.before - index ≡ many)) }
+        ensures none { IfNone result (length self.now.before < many) }
+    {
+        let made = self.before.len() as u64;
+        if made < many {
+            return None;
+        }
+        Some((made - many) as usize)
+    }
+
+    /// The player who was to move before one of the moves.
+    fn player_before(&self, index: usize) -> Player
+        requires { index < length self.now.before }
+        ensures { (new : AbstractSession) → GoesBack self.now (length self.now.before - index) new
+            → StandsAt new.game new.place (to_move result) }
+    {
+        self.before[index].state.player()
+    }
+
+    /// Stands again where play stood before one of the moves.
+    fn return_to(&mut self, index: usize)
+        requires { index < length self.old.before }
+        ensures { GoesBack self.old (length self.old.before - index) self.new }
+    {
+        self.before.truncate(index + 1);
+        if let Some(place) = self.before.pop() {
+            self.place = place;
+        }
+    }
+
+    #[tactic(auto, using(crate::proofs::OutOfMemory::memory_refused))]
+    fn tell_place(&mut self, out: &mut Vec<u8>) -> Result<(), Refusal>
+        ensures answers { OnOk result (AnswersIn self.old questions.Place self.new out.old.items
+            out.new.items) }
+        ensures refused { IfErr result (IsRefused self.old questions.Place) }
+        ensures kept { self.new ≡ self.old }
+        ensures out { OnErr result (out.new.items ≡ out.old.items) }
+    {
+        let standing = standing_at(&self.game, &self.place, &mut self.workspace)?;
+        write_standing(&standing, out)?;
+        Ok(())
+    }
+
+    #[tactic(auto, using(crate::proofs::OutOfMemory::memory_refused))]
+    fn tell_state(&mut self, out: &mut Vec<u8>) -> Result<(), Refusal>
+        ensures answers { OnOk result (AnswersIn self.old questions.State self.new out.old.items
+            out.new.items) }
+        ensures refused { IfErr result (IsRefused self.old questions.State) }
+        ensures kept { self.new ≡ self.old }
+        ensures out { OnErr result (out.new.items ≡ out.old.items) }
+    {
+        let count = count_at(&self.game, &self.place, &mut self.workspace)?;
+        let standing = standing_of(&self.game, &self.place, count);
+        let values = values_at(self.alloc, &self.game, &self.place)?;
+        let held = values.as_slice();
+        let key = key_at(&self.place, held);
+        write_state(count, key, &standing, pieces_at(&self.place), held, out)?;
+        Ok(())
+    }
+
+    #[tactic(auto, using(crate::proofs::OutOfMemory::memory_refused))]
+    fn tell_key(&self, out: &mut Vec<u8>) -> Result<(), Refusal>
+        ensures { Tells self.now questions.Key out.old.items out.new.items result }
+    {
+        let values = values_at(self.alloc, &self.game, &self.place)?;
+        write_key(key_at(&self.place, values.as_slice()), out)?;
+        Ok(())
+    }
+
+    #[tactic(auto, using(crate::proofs::OutOfMemory::memory_refused))]
+    fn tell_values(&self, out: &mut Vec<u8>) -> Result<(), Refusal>
+        ensures { Tells self.now questions.Values out.old.items out.new.items result }
+    {
+        let values = values_at(self.alloc, &self.game, &self.place)?;
+        write_values(values.as_slice(), out)?;
+        Ok(())
+    }
+
+    #[tactic(auto, using(crate::proofs::OutOfMemory::memory_refused))]
+    fn tell_board(&self, out: &mut Vec<u8>) -> Result<(), Refusal>
+        ensures { Tells self.now questions.Board out.old.items out.new.items result }
+    {
+        write_board(pieces_at(&self.place), out)?;
+        Ok(())
+    }
+
+    #[tactic(auto, using(crate::proofs::OutOfMemory::memory_refused))]
+    fn tell_names(&self, out: &mut Vec<u8>) -> Result<(), Refusal>
+        ensures { Tells self.now questions.Names out.old.items out.new.items result }
+    {
+        write_names(self.game.as_game(), out)?;
+        Ok(())
+    }
+
+    /// Plays matches by chance from where play stands.
+    #[tactic(auto, using(crate::proofs::OutOfMemory::memory_refused))]
+    fn play_by_chance(&mut self, seed: u64, count: u64, out: &mut Vec<u8>) -> Result<(), Refusal>
+        requires { QuestionHasSpelling (questions.Random seed count) }
+        ensures answers { OnOk result (AnswersIn self.old (questions.Random seed count) self.new
+            out.old.items out.new.items) }
+        ensures refused { IfErr result (IsRefused self.old (questions.Random seed count)) }
+        ensures kept { self.new ≡ self.old }
+        ensures out { OnErr result (out.new.items ≡ out.old.items) }
+    {
+        let tallies = play_matches(
+            self.alloc,
+            &self.game,
+            &self.place,
+            seed,
+            count,
+            &mut self.workspace,
+        )?;
+        write_matches(count, tallies.as_slice(), out)?;
+        Ok(())
+    }
+}
+
+/// Whether a line has more bytes than a question may have.
+fn is_too_long(line: &[u8]) -> bool
+    ensures { IsTrue result ↔ (longest_line < length line.now) }
+{
+    line.len() > MAX_LINE
+}
+
+/// How many moves a question undoes.
+fn count_of(moves: Option<u64>) -> u64
+    requires { QuestionHasSpelling (questions.Back moves) }
+    ensures count { result ≡ undone moves }
+    ensures some { 0 < result }
+{
+    match moves {
+        None => 1,
+        Some(many) => many,
+    }
+}
+
+/// The most moves that are listed. No list in memory is as long as the greatest number, which stands for all moves.
+fn limit_of(max: Option<u64>) -> usize
+    requires { QuestionHasSpelling (questions.Moves max) }
+    ensures some { 0 < result }
+    ensures asked { IfSome max (λ most. result ≡ most) }
+    ensures all { IfNone max (2 ^ 63 ≤ result) }
+{
+    match max {
+        Some(most) => most as usize,
+        None => usize::MAX,
+    }
+}
+
+/// For proofs alone: no list in memory is so long that it is cut at the greatest length. It does nothing.
+#[inline(always)]
+fn is_in_memory(moves: &MoveList)
+    ensures { length moves.now < 2 ^ 63 }
+{
+    let _count = moves.len();
+}

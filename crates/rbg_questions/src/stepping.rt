@@ -1,0 +1,149 @@
+//! From one place of a session to the next, and how play stands there.
+ghost use Rattle.std.specs.Prelude.{◌≡◌, ◌<◌, IfErr, IfOk};
+ghost use Rattle.rbg_rules.specs.Meaning.{IsPlaceOf, Legal};
+ghost use Rattle.rbg_moves.specs.Listing.{IsGathered};
+ghost use Rattle.rbg_questions.specs.Answers.{standing_answer};
+ghost use Rattle.rbg_questions.specs.Answering.{HasMoves, StandsAt};
+ghost use Rattle.rbg_questions.specs.Sessions.{Leads};
+ghost use Rattle.rbg_questions.specs.internal.Places.{IsUnfollowed, IsUnlisted, IsUnmade, IsUntold};
+
+use crate::refusal::Refusal;
+use crate::standing::Standing;
+use rbg_base::{Memory, Move, Piece, Variable};
+use rbg_moves::{Gathered, Place, PlayedGame, Workspace};
+use std::alloc::Global;
+
+/// The place to which a move leads with the keeper's moves after it.
+pub(crate) fn lead(
+    game: &PlayedGame,
+    place: &Place,
+    pairs: &Move,
+    workspace: &mut Workspace,
+) -> Result<Place, Refusal>
+    requires { IsPlaceOf game.now place.now }
+    ensures leads { IfOk result (Leads game.now place.now pairs.now) }
+    ensures in_game { IfOk result (IsPlaceOf game.now) }
+    ensures unmade { IfErr result (IsUnmade game.now place.now pairs.now) }
+{
+    let Some(mut to) = game.try_move(place, pairs, workspace)? else {
+        return Err(Refusal::Illegal);
+    };
+    game.settle(&mut to, workspace)?;
+    Ok(to)
+}
+
+/// The place to which a move leads that was heard.
+pub(crate) fn follow(
+    game: &PlayedGame,
+    place: &Place,
+    pairs: &Move,
+    workspace: &mut Workspace,
+) -> Result<Place, Refusal>
+    requires { IsPlaceOf game.now place.now }
+    ensures legal { IfOk result (Legal game.now place.now pairs.now) }
+    ensures in_game { IfOk result (IsPlaceOf game.now) }
+    ensures unfollowed { IfErr result (IsUnfollowed game.now place.now pairs.now) }
+{
+    let Some(to) = game.try_move(place, pairs, workspace)? else {
+        return Err(Refusal::Illegal);
+    };
+    Ok(to)
+}
+
+/// The legal moves of a place, at most `max` of them, in a list that `Workspace::keep_moves` takes back.
+pub(crate) fn moves_at(
+    game: &PlayedGame,
+    place: &Place,
+    max: usize,
+    workspace: &mut Workspace,
+) -> Result<Gathered, Refusal>
+    requires place { IsPlaceOf game.now place.now }
+    requires some { 0 < max }
+    ensures gathered { IfOk result (λ gathered.
+        IsGathered game.now place.now max gathered.moves gathered.cut) }
+    ensures unlisted { IfErr result (IsUnlisted game.now place.now) }
+{
+    let mut lent = workspace.copy_of(place)?;
+    let gathered = game.gather_moves(&mut lent, max, workspace)?;
+    workspace.keep(lent);
+    Ok(gathered)
+}
+
+/// How many legal moves a place has.
+pub(crate) fn count_at(
+    game: &PlayedGame,
+    place: &Place,
+    workspace: &mut Workspace,
+) -> Result<u64, Refusal>
+    requires { IsPlaceOf game.now place.now }
+    ensures count { IfOk result (HasMoves game.now place.now) }
+    ensures unlisted { IfErr result (IsUnlisted game.now place.now) }
+{
+    let gathered = moves_at(game, place, usize::MAX, workspace)?;
+    let count = gathered.moves.len() as u64;
+    workspace.keep_moves(gathered.moves);
+    Ok(count)
+}
+
+/// How play stands at a place that has so many legal moves.
+pub(crate) fn standing_of(game: &PlayedGame, place: &Place, count: u64) -> Standing
+    requires place { IsPlaceOf game.now place.now }
+    requires count { HasMoves game.now place.now count }
+    ensures { StandsAt game.now place.now (standing_answer result) }
+{
+    if count == 0 {
+        return Standing::Finished {
+            scores: game.scores(place),
+        };
+    }
+    Standing::ToMove {
+        player: place.state.player(),
+    }
+}
+
+/// How play stands at a place.
+pub(crate) fn standing_at(
+    game: &PlayedGame,
+    place: &Place,
+    workspace: &mut Workspace,
+) -> Result<Standing, Refusal>
+    requires { IsPlaceOf game.now place.now }
+    ensures stands { IfOk result (λ standing.
+        StandsAt game.now place.now (standing_answer standing)) }
+    ensures untold { IfErr result (IsUntold game.now place.now) }
+{
+    let mut lent = workspace.copy_of(place)?;
+    let found = game.find_move(&mut lent, workspace)?;
+    workspace.keep(lent);
+    match found {
+        Some(pairs) => {
+            workspace.keep_pairs(pairs);
+            Ok(Standing::ToMove {
+                player: place.state.player(),
+            })
+        }
+        None => Ok(Standing::Finished {
+            scores: game.scores(place),
+        }),
+    }
+}
+
+/// What stands on the vertices at a place.
+pub(crate) fn pieces_at(place: &Place) -> &[Piece]
+    ensures { result.now ≡ place.now.state.pieces }
+{
+    place.state.pieces()
+}
+
+/// What the variables hold at a place.
+#[tactic(auto, using(crate::proofs::Naming::take_one))]
+pub(crate) fn values_at(alloc: Global, game: &PlayedGame, place: &Place) -> Result<Vec<u32>, Memory>
+    requires { IsPlaceOf game.now place.now }
+    ensures { IfOk result (λ values. values.items ≡ place.now.state.values) }
+{
+    let mut values = Vec::new(alloc);
+    for index in 0..game.as_game().variables() {
+        values.push(place.state.value(index as Variable))?;
+    }
+    Ok(values)
+}

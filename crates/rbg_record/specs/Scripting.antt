@@ -1,0 +1,128 @@
+-- The script of a record: which config it has, and which events bring its moves and its end about.
+use Rattle.std.specs.Prelude.{◌≡◌, ℕ, zero, suc, List, [], ◌∷◌, ◌++◌, All, Option, Some, None}
+use Rattle.std.specs.List.{flat_map, AllZip}
+use Rattle.rbg_wire.specs.declared.outcome.Outcome.{Outcome}
+use Rattle.rbg_wire.specs.declared.outcome.Outcome.TheVariants.{Finished, Time, Refusals, Gone, Heavy}
+use Rattle.rbg_wire.specs.Lines.{lines_of}
+use Rattle.rbg_wire.specs.Messages.{move_message, spelling}
+use Rattle.rbg_record.specs.declared.entry.Entry.{Entry}
+use Rattle.rbg_record.specs.declared.entry.Entry.TheVariants.{Move, End}
+use Rattle.rbg_record.specs.declared.entry.Timed.{Timed}
+use Rattle.rbg_record.specs.declared.heading.Start.{Start}
+use Rattle.rbg_record.specs.declared.heading.Version.{Version}
+use Rattle.rbg_record.specs.declared.heading.Version.TheVariants.{One, Two}
+use Rattle.rbg_record.specs.Heading.{version_text, SpellsPlayers, SpellsStart}
+use Rattle.rbg_match.specs.declared.config.Config.{Config}
+use Rattle.rbg_match.specs.Config.{IsWithinLimits}
+use Rattle.rbg_record.specs.Judged.{HasFormFault}
+use Rattle.rbg_record.specs.Lines.{SpellsIn}
+use Rattle.rbg_script.specs.declared.config.ScriptConfig.{ScriptConfig}
+use Rattle.rbg_script.specs.Events.{AbstractEvent, piece_event, end_event, tick_event}
+use Rattle.rbg_script.specs.Scripts.{SpellsScript}
+use Rattle.rbg_record.specs.declared.part.Part.{Part}
+use Rattle.rbg_record.specs.declared.part.Part.TheVariants as parts
+
+-- A player says its move at the move's moment. The keeper moves by itself.
+abbrev pub move_events : (at player : ℕ) → (pairs : List (ℕ × ℕ)) → List AbstractEvent
+move_events at zero pairs = []
+move_events at (suc before) pairs = piece_event (suc before) at (spelling (move_message pairs)) ∷ []
+
+-- The end comes about by an event at its moment: by the moment alone where a time is over, by a message without a text
+-- where a player was refused too often, by the end of a stream where a player has gone. A match that is finished, or
+-- that meets a question above the limits, ends by itself. One that is in play goes on to the moment.
+abbrev pub end_events : (at : ℕ) → Option Outcome → List AbstractEvent
+end_events at None = tick_event at ∷ []
+end_events at (Some (Finished scores)) = []
+end_events at (Some (Time player)) = tick_event at ∷ []
+end_events at (Some (Refusals player)) = piece_event player at (0 ∷ []) ∷ []
+end_events at (Some (Gone player)) = end_event player at ∷ []
+end_events at (Some Heavy) = []
+
+abbrev pub entry_events : (at : ℕ) → Entry → List AbstractEvent
+entry_events at (Move player pairs) = move_events at player pairs
+entry_events at (End outcome) = end_events at outcome
+
+-- the events of an entry with its moment
+abbrev pub events_in : Timed → List AbstractEvent
+events_in told = entry_events told.at told.entry
+
+-- the config of a match that began so; no refusal is allowed
+abbrev pub config_at : (turn_ms now : ℕ) → ScriptConfig
+config_at turn_ms now = record { turn_ms = turn_ms; refusals = 0; now = now }
+
+-- how long a turn lasts, as a config
+abbrev pub turns_of : (turn_ms : ℕ) → Config
+turns_of turn_ms = record { turn_ms = turn_ms; refusals = 0 }
+
+-- The first lines of a record of a version have these texts, and the script has this config.
+pub data IsHead : Version → (texts : List (List ℕ)) → ScriptConfig → Type 0 where
+  head_1 : IsHead One (version_text One ∷ []) (config_at 1 0)
+  head_2 : {players : List ℕ} {names : List (List ℕ)} {text : List ℕ} {start : Start} →
+      SpellsPlayers players names →
+      SpellsStart text start →
+      IsWithinLimits (turns_of start.turn_ms) →
+      IsHead Two (version_text Two ∷ players ∷ text ∷ []) (config_at start.turn_ms start.now)
+
+-- the entry is a move
+abbrev pub IsMove : Entry → Type 0
+IsMove (Move player pairs) = Unit {0}
+IsMove (End outcome) = ⊥
+
+-- The bytes are a record, and the others are a script of it. The record is lines: the first ones, then moves, then an
+-- end. The script has their config and their events.
+pub record IsScriptOfRecord (bytes new : List ℕ) : Type 0 where
+  pub version : Version
+  pub head : List (List ℕ)
+  pub config : ScriptConfig
+  pub is_head : IsHead version head config
+  pub moves : List Timed
+  pub are_moves : All (λ (told : Timed). IsMove told.entry) moves
+  pub at : ℕ
+  pub outcome : Option Outcome
+  pub lines : List (List ℕ)
+  pub spelled : AllZip (SpellsIn version) lines (moves ++ record { at = at; entry = End outcome } ∷ [])
+  pub is : bytes ≡ lines_of (head ++ lines)
+  pub script : SpellsScript new (record {
+    config = config;
+    events = flat_map events_in (moves ++ record { at = at; entry = End outcome } ∷ []);
+  })
+
+-- The text is of the form that a line may have there. A start is one whose turn is within the limits.
+abbrev pub HasForm : Part → (text : List ℕ) → Type 0
+HasForm parts.Version text = (version : Version) × (text ≡ version_text version)
+HasForm parts.Players text = (names : List (List ℕ)) × SpellsPlayers text names
+HasForm parts.Start text = (start : Start) × SpellsStart text start × IsWithinLimits (turns_of start.turn_ms)
+HasForm (parts.Entry version) text = (told : Timed) × SpellsIn version text told
+HasForm parts.Nothing text = ⊥
+
+-- A line of this text that has the form leads from one part of a record to another one.
+pub data LeadsOn : Part → (text : List ℕ) → Part → Type 0 where
+  version_1 : LeadsOn parts.Version (version_text One) (parts.Entry One)
+  version_2 : LeadsOn parts.Version (version_text Two) parts.Players
+  players : {text : List ℕ} {names : List (List ℕ)} →
+      SpellsPlayers text names →
+      LeadsOn parts.Players text parts.Start
+  start : {text : List ℕ} {start : Start} →
+      SpellsStart text start →
+      IsWithinLimits (turns_of start.turn_ms) →
+      LeadsOn parts.Start text (parts.Entry Two)
+  move : {version : Version} {text : List ℕ} (told : Timed) →
+      SpellsIn version text told →
+      IsMove told.entry →
+      LeadsOn (parts.Entry version) text (parts.Entry version)
+  end : {version : Version} {text : List ℕ} (at : ℕ) (outcome : Option Outcome) →
+      SpellsIn version text (record { at = at; entry = End outcome }) →
+      LeadsOn (parts.Entry version) text parts.Nothing
+
+-- Lines of these texts lead there from the beginning of a record.
+pub data LeadThere : (texts : List (List ℕ)) → Part → Type 0 where
+  none :
+      LeadThere [] parts.Version
+  more : {texts : List (List ℕ)} {text : List ℕ} {from to : Part} →
+      LeadThere texts from →
+      LeadsOn from text to →
+      LeadThere (texts ++ text ∷ []) to
+
+-- The lines before this one are of the form, but what follows them is not.
+abbrev pub IsNoRecord : (bytes : List ℕ) → (line : ℕ) → Type 0
+IsNoRecord bytes line = HasFormFault LeadThere parts.Nothing HasForm bytes line

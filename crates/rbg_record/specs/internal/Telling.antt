@@ -1,0 +1,83 @@
+-- What was told of a record in its script so far.
+use Rattle.std.specs.Prelude.{◌≡◌, ◌+◌, ℕ, List, [], ◌∷◌, ◌++◌, All, Option}
+use Rattle.std.specs.List.{flat_map, AllZip}
+use Rattle.rbg_wire.specs.declared.outcome.Outcome.{Outcome}
+use Rattle.rbg_wire.specs.Bytes.{LacksByte}
+use Rattle.rbg_wire.specs.Lines.{line_feed, line_of, lines_of}
+use Rattle.rbg_record.specs.declared.entry.Entry.{Entry}
+use Rattle.rbg_record.specs.declared.entry.Entry.TheVariants.{Move, End}
+use Rattle.rbg_record.specs.declared.entry.Timed.{Timed}
+use Rattle.rbg_record.specs.declared.heading.Version.{Version}
+use Rattle.rbg_record.specs.declared.heading.Version.TheVariants.{Two}
+use Rattle.rbg_record.specs.Heading.{version_text, SpellsPlayers}
+use Rattle.rbg_record.specs.Lines.{SpellsIn}
+use Rattle.rbg_record.specs.internal.SoFar.{IsCutSoFar}
+use Rattle.rbg_script.specs.declared.config.ScriptConfig.{ScriptConfig}
+use Rattle.rbg_script.specs.Config.{ConfigHasSpelling, config_text}
+use Rattle.rbg_script.specs.Events.{AbstractEvent, SpellsEvent}
+use Rattle.rbg_record.specs.declared.part.Part.{Part}
+use Rattle.rbg_record.specs.declared.part.Part.TheVariants as parts
+use Rattle.rbg_record.specs.Scripting.{IsHead, IsMove, LeadsOn, LeadThere, events_in}
+
+-- Lines are appended that spell these events.
+pub record TellsEvents (events : List AbstractEvent) (old new : List ℕ) : Type 0 where
+  pub lines : List (List ℕ)
+  pub is : new ≡ old ++ lines_of lines
+  pub spelled : AllZip SpellsEvent lines events
+  pub whole : All (LacksByte line_feed) lines
+
+-- what comes after an entry
+abbrev pub part_behind : Version → Entry → Part
+part_behind version (Move player pairs) = parts.Entry version
+part_behind version (End outcome) = parts.Nothing
+
+-- The texts are the first lines of a record and these entries, and this was written of them.
+pub record TellsEntries (version : Version) (entries : List Timed) (texts : List (List ℕ)) (out : List ℕ) : Type 0 where
+  pub head : List (List ℕ)
+  pub config : ScriptConfig
+  pub is_head : IsHead version head config
+  pub has : ConfigHasSpelling config
+  pub lines : List (List ℕ)
+  pub spelled : AllZip (SpellsIn version) lines entries
+  pub are : texts ≡ head ++ lines
+  pub events : TellsEvents (flat_map events_in entries) (line_of (config_text config)) out
+
+pub record TellsPlayers (texts : List (List ℕ)) (out : List ℕ) : Type 0 where
+  pub players : List ℕ
+  pub names : List (List ℕ)
+  pub spelled : SpellsPlayers players names
+  pub are : texts ≡ version_text Two ∷ players ∷ []
+  pub nothing : out ≡ []
+
+pub record TellsMoves (version : Version) (texts : List (List ℕ)) (out : List ℕ) : Type 0 where
+  pub moves : List Timed
+  pub are_moves : All (λ (told : Timed). IsMove told.entry) moves
+  pub tells : TellsEntries version moves texts out
+
+pub record TellsWhole (texts : List (List ℕ)) (out : List ℕ) : Type 0 where
+  pub version : Version
+  pub moves : List Timed
+  pub are_moves : All (λ (told : Timed). IsMove told.entry) moves
+  pub at : ℕ
+  pub outcome : Option Outcome
+  pub tells : TellsEntries version (moves ++ record { at = at; entry = End outcome } ∷ []) texts out
+
+-- what was written of the lines up to that part
+abbrev pub IsTold : Part → (texts : List (List ℕ)) → (out : List ℕ) → Type 0
+IsTold parts.Version texts out = (texts ≡ []) × (out ≡ [])
+IsTold parts.Players texts out = (texts ≡ version_text Two ∷ []) × (out ≡ [])
+IsTold parts.Start texts out = TellsPlayers texts out
+IsTold (parts.Entry version) texts out = TellsMoves version texts out
+IsTold parts.Nothing texts out = TellsWhole texts out
+
+-- A line leads on, and what was written of it is told.
+pub record TellsNext (from : Part) (text : List ℕ) (to : Part) (old new : List ℕ) : Type 0 where
+  pub leads : LeadsOn from text to
+  pub told : (texts : List (List ℕ)) → IsTold from texts old → IsTold to (texts ++ text ∷ []) new
+
+-- The lines before the rest are told, and the next line has this number.
+pub record IsToldSoFar (bytes : List ℕ) (part : Part) (rest : List ℕ) (line : ℕ) (out : List ℕ) : Type 0 where
+  pub texts : List (List ℕ)
+  pub cut : IsCutSoFar bytes texts rest line
+  pub leads : LeadThere texts part
+  pub told : IsTold part texts out

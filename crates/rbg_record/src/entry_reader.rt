@@ -1,0 +1,46 @@
+//! The calls that read an entry. They allocate nothing.
+ghost use Rattle.std.specs.Prelude.{ℕ, List, IfSome, IfNone};
+ghost use Rattle.rbg_wire.specs.Reads.{ReadsOnly};
+ghost use Rattle.rbg_record.specs.Entries.{SpellsEntry, SpellsTimed};
+
+use crate::{Entry, Timed};
+use rbg_wire::{cut_number, read_outcome, read_pairs};
+
+/// The entry of which the whole text is the spelling.
+///
+/// Returns None if it is that of no entry, as where it has more than 200 pairs.
+pub fn read_entry(line: &[u8]) -> Option<Entry>
+    ensures { ReadsOnly (SpellsEntry line.now) result }
+{
+    if line == b"-".as_slice() {
+        return Some(Entry::End { outcome: None });
+    }
+    if let Ok(outcome) = read_outcome(line) {
+        return Some(Entry::End {
+            outcome: Some(outcome),
+        });
+    }
+    move_in(line)
+}
+
+/// The entry with a moment before it of which the whole text is the spelling.
+///
+/// Returns None if it is that of no such entry.
+pub fn read_timed(line: &[u8]) -> Option<Timed>
+    ensures { ReadsOnly (SpellsTimed line.now) result }
+{
+    let (at, entry) = cut_number(line)?;
+    let entry = read_entry(entry)?;
+    Some(Timed { at, entry })
+}
+
+fn move_in(line: &[u8]) -> Option<Entry>
+    ensures found { IfSome result (SpellsEntry line.now) }
+    ensures none { IfNone result ((player : ℕ) (pairs : List (ℕ × ℕ))
+        → SpellsEntry line.now (Entry.Move player pairs)
+        → ⊥) }
+{
+    let (player, pairs) = cut_number(line)?;
+    let pairs = read_pairs(pairs).ok()?;
+    Some(Entry::Move { player, pairs })
+}

@@ -1,0 +1,64 @@
+//! The calls that read the first lines of a record. They allocate nothing.
+ghost use Rattle.std.specs.Prelude.{◌≡◌, ◌↔◌, ℕ, List, IfSome, IsTrue, All};
+ghost use Rattle.std.specs.Option.{IsSomeAnd};
+ghost use Rattle.rbg_base.specs.Names.{is_name};
+ghost use Rattle.rbg_wire.specs.Reads.{ReadsOnly};
+ghost use Rattle.rbg_wire.specs.Words.{words_left, words_of};
+ghost use Rattle.rbg_record.specs.Heading.{version_text, SpellsPlayers, SpellsStart};
+
+use crate::{Start, Version};
+use rbg_base::{is_name, number_of_decimal};
+use rbg_wire::{Words, after_text, cut_number};
+
+/// The version of which the whole text is the spelling.
+///
+/// Returns None if it is that of no version.
+pub fn read_version(line: &[u8]) -> Option<Version>
+    ensures { ReadsOnly (λ version. line.now ≡ version_text version) result }
+{
+    if line == b"rbg 1".as_slice() {
+        Some(Version::One)
+    } else if line == b"rbg 2".as_slice() {
+        Some(Version::Two)
+    } else {
+        None
+    }
+}
+
+/// The names of the players of which the whole text is the spelling. They are borrowed from it.
+///
+/// Returns None if it is that of no players.
+pub fn read_players(line: &[u8]) -> Option<Words<'_>>
+    // The text is that of the names that are returned.
+    ensures found { IfSome result (λ names. SpellsPlayers line.now (words_left names)) }
+    // The names are returned whose text this is.
+    ensures only { (names : List (List ℕ))
+        → SpellsPlayers line.now names
+        → IsSomeAnd result (λ found. words_left found ≡ names) }
+{
+    let text = after_text(b"players ", line)?;
+    if are_names(text) {
+        Some(Words::of(text))
+    } else {
+        None
+    }
+}
+
+// Whether the words between the spaces are names.
+fn are_names(text: &[u8]) -> bool
+    ensures { IsTrue result ↔ All (λ name. IsTrue (is_name name)) (words_of text.now) }
+{
+    Words::of(text).all(|name| is_name(name))
+}
+
+/// The start of which the whole text is the spelling.
+///
+/// Returns None if it is that of no start.
+pub fn read_start(line: &[u8]) -> Option<Start>
+    ensures { ReadsOnly (SpellsStart line.now) result }
+{
+    let fields = after_text(b"start ", line)?;
+    let (turn_ms, now) = cut_number(fields)?;
+    let now = number_of_decimal(now)?;
+    Some(Start { turn_ms, now })
+}

@@ -1,0 +1,28 @@
+//! Writing a script.
+ghost use Rattle.std.specs.Prelude.{◌≡◌, ◌++◌, All, map, OnOk};
+ghost use Rattle.rbg_script.specs.Events.{EventHasSpelling, event_of};
+ghost use Rattle.rbg_script.specs.Scripts.{script_of, script_text};
+ghost use Rattle.rbg_record.specs.Writing.{texts_of};
+
+use rbg_base::Memory;
+use rbg_script::{Script, ScriptEvent, write_config, write_event};
+
+/// Appends the lines of a script, whose events have spellings. On an error some lines may have been appended.
+pub fn write_script(script: &Script, out: &mut Vec<u8>) -> Result<(), Memory>
+    ensures written { OnOk result (out.new.items ≡ out.old.items ++ script_text (script_of script.now)) }
+    ensures spelled { OnOk result (All EventHasSpelling (script_of script.now).events) }
+{
+    write_config(script.config, out)?;
+    write_events(script.events.as_slice(), out)
+}
+
+/// Appends the lines of events.
+fn write_events(events: &[ScriptEvent], out: &mut Vec<u8>) -> Result<(), Memory>
+    ensures written { OnOk result (out.new.items ≡ out.old.items ++ texts_of events.now) }
+    ensures spelled { OnOk result (All EventHasSpelling (map event_of events.now)) }
+{
+    for event in events {
+        write_event(event, out)?;
+    }
+    Ok(())
+}

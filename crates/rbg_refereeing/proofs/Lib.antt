@@ -1,9 +1,0 @@
--- Lemmas, by topic.
-pub mod AnswerLemmas
-mod ApartLemmas
-pub mod CallerLemmas
-mod ErrorLemmas
-mod PlayedLemmas
-mod PrintedLemmas
-mod SayableLemmas
-mod WholeLemmas

@@ -1,7 +1,0 @@
--- The lines of the first seats are printed.
-use Rattle.std.proofs.Common.{take}
-use Rattle.rbg_refereeing.specs.Printed.{IsPrinted}
-use Rattle.rbg_refereeing.proofs.printed.match_lines.Given as goal
-
-abbrev pub invariant-loop-index : goal.invariant-loop-index
-invariant-loop-index l = IsPrinted (take l.index l.outbox) l.lines.items

@@ -1,4 +1,0 @@
--- Scripts of records.
-pub mod Scripting
-pub mod internal
-pub mod Writing

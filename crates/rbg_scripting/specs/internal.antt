@@ -1,2 +1,0 @@
--- Definitions that only this crate's proofs use.
-pub mod Telling

@@ -1,0 +1,50 @@
+//! A match with a log as something that can be served.
+use crate::engine::Engine;
+use crate::{Log, LoggedMatch};
+use rbg_base::Memory;
+use rbg_match::{Event, Outbox};
+
+impl<W: Log> Engine for LoggedMatch<W> {
+    ghost use Rattle.rbg_match.specs.Matches.{HasHistory};
+    ghost use Rattle.rbg_match.specs.PlayingOn.{seats_of};
+    ghost use Rattle.rbg_rules.specs.Meaning.{AbstractGame};
+    ghost use Rattle.rbg_serving.specs.Serving.{IsDueIn};
+    ghost use Rattle.rbg_serving.specs.LogServing.{of_log};
+
+    type Outbox = Outbox;
+
+    ghost queued = { λ outbox. outbox };
+
+    ghost behaviour = { of_log W.told };
+
+    ghost Fixed = { AbstractGame };
+
+    ghost fixed = { λ logged. logged.played.game };
+
+    ghost lines = { seats_of };
+
+    ghost valid = { λ logged. HasHistory logged.played };
+
+    ghost first_due = { λ logged due. IsDueIn logged.played due };
+
+    fn handle(&mut self, event: Event<'_>, outbox: &mut Outbox) -> Result<(), Memory> {
+        self.write(event)?;
+        self.played.step(event, outbox)
+    }
+
+    fn listens(&self, _seat: usize) -> bool {
+        self.played.outcome().is_none()
+    }
+
+    fn is_over(&self) -> bool {
+        self.played.outcome().is_some()
+    }
+
+    fn due(&self) -> Option<u64> {
+        self.played.due()
+    }
+
+    fn bytes(outbox: &Outbox, line: usize) -> &[u8] {
+        outbox.bytes(line)
+    }
+}

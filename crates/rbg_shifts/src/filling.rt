@@ -1,0 +1,414 @@
+//! A first pass over all nodes, each after those to which its shifts lead.
+ghost use Rattle.std.specs.Prelude.{◌≡◌, ◌≢◌, ℕ, ◌<◌, ◌≤◌, length, true, false, Contains, Some, IfOk, OnOk, IfSome, IsTrue, slice_index_or};
+ghost use Rattle.rbg_shifts.specs.Entries.{IsWithin};
+ghost use Rattle.rbg_shifts.specs.Leaps.{IsShiftAt};
+ghost use Rattle.rbg_shifts.specs.internal.Interned.{AreListsOf, branches_at, list_at, may_end_at};
+ghost use Rattle.rbg_shifts.specs.internal.Branches.{IsBranch};
+ghost use Rattle.rbg_shifts.specs.internal.Steps.{Comes, IsOnly};
+ghost use Rattle.rbg_shifts.specs.internal.Tables.{IsSoundEntry, IsRightAt, IsRightSoFar, IsToldAt, FillsOne, FillsUpTo, FillsRightly, FillsDownTo, StepsBack, StepsForth, LeadsAway, LeadsBack, LeadsForth, LeadsOneWay, LeadsToMarked, IsMarked, AreClosedAt, AreFilled, AreFilledSoFar};
+
+use crate::adding::unit;
+use crate::branches::Branch;
+use crate::gathering::gather;
+use crate::ground::Ground;
+use crate::lists::Lists;
+use crate::table::{Entry, Table};
+use rbg_base::{Direction, Memory, Position, Vertex};
+use std::alloc::Global;
+
+/// Whether there was memory for what is filled.
+type Filled = Result<(), Memory>;
+
+/// Puts what one step leads to into the entry of a node and a vertex.
+#[inline(always)]
+fn fill_one(
+    table: &mut Table,
+    lists: &Lists,
+    ground: &Ground<'_>,
+    node: usize,
+    vertex: Vertex,
+    list: &[Branch],
+    may_end: bool,
+) -> Filled
+    requires at { IsRightAt ground.now lists.now table.old node }
+    requires list { list.now ≡ branches_at lists.now node }
+    requires may_end { may_end ≡ may_end_at lists.now.interner node }
+    requires vertex { vertex < length ground.now.board.first }
+    ensures { OnOk result (FillsOne ground.now lists.now table.old table.new node vertex) }
+{
+    let start = table.targets.len();
+    let ends = gather(table, start, lists, ground, node, list, may_end, vertex)?;
+    table.put(node, vertex, start, ends)?;
+    Ok(())
+}
+
+/// The entry of a node and a vertex with what is told behind a shift of its list. What doesn't depend on the vertex is
+/// handed in.
+#[inline(always)]
+fn entry_behind(
+    table: &Table,
+    lists: &Lists,
+    ground: &Ground<'_>,
+    node: usize,
+    vertex: Vertex,
+    branch: &Branch,
+    direction: Direction,
+    may_end: bool,
+) -> Entry
+    requires right { IsRightSoFar ground.now lists.now table.now }
+    requires branch { IsBranch ground.now.rules lists.now.afters.items branch.now.position branch.now }
+    requires direction { branch.now.direction ≡ Some direction }
+    requires may_end { may_end ≡ may_end_at lists.now.interner node }
+    requires vertex { vertex < length ground.now.board.first }
+    requires listed { Contains (list_at lists.now.interner node) branch.now.position }
+    ensures within { IsWithin (length table.now.targets.items) result }
+    ensures sound { IsSoundEntry ground.now (list_at lists.now.interner node) (may_end_at lists.now.interner node) vertex table.now result }
+    ensures told { IsToldAt ground.now lists.now table.now result vertex branch.now.position }
+    ensures ends { IsTrue (may_end_at lists.now.interner node) → IsTrue result.ends }
+{
+    let Some(to) = ground.step(vertex, direction) else {
+        return Entry {
+            start: 0,
+            many: 0,
+            ends: may_end,
+        };
+    };
+    let behind = table.entry_there(branch.after, to);
+    let ends = behind.ends || may_end;
+    Entry {
+        start: behind.start,
+        many: behind.many,
+        ends,
+    }
+}
+
+/// The branch that a node's list has alone.
+fn only_of(lists: &Lists, ground: &Ground<'_>, node: usize) -> Option<Branch>
+    requires lists { AreListsOf ground.now.rules lists.now }
+    requires node { node < length lists.now.interner.nodes.items }
+    ensures only { IfSome result (λ b. IsOnly (list_at lists.now.interner node) b.position) }
+    ensures branch { IfSome result (λ b. IsBranch ground.now.rules lists.now.afters.items b.position b) }
+{
+    let list = lists.branches(node);
+    if list.len() == 1 { Some(list[0]) } else { None }
+}
+
+/// Fills the entries of a node from which one shift leads on: they share what is told behind it.
+fn share_node(
+    table: &mut Table,
+    lists: &Lists,
+    ground: &Ground<'_>,
+    node: usize,
+    branch: &Branch,
+    direction: Direction,
+)
+    requires at { IsRightAt ground.now lists.now table.old node }
+    requires only { IsOnly (list_at lists.now.interner node) branch.now.position }
+    requires branch { IsBranch ground.now.rules lists.now.afters.items branch.now.position branch.now }
+    requires direction { branch.now.direction ≡ Some direction }
+    ensures { FillsUpTo ground.now lists.now table.old table.new node (length ground.now.board.first) }
+{
+    let may_end = lists.interner.may_end(node);
+    for index in 0..ground.vertices() {
+        let vertex = index as Vertex;
+        let entry = entry_behind(
+            table, lists, ground, node, vertex, branch, direction, may_end,
+        );
+        table.share(node, vertex, entry);
+    }
+}
+
+/// Puts the position that comes next alone at a node into the entry of a vertex.
+#[inline(always)]
+fn place_one(
+    table: &mut Table,
+    lists: &Lists,
+    ground: &Ground<'_>,
+    node: usize,
+    vertex: Vertex,
+    position: Position,
+    may_end: bool,
+) -> Filled
+    requires at { IsRightAt ground.now lists.now table.old node }
+    requires vertex { vertex < length ground.now.board.first }
+    requires only { IsOnly (list_at lists.now.interner node) position }
+    requires plain { ¬ IsShiftAt ground.now.rules position }
+    requires may_end { may_end ≡ may_end_at lists.now.interner node }
+    ensures { OnOk result (FillsOne ground.now lists.now table.old table.new node vertex) }
+{
+    let start = table.targets.len();
+    table.add(start, unit(position, vertex))?;
+    table.put(node, vertex, start, may_end)?;
+    Ok(())
+}
+
+/// Fills the entries of a node where one position alone comes next, which is no shift.
+fn place_node(
+    table: &mut Table,
+    lists: &Lists,
+    ground: &Ground<'_>,
+    node: usize,
+    position: Position,
+) -> Filled
+    requires at { IsRightAt ground.now lists.now table.old node }
+    requires only { IsOnly (list_at lists.now.interner node) position }
+    requires plain { ¬ IsShiftAt ground.now.rules position }
+    ensures { OnOk result (FillsUpTo ground.now lists.now table.old table.new node (length ground.now.board.first)) }
+{
+    let may_end = lists.interner.may_end(node);
+    for vertex in 0..ground.vertices() {
+        place_one(
+            table,
+            lists,
+            ground,
+            node,
+            vertex as Vertex,
+            position,
+            may_end,
+        )?;
+    }
+    Ok(())
+}
+
+/// Fills the entries of a node forwards over the vertices.
+fn fill_forwards(table: &mut Table, lists: &Lists, ground: &Ground<'_>, node: usize) -> Filled
+    requires { IsRightAt ground.now lists.now table.old node }
+    ensures { OnOk result (FillsUpTo ground.now lists.now table.old table.new node (length ground.now.board.first)) }
+{
+    let list = lists.branches(node);
+    let may_end = lists.interner.may_end(node);
+    for vertex in 0..ground.vertices() {
+        fill_one(table, lists, ground, node, vertex as Vertex, list, may_end)?;
+    }
+    Ok(())
+}
+
+/// Fills the entries of a node backwards over the vertices: that is enough where shifts lead from it to later vertices of
+/// its own alone.
+fn fill_backwards(table: &mut Table, lists: &Lists, ground: &Ground<'_>, node: usize) -> Filled
+    requires { IsRightAt ground.now lists.now table.old node }
+    ensures { OnOk result (FillsDownTo ground.now lists.now table.old table.new node (length ground.now.board.first)) }
+{
+    let list = lists.branches(node);
+    let may_end = lists.interner.may_end(node);
+    let vertices = ground.vertices();
+    for index in 0..vertices {
+        let vertex = (vertices - 1 - index) as Vertex;
+        fill_one(table, lists, ground, node, vertex, list, may_end)?;
+    }
+    Ok(())
+}
+
+/// Fills the entries of a node from which no shift leads to the node again.
+fn fill_once(table: &mut Table, lists: &Lists, ground: &Ground<'_>, node: usize) -> Filled
+    requires { IsRightAt ground.now lists.now table.old node }
+    ensures { OnOk result (FillsUpTo ground.now lists.now table.old table.new node (length ground.now.board.first)) }
+{
+    let Some(branch) = only_of(lists, ground, node) else {
+        return fill_forwards(table, lists, ground, node);
+    };
+    let Some(direction) = branch.direction else {
+        return place_node(table, lists, ground, node, branch.position);
+    };
+    share_node(table, lists, ground, node, &branch, direction);
+    Ok(())
+}
+
+/// Whether a position's shift leads from a vertex to a later one, or to an earlier one.
+#[inline(always)]
+fn steps(ground: &Ground<'_>, vertex: Vertex, position: Position, later: bool) -> bool
+    requires { vertex < length ground.now.board.first }
+    ensures back { later ≡ true → result ≡ false → (w : ℕ) → Comes ground.now vertex position w → w ≤ vertex }
+    ensures forth { later ≡ false → result ≡ false → (w : ℕ) → Comes ground.now vertex position w → vertex ≤ w }
+    ensures none { later ≡ false → ((w : ℕ) → Comes ground.now vertex position w → vertex ≤ w) → result ≡ false }
+{
+    match ground.to(vertex, position) {
+        Some(to) => { if later { vertex < to } else { to < vertex } }
+        None => false,
+    }
+}
+
+/// Whether a position's shift leads from some vertex to a later one, or to an earlier one.
+fn leads(ground: &Ground<'_>, position: Position, later: bool) -> bool
+    ensures back { later ≡ true → result ≡ false → StepsBack ground.now position }
+    ensures forth { later ≡ false → result ≡ false → StepsForth ground.now position }
+    ensures none { later ≡ false → StepsForth ground.now position → result ≡ false }
+{
+    for index in 0..ground.vertices() {
+        if steps(ground, index as Vertex, position, later) {
+            return true;
+        }
+    }
+    false
+}
+
+/// Whether a position is a shift that leads to a node, from some vertex to a later one, or to an earlier one.
+#[inline(always)]
+fn repeats_by(
+    lists: &Lists,
+    ground: &Ground<'_>,
+    node: usize,
+    position: Position,
+    later: bool,
+) -> bool
+    ensures back { later ≡ true → result ≡ false → IsShiftAt ground.now.rules position
+        → slice_index_or lists.now.afters.items position 0 ≡ node → StepsBack ground.now position }
+    ensures forth { later ≡ false → result ≡ false → IsShiftAt ground.now.rules position
+        → slice_index_or lists.now.afters.items position 0 ≡ node → StepsForth ground.now position }
+    ensures none { later ≡ false → (IsShiftAt ground.now.rules position
+        → slice_index_or lists.now.afters.items position 0 ≡ node → StepsForth ground.now position) → result ≡ false }
+{
+    ground.is_shift(position) && lists.after(position) == node && leads(ground, position, later)
+}
+
+/// Whether a shift of a node's list leads to the same node again, from some vertex to a later one, or to an earlier one.
+pub(crate) fn repeats(lists: &Lists, ground: &Ground<'_>, node: usize, later: bool) -> bool
+    ensures back { later ≡ true → result ≡ false → LeadsBack ground.now lists.now node }
+    ensures forth { later ≡ false → result ≡ false → LeadsForth ground.now lists.now node }
+    ensures none { later ≡ false → LeadsForth ground.now lists.now node → result ≡ false }
+{
+    for listed in lists.interner.list(node) {
+        if repeats_by(lists, ground, node, *listed, later) {
+            return true;
+        }
+    }
+    false
+}
+
+/// Fills the entries of a node: forwards over the vertices where shifts lead from it to earlier vertices of its own, and
+/// backwards where they lead to later ones. Where they lead one way, nothing is missing then.
+pub(crate) fn fill_again(
+    table: &mut Table,
+    lists: &Lists,
+    ground: &Ground<'_>,
+    node: usize,
+) -> Filled
+    requires { IsRightAt ground.now lists.now table.old node }
+    ensures fills { OnOk result (FillsRightly ground.now lists.now table.old table.new node) }
+    ensures closed { OnOk result (LeadsOneWay ground.now lists.now node → AreClosedAt ground.now lists.now table.new node) }
+{
+    if !repeats(lists, ground, node, true) {
+        fill_forwards(table, lists, ground, node)?;
+        return Ok(());
+    }
+    fill_backwards(table, lists, ground, node)?;
+    if repeats(lists, ground, node, false) {
+        fill_forwards(table, lists, ground, node)?;
+    }
+    Ok(())
+}
+
+/// Whether a node is marked.
+pub(crate) fn is_marked(marks: &[bool], node: usize) -> bool
+    ensures { result ≡ slice_index_or marks.now node false }
+{
+    node < marks.len() && marks[node]
+}
+
+/// Whether no shift of a node's list leads to the node again.
+fn leads_away(lists: &Lists, ground: &Ground<'_>, node: usize) -> bool
+    ensures { IsTrue result → LeadsAway ground.now lists.now node }
+{
+    for listed in lists.interner.list(node) {
+        if ground.is_shift(*listed) && lists.after(*listed) == node {
+            return false;
+        }
+    }
+    true
+}
+
+/// Whether a node is marked, or is another one.
+fn is_marked_or(marks: &[bool], node: usize, other: usize) -> bool
+    ensures { IsTrue result → node ≢ other → IsMarked marks.now node }
+{
+    node == other || is_marked(marks, node)
+}
+
+/// Whether all nodes to which a node's shifts lead are filled, but for itself.
+fn is_ready(lists: &Lists, ground: &Ground<'_>, filled: &[bool], node: usize) -> bool
+    ensures { IsTrue result → LeadsToMarked ground.now lists.now filled.now node }
+{
+    for listed in lists.interner.list(node) {
+        if ground.is_shift(*listed) && !is_marked_or(filled, lists.after(*listed), node) {
+            return false;
+        }
+    }
+    true
+}
+
+/// Fills the entries of a node.
+fn fill_node(table: &mut Table, lists: &Lists, ground: &Ground<'_>, node: usize) -> Filled
+    requires { IsRightAt ground.now lists.now table.old node }
+    ensures fills { OnOk result (FillsRightly ground.now lists.now table.old table.new node) }
+    ensures closed { OnOk result (LeadsOneWay ground.now lists.now node → AreClosedAt ground.now lists.now table.new node) }
+{
+    if leads_away(lists, ground, node) {
+        fill_once(table, lists, ground, node)?;
+        return Ok(());
+    }
+    fill_again(table, lists, ground, node)?;
+    Ok(())
+}
+
+/// Fills a node that isn't filled, where it is ready. Returns whether it is filled then.
+fn fill_next(
+    table: &mut Table,
+    lists: &Lists,
+    ground: &Ground<'_>,
+    filled: &mut [bool],
+    node: usize,
+) -> Result<bool, Memory>
+    requires so_far { AreFilledSoFar ground.now lists.now table.old filled.old }
+    requires node { node < length lists.now.interner.nodes.items }
+    requires there { node < length filled.old }
+    ensures size { length filled.new ≡ length filled.old }
+    ensures filled { OnOk result (AreFilled ground.now lists.now table.new filled.new) }
+{
+    if is_marked(filled, node) || !is_ready(lists, ground, filled, node) {
+        return Ok(false);
+    }
+    fill_node(table, lists, ground, node)?;
+    filled[node] = true;
+    Ok(true)
+}
+
+/// Fills the nodes that are ready. Returns whether there was one.
+fn fill_ready(
+    table: &mut Table,
+    lists: &Lists,
+    ground: &Ground<'_>,
+    filled: &mut [bool],
+) -> Result<bool, Memory>
+    requires so_far { AreFilledSoFar ground.now lists.now table.old filled.old }
+    requires size { length filled.old ≡ length lists.now.interner.nodes.items }
+    ensures size { length filled.new ≡ length filled.old }
+    ensures filled { OnOk result (AreFilled ground.now lists.now table.new filled.new) }
+{
+    let nodes = lists.interner.nodes.len();
+    let mut some = false;
+    for done in 0..nodes {
+        let more = fill_next(table, lists, ground, filled, nodes - 1 - done)?;
+        some = some || more;
+    }
+    Ok(some)
+}
+
+/// Fills all nodes from which shifts don't lead in a circle over several nodes. Returns which ones were filled.
+pub(crate) fn fill_in_order(
+    alloc: Global,
+    table: &mut Table,
+    lists: &Lists,
+    ground: &Ground<'_>,
+) -> Result<Vec<bool>, Memory>
+    requires right { IsRightSoFar ground.now lists.now table.old }
+    ensures { IfOk result (λ filled. AreFilled ground.now lists.now table.new filled.items) }
+{
+    let nodes = lists.interner.nodes.len();
+    let mut filled = vec![in alloc; false; nodes]?;
+    for _ in 0..nodes {
+        if !fill_ready(table, lists, ground, &mut filled)? {
+            return Ok(filled);
+        }
+    }
+    Ok(filled)
+}

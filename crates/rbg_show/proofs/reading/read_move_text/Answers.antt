@@ -1,6 +1,0 @@
--- What stands behind the letter.
-use Rattle.rbg_show.proofs.Readings.{lettered}
-use Rattle.rbg_show.proofs.reading.read_move_text.Goals as goal
-
-pub returns-in-Some-clause-found : goal.returns-in-Some-clause-found
-returns-in-Some-clause-found c = lettered _ _ _ c.in-Some.ensures.found c.pairs_of.ensures.found

@@ -1,6 +1,0 @@
--- The list was empty.
-use Rattle.rbg_show.proofs.Readings.{told_of}
-use Rattle.rbg_show.proofs.reading.told_readings.Goals as goal
-
-pub returns : goal.returns
-returns c = told_of _ _ _ _ c.new-readings.ensures.items c.in_ok-push_meaning.ensures

@@ -1,2 +1,0 @@
--- Crates above cite LegalPairs.
-pub mod LegalPairs

@@ -1,5 +1,0 @@
-use Rattle.rbg_spelling.proofs.LegalPairs.{legal_spelled}
-use Rattle.rbg_spelling.proofs.laws.legal_moves_are_spelled.Goals as goal
-
-pub returns : goal.returns
-returns c = legal_spelled

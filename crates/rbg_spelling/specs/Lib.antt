@@ -1,2 +1,0 @@
--- The law of this crate.
-pub mod Laws

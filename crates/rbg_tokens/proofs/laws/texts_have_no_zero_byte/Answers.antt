@@ -1,5 +1,0 @@
-use Rattle.rbg_tokens.proofs.ZeroBytes.{text_has_no_zero_byte}
-use Rattle.rbg_tokens.proofs.laws.texts_have_no_zero_byte.Goals as goal
-
-pub returns : goal.returns
-returns c = text_has_no_zero_byte

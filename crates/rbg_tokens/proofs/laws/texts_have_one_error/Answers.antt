@@ -1,5 +1,0 @@
-use Rattle.rbg_tokens.proofs.OneReading.{text_error_once}
-use Rattle.rbg_tokens.proofs.laws.texts_have_one_error.Goals as goal
-
-pub returns : goal.returns
-returns c = text_error_once

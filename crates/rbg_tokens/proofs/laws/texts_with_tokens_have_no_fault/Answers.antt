@@ -1,5 +1,0 @@
-use Rattle.rbg_tokens.proofs.OneReading.{text_refused_for_memory}
-use Rattle.rbg_tokens.proofs.laws.texts_with_tokens_have_no_fault.Goals as goal
-
-pub returns : goal.returns
-returns c = text_refused_for_memory

@@ -1,2 +1,0 @@
--- What only the contracts of private functions and this crate's proofs cite.
-pub mod Part

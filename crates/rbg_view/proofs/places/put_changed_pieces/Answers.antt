@@ -1,0 +1,8 @@
+-- The changes so far, and the one at this index.
+use Rattle.std.proofs.Common.{arith}
+use Rattle.rbg_view.proofs.Changes.{changes_step}
+use Rattle.rbg_view.proofs.places.put_changed_pieces.Goals as goal
+
+pub loop-index-preserved : goal.loop-index-preserved
+loop-index-preserved c =
+    changes_step _ _ _ _ _ c.loop-index.index c.from.result c.from-in-loop-index.result c.requires (omega (arith, c.loop-index-test.true)) c.loop-index.invariant c.from.ensures c.from-in-loop-index.ensures c.in_ok-put_change_at.ensures

@@ -1,0 +1,236 @@
+//! A record that is followed line by line, as a page shows it.
+ghost use Rattle.std.specs.Prelude.{◌≡◌, ℕ, List, [], ◌++◌, IfErr, IfNone, IfOk, IfSome, OnOk, unwrap_or};
+ghost use Rattle.rbg_rules.specs.Meaning.{IsPlaceOf};
+ghost use Rattle.rbg_record.specs.ByLine.{IsReachedIn, reached_of};
+ghost use Rattle.rbg_view.specs.Pages.{IsRefused};
+ghost use Rattle.rbg_wire.specs.Lines.{line_of};
+ghost use Rattle.rbg_view.specs.Texts.{escaped};
+ghost use Rattle.rbg_view.specs.Places.{place_text, whole_text};
+ghost use Rattle.rbg_view.specs.Telling.{IsByPlayer, IsMoveIn, IsPlayersMove, IsTelling, line_text};
+ghost use Rattle.rbg_view.specs.internal.Reading.{refusal_at};
+
+use crate::error::PageError;
+use crate::places::{put_place, put_whole, values_at};
+use crate::texts::put_escaped;
+use rbg_base::{Memory, Move, Pair};
+use rbg_moves::{Place, PlayedGame};
+use rbg_record::{Entry, Fault, Reached, Version, next_line, read_entry, read_line, read_timed};
+use std::alloc::Global;
+use std::marker::Model;
+
+/// A record that is followed. Contracts see the lines of a page, the last place and the last move of a player.
+pub struct FollowedRecord {
+    /// The lines with their places.
+    lines: Vec<u8>,
+    /// The last place.
+    place: Place,
+    /// The last move of a player.
+    moved: Option<Move>,
+}
+
+impl Model for FollowedRecord {
+    ghost use Rattle.std.specs.Prelude.{unwrap_or, []};
+    ghost use Rattle.rbg_view.specs.Telling.{Told};
+
+    ghost Value = { Told };
+
+    ghost view = { λ t. record { lines = t.lines.items; place = t.place; marked = unwrap_or t.moved [] } };
+}
+
+/// Written out, so that letting a record go is one call in the proofs of those who hold one, not a step for each part.
+impl Drop for FollowedRecord {
+    fn drop(self) {
+        let FollowedRecord {
+            lines: _,
+            place: _,
+            moved: _,
+        } = self;
+    }
+}
+
+impl FollowedRecord {
+    /// The lines with their places.
+    pub fn as_lines(&self) -> &[u8]
+        ensures { result.now ≡ self.now.lines }
+    {
+        self.lines.as_slice()
+    }
+
+    /// The last place.
+    pub fn last_place(&self) -> &Place
+        ensures { result.now ≡ self.now.place }
+    {
+        &self.place
+    }
+
+    /// The pairs of the last move of a player.
+    pub fn marked(&self) -> &[Pair]
+        ensures { result.now ≡ self.now.marked }
+    {
+        match &self.moved {
+            Some(pairs) => pairs.as_slice(),
+            None => &[],
+        }
+    }
+}
+
+/// Appends a line and, if it leads to a place, what is written of this place after the one before.
+#[tactic(auto, unfolding(crate::specs::Telling::line_text))]
+fn put_line(
+    game: &PlayedGame,
+    text: &[u8],
+    before: &Place,
+    to: &Reached,
+    out: &mut Vec<u8>,
+) -> Result<(), Memory>
+    requires before { IsPlaceOf game.now before.now }
+    requires reached { IsReachedIn game.now (reached_of to.now) }
+    ensures { OnOk result (out.new.items ≡ out.old.items
+        ++ line_text text.now before.now (reached_of to.now)) }
+{
+    match to {
+        Reached::Entry(standing) => put_place_line(game, text, before, &standing.place, out),
+        Reached::Version => put_plain_line(text, out),
+        Reached::Players => put_plain_line(text, out),
+        Reached::Start => put_plain_line(text, out),
+        Reached::Nothing => put_plain_line(text, out),
+    }
+}
+
+fn put_plain_line(text: &[u8], out: &mut Vec<u8>) -> Result<(), Memory>
+    ensures { OnOk result (out.new.items ≡ out.old.items ++ line_of (escaped text.now)) }
+{
+    put_escaped(text, out)?;
+    out.push(b'\n')?;
+    Ok(())
+}
+
+fn put_place_line(
+    game: &PlayedGame,
+    text: &[u8],
+    before: &Place,
+    place: &Place,
+    out: &mut Vec<u8>,
+) -> Result<(), Memory>
+    requires before { IsPlaceOf game.now before.now }
+    requires place { IsPlaceOf game.now place.now }
+    ensures { OnOk result (out.new.items ≡ out.old.items
+        ++ line_of (escaped text.now ++ place_text before.now place.now)) }
+{
+    let alloc = *out.allocator();
+    let values_before = values_at(alloc, game.as_game(), before)?;
+    let values = values_at(alloc, game.as_game(), place)?;
+    put_escaped(text, out)?;
+    put_place(before, &values_before, place, &values, out)?;
+    out.push(b'\n')?;
+    Ok(())
+}
+
+/// The line of the first place.
+fn first_line(alloc: Global, game: &PlayedGame, place: &Place) -> Result<Vec<u8>, Memory>
+    requires { IsPlaceOf game.now place.now }
+    ensures { IfOk result (λ line. line.items ≡ line_of (whole_text place.now)) }
+{
+    let values = values_at(alloc, game.as_game(), place)?;
+    let mut line = Vec::new(alloc);
+    put_whole(place, &values, &mut line)?;
+    line.push(b'\n')?;
+    Ok(line)
+}
+
+/// The later one of two moves, of which the first one may be missing.
+fn later_of(moved: Option<Move>, before: Option<Move>) -> Option<Move>
+    ensures { unwrap_or result [] ≡ unwrap_or moved (unwrap_or before []) }
+{
+    match moved {
+        Some(pairs) => Some(pairs),
+        None => before,
+    }
+}
+
+/// Reads a record, of either version, and follows its lines. A record that isn't right is refused.
+pub fn follow_record(
+    alloc: Global,
+    game: &PlayedGame,
+    bytes: &[u8],
+) -> Result<FollowedRecord, PageError>
+    ensures followed { IfOk result (IsTelling game.now bytes.now) }
+    ensures in_game { IfOk result (λ followed. IsPlaceOf game.now followed.place) }
+    ensures refused { IfErr result (IsRefused game.now bytes.now) }
+{
+    let mut place = game.start()?;
+    let mut lines = first_line(alloc, game, &place)?;
+    let mut last = None;
+    let mut reached = Reached::Version;
+    let mut rest = bytes;
+    let mut line = 1;
+    while let Some((text, later)) = next_line(rest) {
+        let moved = move_in(&reached, text);
+        match read_line(game, reached, text) {
+            Ok(to) => reached = to,
+            Err(fault) => return Err(refusal(fault, line)),
+        }
+        put_line(game, text, &place, &reached, &mut lines)?;
+        place = reached.place_or(place)?;
+        last = later_of(moved, last);
+        rest = later;
+        line += 1;
+    }
+    let over = reached.is_over();
+    if over && rest.is_empty() {
+        Ok(FollowedRecord {
+            lines,
+            place,
+            moved: last,
+        })
+    } else {
+        Err(PageError::Form { line })
+    }
+}
+
+/// What a fault at a line is to a page.
+fn refusal(fault: Fault, line: usize) -> PageError
+    ensures { result ≡ refusal_at fault line }
+{
+    match fault {
+        Fault::Form => PageError::Form { line },
+        Fault::Bad => PageError::Bad { line },
+        Fault::Over => PageError::Over { line },
+        Fault::Memory => PageError::Memory,
+    }
+}
+
+/// The player's move that a line has after the lines so far.
+fn move_in(reached: &Reached, text: &[u8]) -> Option<Move>
+    ensures { IsMoveIn (reached_of reached.now) text.now result }
+{
+    match reached {
+        Reached::Entry(standing) => players_move(standing.version, text),
+        Reached::Version => None,
+        Reached::Players => None,
+        Reached::Start => None,
+        Reached::Nothing => None,
+    }
+}
+
+/// The player's move that the text is in a record of that version.
+fn players_move(version: Version, text: &[u8]) -> Option<Move>
+    ensures found { IfSome result (IsPlayersMove version text.now) }
+    ensures none { IfNone result ((pairs : List (ℕ × ℕ)) → ¬ IsPlayersMove version text.now pairs) }
+{
+    match version {
+        Version::One => pairs_of(read_entry(text)?),
+        Version::Two => pairs_of(read_timed(text)?.entry),
+    }
+}
+
+/// The pairs of a player's move.
+fn pairs_of(entry: Entry) -> Option<Move>
+    ensures found { IfSome result (IsByPlayer entry) }
+    ensures none { IfNone result ((pairs : List (ℕ × ℕ)) → ¬ IsByPlayer entry pairs) }
+{
+    match entry {
+        Entry::Move { player, pairs } => { if player == 0 { None } else { Some(pairs) } }
+        Entry::End { .. } => None,
+    }
+}
