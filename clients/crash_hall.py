@@ -25,6 +25,8 @@ def kill_hall(trial: Trial, tables: list[Stored], chance: random.Random) -> int:
         players = [Player(loop, served.port, stored.moves, match, think=0.005) for stored, match in lines]
         least = chance.randrange(sum(len(stored.moves) for stored, _ in lines))
         loop.run(lambda: sum(it.made for it in players) >= least, PATIENCE)
+        served.referee.kill()  # before its players leave
+        served.referee.wait()
     logs = [Path(f"{log}.{match}") for match in range(1, len(tables) + 1)]
     begun = sum(b"\n" in it.read_bytes() for it in logs)
     if "--resume" in run(trial.rbg, "help", "hall").printed and begun:

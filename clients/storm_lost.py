@@ -137,6 +137,8 @@ def hall_goes_on(trial: Trial) -> str:
         over = lambda: all(it.is_over for it in ended) and all(it.made >= 10 for it in halfway) and begun(3)
         expect(loop.run(over, PATIENCE), "the hall's matches don't go on")
         expect(not any(it.is_over for it in others), "match 3 has ended")
+        served.referee.kill()  # before its players leave
+        served.referee.wait()
     Path(f"{log}.3").write_bytes(b"")  # as where it was killed before the match began
     with Served(trial, ["hall", *games, *LIMITS, "--resume", str(log)]) as served, closing(Loop()) as loop:
         lines = [(four, 2), (tic, 3)] * 2
