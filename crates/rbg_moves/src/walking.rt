@@ -1,5 +1,5 @@
 //! The walk over the modifiers of moves, by which some move is found, or all are listed.
-ghost use Rattle.std.specs.Prelude.{◌≡◌, ◌-◌, ◌<◌, ◌≤◌, ◌∷◌, [], ◌++◌, length, All, IfOk, Err, false};
+ghost use Rattle.std.specs.Prelude.{◌≡◌, ◌-◌, ◌<◌, ◌≤◌, ◌∷◌, [], ◌++◌, length, All, IfOk, Err, Some, false};
 ghost use Rattle.rbg_base.specs.Move.{most_pairs};
 ghost use Rattle.rbg_rules.specs.Meaning.{IsGame, stand_of, IsPlaceOf, IsStateOf, after};
 ghost use Rattle.rbg_pairs.specs.Start.{IsPositionOf};
@@ -9,6 +9,7 @@ ghost use Rattle.rbg_moves.specs.internal.Gathering.{AddsMove, IsWalked, ListsSw
 ghost use Rattle.rbg_moves.specs.internal.Stepping.{place_behind, Behind, IsValidAt};
 
 use crate::asking::{is_switch, origin_after};
+use crate::line::follow_line;
 use crate::stepping::apply_at;
 use rbg_auto::Steps;
 use rbg_base::{MAX_PAIRS, MoveList, Pair, Position};
@@ -106,18 +107,6 @@ pub(crate) fn walk<S: Steps>(
 {
     let game = search.game();
     let origin = origin_after(after);
-    // one modifier alone needs no list
-    if let Some(position) = search.only_modifier(state, origin) {
-        let vertex = state.vertex();
-        search.reach_only(state, origin, position)?;
-        let pair = Pair { vertex, position };
-        if is_switch(game, position) {
-            let full = found.add(front, pair)?;
-            return Ok(full);
-        }
-        let early = walk_behind(search, state, front, found, pair)?;
-        return Ok(early);
-    }
     let mut pairs = search.take_list();
     search.reach_flat(state, origin, &mut pairs)?;
     if found.add_switches(game, &mut pairs, front)? {
@@ -172,10 +161,56 @@ fn walk_behind<S: Steps>(
     let mark = state.mark();
     apply_at(game, state, pair);
     front.push(pair)?;
-    if walk(search, state, front, found, Some(pair.position))? {
+    if walk_on(search, state, front, found, pair.position)? {
         return Ok(true);
     }
     front.pop();
+    state.undo_to(mark);
+    Ok(false)
+}
+
+/// Finds the moves behind a modifier that was applied, as `walk` does: it goes along the straight line first that begins
+/// there. Where the walk doesn't end early, the line is taken back.
+#[cycle(walk)]
+fn walk_on<S: Steps>(
+    search: &mut Search<'_, S>,
+    state: &mut SemiState,
+    front: &mut Vec<Pair>,
+    found: &mut Found,
+    after: Position,
+) -> Result<bool, Over>
+    requires place { IsPlaceOf search.old.game (place_behind state.old.state after) }
+    requires short { length front.old.items < most_pairs }
+    requires few { length found.old.moves ≤ found.old.max }
+    ensures search { search.new ≡ record search.old { opened = search.new.opened; taken = search.new.taken } }
+    ensures state { IfOk result (λ ended. ended ≡ false
+        → (state.new ≡ record state.old { room = state.new.room })) }
+    ensures room { IfOk result (λ ended. ended ≡ false → state.old.room ≤ state.new.room) }
+    ensures after { IsAfter state.old state.new }
+    ensures front { IfOk result (λ ended. ended ≡ false → front.new.items ≡ front.old.items) }
+    ensures max { found.new.max ≡ found.old.max }
+    ensures walked { IfOk result (IsWalked search.old search.new (place_behind state.old.state after)
+        front.old.items found.old.max found.old.moves found.new.moves front.new.items) }
+    ensures given_up { IsGivenUp search.old (question_of found.old.max)
+        state.old.state (stand_of (Some after)) (most_pairs - length front.old.items)
+        (result ≡ Err Over.Deep) (result ≡ Err Over.Wide) }
+{
+    let mark = state.mark();
+    let before = front.len();
+    let end = follow_line(search, state, front, after)?;
+    if let Some(position) = end.switch {
+        let vertex = state.vertex();
+        if found.add(front, Pair { vertex, position })? {
+            return Ok(true);
+        }
+        front.truncate(before);
+        state.undo_to(mark);
+        return Ok(false);
+    }
+    if walk(search, state, front, found, Some(end.last))? {
+        return Ok(true);
+    }
+    front.truncate(before);
     state.undo_to(mark);
     Ok(false)
 }

@@ -3,6 +3,7 @@ pub mod Common
 pub mod Behinds
 pub mod Asking
 pub mod Alone
+pub mod Lone
 pub mod Answering
 pub mod Openings
 pub mod Counts

@@ -2,6 +2,7 @@
 ghost use Rattle.std.specs.Prelude.{◌≡◌, ℕ, ◌+◌, ◌-◌, ◌*◌, ◌^◌, ◌<◌, ◌≤◌, ◌↔◌, suc, length, Some, All, AllPairs, IfOk, IsOk, OnOk, IfSome, IsTrue, [], ◌∷◌, take, OnErr, IfErr, Err, Bool, max, min};
 ghost use Rattle.rbg_rules.specs.Meaning.{AbstractState, IsStateOf, IsModifierAt, IsPatternAt, inside, Start, beginning, after, Applies, SomeWordRuns, reach, pattern, IsGame, IsStart};
 ghost use Rattle.rbg_search.specs.Forced.{CountsForced};
+ghost use Rattle.rbg_flat.specs.Onward.{IsOnward};
 ghost use Rattle.rbg_flat.specs.Paths.{ArePathsOf};
 ghost use Rattle.rbg_search.specs.Taken.{CountsTaken, most_pairs_of};
 ghost use Rattle.rbg_search.specs.internal.Taking.{RanBehind};
@@ -30,7 +31,7 @@ use crate::standing::stand;
 use crate::tally::Tally;
 use rbg_auto::{Expr, Steps};
 use rbg_base::{Pair, Position, Vertex};
-use rbg_flat::{Flat as SetFlat, Modifiers, Paths};
+use rbg_flat::{Flat as SetFlat, Modifiers, Onward, Paths};
 use rbg_pairs::{Flat, GameSteps, Origin};
 use rbg_rules::Game;
 use rbg_state::{SemiState, Trial};
@@ -279,6 +280,41 @@ impl<'a, S: Steps> Search<'a, S> {
         let ends = self.rules.may_end(origin);
         self.count_pairs(1);
         Ok(ends)
+    }
+
+    /// What comes next behind a position, where that is one modifier alone, as it was learned when the game was made ready.
+    #[inline(always)]
+    pub fn onward(&self, position: Position) -> Onward
+        ensures { IsOnward self.now.game.rules position result }
+    {
+        match self.rules.paths() {
+            Some(paths) => paths.onward(position),
+            None => Onward::Unknown,
+        }
+    }
+
+    /// How many openings more the budget allows.
+    #[inline(always)]
+    pub fn left(&self) -> u32
+        ensures { self.now.opened + result ≡ self.now.openings }
+    {
+        self.budget.openings - self.opened
+    }
+
+    /// Takes up so many openings of one modifier each, as they stand one after another in a straight line.
+    #[inline(always)]
+    pub fn take_line(&mut self, modifiers: u32)
+        requires left { self.old.opened + modifiers ≤ self.old.openings }
+        requires pairs { 1 ≤ most_pairs_of self.old.game }
+        ensures search { self.new ≡ record self.old { opened = self.old.opened + modifiers; taken = self.old.taken + modifiers } }
+        ensures some { 0 < self.old.modifiers }
+        ensures few { self.old.taken ≤ self.old.opened * most_pairs_of self.old.game }
+    {
+        // The game is lawful, and the budget's openings are a number of 32 bits, so the sum of pairs is one of 64 bits.
+        let _game = self.rules.game();
+        let _openings = self.budget.openings;
+        self.opened += modifiers;
+        self.taken += u64::from(modifiers);
     }
 
     /// Whether the pattern at a position is valid in the semi-state, which is given back.

@@ -1,20 +1,20 @@
 -- The moves that go on from where one stands.
-use Rattle.rbg_base.proofs.Common.{◌≡◌, ℕ, ◌+◌, ◌-◌, ◌<◌, List, ◌∷◌, [], ◌++◌, length, refl, sym, ap, ◌∙◌, subst, arith, false, true, length_push, err_from_is_err_and}
+use Rattle.rbg_base.proofs.Common.{◌≡◌, ℕ, ◌+◌, ◌-◌, ◌<◌, List, ◌∷◌, [], ◌++◌, length, refl, sym, ap, ◌∙◌, subst, arith, false, true, length_push, length-append, err_from_is_err_and}
 use Rattle.rbg_base.specs.Move.{most_pairs}
-use Rattle.rbg_rules.specs.Meaning.{AbstractGame, IsStateOf, IsStart, AbstractPlace, stand_of}
+use Rattle.rbg_rules.specs.Meaning.{AbstractGame, IsStateOf, IsStart, IsPlaceOf, AbstractPlace, stand_of}
 use Rattle.rbg_state.specs.History.{History, IsAfter}
 use Rattle.rbg_state.proofs.Histories.{after_nothing, after_both}
 use Rattle.rbg_pairs.specs.Start.{start_of, IsPositionOf}
 use Rattle.rbg_search.specs.Searching.{Searching}
 use Rattle.rbg_search.proofs.Asking.{after_room, room_twice}
-use Rattle.rbg_search.proofs.Kept.{kept_since, kept_twice}
+use Rattle.rbg_search.proofs.Kept.{kept_since, kept_twice, onward_rules}
 use Rattle.rbg_search.proofs.Orders.{flat_permuted}
 use Rattle.rbg_search.proofs.Turns.{turn_fewer}
 use Rattle.rbg_moves.specs.internal.Gathering.{IsWalked, LeavesOthers}
 use Rattle.rbg_moves.specs.internal.Stepping.{place_behind}
 use Rattle.rbg_search.proofs.CallerLemmas.{place_start}
-use Rattle.rbg_moves.proofs.Steps.{modifier_position, plain_by, switch_by}
-use Rattle.rbg_moves.proofs.Further.{answered_as, has_come, has_come_here, switches_as, none_come, walk_begun, walk_ended, walk_whole, walked_any, walk_switch, one_turn, turn_done, walk_turn, others_plain, turn_whole, turn_fits, turn_valid, turn_on, turn_ended, turn_given_up, too_many, made, made_given_up}
+use Rattle.rbg_moves.proofs.Steps.{modifier_position}
+use Rattle.rbg_moves.proofs.Further.{answered_as, has_come, switches_as, none_come, walk_begun, walk_ended, walk_whole, walked_any, walk_turn, others_plain, turn_whole, turn_fits, turn_valid, turn_on, turn_ended, turn_given_up, too_many, made, made_given_up}
 use Rattle.rbg_moves.proofs.walking.+walk.Goals as goal
 
 pub walk-reach_flat-requires-clause-stands : goal.walk-reach_flat-requires-clause-stands
@@ -26,7 +26,7 @@ walk-reach_flat-requires-clause-stands g t c =
 
 pub walk-returns-in_err-reach_flat-clause-given_up : goal.walk-returns-in_err-reach_flat-clause-given_up
 walk-returns-in_err-reach_flat-clause-given_up g t c =
-    let p = err_from_is_err_and c.from_residual-in_err-reach_flat.result c.from_residual-in_err-reach_flat.ensures.1 in
+    let p = err_from_is_err_and c.from_residual.result c.from_residual.ensures.1 in
     rw (p.1, p.2) (none_come c.args.found.now.max (most_pairs - length c.args.front.now.items) c.game-game.ensures.lawful.numbered (answered_as c.take_list-pairs.ensures c.origin_after-origin.ensures c.in_err-reach_flat.ensures.answered))
 
 pub walk-returns-then-branch-clause-walked : goal.walk-returns-then-branch-clause-walked
@@ -118,62 +118,6 @@ walk-returns-clause-walked g t c =
 after_kept : (h k : History) → k ≡ record h { room = k.room } → IsAfter h k
 after_kept h k kept = after_room h h k (after_nothing h) kept
 
--- ---- what comes next is one modifier alone
-
-pub walk-reach_only-requires-clause-stands : goal.walk-reach_only-requires-clause-stands
-walk-reach_only-requires-clause-stands g t c =
-    let game = c.args.search.now.game in
-    let place : AbstractPlace = record { state = c.args.state.now.state; last = c.args.after } in
-    subst (IsStart game.rules) (sym c.origin_after-origin.ensures) (place_start game.rules c.game-game.ensures.lawful.numbered c.args.after c.requires.place.last)
-
-pub walk-returns-in_err-reach_only-clause-given_up : goal.walk-returns-in_err-reach_only-clause-given_up
-walk-returns-in_err-reach_only-clause-given_up g t c =
-    let p = err_from_is_err_and c.from_residual.result c.from_residual.ensures.1 in
-    rw (p.1, p.2) (none_come c.args.found.now.max (most_pairs - length c.args.front.now.items) c.game-game.ensures.lawful.numbered (answered_as refl c.origin_after-origin.ensures c.in_err-reach_only.ensures.answered))
-
-pub walk-returns-in_err-reach_only-clause-after : goal.walk-returns-in_err-reach_only-clause-after
-walk-returns-in_err-reach_only-clause-after g t c = after_kept c.args.state.now c.reach_only.new.state c.reach_only.ensures.answered.given_back
-
-pub walk-is_switch-requires-clause-position : goal.walk-is_switch-requires-clause-position
-walk-is_switch-requires-clause-position g t c =
-    let game = c.args.search.now.game in
-    subst (λ (x : AbstractGame). IsPositionOf x.rules c.in-Some.position) (sym c.game-game.ensures.game) (modifier_position game c.game-game.ensures.lawful.numbered c.in-Some.position c.in-Some.ensures.modifies.0)
-
-pub walk-returns-then-is_switch-clause-walked : goal.walk-returns-then-is_switch-clause-walked
-walk-returns-then-is_switch-clause-walked g t c =
-    let come = has_come_here refl c.origin_after-origin.ensures c.reach_only.ensures.answered c.in_ok-reach_only.was c.vertex-vertex.ensures c.in_ok-reach_only.ensures.found in
-    walk_switch c.args.after c.game-game.ensures.lawful.numbered come c.requires.short c.requires.few (switch_by c.args.search.now.game c.game-game.result.now c.in-Some.position c.game-game.ensures.game (c.is_switch.ensures.0 c.if-is_switch.true)) c.in_ok-full.full c.in_ok-full.ensures.adds
-
-pub walk-returns-then-is_switch-clause-after : goal.walk-returns-then-is_switch-clause-after
-walk-returns-then-is_switch-clause-after g t c = after_kept c.args.state.now c.reach_only.new.state c.reach_only.ensures.answered.given_back
-
-pub walk-walk_behind-requires : goal.walk-walk_behind-requires
-walk-walk_behind-requires g t c κs within =
-    let come = has_come_here refl c.origin_after-origin.ensures c.reach_only.ensures.answered c.in_ok-reach_only.was c.vertex-vertex.ensures c.in_ok-reach_only.ensures.found in
-    let turn = one_turn c.args.after c.args.front.now.items c.args.found.now.moves c.game-game.ensures.lawful come c.requires.few (plain_by c.args.search.now.game c.game-game.result.now c.in-Some.position c.is_switch.result c.game-game.ensures.game c.is_switch.ensures.1 c.if-is_switch.false) in
-    (omega (arith, c.requires.short, c.decreases), (within, (turn_fits turn c.requires.place.state, (turn_valid turn c.requires.place.state, (come.found.enough, (c.requires.short, c.requires.few))))))
-
-pub walk-returns-in_err-early-clause-given_up : goal.walk-returns-in_err-early-clause-given_up
-walk-returns-in_err-early-clause-given_up g t c =
-    let come = has_come_here refl c.origin_after-origin.ensures c.reach_only.ensures.answered c.in_ok-reach_only.was c.vertex-vertex.ensures c.in_ok-reach_only.ensures.found in
-    let turn = one_turn c.args.after c.args.front.now.items c.args.found.now.moves c.game-game.ensures.lawful come c.requires.few (plain_by c.args.search.now.game c.game-game.result.now c.in-Some.position c.is_switch.result c.game-game.ensures.game c.is_switch.ensures.1 c.if-is_switch.false) in
-    let p = err_from_is_err_and c.from_residual-in_err-early.result c.from_residual-in_err-early.ensures.1 in
-    rw (p.1, p.2) (turn_given_up turn _ _ c.requires.short c.in_err-early.ensures.given_up)
-
-pub walk-returns-in_err-early-clause-after : goal.walk-returns-in_err-early-clause-after
-walk-returns-in_err-early-clause-after g t c =
-    after_both c.args.state.now c.reach_only.new.state c.walk_behind.new.state (after_kept c.args.state.now c.reach_only.new.state c.reach_only.ensures.answered.given_back) c.walk_behind.ensures.after
-
-pub walk-returns-in-Some-clause-after : goal.walk-returns-in-Some-clause-after
-walk-returns-in-Some-clause-after g t c =
-    after_both c.args.state.now c.reach_only.new.state c.walk_behind.new.state (after_kept c.args.state.now c.reach_only.new.state c.reach_only.ensures.answered.given_back) c.walk_behind.ensures.after
-
-pub walk-returns-in-Some-clause-walked : goal.walk-returns-in-Some-clause-walked
-walk-returns-in-Some-clause-walked g t c =
-    let come = has_come_here refl c.origin_after-origin.ensures c.reach_only.ensures.answered c.in_ok-reach_only.was c.vertex-vertex.ensures c.in_ok-reach_only.ensures.found in
-    let turn = one_turn c.args.after c.args.front.now.items c.args.found.now.moves c.game-game.ensures.lawful come c.requires.few (plain_by c.args.search.now.game c.game-game.result.now c.in-Some.position c.is_switch.result c.game-game.ensures.game c.is_switch.ensures.1 c.if-is_switch.false) in
-    turn_done turn c.requires.short c.in_ok-early.early c.in_ok-early.ensures.walked
-
 -- ---- behind a modifier
 
 pub walk_behind-returns-then-len-eq-MAX_PAIRS-clause-given_up : goal.walk_behind-returns-then-len-eq-MAX_PAIRS-clause-given_up
@@ -182,8 +126,8 @@ walk_behind-returns-then-len-eq-MAX_PAIRS-clause-given_up g t c later applied =
     let size = length_push front c.args.pair in
     too_many c.args.search.now later c.args.pair.1 _ c.args.found.now.max c.game-game.ensures.lawful c.requires.valid.modifies (omega (arith, size, c.len.ensures, c.args.front.now.ok.0, c.if-len-eq-MAX_PAIRS.true)) (λ w. cc)
 
-pub walk_behind-walk-requires : goal.walk_behind-walk-requires
-walk_behind-walk-requires g t c κs within =
+pub walk_behind-walk_on-requires : goal.walk_behind-walk_on-requires
+walk_behind-walk_on-requires g t c κs within =
     let pushed : length c.push.new.self.items ≡ length c.args.front.now.items + 1 = ap (λ (ys : List (ℕ × ℕ)). length ys) c.in_ok-push.ensures.items ∙ length_push c.args.front.now.items c.args.pair in
     let game = c.args.search.now.game in
     let position : IsPositionOf game.rules c.pair.inside.position =
@@ -193,28 +137,28 @@ walk_behind-walk-requires g t c κs within =
     let short : length c.push.new.self.items < most_pairs = omega (arith, c.requires.short, pushed, c.len.ensures, c.args.front.now.ok.0, c.if-len-eq-MAX_PAIRS.false) in
     (omega (arith, c.requires.short, pushed, c.decreases), (within, (record { state = fits; last = (position.from_one, position.there) }, (short, c.requires.few))))
 
-pub walk_behind-returns-in_err-walk-clause-given_up : goal.walk_behind-returns-in_err-walk-clause-given_up
-walk_behind-returns-in_err-walk-clause-given_up g t c =
-    let p = err_from_is_err_and c.from_residual-in_err-walk.result c.from_residual-in_err-walk.ensures.1 in
+pub walk_behind-returns-in_err-walk_on-clause-given_up : goal.walk_behind-returns-in_err-walk_on-clause-given_up
+walk_behind-returns-in_err-walk_on-clause-given_up g t c =
+    let p = err_from_is_err_and c.from_residual-in_err-walk_on.result c.from_residual-in_err-walk_on.ensures.1 in
     rw (p.1, p.2)
-    (made_given_up c.args.search.now c.args.found.now.max c.game-game.result.now c.game-game.ensures.lawful.numbered c.args.state.now.state c.apply_at.new.state.state c.args.pair c.pair.inside.position (c.args.front.now.items ++ c.args.pair ∷ []) c.push.new.self.items c.game-game.ensures.game (ap (λ (x : ℕ × ℕ). x.1) c.pair.view_is) c.in_ok-push.ensures.items c.apply_at.ensures.applied c.in_err-walk.ensures.given_up)
+    (made_given_up c.args.search.now c.args.found.now.max c.game-game.result.now c.game-game.ensures.lawful.numbered c.args.state.now.state c.apply_at.new.state.state c.args.pair c.pair.inside.position (c.args.front.now.items ++ c.args.pair ∷ []) c.push.new.self.items c.game-game.ensures.game (ap (λ (x : ℕ × ℕ). x.1) c.pair.view_is) c.in_ok-push.ensures.items c.apply_at.ensures.applied c.in_err-walk_on.ensures.given_up)
 
 pub walk_behind-returns-then-branch-clause-walked : goal.walk_behind-returns-then-branch-clause-walked
 walk_behind-returns-then-branch-clause-walked g t c =
     let old = c.args.search.now in
     let had = c.args.found.now in
-    let has = c.walk.new.found in
-    let first : List (ℕ × ℕ) = c.walk.new.front.items in
-    let walked = subst (IsWalked old c.walk.new.search (place_behind c.apply_at.new.state.state c.pair.inside.position) c.push.new.self.items had.max had.moves has.moves first) c.if-branch.true c.in_ok-walk.ensures.walked in
-    made (λ ps s n. IsWalked old c.walk.new.search (place_behind s n) ps had.max had.moves has.moves first true) old.game c.game-game.result.now c.game-game.ensures.lawful.numbered c.args.state.now.state c.apply_at.new.state.state c.args.pair c.pair.inside.position (c.args.front.now.items ++ c.args.pair ∷ []) c.push.new.self.items c.game-game.ensures.game (ap (λ (x : ℕ × ℕ). x.1) c.pair.view_is) c.in_ok-push.ensures.items c.apply_at.ensures.applied walked
+    let has = c.walk_on.new.found in
+    let first : List (ℕ × ℕ) = c.walk_on.new.front.items in
+    let walked = subst (IsWalked old c.walk_on.new.search (place_behind c.apply_at.new.state.state c.pair.inside.position) c.push.new.self.items had.max had.moves has.moves first) c.if-branch.true c.in_ok-walk_on.ensures.walked in
+    made (λ ps s n. IsWalked old c.walk_on.new.search (place_behind s n) ps had.max had.moves has.moves first true) old.game c.game-game.result.now c.game-game.ensures.lawful.numbered c.args.state.now.state c.apply_at.new.state.state c.args.pair c.pair.inside.position (c.args.front.now.items ++ c.args.pair ∷ []) c.push.new.self.items c.game-game.ensures.game (ap (λ (x : ℕ × ℕ). x.1) c.pair.view_is) c.in_ok-push.ensures.items c.apply_at.ensures.applied walked
 
 pub walk_behind-returns-clause-walked : goal.walk_behind-returns-clause-walked
 walk_behind-returns-clause-walked g t c =
     let old = c.args.search.now in
     let had = c.args.found.now in
-    let has = c.walk.new.found in
-    let walked = subst (IsWalked old c.walk.new.search (place_behind c.apply_at.new.state.state c.pair.inside.position) c.push.new.self.items had.max had.moves has.moves c.walk.new.front.items) c.if-branch.false c.in_ok-walk.ensures.walked in
-    made (λ ps s n. IsWalked old c.walk.new.search (place_behind s n) ps had.max had.moves has.moves c.pop.new.self.items false) old.game c.game-game.result.now c.game-game.ensures.lawful.numbered c.args.state.now.state c.apply_at.new.state.state c.args.pair c.pair.inside.position (c.args.front.now.items ++ c.args.pair ∷ []) c.push.new.self.items c.game-game.ensures.game (ap (λ (x : ℕ × ℕ). x.1) c.pair.view_is) c.in_ok-push.ensures.items c.apply_at.ensures.applied
+    let has = c.walk_on.new.found in
+    let walked = subst (IsWalked old c.walk_on.new.search (place_behind c.apply_at.new.state.state c.pair.inside.position) c.push.new.self.items had.max had.moves has.moves c.walk_on.new.front.items) c.if-branch.false c.in_ok-walk_on.ensures.walked in
+    made (λ ps s n. IsWalked old c.walk_on.new.search (place_behind s n) ps had.max had.moves has.moves c.pop.new.self.items false) old.game c.game-game.result.now c.game-game.ensures.lawful.numbered c.args.state.now.state c.apply_at.new.state.state c.args.pair c.pair.inside.position (c.args.front.now.items ++ c.args.pair ∷ []) c.push.new.self.items c.game-game.ensures.game (ap (λ (x : ℕ × ℕ). x.1) c.pair.view_is) c.in_ok-push.ensures.items c.apply_at.ensures.applied
     (walked_any c.pop.new.self.items walked)
 
 -- ---- all changes can be taken back
@@ -245,8 +189,22 @@ walk_behind-returns-then-len-eq-MAX_PAIRS-clause-after g t c = after_nothing c.a
 pub walk_behind-returns-in_err-push-clause-after : goal.walk_behind-returns-in_err-push-clause-after
 walk_behind-returns-in_err-push-clause-after g t c = c.apply_at.ensures.after
 
-pub walk_behind-returns-in_err-walk-clause-after : goal.walk_behind-returns-in_err-walk-clause-after
-walk_behind-returns-in_err-walk-clause-after g t c = after_both c.args.state.now c.apply_at.new.state c.walk.new.state c.apply_at.ensures.after c.walk.ensures.after
+pub walk_behind-returns-in_err-walk_on-clause-after : goal.walk_behind-returns-in_err-walk_on-clause-after
+walk_behind-returns-in_err-walk_on-clause-after g t c = after_both c.args.state.now c.apply_at.new.state c.walk_on.new.state c.apply_at.ensures.after c.walk_on.ensures.after
 
 pub walk_behind-returns-then-branch-clause-after : goal.walk_behind-returns-then-branch-clause-after
-walk_behind-returns-then-branch-clause-after g t c = after_both c.args.state.now c.apply_at.new.state c.walk.new.state c.apply_at.ensures.after c.walk.ensures.after
+walk_behind-returns-then-branch-clause-after g t c = after_both c.args.state.now c.apply_at.new.state c.walk_on.new.state c.apply_at.ensures.after c.walk_on.ensures.after
+
+-- ---- along a line
+
+position_of : (game : AbstractGame) (s : AbstractState) (p : ℕ) → IsPlaceOf game (place_behind s p) → IsPositionOf game.rules p
+position_of game s p place = record { from_one = place.last.0; there = place.last.1 }
+
+pub walk_on-walk-requires : goal.walk_on-walk-requires
+walk_on-walk-requires g t c κs within =
+    let grown : length c.follow_line.new.front.items ≡ length c.args.front.now.items + length c.in_ok-end.ensures.follows.pairs =
+        ap (λ (ys : List (ℕ × ℕ)). length ys) c.in_ok-end.ensures.follows.front_is ∙ length-append c.args.front.now.items c.in_ok-end.ensures.follows.pairs in
+    let short = c.in_ok-end.ensures.short in
+    (omega (arith, grown, short, c.decreases), (within,
+    (onward_rules (λ x. IsPlaceOf x (place_behind c.follow_line.new.state.state c.in_ok-end.end.last)) c.args.search.now c.follow_line.new.search c.follow_line.ensures.search c.in_ok-end.ensures.place,
+    (short, c.requires.few))))
