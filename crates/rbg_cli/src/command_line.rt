@@ -225,6 +225,8 @@ const HALL: CommandWords = CommandWords {
             help: "A new file for each match, LOG.1 and so on, in which its events are written before they are handled, as a script",
         },
         SYNC,
+        RECORDS,
+        MINUTES,
         PORT,
         WAIT,
         QUIET,

@@ -33,6 +33,8 @@ complete -c rbg -n '__fish_seen_subcommand_from play' -l rounds -x -d 'The most 
 complete -c rbg -n __fish_use_subcommand -a hall -d 'Referees a match of each game at once between the players that connect to a port, and prints the records'
 complete -c rbg -n '__fish_seen_subcommand_from hall' -l log -r -d 'A new file for each match, LOG.1 and so on, in which its events are written before they are handled, as a script'
 complete -c rbg -n '__fish_seen_subcommand_from hall' -l sync -d 'What is written to the log is on the disk before the match goes on'
+complete -c rbg -n '__fish_seen_subcommand_from hall' -l records -r -d 'A directory in which the record of each match is written to a new file when the match has ended, DIR/1.record and so on'
+complete -c rbg -n '__fish_seen_subcommand_from hall' -l minutes -x -d 'How long the match may take, 1 to 4294967295, in place of a bound on rounds'
 complete -c rbg -n '__fish_seen_subcommand_from hall' -l port -x -d 'The port, 1 to 65535'
 complete -c rbg -n '__fish_seen_subcommand_from hall' -l wait -x -d 'In how many seconds all players have to connect, 0 to 4294967295 [default: no limit]'
 complete -c rbg -n '__fish_seen_subcommand_from hall' -l quiet -d 'Says nothing of the players and the match on standard error'
