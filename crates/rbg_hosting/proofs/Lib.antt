@@ -1,5 +1,4 @@
 -- Lemmas, by topic.
 mod HallLemmas
 mod PrintedLemmas
-mod RecordLemmas
 mod TableLemmas

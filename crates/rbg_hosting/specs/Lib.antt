@@ -5,7 +5,6 @@ pub mod Answers
 pub mod Errors
 pub mod Halls
 pub mod Printed
-pub mod Records
 pub mod Scripts
 pub mod Tables
 pub mod internal

@@ -1,3 +1,2 @@
 -- Definitions that only this crate's proofs use.
 pub mod Loading
-pub mod Writing

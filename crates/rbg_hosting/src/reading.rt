@@ -6,7 +6,7 @@ use rbg_macro::{MAX_TEXT, TextError};
 use std::alloc::{AllocError, Global};
 
 /// What the files have. None where one of them can't be read; None for one that is too long for a description.
-pub(crate) fn read_all<F: Files>(
+pub fn read_all<F: Files>(
     alloc: Global,
     names: &[&str],
     files: &mut F,
@@ -23,7 +23,7 @@ pub(crate) fn read_all<F: Files>(
 }
 
 /// The texts of the descriptions, or the refusal of the first one that is refused, where one is too long.
-pub(crate) fn whole_texts(
+pub fn whole_texts(
     alloc: Global,
     descriptions: Vec<Option<Vec<u8>>>,
 ) -> Result<Result<Vec<Vec<u8>>, LoadError>, AllocError> {

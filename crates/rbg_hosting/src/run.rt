@@ -1,12 +1,8 @@
-//! Runs of a hall's commands, from the names of files.
+//! The command `hallscript`, from the names of files.
 
-use crate::HallService;
 use crate::answer::answer_hall;
-use crate::fault::ServingFault;
 use crate::reading::{read_all, whole_texts};
-use crate::serving::serve_hall;
 use rbg_console::{Files, Input, MAX_INPUT, Status, read_input, write_text};
-use rbg_network::Network;
 use rbg_referee::{Answer, RefereeingError, answer_device, answer_fault, answer_script};
 use std::alloc::{AllocError, Global};
 use std::io::{Read, Write};
@@ -52,24 +48,5 @@ fn answer_read(
     match whole_texts(alloc, descriptions)? {
         Ok(texts) => answer_hall(alloc, texts.as_slice(), script),
         Err(error) => answer_fault(alloc, RefereeingError::from(error)),
-    }
-}
-
-/// Plays a match of each file's game at once, between the players that connect to the port and join it, and gives the
-/// records.
-pub fn serve_files<F: Files, N: Network>(
-    alloc: Global,
-    names: &[&str],
-    files: &mut F,
-    network: &mut N,
-    port: u16,
-    service: HallService<'_>,
-) -> Result<Vec<u8>, ServingFault> {
-    let Some(descriptions) = read_all(alloc, names, files)? else {
-        return Err(ServingFault::Device);
-    };
-    match whole_texts(alloc, descriptions)? {
-        Ok(texts) => serve_hall(alloc, texts.as_slice(), network, port, service),
-        Err(error) => Err(ServingFault::from(error)),
     }
 }

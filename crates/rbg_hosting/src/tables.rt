@@ -11,7 +11,7 @@ use rbg_referee::RefereeingError;
 use std::alloc::Global;
 
 /// A table for each description, in order.
-pub(crate) fn tables_of(
+pub fn tables_of(
     alloc: Global,
     descriptions: &[Vec<u8>],
     config: Config,

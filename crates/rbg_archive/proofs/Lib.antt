@@ -1,0 +1,6 @@
+-- Lemmas, by topic.
+mod Handling
+mod KeptLemmas
+mod NotingLemmas
+mod ServedLemmas
+mod Staying

@@ -1,0 +1,5 @@
+-- Halls whose records are kept.
+pub mod Archives
+pub mod Ended
+pub mod Recorded
+pub mod internal

@@ -1,0 +1,2 @@
+-- Definitions that only this crate's proofs use.
+pub mod Noting

@@ -1,0 +1,3 @@
+-- Lemmas, by topic.
+mod RecordLemmas
+mod ResumingLemmas

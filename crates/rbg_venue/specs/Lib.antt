@@ -1,0 +1,3 @@
+-- What a hall over connections gives.
+pub mod Records
+pub mod internal

@@ -1,0 +1,3 @@
+-- Definitions that only this crate's proofs use.
+pub mod Writing
+pub mod Resuming
