@@ -6,7 +6,7 @@ REFUSALS := crates/rbg_refusals
 CASES := crates/rbg_cases
 CRATES := $(wildcard crates/*)
 # The programs with a stored run, and the crates with tests. Stored runs with words of their own are the gate's, and so
-# is rbg_test_search, whose 2,000 games take too long where each step is checked.
+# is rbg_test_search, whose 2,000 games take too long if each step is checked.
 STORED := $(filter-out $(patsubst crates/%/args,%,$(wildcard crates/*/args)) rbg_games,$(patsubst crates/%/stdin,%,$(wildcard crates/*/stdin)))
 TESTED := $(filter-out rbg_test_search,$(sort $(foreach file,$(shell grep -rl --include='*.rt' '^ *#\[test\]' crates),$(word 2,$(subst /, ,$(file))))))
 # The game of `make demo` and `make play`, and the games of `make clients`, and of `make hall` and `make crash`, each of two players.
@@ -14,7 +14,7 @@ GAME := crates/rbg_games/data/tictactoe.rbg
 GAMES := tictactoe connect_four breakthrough hex reversi
 HALL := tictactoe connect_four breakthrough
 data = $(1:%=crates/rbg_games/data/%.rbg)
-# The program that is run where a target needs ./rbg, and what stands before the commands of such a target.
+# The program that is run if a target needs ./rbg, and what comes before the commands of such a target.
 RBG := ./rbg
 needs = @test -x $(1) || { echo 'make $@ needs $(1): run make build first, or give RBG=path'; exit 1; }
 # How many matches and halls `make crash` kills.
@@ -32,7 +32,7 @@ BUILT :=
 JOBS :=
 # How many crates `make build` proves at once, if not one for each processor and 3 GB of memory.
 LANES :=
-# Where `make install` puts the programs, below DESTDIR where that is given.
+# Where `make install` puts the programs, below DESTDIR if that is given.
 PREFIX := /usr/local
 DESTDIR :=
 # How long a test may take without the proof: its build checks each step.
@@ -40,7 +40,7 @@ SECONDS := 600
 # The requests for memory of the first match that `make try` refuses, one in each of ten runs.
 REFUSED := 1 2 5 10 20 50 100 150 200 300
 
-.PHONY: help run demo games play clients hall tournament slurm crash storm page editor imported compare refusals doctests links docs install lib library try build bench test parts check fmt clean
+.PHONY: help run demo games play clients hall tournament slurm crash storm page editor imported compare refusals doctests pages links docs install lib library try build bench test parts check fmt clean
 
 help:
 	@echo 'make run      referees the first match of README.md (crates/rbg_manager/stdin), with no proof'
@@ -49,7 +49,7 @@ help:
 	@echo 'make games    checks each of the games that come with it, counts its first moves, compares both forms of its automaton and referees a match, with no proof'
 	@echo 'make clients  lets two example clients play a match of each of five games over ./rbg serve, and checks the records (after make build)'
 	@echo 'make hall     lets example clients play three matches at once over ./rbg hall, and checks the records and logs (after make build)'
-	@echo 'make tournament plays small tournaments of the three plans of clients/example, kills some, and lets programs cheat (after make build); WHAT=overhead tells times'
+	@echo 'make tournament plays small tournaments of the three plans of clients/example, kills some, and lets programs cheat (after make build); WHAT=overhead prints times'
 	@echo 'make slurm    sets up Slurm on this one machine, of Debian packages, and plays the example as an array (after make build, as root)'
 	@echo 'make crash    kills ./rbg in the middle of 50 matches and 20 halls, lets each go on, and compares its record (after make build)'
 	@echo 'make storm    tries ./rbg from outside: clocks, logs, disks, floods, and 1000 matches and 100 halls through a proxy that disturbs; SHORT=yes, and WHAT names parts (after make build, with gcc)'
@@ -59,13 +59,14 @@ help:
 	@echo 'make compare  compares ./rbg with the interpreter of tools/slow, on stored cases and N=10000 others of SEED=1 (after make build)'
 	@echo 'make refusals refuses each request for memory in turn, and checks each answer (after make build, with gcc)'
 	@echo 'make doctests runs the examples in the comments of the clients and tools (after make build)'
+	@echo 'make pages    follows the pages: gives each command on them, and compares what it prints (after make build, with rt and gcc)'
 	@echo 'make links    checks that what the pages link and name is there, and that what make docs makes is up to date'
 	@echo 'make docs     makes the page of all commands, the manual pages and the completions, from the sources'
 	@echo 'make lib      proves the library for programs in C, and leaves librbg.a, librbg.so and rbg.pc beside include/rbg.h (with gcc)'
 	@echo 'make library  calls the library in all ways from C, also under valgrind and AddressSanitizer, and lets players in C, C++, Rust and Python play each other (after make lib and make build, with gcc, g++ and rustc)'
 	@echo 'make install  copies ./rbg, ./rbg_author, their manual pages and completions below PREFIX=/usr/local (after make build)'
 	@echo 'make try      runs the stored runs, ten with a request for memory refused, and the tests, with no proof; make -j4 try runs four at once'
-	@echo 'make build    proves the programs and what they stand on, LANES crates at once, and leaves them as ./rbg and ./rbg_author'
+	@echo 'make build    proves the programs and what they use, LANES crates at once, and leaves them as ./rbg and ./rbg_author'
 	@echo 'make bench    takes the figures of docs/COSTS.md by valgrind, and writes tools/bench/RESULTS.md (after make build); SECTIONS="texts search" takes some'
 	@echo 'make test     the gate: every proof from nothing, the must-fail edits, each test and program, and then make parts'
 	@echo 'make parts    refusals, compare, crash, storm, tournament, clients and hall with smaller numbers, doctests and links, with the programs as the gate built them'
@@ -119,7 +120,7 @@ page:
 	@python3 tools/page/page.py
 	@if python3 -c 'import sys; sys.path.insert(0, "tools/page"); import browser; sys.exit(not browser.is_there())'; then python3 tools/page/wrong.py && python3 tools/page/playing.py; else echo 'no game is played by clicks: there is no chromium with its driver'; fi
 
-# The library for programs in C, and its trials: TEXTS texts are spoilt by chance, and CALLS calls are made by chance.
+# The library for programs in C, and its trials: TEXTS random texts are spoilt, and CALLS random calls are made.
 TEXTS := 10000
 CALLS := 1000000
 lib:
@@ -143,7 +144,7 @@ editor:
 	$(call needs,$(AUTHOR_PROGRAM))
 	@python3 tools/editor/editor.py --program $(AUTHOR_PROGRAM) --count $(EDITS)
 
-# How many boards of the paper's language `make imported` makes by chance.
+# How many random boards of the paper's language `make imported` makes.
 BOARDS := 500
 imported:
 	$(call needs,$(AUTHOR_PROGRAM))
@@ -167,6 +168,13 @@ doctests:
 	$(call needs,./rbg)
 	$(call needs,./rbg_author)
 	@tools/doctests
+
+# PAGES chooses some.
+PAGES :=
+pages:
+	$(call needs,./rbg)
+	$(call needs,./rbg_author)
+	@tools/pages $(PAGES)
 
 links:
 	@tools/links

@@ -3,10 +3,10 @@
 
     crash.py GAME.. [--rbg FILE] [--count N] [--halls N] [--seed N]
 
-Each match is played once to its end, by example clients that choose by chance. Then clients that say the moves of its
+Each match is played once to its end, by example clients that choose at random. Then clients that send the moves of its
 record play it again, with a log, and `rbg` is killed at a random moment, and once more after the match went on. In the
 end the record has to be good and to have the moves and the outcome of the first match, and `rbg referee GAME < LOG` has
-to tell the same. A log that is cut at any of its bytes has to be refereed up to the cut, and to go on from there.
+to have the same. A log that is cut at any of its bytes has to be refereed up to the cut, and to go on from there.
 
 So are halls, of which each match has to go on to its end. And two processes that would go on from one log: one of them does.
 
@@ -54,7 +54,7 @@ def run(match: Match, *words: str, text: Optional[bytes] = None) -> tuple[int, b
 
 
 def check(match: Match, record: str) -> None:
-    """The record is good, has the moves of the first one, and the log tells the same match."""
+    """The record is good, has the moves of the first one, and the log has the same match."""
     if moves_of(record) != moves_of(match.record.read_text()):
         raise Wrong(f"another match than without a crash:\n{record}")
     file = match.log.with_suffix(".again")
@@ -67,7 +67,7 @@ def check(match: Match, record: str) -> None:
     heard = [line.removeprefix("1 ") for line in printed.decode().splitlines() if line[:3] in ("1 M", "1 E")]
     moves = [move if move[0] == "E" else "M" + move.split(" ", 1)[1] for move in moves_of(record)]
     if heard != moves:
-        raise Wrong("the log tells another match than the record")
+        raise Wrong("the log has another match than the record")
 
 
 class Dripping:
@@ -93,11 +93,11 @@ class Dripping:
             pass
 
     def check(self, record: str) -> int:
-        """It has lasted its minute, and ends as the record tells once its players say its moves. Returns how many rounds
+        """It has lasted its minute, and ends as the record says once its players send its moves. Returns how many rounds
         have passed at least."""
-        output, told = self.referee.communicate(timeout=2 * PATIENCE)
-        if (self.referee.returncode, output) != (3, "rounds\n") or not told.endswith("not ended within 1 minute\n"):
-            raise Wrong(f"a match of one minute: status {self.referee.returncode}, {output}{told}")
+        output, reported = self.referee.communicate(timeout=2 * PATIENCE)
+        if (self.referee.returncode, output) != (3, "rounds\n") or not reported.endswith("not ended within 1 minute\n"):
+            raise Wrong(f"a match of one minute: status {self.referee.returncode}, {output}{reported}")
         events = [line.split(" ") for line in self.match.log.read_text().splitlines()[1:]]
         rounds = sum(seat == "1" for _, seat, *_ in events)
         if rounds <= ROUNDS or not 59_000 <= int(events[-1][2]) < 60_000:
@@ -181,7 +181,7 @@ def crash(words: argparse.Namespace, folder: Path) -> tuple[str, int]:
         if number == 0:
             print(f"{cut_everywhere(match)} cuts of a log were looked at", flush=True)
             print(f"{check_faults(match)} faults name their file or port", flush=True)
-            print(f"{check_failures(match)} failures in a match tell what can't be written or accepted", flush=True)
+            print(f"{check_failures(match)} failures in a match say what can't be written or accepted", flush=True)
             first = whole
         often = crash_once(match, chance, longest)
         killed += often
@@ -221,7 +221,7 @@ def main() -> int:
         finally:
             end(dripping.referee, [])
     print(f"a match of bytes without an end lasted its minute, at least {rounds} rounds, and went on from its log")
-    print(f"{words.count} matches, killed {killed} times: each record is good, and its log tells the same match")
+    print(f"{words.count} matches, killed {killed} times: each record is good, and its log has the same match")
     return 0
 
 

@@ -16,7 +16,7 @@ from storm_referee import Ended, Served, Trial, check_record, expect, outcome, r
 PATIENCE = 60  # seconds in which a hall has made its moves
 
 def kill_hall(trial: Trial, tables: list[Stored], chance: random.Random) -> int:
-    """Plays a hall that is killed after so many moves as chance says, and goes on from its logs. Returns how many of its matches had begun."""
+    """Plays a hall that is killed after a random number of moves, and goes on from its logs. Returns how many of its matches had begun."""
     log = trial.folder / "hall.log"
     files = [str(it.game) for it in tables]
     lines = [(stored, match) for match, stored in enumerate(tables, 1) for _ in range(stored.seats)]
@@ -48,7 +48,7 @@ def go_on_as_hall(trial: Trial, files: list[str], log: Path, lines: list[tuple[S
 
 
 def go_on_alone(trial: Trial, stored: Stored, log: Path) -> str:
-    """The record of one match of a hall, which goes on by itself, or begins anew where its log has no line."""
+    """The record of one match of a hall, which goes on by itself, or begins anew if its log has no line."""
     if b"\n" not in log.read_bytes():
         clean(log)
     done = play(trial, ["serve", str(stored.game), *LIMITS, "--resume" if log.exists() else "--log", str(log)], pair(stored))
@@ -66,11 +66,11 @@ def race(trial: Trial, stored: Stored) -> str:
     pipes = {"stdout": subprocess.PIPE, "stderr": subprocess.PIPE, "text": True}
     both = [subprocess.Popen([*words, str(port)], **pipes) for port in ports]
     try:
-        told = [ended_before(it, "listening on port") for it in both]
-        refused = [it for it in told if it is not None]
+        reported = [ended_before(it, "listening on port") for it in both]
+        refused = [it for it in reported if it is not None]
         expect(len(refused) == 1, f"{len(refused)} of two are refused")
         expect("another process" in refused[0], f"why isn't said: {refused[0]}")
-        first = told.index(None)
+        first = reported.index(None)
         done: Ended = play_at(both[first], ports[first], pair(stored), b"")
     finally:
         for it in both:
@@ -81,7 +81,7 @@ def race(trial: Trial, stored: Stored) -> str:
 
 
 def crash_halls(trial: Trial, games: list[Path], count: int, seed: int) -> str:
-    """So many halls, each of these games."""
+    """This many halls, each of these games."""
     chance, tables = random.Random(seed), [Stored(trial.rbg, game) for game in games]
     begun = 0
     for number in range(count):

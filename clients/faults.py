@@ -1,4 +1,4 @@
-"""What rbg says where the system refuses it a file, a port or a connection."""
+"""What rbg says if the system refuses it a file, a port or a connection."""
 
 import contextlib
 import resource
@@ -37,7 +37,7 @@ def check_faults(match: Match) -> int:
 
 
 def fail_at(match: Match, limit: int, room: int, *words: str) -> str:
-    """What standard error tells last of a match in which the system gives the referee no more than this of something, and
+    """The last news on standard error of a match in which the system gives the referee no more than this of something, and
     each player says a long message."""
     referee, port = listen([match.rbg, "serve", str(match.game), *words], preexec_fn=lambda: resource.setrlimit(limit, (room, room)))
     with contextlib.ExitStack() as connections:
@@ -46,24 +46,24 @@ def fail_at(match: Match, limit: int, room: int, *words: str) -> str:
                 for _ in range(2):
                     connection = connections.enter_context(socket.create_connection(("127.0.0.1", port)))
                     connection.sendall(b"x" * LOG_ROOM + b"\0")
-            output, told = referee.communicate(timeout=PATIENCE)
+            output, reported = referee.communicate(timeout=PATIENCE)
         finally:
             end(referee, [])
     if (referee.returncode, output) != (3, "device\n"):
-        raise Wrong(f"where something can't be had: status {referee.returncode}, {output}{told}")
-    return told
+        raise Wrong(f"if something can't be had: status {referee.returncode}, {output}{reported}")
+    return reported
 
 
 def check_failures(match: Match) -> int:
     """A log that can't be written is named on standard error, and so is a connection that can't be accepted. Returns how
     many such failures were looked at."""
     log = match.log.with_name("full.log")
-    told = fail_at(match, resource.RLIMIT_FSIZE, LOG_ROOM, "--log", str(log))
-    if f"can't write the log {log}: " not in told:
-        raise Wrong(f"a log that can't be written: {told}")
+    reported = fail_at(match, resource.RLIMIT_FSIZE, LOG_ROOM, "--log", str(log))
+    if f"can't write the log {log}: " not in reported:
+        raise Wrong(f"a log that can't be written: {reported}")
     if len(log.read_bytes()) > LOG_ROOM or not log.read_bytes().startswith(b"config "):
         raise Wrong("a log that can't be written is longer than it may be, or doesn't begin as a log")
-    told = fail_at(match, resource.RLIMIT_NOFILE, FILES_ROOM)
-    if "can't accept a connection: " not in told:
-        raise Wrong(f"a connection that can't be accepted: {told}")
+    reported = fail_at(match, resource.RLIMIT_NOFILE, FILES_ROOM)
+    if "can't accept a connection: " not in reported:
+        raise Wrong(f"a connection that can't be accepted: {reported}")
     return 2

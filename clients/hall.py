@@ -1,7 +1,7 @@
 #!/usr/bin/env python3
 """Plays a match of each of some games at once in one hall, with the example client, and checks each record and log.
 
-The players connect in an order of chance, so none of them knows its seat before it is told. The record of a log's match has
+The players connect in a random order, so none of them knows its seat before the referee sends it. The record of a log's match has
 to be the one that the hall prints, and so has the file of `--records`.
 """
 
@@ -30,13 +30,13 @@ def start_hall(rbg, games, folder):
 
 
 def player(rbg, port, match, seed):
-    """A player that plays by chance and joins the match."""
+    """A random player that joins the match."""
     words = [sys.executable, str(CLIENT), str(port), "--match", str(match), "--random", str(seed), "--rbg", rbg]
     return subprocess.Popen(words, stdout=subprocess.PIPE, text=True)
 
 
 def records(printed):
-    """What is printed of each match, behind its line `match K`.
+    """What is printed of each match, after its line `match K`.
 
     >>> records("match 1\\nrbg 2\\n0 E4\\nmatch 3\\nrbg 2\\n")
     {1: 'rbg 2\\n0 E4\\n', 3: 'rbg 2\\n'}
@@ -67,8 +67,8 @@ def record_of_log(rbg, game, log, record):
     return record.read_text()
 
 
-def is_told(rbg, game, folder, number, record):
-    """Whether the log of the match of this number tells the match of the record, and so does the record that is kept."""
+def is_reported(rbg, game, folder, number, record):
+    """Whether the log of the match of this number has the match of the record, and so does the record that is kept."""
     if not record:
         return False
     kept = folder / f"{number}.record"
@@ -97,22 +97,22 @@ def play(words, folder):
     random.Random(words.seed).shuffle(order)
     players = [player(words.rbg, port, match, seed) for seed, match in enumerate(order, words.seed)]
     try:
-        printed, told = hall.communicate(timeout=PATIENCE)
+        printed, reported = hall.communicate(timeout=PATIENCE)
     except subprocess.TimeoutExpired:
         raise Wrong(f"the matches haven't ended after {PATIENCE} seconds") from None
     finally:
         end(hall, players)
     if hall.returncode:
-        sys.exit(f"the hall ended with status {hall.returncode}: {printed}{told}")
+        sys.exit(f"the hall ended with status {hall.returncode}: {printed}{reported}")
     found = records(printed)
     bad = 0
     for number, game in enumerate(words.games, 1):
         record = found.get(number, "")
         good = is_good(words.rbg, game, record)
-        told = is_told(words.rbg, game, folder, number, record)
-        bad += not (good and told)
+        reported = is_reported(words.rbg, game, folder, number, record)
+        bad += not (good and reported)
         last = record.splitlines()[-1] if record else "no record"
-        print(f"match {number}, {Path(game).name}: {last}, {'good' if good else 'not good'}, {'as' if told else 'not as'} in its log")
+        print(f"match {number}, {Path(game).name}: {last}, {'good' if good else 'not good'}, {'as' if reported else 'not as'} in its log")
     if bad == 0:
         print(f"{len(words.games)} matches, each record is good, and as in its log")
     return 1 if bad else 0

@@ -3,7 +3,7 @@
 
     matches.py GAME.. [--rbg FILE] [--think MS]
 
-Both players are the example client: the first one thinks, the second one chooses by chance. Each game has two players.
+Both players are the example client: the first one thinks, the second one chooses at random. Each game has two players.
 """
 
 import argparse

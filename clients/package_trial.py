@@ -3,7 +3,7 @@
 
     package_trial.py GAME.. [--rbg FILE]
 
-In each game one player thinks and the other one chooses by chance. One more game lets the keeper make moves that a player
+In each game one player thinks and the other one chooses at random. One more game lets the keeper make moves that a player
 could make too. The match of the first game is played once more: `rbg serve` is killed in the middle of it, and lets it go
 on from its log. Each game has two players.
 """
@@ -34,7 +34,7 @@ PATIENCE = 280  # seconds in which a match has to end
 
 
 def by_chance(seed: int, pause: float = 0.0) -> rbg.playing.Choose:
-    """Chooses by chance, after a pause."""
+    """Chooses at random, after a pause."""
     chance = random.Random(seed)
 
     def choose(state: rbg.State, clock: rbg.Clock) -> str:

@@ -1,6 +1,6 @@
 #!/usr/bin/env python3
 """A player for matches of `rbg serve` and `rbg hall` whose players are programs of a kind: it says the first legal move, moves
-by chance (--random), moves that playouts choose (--think), or those of a record (--record), as long as the match goes as the
+at random (--random), moves that playouts choose (--think), or those of a record (--record), as long as the match goes as the
 record says. If a move is refused, it says so and stops.
 """
 
@@ -12,6 +12,14 @@ from typing import Optional
 
 sys.path.insert(0, str(Path(__file__).resolve().parent / "python"))
 import rbg  # noqa: E402
+
+REASONS = {
+    1: "not of the protocol",
+    2: "not this seat's turn",
+    3: "not a legal move",
+    4: "more than 200 pairs",
+    5: "no such seat",
+}
 
 
 class Recorded:
@@ -35,6 +43,15 @@ class Recorded:
         return self.next(state.game.heard)
 
 
+def why_refused(reason: Optional[int]) -> str:
+    """Why a match has no end for this player.
+
+    >>> why_refused(3), why_refused(None)
+    ('refused by R3: not a legal move', 'the stream has ended')
+    """
+    return "the stream has ended" if reason is None else f"refused by R{reason}: {REASONS.get(reason, 'another reason')}"
+
+
 def main() -> int:
     parser = argparse.ArgumentParser(description=__doc__.splitlines()[0])
     parser.add_argument("port", type=int, help="the port on 127.0.0.1 on which the match is served")
@@ -53,8 +70,7 @@ def main() -> int:
     elif words.random is not None:
         choose = lambda state, clock: chance.choice(state.moves())
     outcome = rbg.play(words.port, choose, match=words.match, program=words.rbg, library=False)
-    refused = "the stream has ended" if outcome.refused is None else f"refused for reason {outcome.refused}"
-    print(f"player {outcome.player}: {outcome.end or refused}")
+    print(f"player {outcome.player}: {outcome.end or why_refused(outcome.refused)}")
     return 0 if outcome.end else 3
 
 

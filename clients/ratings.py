@@ -24,7 +24,7 @@ def inverse(matrix: list[list[float]]) -> list[list[float]]:
 
 
 def fitted(score: Sequence[Sequence[float]]) -> tuple[list[float], list[list[float]]]:
-    """The likeliest strengths, as `ratings` tells, before they are moved, and the inverse of the information."""
+    """The likeliest strengths, as `ratings` gives them, before they are moved, and the inverse of the information."""
     size = len(score)
     strengths = [0.0] * size
     errors: list[list[float]] = []
@@ -44,10 +44,10 @@ def ratings(score: Sequence[Sequence[float]]) -> list[tuple[float, float]]:
     """The rating of each program, and half of its 95% interval, by the model of Bradley and Terry.
 
     `score[a][b]` is what a took from b: 1 for each win and half for each draw. In the model a wins against b with the
-    probability 1 / (1 + 10 ** ((b - a) / 400)) for ratings a and b. The ratings are the likeliest ones where each
+    probability 1 / (1 + 10 ** ((b - a) / 400)) for ratings a and b. The ratings are the likeliest ones if each
     program has drawn one more match with a player of rating 0, so that a program that won all has a rating too. Then
     they are moved so that their mean is 0. The interval is 1.96 standard errors of the distance from that mean, from
-    the inverse of the information of all matches. A draw tells more than half a win, so many draws make it too wide.
+    the inverse of the information of all matches. A draw says more than half a win, so many draws make it too wide.
 
     750 wins in 1,000 matches are odds of 3 to 1, and so a distance of 191:
 

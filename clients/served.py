@@ -27,7 +27,7 @@ def free_port() -> int:
 
 
 def ended_before(referee: Referee, news: str) -> Optional[str]:
-    """Reads standard error up to a line that begins so. Returns all that was said where the referee has ended without it."""
+    """Reads standard error up to a line that begins so. Returns all that was said if the referee has ended without it."""
     assert referee.stderr is not None
     said = ""
     for line in referee.stderr:

@@ -1,5 +1,5 @@
 #!/usr/bin/env python3
-"""Tries `rbg serve` and `rbg hall` from outside: does the clock tell the truth, and is nothing lost?
+"""Tries `rbg serve` and `rbg hall` from outside: is the clock right, and is nothing lost?
 
     storm.py GAMES [--rbg FILE] [--only NAME ..] [--short]
     storm.py GAMES [--rbg FILE] --storm SEED
@@ -13,7 +13,7 @@ GAMES is the folder of the games that come with rbg, with a match of each. The p
     flood    rubbish without an end: memory and logs stay small
     between  matches and halls with a storm between players and referee, each of a seed of its own
 
-Each trial is told in a line. What is known to be open is told too, and fails nothing until it is mended. The last line counts.
+Each trial is reported in a line. What is known to be open is reported too, and fails nothing until it is mended. The last line counts.
 """
 
 import argparse
@@ -38,7 +38,7 @@ from storm_referee import Trial, expect
 
 TOP = Path(__file__).resolve().parent.parent
 RUBBISH = 100_000  # the most bytes of it over a connection of a storm
-MOST_FAULTS = 4  # after so many no more storms are tried
+MOST_FAULTS = 4  # after this many no more storms are tried
 Make = Callable[[Trial], str]
 
 
@@ -66,7 +66,7 @@ def storms(trial: Trial, size: Size) -> dict[str, Make]:
             seed = f"{size.seed}-{kind}-{number}"
             try:
                 return storm(trial, games, seed, RUBBISH)
-            except Exception as wrong:  # of many storms some are told that went wrong
+            except Exception as wrong:  # of many storms some that went wrong are reported
                 faults.append(f"seed {seed}: {type(wrong).__name__}: {wrong}")
                 return ""
 
@@ -114,15 +114,15 @@ PARTS: dict[str, Callable[[Trial, Size], dict[str, Make]]] = {
 
 
 def tell(part: str, name: str, make: Make, trial: Trial) -> str:
-    """Makes a trial, and tells how it went: `passed`, `failed` or `open`."""
+    """Makes a trial, and reports how it went: `passed`, `failed` or `open`."""
     began = time.monotonic()
     try:
-        told, result = make(trial), "passed"
+        reported, result = make(trial), "passed"
     except Exception as wrong:  # whatever is wrong with one trial, the others are made
-        told, result = f"{type(wrong).__name__}: {wrong}", "open" if name in OPEN else "failed"
+        reported, result = f"{type(wrong).__name__}: {wrong}", "open" if name in OPEN else "failed"
     if result == "passed" and name in OPEN:
-        told += " (it isn't open any more: take it off the list)"
-    print(f"{part} {name}: {result} in {time.monotonic() - began:.1f} s: {told}", flush=True)
+        reported += " (it isn't open any more: take it off the list)"
+    print(f"{part} {name}: {result} in {time.monotonic() - began:.1f} s: {reported}", flush=True)
     return result
 
 
@@ -135,7 +135,7 @@ def main() -> int:
     parser.add_argument("--seed", type=int, default=1)
     parser.add_argument("--jobs", type=int, default=4, help="how many matches of the storm are played at once")
     parser.add_argument("--memory", type=int, default=16, help="the most megabytes of a referee")
-    parser.add_argument("--storm", metavar="SEED", help="this storm between alone, as it is named where one goes wrong")
+    parser.add_argument("--storm", metavar="SEED", help="this storm between alone, as it is named if one goes wrong")
     words = parser.parse_args()
     # what is ignored here, as under nohup or in a shell's background, is ignored by each referee too
     signal.signal(signal.SIGHUP, signal.SIG_DFL)

@@ -35,8 +35,8 @@ def check_lines(seen: list[Seen], sent: dict[int, bytes]) -> None:
         heard = bytes(player.heard)
         if player.seat:
             whole = sent[player.seat]
-            told = f"seat {player.seat}, {weather}: it got {heard[-80:]!r}, and was sent {whole[-80:]!r}"
-            expect(whole.startswith(heard) if weather.harm else whole == heard, told)
+            reported = f"seat {player.seat}, {weather}: it got {heard[-80:]!r}, and was sent {whole[-80:]!r}"
+            expect(whole.startswith(heard) if weather.harm else whole == heard, reported)
         else:
             expect(any(whole.startswith(heard) for whole in sent.values()), f"a line without a seat got {heard[-80:]!r}")
             expect(weather.harm is not None, f"a line with the weather {weather} was sent nothing")
@@ -73,7 +73,7 @@ def storm_match(trial: Trial, games: list[Stored], seed: str, rubbish: int) -> s
     """A match of `serve`. Returns how it ended."""
     chance, loop, log = random.Random(seed), Loop(), trial.folder / f"{seed}.log"
     played = chance.choice(games)
-    weathers = [forecast(chance, played.greeting, played.told, rubbish) for _ in range(played.seats)]
+    weathers = [forecast(chance, played.greeting, played.reported, rubbish) for _ in range(played.seats)]
     limits = ["--turn", str(TURN), "--refusals", str(chance.choice(REFUSALS)), "--minutes", "5"]
     try:
         with Served(trial, ["serve", str(played.game), *limits, "--log", str(log)]) as served:
@@ -125,7 +125,7 @@ def storm_hall(trial: Trial, games: list[Stored], seed: str, rubbish: int) -> st
     tables = [chance.choice(games) for _ in range(chance.choice([1, 2, 3, 4, 6, 16]))]
     order = [match for match, played in enumerate(tables, 1) for _ in range(played.seats)]
     chance.shuffle(order)
-    weathers = [forecast(chance, tables[match - 1].greeting, tables[match - 1].told, rubbish) for match in order]
+    weathers = [forecast(chance, tables[match - 1].greeting, tables[match - 1].reported, rubbish) for match in order]
     limits = ["--turn", str(TURN), "--refusals", str(chance.choice(REFUSALS)), "--rounds", "4294967295", "--wait", "20"]
     try:
         files = [str(played.game) for played in tables]

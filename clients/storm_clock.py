@@ -1,4 +1,4 @@
-"""The clock tells the truth: matches in which a program that is in time must not lose on time, whatever else goes on."""
+"""The clock is right: matches in which a program that is in time must not lose on time, whatever else goes on."""
 
 import signal
 import statistics
@@ -14,9 +14,9 @@ from storm_referee import Served, Trial, expect, run
 
 ROUNDS = ["--rounds", "4294967295"]
 PATIENCE = 120  # seconds for a match
-TRIES = 4  # how often a trial is made on a machine that was too busy to tell
-LAG = 0.008  # seconds: a player's own loop that comes later than this can't tell
-SLOW = 5.0  # milliseconds a move beside silent lines; where each of them was waited for it was 55 to 1,100
+TRIES = 4  # how often a trial is made on a machine that was too busy to decide
+LAG = 0.008  # seconds: a player's own loop that comes later than this decides nothing
+SLOW = 5.0  # milliseconds a move beside silent lines; if each of them was waited for it was 55 to 1,100
 
 # Eight players, of whom two move in turn for ever.
 FOR_EIGHT = """#players = a(1), b(1), c(1), d(1), f(1), g(1), h(1), i(1)
@@ -36,7 +36,7 @@ HEAVY = """#players = white(1), black(1)
 
 
 def again_if_busy(trial: Callable[[Loop], str]) -> str:
-    """Makes a trial, and once more where it went wrong while this process was too busy to say its moves in time."""
+    """Makes a trial, and once more if it went wrong while this process was too busy to say its moves in time."""
     for left in reversed(range(TRIES)):
         with closing(Loop()) as loop:
             try:
@@ -91,7 +91,7 @@ def quick_hall(trial: Trial) -> str:
 
 def late_moves(trial: Trial, matches: int = 4) -> str:
     """A turn of 100 ms, and moves that are said after 80 and after 85 ms: matches of breakthrough side by side. A loss counts
-    where this process was in time by its own clock."""
+    if this process was in time by its own clock."""
     stored = Stored(trial.rbg, trial.game("breakthrough"))
 
     def late(loop: Loop, think: float) -> int:
@@ -107,7 +107,7 @@ def late_moves(trial: Trial, matches: int = 4) -> str:
             expect(not lost, f"a move that is said {1000 * think:.0f} ms after the last one was heard loses on time")
         return sum(len(it.waits) for it in players)
 
-    told = []
+    reported = []
     for think in (0.08, 0.085):
         moves = 0
         for _ in range(TRIES):
@@ -115,8 +115,8 @@ def late_moves(trial: Trial, matches: int = 4) -> str:
                 with closing(Loop()) as loop:
                     moves += late(loop, think)
         expect(moves >= matches * 20, f"this process was too busy: only {moves} moves were said after {1000 * think:.0f} ms")
-        told.append(f"{moves} moves after {1000 * think:.0f} ms")
-    return ", ".join(told)
+        reported.append(f"{moves} moves after {1000 * think:.0f} ms")
+    return ", ".join(reported)
 
 
 def beside_silent(trial: Trial) -> str:
@@ -140,13 +140,13 @@ def beside_silent(trial: Trial) -> str:
         with closing(Loop()) as loop:
             taken[silent] = beside(loop, silent)
     most = max(SLOW, 10 * taken[6])
-    told = "ms a move beside " + ", ".join(f"{silent} lines: {took:.2f}" for silent, took in taken.items())
-    expect(max(taken.values()) < most, told)
-    return told
+    reported = "ms a move beside " + ", ".join(f"{silent} lines: {took:.2f}" for silent, took in taken.items())
+    expect(max(taken.values()) < most, reported)
+    return reported
 
 
 def heavy_game(trial: Trial, least: float) -> tuple[Path, float]:
-    """A game in which the question after white's move takes so many seconds at least, and how long it takes."""
+    """A game in which the question after white's move takes this many seconds at least, and how long it takes."""
     game = trial.folder / "heavy.rbg"
     for size in range(8, 24):
         rows = " ".join(["[" + ", ".join("e" * size) + "]"] * size)

@@ -28,14 +28,14 @@ class Fault(NamedTuple):
     how: str  # the name of an error, a number of bytes that a write takes, or the name of a signal
 
     def environment(self, library: Path, folder: Path) -> dict[str, str]:
-        told = {"DISK_CALL": self.call, "DISK_AT": str(self.at), "DISK_ON": str(int(self.lasts))}
+        reported = {"DISK_CALL": self.call, "DISK_AT": str(self.at), "DISK_ON": str(int(self.lasts))}
         if self.how in errno.errorcode.values():
-            told["DISK_ERRNO"] = str(getattr(errno, self.how))
+            reported["DISK_ERRNO"] = str(getattr(errno, self.how))
         elif self.how.startswith("SIG"):
-            told["DISK_SIGNAL"] = str(int(signal.Signals[self.how]))
+            reported["DISK_SIGNAL"] = str(int(signal.Signals[self.how]))
         else:
-            told["DISK_SHORT"] = self.how
-        return {**os.environ, "LD_PRELOAD": str(library), "DISK_UNDER": str(folder) + "/", **told}
+            reported["DISK_SHORT"] = self.how
+        return {**os.environ, "LD_PRELOAD": str(library), "DISK_UNDER": str(folder) + "/", **reported}
 
     @property
     def reason(self) -> str:
@@ -74,8 +74,8 @@ class Disk:
         """How many calls of each kind a run makes."""
         self.begin()
         file = self.folder.with_suffix(".counts")
-        told = {"LD_PRELOAD": str(self.library), "DISK_UNDER": str(self.folder) + "/", "DISK_COUNT": str(file)}
-        ended = self.run(env={**os.environ, **told})
+        reported = {"LD_PRELOAD": str(self.library), "DISK_UNDER": str(self.folder) + "/", "DISK_COUNT": str(file)}
+        ended = self.run(env={**os.environ, **reported})
         expect(ended.status == 0, f"with no fault: {ended}")
         return {word: int(number) for word, number in map(str.split, file.read_text().splitlines())}
 
@@ -100,15 +100,15 @@ class Disk:
             expect(outcome(ended.printed) == self.stored.outcome, "the match ended in another way")
             return "played"
         expect(not fault.is_harmless, "a call had only to be made again")
-        expect("can't " in ended.told and fault.reason in ended.told, f"standard error doesn't say `can't ..: {fault.reason}`")
+        expect("can't " in ended.reported and fault.reason in ended.reported, f"standard error doesn't say `can't ..: {fault.reason}`")
         if ended.printed != "device\n":  # a record that can't be kept is printed all the same
-            expect("record" in ended.told, "neither `device` nor a record that can't be kept")
+            expect("record" in ended.reported, "neither `device` nor a record that can't be kept")
             check_record(self.trial, self.stored.game, self.log, ended.printed)
         expect(ended.status == 3, "the status isn't 3")
         return "device"
 
     def go_on(self) -> None:
-        """Goes on from the log, or begins anew where it has no line."""
+        """Goes on from the log, or begins anew if it has no line."""
         if self.log.exists() and b"\n" not in self.log.read_bytes():
             clean(self.log)
         words = ["serve", str(self.stored.game), "--minutes", "5", "--resume" if self.log.exists() else "--log", str(self.log)]

@@ -50,7 +50,7 @@ def output_fails(trial: Trial) -> str:
             ended = match_with(trial, log, **how)
             check_log(trial, log)
             expect(ended.status == 3 and not ended.printed, f"standard output is {name}: {ended}")
-            expect("standard output" in ended.told, f"standard output is {name}, and standard error doesn't say so: {ended}")
+            expect("standard output" in ended.reported, f"standard output is {name}, and standard error doesn't say so: {ended}")
     os.close(writing)
     return "full, closed and broken: status 3, and why"
 
@@ -95,17 +95,17 @@ def unheard(trial: Trial, stored: Stored, log: Path, name: str) -> Ended:
                 time.sleep(0.02)
         loop.run(lambda: all(it.is_gone for it in players), PATIENCE)
         try:
-            printed, told = referee.communicate(timeout=PATIENCE)
+            printed, reported = referee.communicate(timeout=PATIENCE)
         finally:
             referee.kill()
             referee.wait()
-    return Ended(referee.returncode, printed, told)
+    return Ended(referee.returncode, printed, reported)
 
 
 def few_descriptors(trial: Trial) -> str:
     """The process may have only so many descriptors: it ends with `device` and why, or plays."""
     stored = Stored(trial.rbg, trial.game("tictactoe"))
-    told = []
+    reported = []
     for room in DESCRIPTORS:
         less = {"preexec_fn": lambda room=room: resource.setrlimit(resource.RLIMIT_NOFILE, (room, room))}
         for kind in ("serve", "hall"):
@@ -114,10 +114,10 @@ def few_descriptors(trial: Trial) -> str:
             limits = LIMITS if kind == "serve" else ["--rounds", "4294967295"]
             ended = play(trial, [kind, str(stored.game), *limits, "--log", str(log)], lines, **less)
             if ended.status:
-                expect((ended.status, ended.printed) == (3, "device\n") and "can't " in ended.told, f"{room} descriptors: {ended}")
-            told.append(ended.status)
-    expect(0 in told and 3 in told, f"other statuses: {told}")
-    return f"{told.count(3)} of {len(told)} say `device` and why, and the others play"
+                expect((ended.status, ended.printed) == (3, "device\n") and "can't " in ended.reported, f"{room} descriptors: {ended}")
+            reported.append(ended.status)
+    expect(0 in reported and 3 in reported, f"other statuses: {reported}")
+    return f"{reported.count(3)} of {len(reported)} say `device` and why, and the others play"
 
 
 def signalled(trial: Trial, runs: int = 6) -> str:

@@ -21,7 +21,7 @@ PATIENCE, SOON = 600, 120  # seconds
 
 
 def pour(loop: Loop, served: Served, players: list[Player], piece: Callable[[], bytes], count: int) -> list[int]:
-    """Sends so many bytes of such pieces over these connections in turn, as they are taken. Returns the memory after a tenth of
+    """Sends this many bytes of such pieces over these connections in turn, as they are taken. Returns the memory after a tenth of
     it, and at the end."""
     sent, seen = 0, []
 
@@ -115,7 +115,7 @@ def takes_nothing(trial: Trial) -> str:
             began = time.monotonic()
             ended = served.wait()
             took = time.monotonic() - began
-    expect(ended.status == 0 and outcome(ended.printed) == "E1 1" and "seat 2 took nothing for 10 seconds" in ended.told, ended)
+    expect(ended.status == 0 and outcome(ended.printed) == "E1 1" and "seat 2 took nothing for 10 seconds" in ended.reported, ended)
     expect(9 < took < 15, f"the record came {took:.1f} s after the end")
     return f"the record came {took:.1f} s after the end"
 

@@ -1,4 +1,4 @@
-"""Disks without room: a small file system, and files that may get no longer. Where there is room again the match goes on."""
+"""Disks without room: a small file system, and files that may get no longer. If there is room again the match goes on."""
 
 import errno
 import os
@@ -23,10 +23,10 @@ def grown(trial: Trial, log: Path, **how: Any) -> Ended:
 
 
 def check_grown(trial: Trial, log: Path, ended: Ended, reason: str) -> None:
-    """It has ended as documented, and goes on where there is room again."""
+    """It has ended as documented, and goes on if there is room again."""
     stored = Stored(trial.rbg, trial.game("tictactoe"))
     expect((ended.status, ended.printed) == (3, "device\n"), ended)
-    expect(f"can't write the log {log}: {reason}".lower() in ended.told.lower(), ended)
+    expect(f"can't write the log {log}: {reason}".lower() in ended.reported.lower(), ended)
     again = play(trial, ["serve", str(stored.game), "--minutes", "5", "--resume", str(log)], pair(stored))
     expect(again.status == 0, again)
     check_record(trial, stored.game, log, again.printed)
@@ -44,7 +44,7 @@ def full_system(trial: Trial) -> str:
         ended = grown(trial, log)
         stored = Stored(trial.rbg, trial.game("tictactoe"))
         full = play(trial, ["serve", str(stored.game), "--minutes", "5", "--resume", str(log)], pair(stored))
-        expect((full.status, full.printed) == (3, "device\n") and "can't " in full.told, f"with no room to go on: {full}")
+        expect((full.status, full.printed) == (3, "device\n") and "can't " in full.reported, f"with no room to go on: {full}")
         subprocess.run(["mount", "-o", f"remount,size={32 * ROOM}", str(place)], check=True)
         check_grown(trial, log, ended, os.strerror(errno.ENOSPC))
     finally:

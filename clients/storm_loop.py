@@ -1,4 +1,4 @@
-"""One loop over connections and moments, in which players and what stands between them and a referee are served."""
+"""One loop over connections and moments, in which players and what is between them and a referee are served."""
 
 import heapq
 import itertools
@@ -18,12 +18,12 @@ Call = Callable[[], None]
 
 
 class Loop:
-    """Calls back where a connection gives or takes something, and at moments.
+    """Calls back if a connection gives or takes something, and at moments.
 
-    >>> loop, told = Loop(), []
-    >>> loop.after(0.02, lambda: told.append("later"))
-    >>> loop.after(0.01, lambda: told.append("first"))
-    >>> loop.run(lambda: len(told) == 2, 5), told
+    >>> loop, reported = Loop(), []
+    >>> loop.after(0.02, lambda: reported.append("later"))
+    >>> loop.after(0.01, lambda: reported.append("first"))
+    >>> loop.run(lambda: len(reported) == 2, 5), reported
     (True, ['first', 'later'])
     """
 
@@ -67,7 +67,7 @@ class Loop:
         return max((lag for missed, lag in self.lags if missed + lag >= moment), default=0.0)
 
     def run(self, is_over: Callable[[], bool], patience: float) -> bool:
-        """Serves until it is over. Returns False if that takes longer than so many seconds."""
+        """Serves until it is over. Returns False if that takes longer than this many seconds."""
         last = time.monotonic() + patience
         while not is_over():
             now = time.monotonic()

@@ -16,7 +16,7 @@ PATIENCE = 60
 
 
 def begun_log(trial: Trial, stored: Stored, log: Path, least: int) -> None:
-    """Plays a match with a log until it has so many lines, and kills it."""
+    """Plays a match with a log until it has this many lines, and kills it."""
     with Served(trial, ["serve", str(stored.game), *LIMITS, "--log", str(log)]) as served, closing(Loop()) as loop:
         players = [Player(loop, served.port, stored.moves, think=0.01) for _ in range(2)]
         expect(loop.run(lambda: log.read_bytes().count(b"\n") >= least, PATIENCE), "no log is written")
@@ -32,7 +32,7 @@ def other_game(trial: Trial) -> str:
     begun_log(trial, stored, log, 6)
     before = log.read_bytes()
     ended = play(trial, ["serve", str(other), *LIMITS, "--resume", str(log)], pair(Stored(trial.rbg, other)))
-    expect((ended.status, ended.printed) == (3, "device\n") and "of another game" in ended.told, ended)
+    expect((ended.status, ended.printed) == (3, "device\n") and "of another game" in ended.reported, ended)
     expect(log.read_bytes() == before, "the log is another one than before")
     again = play(trial, ["serve", str(stored.game), *LIMITS, "--resume", str(log)], pair(stored))
     expect(again.status == 0 and outcome(again.printed) == stored.outcome, again)
@@ -47,11 +47,11 @@ def two_resumers(trial: Trial) -> str:
     words = ["serve", str(stored.game), *LIMITS, "--resume", str(log)]
     with Served(trial, words) as first, closing(Loop()) as loop:
         second = play(trial, [*words, "--wait", "5"], [])
-        expect((second.status, second.printed) == (3, "device\n") and "another process" in second.told, second)
+        expect((second.status, second.printed) == (3, "device\n") and "another process" in second.reported, second)
         players = [Player(loop, first.port, stored.moves, think=0.01) for _ in range(2)]
         expect(loop.run(lambda: all(it.made > 12 for it in players), PATIENCE), "the first one doesn't go on")
         third = play(trial, [*words, "--wait", "5"], [])
-        expect((third.status, third.printed) == (3, "device\n") and "another process" in third.told, third)
+        expect((third.status, third.printed) == (3, "device\n") and "another process" in third.reported, third)
         expect(loop.run(lambda: all(it.is_over for it in players), PATIENCE), "the first one hasn't ended")
         ended = first.wait()
     expect(ended.status == 0 and outcome(ended.printed) == stored.outcome, ended)
@@ -139,7 +139,7 @@ def hall_goes_on(trial: Trial) -> str:
         expect(not any(it.is_over for it in others), "match 3 has ended")
         served.referee.kill()  # before its players leave
         served.referee.wait()
-    Path(f"{log}.3").write_bytes(b"")  # as where it was killed before the match began
+    Path(f"{log}.3").write_bytes(b"")  # as if it was killed before the match began
     with Served(trial, ["hall", *games, *LIMITS, "--resume", str(log)]) as served, closing(Loop()) as loop:
         lines = [(four, 2), (tic, 3)] * 2
         players = [Player(loop, served.port, stored.moves, match, think=0.01) for stored, match in lines]

@@ -43,8 +43,8 @@ class Stored:
         self.moves = movers([it for it in heard if it.startswith(b"M")], said_in(script))
         self.outcome = heard[-1].decode()
         self.seats = max(seat for seat, _ in self.moves)
-        self.greeting = len(game.read_bytes()) + 40  # about so many bytes come before the first move
-        self.told = sum(len(move) + 1 for _, move in self.moves)  # and so many with the moves
+        self.greeting = len(game.read_bytes()) + 40  # about this many bytes come before the first move
+        self.reported = sum(len(move) + 1 for _, move in self.moves)  # and this many with the moves
 
 
 class Player:

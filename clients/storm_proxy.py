@@ -1,4 +1,4 @@
-"""What stands between players and a referee: it cuts and joins what they send, delays it, stops reading, closes one half,
+"""What is between players and a referee: it cuts and joins what they send, delays it, stops reading, closes one half,
 resets connections and sends rubbish, by the numbers of chance that it is given."""
 
 import math
@@ -16,7 +16,7 @@ PAUSE = 0.5  # seconds for which nothing is read
 
 
 class Weather(NamedTuple):
-    """What becomes of one connection. No way costs a player its match; a harm may, and comes after so many bytes of the
+    """What becomes of one connection. No way costs a player its match; a harm may, and comes after this many bytes of the
     referee."""
 
     way: str
@@ -28,10 +28,10 @@ class Weather(NamedTuple):
         return f"{self.way} {self.harm} after {self.after}" if self.harm else self.way
 
 
-def forecast(chance: random.Random, greeting: int, told: int, rubbish: int) -> Weather:
-    """The weather of a connection that is sent so many bytes before the first move, and so many with the moves."""
+def forecast(chance: random.Random, greeting: int, reported: int, rubbish: int) -> Weather:
+    """The weather of a connection that is sent this many bytes before the first move, and this many with the moves."""
     harm = chance.choice(HARMS) if chance.random() < 0.4 else None
-    after = chance.randrange(greeting) if chance.random() < 0.3 else greeting + chance.randrange(told)
+    after = chance.randrange(greeting) if chance.random() < 0.3 else greeting + chance.randrange(reported)
     return Weather(chance.choice(WAYS), harm, after + 1, chance.randrange(1, rubbish))
 
 

@@ -28,10 +28,10 @@ class Ended(NamedTuple):
 
     status: int
     printed: str
-    told: str
+    reported: str
 
     def __str__(self) -> str:
-        return f"status {self.status}, standard output {self.printed[-300:]!r}, standard error {self.told[-300:]!r}"
+        return f"status {self.status}, standard output {self.printed[-300:]!r}, standard error {self.reported[-300:]!r}"
 
 
 class Served:
@@ -66,10 +66,10 @@ class Served:
 
     def wait(self, patience: float = PATIENCE) -> Ended:
         try:
-            printed, told = self.referee.communicate(timeout=patience)
+            printed, reported = self.referee.communicate(timeout=patience)
         except subprocess.TimeoutExpired:
             raise Wrong(f"not ended after {patience} seconds") from None
-        self.ended = Ended(self.referee.returncode, printed, told)
+        self.ended = Ended(self.referee.returncode, printed, reported)
         return self.ended
 
     def check_memory(self, matches: int = 1) -> None:
@@ -129,10 +129,10 @@ def outcome(record: str) -> str:
     return record.splitlines()[-1].split(" ", 1)[1]
 
 
-def expect(holds: bool, told: object) -> None:
-    """Raises what is told if something doesn't hold."""
+def expect(holds: bool, reported: object) -> None:
+    """Raises what is said if something doesn't hold."""
     if not holds:
-        raise Wrong(str(told))
+        raise Wrong(str(reported))
 
 
 def side_by_side(works: list[Callable[[], None]]) -> None:
@@ -142,7 +142,7 @@ def side_by_side(works: list[Callable[[], None]]) -> None:
     def do(work: Callable[[], None]) -> None:
         try:
             work()
-        except BaseException as fault:  # told to whoever waits
+        except BaseException as fault:  # raised again for whoever waits
             faults.append(fault)
 
     threads = [threading.Thread(target=do, args=(work,)) for work in works]

@@ -33,7 +33,7 @@ from tournament_run import run
 from tournament_standings import table_of
 from tournament_table import table_text, write_results
 
-STOPS = (signal.SIGINT, signal.SIGTERM, signal.SIGHUP)  # what tells this program to stop
+STOPS = (signal.SIGINT, signal.SIGTERM, signal.SIGHUP)  # what asks this program to stop
 
 
 def count(word: str) -> int:
@@ -52,8 +52,8 @@ def words_of() -> argparse.Namespace:
     parser = argparse.ArgumentParser(description=__doc__.splitlines()[0])
     commands = parser.add_subparsers(dest="command", required=True)
 
-    def command(name: str, told: str, folder: bool = True) -> argparse.ArgumentParser:
-        made = commands.add_parser(name, help=told, description=told)
+    def command(name: str, reported: str, folder: bool = True) -> argparse.ArgumentParser:
+        made = commands.add_parser(name, help=reported, description=reported)
         if folder:
             made.add_argument("folder", type=Path, metavar="DIR")
         return made
@@ -95,7 +95,7 @@ def play_one(folder: Folder, number: int, again: bool) -> None:
     if result is None or (again and result.outcome is None):
         plan, pairing = Plan.load(folder.path), folder.pairing(number)
         result = play_match(folder, plan, number, pairing, Stop(), again)
-    print(f"match {number}: {result.told()}")
+    print(f"match {number}: {result.in_words()}")
 
 
 def show_table(folder: Folder, page: Optional[Path], picture: Optional[Path], checks: bool) -> None:
@@ -134,8 +134,8 @@ def obey(words: argparse.Namespace) -> None:
     elif words.command == "table":
         show_table(folder, words.html, words.svg, words.check)
     else:
-        taken, told = merge(folder, [Folder(source) for source in words.sources])
-        print("\n".join([*told, f"{taken} results taken over"]))
+        taken, reported = merge(folder, [Folder(source) for source in words.sources])
+        print("\n".join([*reported, f"{taken} results taken over"]))
 
 
 def stop(number: int, _frame: Optional[FrameType]) -> None:
@@ -147,7 +147,7 @@ def stop(number: int, _frame: Optional[FrameType]) -> None:
 
 
 def main() -> int:
-    # so that the programs of a match end with it where it is told to stop
+    # so that the programs of a match end with it if it is asked to stop
     for each in STOPS:
         if signal.getsignal(each) != signal.SIG_IGN:
             signal.signal(each, stop)

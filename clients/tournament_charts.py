@@ -14,7 +14,7 @@ def colour(index: int) -> str:
 
 
 def steps(low: float, high: float, most: int = 7) -> list[float]:
-    """Round numbers between two others, so many at most and one.
+    """Round numbers between two others, this many at most and one.
 
     >>> steps(0, 10), steps(-130, 170)
     ([0, 2, 4, 6, 8, 10], [-100, -50, 0, 50, 100, 150])
@@ -35,7 +35,7 @@ def steps(low: float, high: float, most: int = 7) -> list[float]:
 
 @dataclass
 class Scale:
-    """Where values stand: `low` at `start`, and `high` at `end`."""
+    """Where values are: `low` at `start`, and `high` at `end`."""
 
     low: float
     high: float
@@ -100,7 +100,7 @@ class Bar:
     name: str
     value: float
     half: float = 0.0
-    told: Optional[str] = None
+    reported: Optional[str] = None
 
 
 def bars(title: str, rows: Sequence[Bar]) -> str:
@@ -125,7 +125,7 @@ def bars(title: str, rows: Sequence[Bar]) -> str:
             parts.append(stroke(ends[0], middle, ends[1], middle, "#222", 1.5))
             parts += [stroke(end, middle - 5, end, middle + 5, "#222", 1.5) for end in ends]
         parts.append(text(LEFT - 8, middle + 5, row.name, "end"))
-        parts.append(text(WIDTH - RIGHT + 8, middle + 5, row.told or f"{row.value:g}"))
+        parts.append(text(WIDTH - RIGHT + 8, middle + 5, row.reported or f"{row.value:g}"))
     return picture(title, bottom + BOTTOM, parts)
 
 

@@ -1,5 +1,5 @@
 """Files that several processes use, also on several machines: each is written whole, and some things are done by one
-process at a time. What can't be done is told with the name of the file."""
+process at a time. What can't be done is reported with the name of the file."""
 
 import contextlib
 import errno

@@ -1,4 +1,4 @@
-"""A guard ends the processes of matches where the program that plays them is killed outright, and so can't."""
+"""A guard ends the processes of matches if the program that plays them is killed outright, and so can't."""
 
 import atexit
 import secrets

@@ -102,6 +102,6 @@ def main() -> int:
 
 
 if __name__ == "__main__":
-    # so that what was started ends where this is told to stop
+    # so that what was started ends if this is asked to stop
     signal.signal(signal.SIGTERM, lambda number, _: sys.exit(128 + number))
     sys.exit(main())

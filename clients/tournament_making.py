@@ -105,7 +105,7 @@ def add_plan(file: Path, folder: Folder) -> int:
 
 
 def taken_of(pairing: Pairing, result: Result) -> list[float]:
-    """What each seat took of a match; half where it counts for nobody.
+    """What each seat took of a match; half if it counts for nobody.
 
     >>> pairing = Pairing("g", ("a", "b"))
     >>> taken_of(pairing, Result("g", ["a", "b"], scores=[0, 1])), taken_of(pairing, Result("g", ["a", "b"]))
@@ -181,7 +181,7 @@ def merge_schedule(folder: Folder, source: Folder) -> list[Pairing]:
 def merge(folder: Folder, sources: Sequence[Folder]) -> tuple[int, list[str]]:
     """Takes over the results of copies of a tournament's folder, in which other machines have played. Returns how many it
     took, and the matches that both have played."""
-    taken, told = 0, []
+    taken, reported = 0, []
     for source in sources:
         with changing(folder):
             theirs = merge_schedule(folder, source)
@@ -192,5 +192,5 @@ def merge(folder: Folder, sources: Sequence[Folder]) -> tuple[int, list[str]]:
                 copy_match(source, folder, number)
                 taken += 1
             elif mine and other and other.outcome is not None and mine.record != other.record:
-                told.append(f"match {number} of {source.path} was played here too: {mine.told()}, there {other.told()}")
-    return taken, told
+                reported.append(f"match {number} of {source.path} was played here too: {mine.in_words()}, there {other.in_words()}")
+    return taken, reported

@@ -17,7 +17,7 @@ from tournament_seating import Intruder, Referee, Seating
 
 TRIES = 5  # how many ports are tried for a match
 RECORD = 1 << 26  # the bytes of a record, at most
-TOLD = 1 << 20  # the bytes of what a referee tells, at most
+REPORTED = 1 << 20  # the bytes that a referee prints as news, at most
 LISTEN = 60  # seconds in which a referee has to listen
 LOOK = 0.3  # seconds between two looks at a log
 
@@ -50,6 +50,7 @@ class Play:
         self.files = Files(folder, number, len(pairing.seats))
         self.result = Result.of(pairing)
         self.game = folder.game(pairing.game)
+        self.opening = folder.opening(pairing)
         self.before: Optional[str] = None  # the log that there was already
         self.turn = max(plan.turn_of(name, pairing.game) for name in pairing.seats)
 
@@ -70,35 +71,35 @@ class Play:
 
     def attempt(self) -> bool:
         """Plays the match at a port. False if another program has taken the port before the referee."""
-        told = Output(self.files.referee, TOLD, remembers=True)
+        reported = Output(self.files.referee, REPORTED, remembers=True)
         kept = [self.plan.programs[name].output for name in self.pairing.seats]
         outputs = [Output(file, keep) for file, keep in zip(self.files.seats, kept)]
         self.prepare()
         with Processes(self.stop) as processes:
             seating = Seating(self.plan, self.pairing, self.number, processes, outputs)
             try:
-                return self.attend(processes, seating, told)
+                return self.attend(processes, seating, reported)
             finally:
                 processes.end(0.0)
                 self.result.exits = [program.exit if program else None for program in seating.programs]
-                self.result.faults = [output.fault for output in (told, *outputs) if output.fault]
+                self.result.faults = [output.fault for output in (reported, *outputs) if output.fault]
                 drop_empty(self.files.log)
 
-    def attend(self, processes: Processes, seating: Seating, told: Output) -> bool:
+    def attend(self, processes: Processes, seating: Seating, reported: Output) -> bool:
         """Starts the referee and the programs, and sees the match through."""
         port = free_port()
         printed = Output(None, RECORD, remembers=True)
         try:
-            referee = Referee(processes.start(self.referee_words(port), told, printed), port, told, printed)
+            referee = Referee(processes.start(self.referee_words(port), reported, printed), port, reported, printed)
         except OSError as error:
             return self.give_up(f"{self.plan.rbg} doesn't start: {error.strerror}")
         listening = f"listening on port {port}"
-        processes.wait(lambda: referee.has_told(listening) or referee.exit is not None, LISTEN)
-        if referee.exit is None and referee.has_told(listening):
+        processes.wait(lambda: referee.has_said(listening) or referee.exit is not None, LISTEN)
+        if referee.exit is None and referee.has_said(listening):
             seating.seat_all(referee)
         elif referee.exit != "status 0":
             self.give_up(f"the referee doesn't listen: {referee.fault()}")
-            return "can't listen" not in referee.told()
+            return "can't listen" not in referee.news()
         if seating.absent:
             reasons = [f"{self.pairing.seats[seat - 1]} {reason}" for seat, reason in seating.absent.items()]
             self.result.default(sorted(seating.absent), ", ".join(reasons))
@@ -118,16 +119,15 @@ class Play:
         """A match with an opening goes on from a log that has it."""
         drop_empty(self.files.log)
         self.before = self.files.log.read_text(errors="replace") if has_begun(self.files.log) else None
-        if self.pairing.opening and self.before is None:
-            openings = self.folder.openings(self.pairing.game)
-            script = opening_script(openings, self.pairing.opening, self.turn, self.plan.refusals)
-            write_whole(self.files.log, script)
+        if self.opening and self.before is None:
+            write_whole(self.files.log, opening_script(self.opening, self.turn, self.plan.refusals))
 
     def referee_words(self, port: int) -> list[str]:
         """The referee's command. A match that has a log goes on."""
         words = [self.plan.rbg, "serve", str(self.game), "--port", str(port)]
         words += [f"--names={','.join(self.pairing.seats)}", "--minutes", str(max(1, math.ceil(self.plan.minutes)))]
-        # it gives up where nobody is left who starts the programs
+        words += ["--sync"] if self.plan.sync else []
+        # it gives up if nobody is left who starts the programs
         words += ["--wait", str(math.ceil(self.plan.wait) * (len(self.pairing.seats) + 1) + LISTEN)]
         if has_begun(self.files.log):
             return [*words, "--resume", str(self.files.log)]
@@ -142,7 +142,7 @@ class Play:
     def finish(self, processes: Processes, referee: Referee) -> None:
         """Waits for the end of the match, and keeps its record."""
         until = time.monotonic() + self.plan.minutes * 60
-        # where moves count, the log is looked at now and then
+        # if moves count, the log is looked at now and then
         step = LOOK if self.plan.moves else self.plan.minutes * 60
         while not processes.wait(lambda: referee.exit is not None, step) and time.monotonic() < until:
             if moves_said(self.files.log) >= self.plan.moves > 0 and self.keep_log(""):
@@ -164,7 +164,7 @@ class Play:
         if good_record(self.plan, self.game, self.files.record) is None:
             self.give_up("the record isn't good")
         else:
-            self.result.note(self.plan, text, adjudged)
+            self.result.note(self.plan, text, len(self.opening), adjudged)
 
     def keep_log(self, adjudged: str) -> bool:
         """Keeps the record of the log, if by it the match has ended, or the plan ends it."""
@@ -177,7 +177,7 @@ class Play:
         try:
             text = part.read_text()
             part.unlink()
-            probe.note(self.plan, text, adjudged if self.plan.late == "draw" else "")
+            probe.note(self.plan, text, len(self.opening), adjudged if self.plan.late == "draw" else "")
         except (OSError, Fault, ValueError, IndexError):
             return False
         if probe.outcome == "-" and not probe.adjudged:

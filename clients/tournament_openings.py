@@ -1,8 +1,8 @@
-"""Openings: the first moves of a match, which its programs are told and don't choose.
+"""Openings: the first moves of a match, which its programs are sent and don't choose.
 
 A tournament keeps those of a game in a file with a line for each: its moves with commas between them, each the number of
 its player and its pairs. An organiser gives records, or a file with a line for each opening: the pairs of its moves, with
-commas between them; what stands after // is a remark.
+commas between them; what comes after // is a remark.
 """
 
 import random
@@ -18,23 +18,15 @@ import rbg as rules  # noqa: E402
 Opening = list[tuple[int, str]]  # the player and the pairs of each move
 
 
-def opening_script(file: Path, number: int, turn: int, refusals: int) -> str:
-    """The script of opening K of a game's file, with which a match begins. Its moves took no time.
+def opening_script(opening: Opening, turn: int, refusals: int) -> str:
+    """The script of an opening, with which a match begins. All its moves are made at moment 0.
 
-    >>> import tempfile
-    >>> with tempfile.NamedTemporaryFile("w") as file:
-    ...     print("1 0 3 0 4, 2 1 7 1 8", file=file, flush=True)
-    ...     print(opening_script(Path(file.name), 1, 5000, 3), end="")
+    >>> print(opening_script([(1, "0 3 0 4"), (2, "1 7 1 8")], 5000, 3), end="")
     config 5000 3 0
     m 1 0 M0 3 0 4
     m 2 0 M1 7 1 8
     """
-    try:
-        line = file.read_text().splitlines()[number - 1]
-    except (OSError, IndexError):
-        raise Fault(f"{file} has no opening {number}") from None
-    moves = [move.split(" ", 1) for move in line.split(", ")]
-    return f"config {turn} {refusals} 0\n" + "".join(f"m {player} 0 M{pairs}\n" for player, pairs in moves)
+    return f"config {turn} {refusals} 0\n" + "".join(f"m {player} 0 M{pairs}\n" for player, pairs in opening)
 
 
 def moves_of_record(text: str) -> list[str]:
@@ -118,7 +110,7 @@ def line_of(opening: Opening) -> str:
 
 
 def shares_of(endings: Sequence[tuple[Optional[list[int]], int]], players: int) -> list[float]:
-    """What each player takes from the others on the mean, by how matches have ended: 0.5 where all are even. Matches that
+    """What each player takes from the others on the mean, by how matches have ended: 0.5 if all are even. Matches that
     didn't end are draws.
 
     >>> shares_of([([100, 0], 3), ([0, 100], 1)], 2), shares_of([(None, 5)], 2), shares_of([([9], 5)], 1)
@@ -136,7 +128,7 @@ def shares_of(endings: Sequence[tuple[Optional[list[int]], int]], players: int) 
 
 
 def walk(state: rules.State, plies: int, chance: random.Random) -> None:
-    """Makes moves by chance; fewer where play ends."""
+    """Makes random moves; fewer if play ends."""
     while len(state.history) < plies and not state.is_over:
         state.make(chance.choice(state.moves()))
 
@@ -144,8 +136,8 @@ def walk(state: rules.State, plies: int, chance: random.Random) -> None:
 def make_openings(
     rbg: str, game: Path, count: int, plies: int, seed: int, playouts: int = 100, balance: float = 0.15
 ) -> Iterator[str]:
-    """Makes so many openings of a game: moves by chance that lead to different places, where by matches that are played
-    on by chance no player takes more or less from the others than half, and `balance` to each side. Without such matches
+    """Makes this many openings of a game: random moves that lead to different places, from which by random matches
+    no player takes more or less from the others than half, and `balance` to each side. Without such matches
     all places will do."""
     chance = random.Random(seed)
     seen: set[tuple] = set()

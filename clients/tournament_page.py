@@ -22,7 +22,7 @@ from tournament_table import files_of, game_rows, pair_rows, share_rows, standin
 STYLE = """body{font:16px sans-serif;margin:2em;max-width:72em}table{border-collapse:collapse;margin:1em 0}
 td,th{border:1px solid #bbb;padding:.2em .6em;text-align:right}td.name,th.name{text-align:left}
 tr:nth-child(even){background:#f4f4f4}th{background:#e8eef4}svg{max-width:100%;height:auto}"""
-NUMBER = re.compile(r"[±-]?[0-9.]+%?( of [0-9.]+)?")  # a cell that stands to the right
+NUMBER = re.compile(r"[±-]?[0-9.]+%?( of [0-9.]+)?")  # a cell that is aligned to the right
 REFRESH = 5  # seconds after which a browser asks again, while matches are to be played
 
 
@@ -91,11 +91,11 @@ def charts(table: Table) -> list[str]:
     best = table.best()
     rated = [Bar(line.name, line.rating, line.interval, f"{line.rating:.0f} ±{line.interval:.0f}") for line in best]
     drawn = [bars("ratings, with 95% intervals", rated)]
-    drawn.append(curves("part of the points, after so many matches", course_of_scores(table), 0, 1))
+    drawn.append(curves("part of the points, after this many matches", course_of_scores(table), 0, 1))
     times = []
     for line in best:
         mean = line.used.points / max(1, line.used.matches)
-        times.append(Bar(line.name, mean, told=f"{mean:.0f} ms, most {line.most}"))
+        times.append(Bar(line.name, mean, reported=f"{mean:.0f} ms, most {line.most}"))
     drawn.append(bars("milliseconds a move", times))
     for index, (name, game) in enumerate(table.games.items()):
         if game.moves:
@@ -104,7 +104,7 @@ def charts(table: Table) -> list[str]:
 
 
 def make_page(plan: Plan, folder: Folder, number: int, result: Optional[Result]) -> Optional[Path]:
-    """The page of a match, where `rbg_author page` makes one. It is made once."""
+    """The page of a match, if `rbg_author page` makes one. It is made once."""
     files = Files(folder, number)
     if result is None or result.outcome is None:
         return None
@@ -147,9 +147,9 @@ def match_rows(folder: Folder, table: Table, page: Path, shown: Sequence[Optiona
     ):
         links = Markup(", ".join(link(folder.path / file, page, key) for key, file in files.items()))
         row = [Markup(link(own, page, str(number))) if own else str(number), pairing.game, str(pairing.round)]
-        told = result.told() if result else "not played yet"
-        told += " (the same as one before)" if number - 1 in table.repeated else ""
-        row += [str(pairing.opening or ""), " - ".join(pairing.seats), told, str(result.moves or "") if result else ""]
+        reported = result.in_words() if result else "not played yet"
+        reported += " (the same as one before)" if number - 1 in table.repeated else ""
+        row += [str(pairing.opening or ""), " - ".join(pairing.seats), reported, str(result.moves or "") if result else ""]
         rows.append([*row, links])
     return rows
 

@@ -37,7 +37,7 @@ class Pairing:
 
 @dataclass
 class Program:
-    """A program that takes part. The command is one line; `wrapper` stands before it."""
+    """A program that takes part. The command is one line; `wrapper` comes before it."""
 
     command: str
     wrapper: str = ""
@@ -91,6 +91,7 @@ class Plan:
     moves: int = 0  # how many moves of the players a match may have; 0 for as many as they like
     late: str = "void"  # what a match is that reaches either: "draw", or "void", which counts for nobody
     heavy: str = "draw"  # what E4 is, likewise
+    sync: bool = False  # whether each event of a match is on the disk before it is handled
     jobs: int = 4
     sprt: Optional[Sprt] = None
 
@@ -127,6 +128,27 @@ class Folder:
 
     def openings(self, name: str) -> Path:
         return self.path / "games" / f"{name}.openings"
+
+    def opening(self, pairing: Pairing) -> list[tuple[int, str]]:
+        """The moves with which a match begins, each the number of its player and its pairs.
+
+        >>> import tempfile
+        >>> with tempfile.TemporaryDirectory() as name:
+        ...     folder = Folder(Path(name))
+        ...     folder.openings("g").parent.mkdir()
+        ...     _ = folder.openings("g").write_text("1 0 3 0 4, 2 1 7 1 8\\n")
+        ...     folder.opening(Pairing("g", ("a", "b"), 1, 1)), folder.opening(Pairing("g", ("a", "b")))
+        ([(1, '0 3 0 4'), (2, '1 7 1 8')], [])
+        """
+        if not pairing.opening:
+            return []
+        file = self.openings(pairing.game)
+        try:
+            line = file.read_text().splitlines()[pairing.opening - 1]
+        except (OSError, IndexError):
+            raise Fault(f"{file} has no opening {pairing.opening}") from None
+        moves = [move.split(" ", 1) for move in line.split(", ")]
+        return [(int(player), pairs) for player, pairs in moves]
 
     def pairings(self, first: int = 1) -> Iterator[Pairing]:
         """The matches of the schedule, from this one on."""
@@ -177,7 +199,7 @@ class Files:
 
     @property
     def referee(self) -> Path:
-        """What the referee has told."""
+        """The referee's news."""
         return self.folder / self.names["referee"]
 
     @property

@@ -29,11 +29,11 @@ PIECE = 65536
 
 
 class Stopped(Exception):
-    """This program was told to stop."""
+    """This program was asked to stop."""
 
 
 class Stop:
-    """Whether this program was told to stop: all that wait are woken. And the guard that ends their processes."""
+    """Whether this program was asked to stop: all that wait are woken. And the guard that ends their processes."""
 
     def __init__(self) -> None:
         self.waits, self.wakes = os.pipe()
@@ -64,7 +64,7 @@ class Output:
         self.write(kept)
 
     def write(self, piece: bytes) -> None:
-        """A disk that is full is no fault of the match: what can't be kept is dropped, and told once.
+        """A disk that is full is no fault of the match: what can't be kept is dropped, and reported once.
 
         >>> full = Output(Path("/dev/full"), 10)
         >>> full.hear(b"x")

@@ -40,9 +40,9 @@ CHOICES = {
     "model": ("trinomial", "pentanomial"),
 }
 TEXTS = ("rbg", "author", "challenger", "name", "command", "wrapper", "folder", "file of a game", "program")
-LIMITS_OF_PROGRAMS = ("memory", "processor", "file", "output", "wrapper", "environment")  # they may stand in the plan too
+LIMITS_OF_PROGRAMS = ("memory", "processor", "file", "output", "wrapper", "environment")  # they may be in the plan too
 PLAN_KEYS = {"games", "programs", "sprt", "turn", "schedule", "challenger", "orders", "rounds", "refusals", "wait", "grace"}
-PLAN_KEYS |= {"minutes", "moves", "late", "heavy", "jobs", "rbg", "author", *LIMITS_OF_PROGRAMS}
+PLAN_KEYS |= {"minutes", "moves", "late", "heavy", "sync", "jobs", "rbg", "author", *LIMITS_OF_PROGRAMS}
 PROGRAM_KEYS = {"name", "command", "folder", "turn", *LIMITS_OF_PROGRAMS}
 SPRT_KEYS = {field.name for field in fields(Sprt)}
 
@@ -52,30 +52,36 @@ def check(words: dict[str, Any], keys: set[str], of: str) -> None:
 
     >>> check({"turn": 0}, {"turn"}, "a plan")
     Traceback (most recent call last):
-    tournament_files.Fault: turn is a number from 1 to 3600000
+    tournament_files.Fault: turn must be a number from 1 to 3600000
     >>> check({"late": "lost"}, {"late"}, "a plan")
     Traceback (most recent call last):
-    tournament_files.Fault: late is "draw" or "void"
+    tournament_files.Fault: late must be "draw" or "void"
+    >>> check({"sync": 1}, {"sync"}, "a plan")
+    Traceback (most recent call last):
+    tournament_files.Fault: sync must be true or false
     >>> check({"tern": 5}, {"turn"}, "a plan")
     Traceback (most recent call last):
-    tournament_files.Fault: tern is no key of a plan
+    tournament_files.Fault: unknown key tern of a plan
     """
     for key, value in words.items():
         if key not in keys:
-            raise Fault(f"{key} is no key of {of}")
+            raise Fault(f"unknown key {key} of {of}")
         if key in LIMITS:
             low, high = LIMITS[key]
             kinds = (int, float) if key in FRACTIONS else (int,)
             if type(value) not in kinds or not low <= value <= high:
-                raise Fault(f"{key} is a number from {low} to {high}")
+                raise Fault(f"{key} must be a number from {low} to {high}")
+        elif key == "sync":
+            if type(value) is not bool:
+                raise Fault("sync must be true or false")
         elif key in CHOICES and value not in CHOICES[key]:
-            raise Fault(f"{key} is " + " or ".join(f'"{choice}"' for choice in CHOICES[key]))
+            raise Fault(f"{key} must be " + " or ".join(f'"{choice}"' for choice in CHOICES[key]))
         elif key in TEXTS and (not isinstance(value, str) or "\0" in value):
-            raise Fault(f"{key} is a text")
+            raise Fault(f"{key} must be a text")
         elif key == "environment" and not (
             isinstance(value, dict) and all(isinstance(each, str) and "\0" not in each for each in value.values())
         ):
-            raise Fault("environment is a table of texts")
+            raise Fault("environment must be a table of texts")
 
 
 def program_of(words: object, common: dict[str, Any], base: Path) -> tuple[str, Program]:
@@ -117,8 +123,8 @@ def players_of(rbg: str, game: Path) -> int:
     except OSError as error:
         raise Fault(f"{rbg}: {error.strerror}") from None
     if checked.returncode:
-        told = checked.stdout.strip() if checked.stdout.startswith("refused") else checked.stderr.strip()
-        raise Fault(f"{game}: {told or checked.stdout.strip()}")
+        reported = checked.stdout.strip() if checked.stdout.startswith("refused") else checked.stderr.strip()
+        raise Fault(f"{game}: {reported or checked.stdout.strip()}")
     return int(checked.stdout.split()[1])
 
 
@@ -129,7 +135,7 @@ class Reading:
         check(words, PLAN_KEYS, "a plan")
         for key in ("games", "programs"):
             if not isinstance(words.get(key), list) or not words[key]:
-                raise Fault(f"{key} is a list that isn't empty")
+                raise Fault(f"{key} must be a list that isn't empty")
         self.base, self.turn = base, words.pop("turn", 60_000)
         self.rounds: Optional[int] = words.pop("rounds", None)
         common = {key: words.pop(key) for key in LIMITS_OF_PROGRAMS if key in words}
@@ -178,7 +184,7 @@ class Reading:
                 game.openings = len(lines[name])
                 if not lines[name]:
                     raise Fault(f"the openings of {name} are empty")
-        # each opening once, where nothing else is said
+        # each opening once, if nothing else is said
         plan.rounds = self.rounds or max([1, *[game.openings for game in plan.games.values()]])
         self.look_at_schedule()
         return lines

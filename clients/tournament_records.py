@@ -10,17 +10,19 @@ from tournament_files import Fault
 
 @dataclass
 class Record:
-    """A record of version 2 as `rbg serve` prints it. A move is its player, its pairs and the milliseconds it took."""
+    """A record of version 2 as `rbg serve` prints it. A move is its player, its pairs and the milliseconds it took. `rest`
+    is how many passed from the last move to the end."""
 
     moves: list[tuple[int, str, int]] = field(default_factory=list)
     outcome: str = "-"
+    rest: int = 0
 
     @staticmethod
     def read(text: str) -> "Record":
         """
         >>> record = Record.read("rbg 2\\nplayers a b\\nstart 9 0\\n0 0 0 1\\n5 1 0 3\\n7 2 1 3\\n7 E0 1 2\\n")
-        >>> record.moves, record.outcome
-        ([(0, '0 1', 0), (1, '0 3', 5), (2, '1 3', 2)], 'E0 1 2')
+        >>> record.moves, record.outcome, record.rest
+        ([(0, '0 1', 0), (1, '0 3', 5), (2, '1 3', 2)], 'E0 1 2', 0)
         """
         lines = text.splitlines()
         if lines[:1] != ["rbg 2"] or len(lines) < 4:
@@ -30,16 +32,27 @@ class Record:
             moment, player, pairs = line.split(" ", 2)
             record.moves.append((int(player), pairs, int(moment) - last))
             last = int(moment)
-        record.outcome = lines[-1].split(" ", 1)[1]
+        moment, record.outcome = lines[-1].split(" ", 1)
+        record.rest = int(moment) - last
         return record
 
     def players_moves(self) -> list[tuple[int, str, int]]:
         """The moves of the players, the keeper's left out."""
         return [move for move in self.moves if move[0]]
 
-    def times(self, seats: int) -> list[list[int]]:
-        """For each seat the milliseconds of each of its moves."""
-        return [[took for player, _, took in self.moves if player == seat] for seat in range(1, seats + 1)]
+    def times(self, seats: int, opening: int = 0) -> list[list[int]]:
+        """For each seat the milliseconds of each of its turns: of its moves after the opening, which is this many moves of
+        the players, and of a turn that it lost by time.
+
+        >>> text = "rbg 2\\nplayers a b\\nstart 9 0\\n0 0 0 1\\n0 1 0 3\\n0 2 1 3\\n4 1 0 4\\n13 E1 2\\n"
+        >>> Record.read(text).times(2, 2), Record.read(text).times(2)
+        ([[4], [9]], [[0, 4], [0, 9]])
+        """
+        turns = [(player, took) for player, _, took in self.players_moves()[opening:]]
+        end, *players = self.outcome.split()
+        if end == "E1":
+            turns.append((int(players[0]), self.rest))
+        return [[took for player, took in turns if player == seat] for seat in range(1, seats + 1)]
 
     def course(self) -> str:
         """A checksum of all but the times: equal matches have the same one."""
@@ -53,8 +66,8 @@ def checksum(data: bytes) -> str:
 
 @dataclass
 class Verdict:
-    """What a match counts: a number for each seat, the greater one being better, or None where it counts for nobody. What
-    the plan decided, and not the referee, is told in words."""
+    """What a match counts: a number for each seat, the greater one being better, or None if it counts for nobody. What
+    the plan decided, and not the referee, is said in words."""
 
     scores: Optional[list[int]]
     adjudged: str = ""
@@ -74,8 +87,8 @@ def counted(seats: int, how: str) -> Optional[list[int]]:
 
 
 def judge(record: Record, turns: Sequence[int], most: int, late: str, heavy: str) -> Verdict:
-    """What a match counts by its record, where seat k has `turns[k - 1]` milliseconds for a turn, and the players `most`
-    moves together, or as many as they like where it is 0. The referee knows one time for all: who has less and took more
+    """What a match counts by its record, in which seat k has `turns[k - 1]` milliseconds for a turn, and the players `most`
+    moves together, or as many as they like if it is 0. The referee knows one time for all: who has less and took more
     has lost by the plan.
 
     >>> moves = [(1, "0 3", 5), (2, "1 3", 40), (1, "0 4", 9)]

@@ -28,7 +28,7 @@ class Result:
     absent: list[int] = field(default_factory=list)
     reason: Optional[str] = None
     moves: int = 0  # the players' moves
-    times: list[list[int]] = field(default_factory=list)  # for each seat the milliseconds of each of its moves
+    times: list[list[int]] = field(default_factory=list)  # for each seat the milliseconds of each of its turns
     exits: list[Optional[str]] = field(default_factory=list)  # how the program of each seat ended
     faults: list[str] = field(default_factory=list)  # what else went wrong, and changed nothing
     began: str = ""
@@ -64,7 +64,7 @@ class Result:
             return "default" if self.absent else "failed"
         return "adjudged" if self.adjudged else "played"
 
-    def told(self) -> str:
+    def in_words(self) -> str:
         """The outcome or the reason in words."""
         if self.outcome is None:
             return self.reason or ""
@@ -75,18 +75,19 @@ class Result:
         return [sum(each) for each in self.times]
 
     def most(self) -> list[int]:
-        """The most milliseconds that each seat took for a move."""
+        """The most milliseconds that each seat took for a turn."""
         return [max(each, default=0) for each in self.times]
 
-    def note(self, plan: Plan, text: str, adjudged: str = "") -> None:
-        """Takes over what a good record says. If the plan has ended the match, that is told.
+    def note(self, plan: Plan, text: str, opening: int, adjudged: str = "") -> None:
+        """Takes over what a good record says, of a match whose opening has this many moves. If the plan has ended the match,
+        that is said.
 
         >>> from tournament_plan import Game, Program
         >>> plan = Plan("", "", dict.fromkeys("ab", Program("")), {"g": Game(1000, 2)}, late="draw")
         >>> for end in ("5 -", "5 E0 1 2"):
         ...     result = Result("g", ["a", "b"])
-        ...     result.note(plan, f"rbg 2\\nplayers a b\\nstart 9 0\\n5 1 0 3\\n{end}\\n", "3 minutes")
-        ...     print(result.state, result.scores, result.used(), result.told())
+        ...     result.note(plan, f"rbg 2\\nplayers a b\\nstart 9 0\\n5 1 0 3\\n{end}\\n", 0, "3 minutes")
+        ...     print(result.state, result.scores, result.used(), result.in_words())
         adjudged [1, 1] [5, 0] adjudged: 3 minutes
         played [1, 2] [5, 0] E0 1 2
         """
@@ -98,11 +99,11 @@ class Result:
         if adjudged and not verdict.adjudged and record.outcome == "-":
             self.adjudged, self.scores = adjudged, counted(len(self.seats), plan.late)
         self.absent, self.reason = [], None
-        self.moves, self.times = len(record.players_moves()), record.times(len(self.seats))
+        self.moves, self.times = len(record.players_moves()), record.times(len(self.seats), opening)
         self.record, self.course = checksum(text.encode()), record.course()
 
     def default(self, absent: list[int], reason: str) -> None:
-        """The match isn't played, by the fault of these seats. Where nobody has come, nobody has won."""
+        """The match isn't played, by the fault of these seats. If nobody has come, nobody has won."""
         self.absent, self.reason = absent, reason
         counts = 0 < len(absent) < len(self.seats)
         self.scores = without(len(self.seats), absent) if counts else None
@@ -148,7 +149,7 @@ def result_of(plan: Plan, folder: Folder, number: int, pairing: Pairing, checks:
             result.absent, result.reason = [], "the record isn't good" if data else "the record is lost"
         return result
     result = result or Result.of(pairing)
-    result.note(plan, text, result.adjudged)
+    result.note(plan, text, len(folder.opening(pairing)), result.adjudged)
     if result.outcome == "-" and not result.adjudged:
         result.outcome, result.reason = None, "the record has no end"
     return result

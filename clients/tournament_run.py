@@ -1,4 +1,4 @@
-"""Plays the matches of a tournament, so many at once, in this process."""
+"""Plays the matches of a tournament, this many at once, in this process."""
 
 import os
 import sys
@@ -31,15 +31,15 @@ def progress(done: int, count: int, played: int, seconds: float, best: list[tupl
     >>> progress(0, 36, 0, 1.0, [])
     '0 of 36 done'
     """
-    told = f"{done} of {count} done"
+    reported = f"{done} of {count} done"
     if played:
-        told += f", {60 * played / seconds:.0f} a minute, {seconds / played * (count - done):.0f} s left"
+        reported += f", {60 * played / seconds:.0f} a minute, {seconds / played * (count - done):.0f} s left"
     head = ", ".join(f"{name} {rating:.0f}" for name, rating in best[:4])
-    return told + (f": {head}" if head else "") + (f"; {test}" if test else "")
+    return reported + (f": {head}" if head else "") + (f"; {test}" if test else "")
 
 
 class Pace:
-    """Does something now and then: so many seconds apart, and for a tenth of the time at most.
+    """Does something now and then: this many seconds apart, and for a tenth of the time at most.
 
     >>> pace, done = Pace(60.0), []
     >>> for number in range(3):
@@ -146,7 +146,7 @@ class Runner:
         return make_table(self.plan, self.pairings, self.listed())
 
     def run(self) -> None:
-        """Plays all that is to be played, and tells how far it is."""
+        """Plays all that is to be played, and prints how far it is."""
         self.take_schedule()
         self.look_at_test()
         threads = [threading.Thread(target=self.work, daemon=True) for _ in range(self.jobs)]
@@ -185,7 +185,7 @@ class Runner:
         self.tell("\n")
 
     def look_at_test(self) -> None:
-        """Where the test is decided, no more matches begin."""
+        """If the test is decided, no more matches begin."""
         if self.plan.sprt is not None and not self.decided:
             results = self.listed()
             if test_of(self.plan, self.pairings, results, repeated_ones(results)).verdict is not None:
@@ -233,14 +233,14 @@ def run(folder: Folder, jobs: Optional[int], again: bool, page: Optional[Path]) 
     if page is not None:
         write_page(runner.plan, folder, table, page)
     if table.test is not None:
-        print(table.test.told(), file=sys.stderr)
+        print(table.test.in_words(), file=sys.stderr)
     for fault in runner.faults:
         print(fault, file=sys.stderr)
     others = [number for number in runner.elsewhere if number not in runner.results]
     if others:
         print(f"{len(others)} matches are being played by other processes", file=sys.stderr)
     if runner.lost:
-        print(f"{runner.lost} matches were lost by default: tournament.py table tells why", file=sys.stderr)
+        print(f"{runner.lost} matches were lost by default: tournament.py table says why", file=sys.stderr)
     failed = runner.failed + len(runner.faults)
     if failed:
-        raise Fault(f"{failed} matches failed: tournament.py table tells why, and run --again plays them again")
+        raise Fault(f"{failed} matches failed: tournament.py table says why, and run --again plays them again")

@@ -37,7 +37,7 @@ def opening_of(openings: int, number: int) -> int:
 
 
 def encounters(plan: Plan, chosen: Iterable[Sequence[str]], game: str, number: int) -> Iterator[Pairing]:
-    """The matches of these choices of programs in a round of a game, those of a choice behind each other."""
+    """The matches of these choices of programs in a round of a game, those of a choice after each other."""
     for programs in chosen:
         for seats in orders_of(programs, plan.orders):
             yield Pairing(game, seats, number, opening_of(plan.games[game].openings, number))

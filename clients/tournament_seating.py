@@ -19,13 +19,13 @@ class Intruder(Exception):
     """A process that is of no program of the match has taken a seat."""
 
 
-def seats_news(told: str) -> list[tuple[int, str]]:
-    """The seats that were taken and left, in order, by what a referee has told. A line that isn't whole isn't heard.
+def seats_news(reported: str) -> list[tuple[int, str]]:
+    """The seats that were taken and left, in order, by a referee's news. A line that isn't whole isn't read.
 
     >>> seats_news("listening on port 4000\\nseat 1 connected\\nseat 1 left\\nseat 1 is Ada\\nseat 1 conn")
     [(1, 'connected'), (1, 'left')]
     """
-    lines = [line.split(" ") for line in told.splitlines(keepends=True)]
+    lines = [line.split(" ") for line in reported.splitlines(keepends=True)]
     news = [line for line in lines if line[0] == "seat" and line[2:] in (["connected\n"], ["left\n"])]
     return [(int(line[1]), line[2][:-1]) for line in news]
 
@@ -50,29 +50,29 @@ def command_of(plan: Plan, pairing: Pairing, seat: int, port: int, number: int) 
 
 
 class Referee:
-    """The referee of a match: its process, its port, and what it tells and prints."""
+    """The referee of a match: its process, its port, its news and what it prints."""
 
-    def __init__(self, process: Process, port: int, told: Output, printed: Output):
-        self.process, self.port, self.output, self.printed = process, port, told, printed
+    def __init__(self, process: Process, port: int, reported: Output, printed: Output):
+        self.process, self.port, self.output, self.printed = process, port, reported, printed
 
     @property
     def exit(self) -> Optional[str]:
         return self.process.exit
 
-    def told(self) -> str:
+    def news(self) -> str:
         return self.output.text.decode(errors="replace")
 
-    def has_told(self, line: str) -> bool:
-        return f"{line}\n" in self.told()
+    def has_said(self, line: str) -> bool:
+        return f"{line}\n" in self.news()
 
     def has_begun(self) -> bool:
-        return self.has_told("match begins") or self.has_told("match goes on")
+        return self.has_said("match begins") or self.has_said("match goes on")
 
     def fault(self) -> str:
-        """Why it ended: what it printed, and the last that it told."""
-        told = [line for line in self.told().splitlines() if line.startswith(("can't", "error"))]
+        """Why it ended: what it printed, and its last news."""
+        reported = [line for line in self.news().splitlines() if line.startswith(("can't", "error"))]
         printed = self.printed.text.decode(errors="replace").strip()
-        return ": ".join([printed or self.exit or "it does nothing", *told[-1:]])
+        return ": ".join([printed or self.exit or "it does nothing", *reported[-1:]])
 
 
 class Seating:
@@ -88,7 +88,7 @@ class Seating:
 
     def seat_all(self, referee: Referee) -> None:
         """Starts the programs in the order of their seats, each one when the one before it has connected. Meanwhile the
-        referee stands still, so that nothing is played before it is known whose the connections are; then it takes them in
+        referee is stopped, so that nothing is played before it is known whose the connections are; then it takes them in
         the order in which they came. When one doesn't come, the others are started all the same: who isn't there either
         wins nothing."""
         os.kill(referee.process.pid, signal.SIGSTOP)
@@ -102,7 +102,7 @@ class Seating:
         if not self.absent:
             os.kill(referee.process.pid, signal.SIGCONT)
             self.processes.wait(lambda: referee.exit is not None or referee.has_begun(), self.plan.wait)
-            left = [seat for seat, news in seats_news(referee.told()) if news == "left"]
+            left = [seat for seat, news in seats_news(referee.news()) if news == "left"]
             if left:
                 self.absent = {left[0]: CLOSED}
 
@@ -121,7 +121,7 @@ class Seating:
             return None
 
     def seat_one(self, seat: int, referee: Referee) -> Union[int, str, None]:
-        """Starts the program of a seat, and waits until it has its connection, or doesn't come. Returns what is wrong where
+        """Starts the program of a seat, and waits until it has its connection, or doesn't come. Returns what is wrong if
         a connection is of a process that may not have it, as `wrong_seats` does."""
         program = self.start(seat, referee.port)
         self.programs.append(program)
@@ -155,7 +155,7 @@ class Seating:
         return wrong, here
 
     def look_at_connections(self, seat: int, port: int, queue: Optional[int]) -> tuple[Union[int, str, None], bool]:
-        """What is wrong with the connections, of which so many were made, and whether the program of this seat has one."""
+        """What is wrong with the connections, of which this many were made, and whether the program of this seat has one."""
         sockets = connections(port, queue)
         if sockets == self.seen:
             return None, False

@@ -72,7 +72,7 @@ def family(process: int) -> Iterator[int]:
 
 
 def waiting(port: int) -> Optional[int]:
-    """How many connections to a port of 127.0.0.1 haven't been accepted yet, or None where the system doesn't tell. It is
+    """How many connections to a port of 127.0.0.1 haven't been accepted yet, or None if the system doesn't say. It is
     cheap, unlike the tables of all connections.
 
     >>> with socket.create_server(("127.0.0.1", 0)) as server:
@@ -95,7 +95,7 @@ def waiting(port: int) -> Optional[int]:
 
 
 def connections(port: int, count: Optional[int] = None) -> dict[str, int]:
-    """The sockets that are connected to a port of 127.0.0.1, and the users whose they are. Where it is known how many they
+    """The sockets that are connected to a port of 127.0.0.1, and the users whose they are. If it is known how many they
     are, the second table is read only if the first one has fewer: a table takes milliseconds."""
     found: dict[str, int] = {}
     for name in ("tcp", "tcp6"):
@@ -131,8 +131,8 @@ def seats_of(held: Sequence[tuple[Optional[int], int]], programs: Sequence[int])
 def wrong_seats(
     held: Sequence[tuple[Optional[int], int]], programs: Sequence[int], wrapped: bool = False
 ) -> Union[int, str, None]:
-    """What is wrong where these programs, seat 1 first, should have one connection each: the seat whose program has more
-    than one, or in words that a process is none of theirs. Where programs are wrapped, those of another user can't be seen,
+    """What is wrong if these programs, seat 1 first, should have one connection each: the seat whose program has more
+    than one, or in words that a process is none of theirs. If programs are wrapped, those of another user can't be seen,
     and each one that has no other may have one such connection.
 
     >>> wrong_seats([(None, 7), (None, 7)], [1, 1], wrapped=True)

@@ -108,7 +108,7 @@ def play(folder: Path, plan: str) -> str:
 
 
 def end_jobs() -> None:
-    """Ends the jobs that are left, where matches don't end."""
+    """Ends the jobs that are left, if matches don't end."""
     said("scancel", "--partition=all")
     until = time.monotonic() + 30
     while said("squeue", "--noheader").strip() and time.monotonic() < until:
@@ -136,6 +136,6 @@ def main() -> int:
 
 
 if __name__ == "__main__":
-    # so that what was started ends where this is told to stop
+    # so that what was started ends if this is asked to stop
     signal.signal(signal.SIGTERM, lambda number, _: sys.exit(128 + number))
     sys.exit(main())

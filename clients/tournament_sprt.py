@@ -5,7 +5,7 @@
 
 The test asks whether a program is better than those it meets by `elo0` points at most, or by `elo1` at least. After each
 match (trinomial) or each two matches with seats turned round (pentanomial) it takes the ratio of the likelihoods of both:
-each one is that of the likeliest chances of the outcomes whose mean is what so many points give. It ends where the
+each one is that of the likeliest chances of the outcomes whose mean is what that many points give. It ends if the
 logarithm of the ratio leaves the bounds that `alpha` and `beta` give.
 """
 
@@ -23,7 +23,7 @@ NONE = 0.1  # what an outcome counts that was never seen
 
 
 def score_of(elo: float) -> float:
-    """What a program takes of each match on the mean that is better by so many points.
+    """What a program takes of each match on the mean that is better by this many points.
 
     >>> round(score_of(0), 3), round(score_of(400), 3)
     (0.5, 0.909)
@@ -33,7 +33,7 @@ def score_of(elo: float) -> float:
 
 def tilt(counts: Sequence[float], values: Sequence[float], mean: float) -> float:
     """The number t with which `counts[i] / (1 + t * (values[i] - mean))` are the likeliest chances of this mean, but for
-    a factor: that where the sum of each one times `values[i] - mean` is 0.
+    a factor: that at which the sum of each one times `values[i] - mean` is 0.
 
     >>> round(tilt([1, 1], [0.0, 1.0], 0.5), 6), round(tilt([1, 3], [0.0, 1.0], 0.5), 6)
     (0.0, 1.0)
@@ -112,9 +112,9 @@ class Test:
     def short(self) -> str:
         return f"SPRT {self.ratio:.2f} in {self.bounds[0]:.2f} .. {self.bounds[1]:.2f}"
 
-    def told(self) -> str:
+    def in_words(self) -> str:
         """
-        >>> Test(Sprt("a", 0, 100)).told()
+        >>> Test(Sprt("a", 0, 100)).in_words()
         'SPRT of a, 0 or 100 points: ratio 0.00 in -2.94 .. 2.94, pairs 0 0 0 0 0'
         """
         low, high = self.bounds
@@ -144,13 +144,13 @@ def shares_of_test(sprt: Sprt, encounters: Iterable[Sequence[Sequence[float]]]) 
 
 
 def chance_of_game(chance: random.Random, mean: float, draws: float) -> float:
-    """A match by chance: what was taken."""
+    """A random match: what was taken."""
     drawn = chance.random()
     return 0.5 if drawn < draws else float(drawn < draws + mean - draws / 2)
 
 
 def simulate(model: str, better: bool, advantage: float, seed: int, runs: int, elo1: float = 50.0) -> tuple[int, int]:
-    """How many of so many tests err, and how many matches they take together. The program is better by `elo1` points, or
+    """How many of that many tests err, and how many matches they take together. The program is better by `elo1` points, or
     by none. Three matches of ten are drawn. The first seat takes `advantage` more of each match than the second one.
 
     >>> errors, matches = simulate("pentanomial", False, 0.1, 1, 100, elo1=120)

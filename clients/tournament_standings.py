@@ -25,9 +25,9 @@ class Count:
         self.matches += 1
         self.points += points
 
-    def told(self) -> str:
+    def in_words(self) -> str:
         """
-        >>> Count(3, 1.5).told(), Count().told()
+        >>> Count(3, 1.5).in_words(), Count().in_words()
         ('1.5 of 3', '')
         """
         return f"{self.points:.4g} of {self.matches}" if self.matches else ""
@@ -49,7 +49,7 @@ class Standing:
     better: Optional[float] = None  # the chance that it is stronger than the next one of the table
     seats: dict[int, Count] = field(default_factory=dict)
     games: dict[str, Count] = field(default_factory=dict)
-    used: Count = field(default_factory=Count)  # its moves, and the milliseconds that they took
+    used: Count = field(default_factory=Count)  # its turns, and the milliseconds that they took
     most: int = 0
 
 
@@ -69,7 +69,7 @@ class GameLine:
 @dataclass
 class Table:
     """What came of a tournament so far. `score[a][b]` is what program a took from b. The results are those of all matches
-    of the schedule, None where a match wasn't played yet."""
+    of the schedule, None if a match wasn't played yet."""
 
     pairings: list[Pairing]
     results: list[Optional[Result]]
@@ -205,21 +205,21 @@ def table_of(plan: Plan, folder: Folder, checks: bool = False) -> Table:
 
 
 def remarks(table: Table) -> list[str]:
-    """What the ratings can't tell."""
-    told = []
+    """What the ratings don't say."""
+    reported = []
     for line, taken, given in zip(table.standings, table.score, zip(*table.score)):
         if any(taken) != any(given):
             side, bound = ("won", "better") if any(taken) else ("lost", "worse")
-            told.append(f"{line.name} has {side} all: it may be far {bound} than its interval says")
+            reported.append(f"{line.name} has {side} all: it may be far {bound} than its interval says")
     tied = [", ".join(table.standings[one].name for one in group) for group in groups(table.score)]
     if len(tied) > 1:
-        told.append(f"no match ties these together, so their ratings can't be compared: {' | '.join(tied)}")
+        reported.append(f"no match ties these together, so their ratings can't be compared: {' | '.join(tied)}")
     if table.repeated:
         whole = sum(result is not None for result in table.results)
-        told.append(
+        reported.append(
             f"{len(table.repeated)} of {whole} matches are the same as one before, move by move, and aren't counted: "
             "programs without chance need openings"
         )
     if table.test is not None:
-        told.append(table.test.told())
-    return told
+        reported.append(table.test.in_words())
+    return reported

@@ -63,7 +63,7 @@ def share_rows(table: Table) -> list[list[str]]:
     rows = [["program", *table.games, *[f"seat {seat}" for seat in seats]]]
     for line in table.best():
         counts = [line.games.get(game) for game in table.games] + [line.seats.get(seat) for seat in seats]
-        rows.append([line.name, *[count.told() if count else "" for count in counts]])
+        rows.append([line.name, *[count.in_words() if count else "" for count in counts]])
     return rows
 
 

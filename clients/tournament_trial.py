@@ -3,8 +3,8 @@
 
     tournament_trial.py [--keep DIR] [NAME..]
 
-Without names all trials are made but for overhead, which tells times. It needs ./rbg and ./rbg_author. The files are left
-in DIR, or where a trial failed.
+Without names all trials are made but for overhead, which prints times. It needs ./rbg and ./rbg_author. The files are left
+in DIR, or if a trial failed.
 """
 
 import argparse

@@ -14,7 +14,7 @@ KILLS = 10
 
 
 def without_times(table: str) -> str:
-    """A table without the part that tells of times.
+    """A table without the part about times.
 
     >>> without_times("a\\n\\nprogram  moves  ms a move\\nb  3  7.1\\n\\nc")
     'a\\n\\nc'
@@ -86,7 +86,7 @@ def try_cheats(folder: Path) -> None:
     for match in play_all(folder / "absent", "tictactoe", absent, "wait = 1"):
         print(f"nobody comes: {match['reason']}")
         expect(match["scores"] is None and match["absent"] == [1, 2], "a match that nobody began has no winner")
-    expect("2 lost by default" in tool("table", folder / "absent" / "t"), "the table tells matches lost by default")
+    expect("2 lost by default" in tool("table", folder / "absent" / "t"), "the table lists matches lost by default")
     before = written(folder / "absent" / "t")
     tool("run", folder / "absent" / "t")
     expect(before == written(folder / "absent" / "t"), "they are settled")
@@ -130,7 +130,7 @@ def try_test(folder: Path) -> None:
 
 
 def try_faults(folder: Path) -> None:
-    """A file that can't be written is named; what failed is told apart, and is played again if that is asked for."""
+    """A file that can't be written is named; what failed is listed by itself, and is played again if that is asked for."""
     programs = {"a": steady(1), "b": steady(2)}
     rbg = folder / "rbg"
     plan = plan_of(folder, "tictactoe", programs)
@@ -140,8 +140,8 @@ def try_faults(folder: Path) -> None:
     tool("plan", plan, folder / "t")
     record = folder / "t" / "matches" / "0001.record"
     record.mkdir()
-    told = tool("run", folder / "t", status=1)
-    expect(f"match 1: can't write {record}: Is a directory" in told, f"the fault names the file: {told}")
+    reported = tool("run", folder / "t", status=1)
+    expect(f"match 1: can't write {record}: Is a directory" in reported, f"the fault names the file: {reported}")
     expect("1 of 2 matches played; 1 not played yet" in tool("table", folder / "t"), "the match has no result")
     record.rmdir()
     rbg.chmod(0o644)

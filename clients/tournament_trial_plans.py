@@ -71,7 +71,7 @@ def try_gauntlet(folder: Path) -> None:
 
 
 def league_plan(folder: Path) -> Path:
-    """The plan of the league. Where this system lets nobody have a network of his own, it has no wrapper."""
+    """The plan of the league. If this system lets nobody have a network of his own, it has no wrapper."""
     plan = EXAMPLE / "league.toml"
     if subprocess.run([sys.executable, str(CLIENTS / "tournament_jail.py"), "1", "true"]).returncode == 0:
         return plan
@@ -93,7 +93,7 @@ def try_league(folder: Path) -> None:
 
 
 def try_jobs(folder: Path) -> None:
-    """The lines of jobs.txt are commands for whatever runs commands; equal matches are told and count once."""
+    """The lines of jobs.txt are commands for whatever runs commands; equal matches are reported and count once."""
     programs = {"a": steady(1), "b": steady(2), "c": steady(3)}
     tool("plan", plan_of(folder, "tictactoe carrot_race", programs, "rounds = 2"), folder / "t")
     jobs = (folder / "t" / "jobs.txt").read_text()
@@ -105,11 +105,11 @@ def try_jobs(folder: Path) -> None:
     table = tool("table", folder / "t")
     print(table)
     expect("18 of 18 matches played" in table, "each line plays its match, those of three players in each rotation")
-    expect("9 of 18 matches are the same as one before" in table, "the second round is told to be the first one again")
+    expect("9 of 18 matches are the same as one before" in table, "the second round is reported as the first one again")
 
 
 def try_openings(folder: Path) -> None:
-    """Openings are made by chance, balanced, and the same for the same seed. With them no match is as one before."""
+    """Openings are random, balanced, and the same for the same seed. With them no match is as one before."""
     words = ["openings", GAMES / "tictactoe.rbg", 6, "--plies", 2, "--seed", 7, "--balance", 0.3, "--rbg", ROOT / "rbg"]
     made = tool(*words)
     print(made, end="")

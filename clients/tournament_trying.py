@@ -67,7 +67,7 @@ def plan_of(folder: Path, games: str, programs: dict[str, str], more: str = "") 
 
 
 def steady(seed: int, slow: int = 0) -> str:
-    """A player that plays the same match each time, and waits so many milliseconds before each move."""
+    """A player that plays the same match each time, and waits this many milliseconds before each move."""
     return f"{sys.executable} steady.py {{port}} --seed {seed} --slow {slow} --rbg ../../rbg"
 
 

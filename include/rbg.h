@@ -1,7 +1,7 @@
 /* The proved rules of Regular Boardgames, for programs in C.
 
    A description of a game is opened once. It gives a state: a place of play, with the places before it. States are
-   copied, moves are found and made, made moves are undone, and matches are played on by chance. No call prints, reads a
+   copied, moves are found and made, made moves are undone, and random matches are played. No call prints, reads a
    file, or waits.
 
    Each call keeps these rules, and asks these of its caller:
@@ -9,15 +9,15 @@
    - A handle (rbg_state) is zero before its first call: `rbg_state s = RBG_NO_STATE;`. Nobody but the library writes
      to it afterwards, and it isn't copied by `=`: rbg_copy makes a copy. rbg_free lets its state go. A handle that
      holds no state may be given to each call, which then answers RBG_EMPTY; to be freed twice does no harm.
-   - No pointer is NULL, also where the length after it is 0. Pointers of one call don't overlap.
+   - No pointer is NULL, even if the length after it is 0. Pointers of one call don't overlap.
    - A buffer comes with its room: how many items it can take. The call stores in *needed how many there are, and puts
-     them at its beginning. Where they are more than its room, the call answers RBG_SMALL, and the buffer is as before.
+     them at its beginning. If they are more than its room, the call answers RBG_SMALL, and the buffer is as before.
    - A call that fails leaves its states as they were.
    - A handle is used by the thread that made it. Other threads open games of their own.
    - malloc, realloc and free come from one allocator, as in each usual program. No call is made from a signal handler.
      A call may use some 100 kB of stack.
 
-   What is proved of each call stands above its name in the sources (crates/rbg_c). That C keeps the rules above
+   What is proved of each call is above its name in the sources (crates/rbg_c). That C keeps the rules above
    can't be proved. */
 #ifndef RBG_H
 #define RBG_H
@@ -81,15 +81,15 @@ void rbg_free(rbg_state *state);
    A state that `to` held is let go, if the call succeeds. */
 rbg_result rbg_copy(rbg_state *from, rbg_state *to);
 
-/* ---- what a state tells */
+/* ---- what a state says */
 
-/* The player to move, from 1; 0 is the keeper, or nobody: play is finished where rbg_find_moves finds no move. */
+/* The player to move, from 1; 0 is the keeper, or nobody: play is finished if rbg_find_moves finds no move. */
 rbg_result rbg_player(rbg_state *state, uint32_t *player);
 
 /* How many moves can be undone. */
 rbg_result rbg_moves_made(rbg_state *state, uint64_t *made);
 
-/* The key of the place: 64 bits that are equal for equal places, and hardly ever for others. `rbg ask` tells the same. */
+/* The key of the place: 64 bits that are equal for equal places, and hardly ever for others. `rbg ask` prints the same. */
 rbg_result rbg_key(rbg_state *state, uint64_t *key);
 
 /* The number of the piece on each vertex; what each variable holds, of which the first are the players' scores; and
@@ -99,7 +99,7 @@ rbg_result rbg_values(rbg_state *state, uint32_t *values, size_t room, uint64_t 
 rbg_result rbg_scores(rbg_state *state, uint64_t *scores, size_t room, uint64_t *needed);
 
 /* The name of a player, a piece or a variable, by its kind and its index from 0: bytes, with no zero byte after them.
-   RBG_RANGE where there is none. */
+   RBG_RANGE if there is none. */
 enum { RBG_PLAYERS = 0, RBG_PIECES = 1, RBG_VARIABLES = 2 };
 rbg_result rbg_name(rbg_state *state, uint32_t kind, uint64_t index, uint8_t *name, size_t room, uint64_t *needed);
 
@@ -126,12 +126,12 @@ rbg_result rbg_undo(rbg_state *state);
 
 /* ---- chance */
 
-/* Plays so many matches by chance from here, 1 to 1,000,000, and tells how they ended: for each ending a row of how many
+/* Plays this many random matches from here, 1 to 1,000,000, and says how they ended: for each ending a row of how many
    matches ended so, and each player's score. A match that isn't finished after 10,000 moves is stopped, and has no row.
    A seed always gives the same matches. The state is as before; room for (players + 1) * count numbers is always enough. */
 rbg_result rbg_playouts(rbg_state *state, uint64_t seed, uint64_t count, uint64_t *rows, size_t room, uint64_t *needed);
 
-/* Makes `to` a copy of `from` on which moves were made by chance, at most so many, until play is finished, and stores how
+/* Makes `to` a copy of `from` on which random moves were made, at most this many, until play is finished, and stores how
    many. They can be undone there. A state that `to` held is let go, if the call succeeds. */
 rbg_result rbg_play_on(rbg_state *from, rbg_state *to, uint64_t seed, uint64_t most, uint64_t *made);
 

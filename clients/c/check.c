@@ -1,4 +1,4 @@
-/* Says of a description whether it is a game's, and of so many texts that are cut or spoilt by chance how many are:
+/* Says of a description whether it is a game's, and of random texts that are cut or spoilt how many are:
    check FILE TEXTS SEED. */
 #include <rbg.h>
 

@@ -73,7 +73,7 @@ static node *next(node *it) {
   return best;
 }
 
-/* One match from a place, to which a player has moved: through the tree, and then by chance. */
+/* One match from a place, to which a player has moved: through the tree, and then at random. */
 static void play(node *it, uint32_t mover) {
   uint64_t needed = 0;
   if (it->moves && (it->visits || !mover))

@@ -1,4 +1,4 @@
-/* Calls the library in every way that the header allows, by chance, and compares what two copies of a state tell:
+/* Calls the library at random in every way that the header allows, and compares what two copies of a state say:
    trial FILE CALLS SEED. It is to be quiet under valgrind and AddressSanitizer. */
 #include <rbg.h>
 
@@ -80,7 +80,7 @@ static rbg_result pairs_made(rbg_state *state) {
   return result;
 }
 
-/* Matches by chance: the same seed gives the same matches. */
+/* Random matches: the same seed gives the same matches. */
 static rbg_result played(rbg_state *state, rbg_state *other) {
   uint64_t count = chance(8) ? chance(4) : 1000001, room = chance(16), seed_of = chance(1000), needed = 0, again = 0, made = 0;
   if (chance(2))

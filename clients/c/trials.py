@@ -1,6 +1,6 @@
 #!/usr/bin/env python3
 """Compiles the programs of this folder against librbg.a and librbg.so, and runs them: counts of chess, descriptions that
-are whole, cut and spoilt, and calls by chance, alone, under AddressSanitizer and under valgrind. trials.py CHESS GAME.."""
+are whole, cut and spoilt, and random calls, alone, under AddressSanitizer and under valgrind. trials.py CHESS GAME.."""
 
 import os
 import subprocess

@@ -56,7 +56,7 @@ struct Node {
     return endings.empty() ? std::vector<uint64_t>(state.scores().size()) : endings[0].scores;
   }
 
-  /// The scores of one match from here, to where a player has moved: through the tree, and then by chance.
+  /// The scores of one match from here, to where a player has moved: through the tree, and then at random.
   std::vector<uint64_t> play(uint32_t mover) {
     auto scores = moves && (visits || !mover) ? next().play(player) : moves ? by_chance() : state.scores();
     double score = mover ? static_cast<double>(scores[mover - 1]) : 0;

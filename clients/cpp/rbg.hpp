@@ -111,7 +111,7 @@ public:
     }
   }
 
-  /// How many legal moves there are. Play is finished where there is none.
+  /// How many legal moves there are. Play is finished if there is none.
   uint64_t count() { return number(rbg_find_moves); }
 
   /// The legal move of this index. `count` has found the moves.
@@ -133,7 +133,7 @@ public:
   /// Undoes the last move of a player.
   void undo() { must(rbg_undo(&held)); }
 
-  /// How so many matches by chance from here end. Those that are stopped after 10,000 moves aren't among them.
+  /// How this many random matches from here end. Those that are stopped after 10,000 moves aren't among them.
   std::vector<Ending> playouts(uint64_t seed, uint64_t count = 1) {
     uint64_t needed = 0, width = scores().size() + 1;
     std::vector<uint64_t> rows(width * count);
@@ -144,7 +144,7 @@ public:
     return endings;
   }
 
-  /// A copy on which moves were made by chance, at most so many, until play is finished. They can be undone there.
+  /// A copy on which random moves were made, at most this many, until play is finished. They can be undone there.
   State play_on(uint64_t seed, uint64_t most) const {
     State to;
     uint64_t made = 0;

@@ -4,7 +4,7 @@
     steady.py PORT --seed S [--rbg FILE] [--slow MS]
 
 So a match that was stopped and goes on ends as if it hadn't been stopped, and the programs of a tournament play the same
-matches each time, unlike those that begin their chance anew where they are started anew.
+matches each time, unlike those that begin their chance anew if they are started anew.
 """
 
 import argparse

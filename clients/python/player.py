@@ -60,7 +60,7 @@ class Search:
         return max(root.children, key=lambda it: it[1].visits)[0]
 
     def play(self, root: Node) -> None:
-        """One match: through the tree, and then by chance. Its scores are counted in each place that it meets."""
+        """One match: through the tree, and then at random. Its scores are counted in each place that it meets."""
         way = [root]
         while way[-1].scores is None and (len(way) == 1 or way[-1].visits):
             here = way[-1]
@@ -74,7 +74,7 @@ class Search:
         root.visits += 1
 
     def by_chance(self, state: rbg.State) -> Optional[list[int]]:
-        """The scores of a match by chance. One that is stopped has none."""
+        """The scores of a random match. One that is stopped has none."""
         [ending] = state.playouts(1, self.chance.getrandbits(63))
         return ending.scores
 

@@ -63,7 +63,7 @@ impl Node {
         best.ok_or("no move".into())
     }
 
-    /// The scores of one match from here, to where a player has moved: through the tree, and then by chance.
+    /// The scores of one match from here, to where a player has moved: through the tree, and then at random.
     fn play(&mut self, mover: u32, search: &mut Search) -> Result<Vec<u64>> {
         let scores = if self.moves == 0 {
             self.state.scores()?

@@ -158,7 +158,7 @@ impl State {
         self.number(rbg_key)
     }
 
-    /// Finds the legal moves, and returns how many they are. Play is finished where there is none.
+    /// Finds the legal moves, and returns how many they are. Play is finished if there is none.
     pub fn count(&mut self) -> Result<u64, Refused> {
         self.number(rbg_find_moves)
     }
@@ -220,7 +220,7 @@ impl State {
         answer(unsafe { rbg_undo(&mut *self.handle) })
     }
 
-    /// How so many matches by chance from here end. Those that are stopped after 10,000 moves aren't among them.
+    /// How this many random matches from here end. Those that are stopped after 10,000 moves aren't among them.
     pub fn playouts(&mut self, seed: u64, count: u64) -> Result<Vec<Ending>, Refused> {
         let width = self.scores()?.len() + 1;
         let (mut rows, mut needed) = (vec![0; width * count as usize], 0);
@@ -229,7 +229,7 @@ impl State {
         Ok(rows.chunks(width).map(|row| Ending { matches: row[0], scores: row[1..].to_vec() }).collect())
     }
 
-    /// A copy on which moves were made by chance, at most so many, until play is finished. They can be undone there.
+    /// A copy on which random moves were made, at most this many, until play is finished. They can be undone there.
     pub fn play_on(&mut self, seed: u64, most: u64) -> Result<State, Refused> {
         let (mut to, mut made) = (State::empty(), 0);
         answer(unsafe { rbg_play_on(&mut *self.handle, &mut *to.handle, seed, most, &mut made) })?;

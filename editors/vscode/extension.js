@@ -155,7 +155,7 @@ function providers(talk) {
   ];
 }
 
-/** What VS Code tells of its documents, passed on to the server. */
+/** What VS Code says of its documents, passed on to the server. */
 function documents(talk) {
   const open = (document) => {
     if (document.languageId !== "rbg") return;

@@ -105,7 +105,7 @@ async function main() {
   heard.close(document);
   await until(() => told.get(uri)?.length === 0);
   await extension.deactivate();
-  console.log("the extension is told and asks what is wanted");
+  console.log("the extension gets and asks what is wanted");
 }
 
 main().catch((error) => {

@@ -6,7 +6,7 @@ With --write each section that was taken is written to RESULTS.md, in place of t
 Instructions are counted by valgrind's callgrind, and are repeatable. Seconds are processor seconds of one run without
 it, and memory is the greatest of that run; both are only printed. The programs are ./rbg and ./rbg_author, which
 `make build` leaves. Only the sections `forms` and `changes` build a program of their own, in a copy of the repository,
-and so prove what is not proved there yet; --bench names that program where it is built already.
+and so prove what is not proved there yet; --bench names that program if it is built already.
 """
 
 import argparse
@@ -151,6 +151,18 @@ def search(run, programs):
                 row(name, moves, f"{int(lines[-2].split()[1]):,}", f"{more:,}", f"{taken:,}", f"{spent / more:,.0f}")
 
 
+def ask(run, programs):
+    """What questions cost beside the start of a session; of `random` a match of 20."""
+    head("Questions: `rbg ask GAME`", "Game", "Instructions of `moves`", "of `make`", "of a random match")
+    for name in DEPTHS:
+        words = [programs.rbg, "ask", run.file("text.rbg", texts.game(name))]
+        begun = run.counted(words)[1]
+        printed, listed, _ = run.counted(words, "moves\n")
+        first = printed.splitlines()[1]
+        made, played = (run.counted(words, question)[1] for question in (f"make {first}\n", "random 1 20\n"))
+        row(name, *(f"{spent:,.0f}" for spent in (listed - begun, made - begun, (played - begun) / 20)))
+
+
 def limit(run, programs):
     head("Questions at the limit: `rbg referee GAME`", "Board", "The end", "Seconds", "Megabytes")
     for size in (8, 64):
@@ -171,7 +183,7 @@ def matches(run, programs):
         moves = sum(line.startswith("1 M") for line in printed.splitlines())
         searching = sum(inside.values()) - sum(first.values())
         spent = total - opening
-        beside = f"{(spent - searching) / moves:,.0f}" if searching else "not told"
+        beside = f"{(spent - searching) / moves:,.0f}" if searching else "not reported"
         row(label, f"{messages:,}", f"{moves:,}", f"{spent / messages:,.0f}", f"{searching / messages:,.0f}", beside)
 
 
@@ -228,7 +240,7 @@ def built(run):
     copy = run.room / "copy"
     copy.mkdir()
     shutil.copy(ROOT / "crates.txt", copy)
-    # (by links, where the copy is on the same disk: checks replace the files that they keep, and write into none)
+    # (by links, if the copy is on the same disk: checks replace the files that they keep, and write into none)
     if subprocess.run(["cp", "-al", str(ROOT / "crates"), str(copy)], stderr=subprocess.DEVNULL).returncode:
         shutil.rmtree(copy / "crates", ignore_errors=True)
         subprocess.run(["cp", "-a", str(ROOT / "crates"), str(copy)], check=True)
@@ -289,7 +301,7 @@ def wire(run, programs):
 
 
 SECTIONS = {
-    "texts": heavy_texts, "loading": loading, "search": search, "limit": limit,
+    "texts": heavy_texts, "loading": loading, "search": search, "ask": ask, "limit": limit,
     "matches": matches, "streams": streams, "halls": halls, "wire": wire, "forms": forms, "changes": changes,
 }  # fmt: skip
 
@@ -319,7 +331,7 @@ def replaced(page, name, text):
     first, *sections = page.rstrip("\n").split("\n\n## ")
     texts = dict(it.split("\n", 1) for it in sections)
     texts[name] = "\n" + text.strip("\n")
-    return "\n\n## ".join([first, *(f"{it}\n{told}" for it, told in texts.items())]) + "\n"
+    return "\n\n## ".join([first, *(f"{it}\n{reported}" for it, reported in texts.items())]) + "\n"
 
 
 def processor():
@@ -330,10 +342,10 @@ def processor():
 
 def main():
     parser = argparse.ArgumentParser(description=__doc__.split("\n")[0])
-    parser.add_argument("sections", nargs="*", metavar="SECTION", help=f"of {', '.join(SECTIONS)}; all where none is named")
+    parser.add_argument("sections", nargs="*", metavar="SECTION", help=f"of {', '.join(SECTIONS)}; all if none is named")
     parser.add_argument("--rbg", default=str(ROOT / "rbg"), help="the program rbg")
     parser.add_argument("--author", default=str(ROOT / "rbg_author"), help="the program rbg_author")
-    parser.add_argument("--bench", help="the program of tools/bench/forms, where it is built already")
+    parser.add_argument("--bench", help="the program of tools/bench/forms, if it is built already")
     parser.add_argument("--write", action="store_true", help="write the sections to RESULTS.md, too")
     programs = parser.parse_args()
     for name in programs.sections:
@@ -344,12 +356,12 @@ def main():
             sys.exit(f"{program} is missing: make build makes it")
     for name in programs.sections or SECTIONS:
         start = time.monotonic()
-        told = io.StringIO()
-        with tempfile.TemporaryDirectory(prefix="rbg-bench-") as room, contextlib.redirect_stdout(Both(sys.stdout, told)):
+        reported = io.StringIO()
+        with tempfile.TemporaryDirectory(prefix="rbg-bench-") as room, contextlib.redirect_stdout(Both(sys.stdout, reported)):
             SECTIONS[name](Run(pathlib.Path(room)), programs)
         if programs.write:
             taken = f"Taken on {time.strftime('%-d %B %Y')}, on {processor()}.\n"
-            RESULTS.write_text(replaced(RESULTS.read_text(), name, taken + told.getvalue()))
+            RESULTS.write_text(replaced(RESULTS.read_text(), name, taken + reported.getvalue()))
         print(f"\n({name} took {time.monotonic() - start:.0f} seconds)", flush=True)
 
 

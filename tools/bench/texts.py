@@ -32,7 +32,7 @@ def joins(size):
 
 
 def reads(times):
-    """A name of 100,000 bytes, that of an empty macro, is read 990 times for each of so many calls."""
+    """A name of 100,000 bytes, that of an empty macro, is read 990 times for each of this many calls."""
     name = "n" * 100_000
     text = f"#{name} =\n#h(x) =" + " x" * 990 + f"\n#r = h({name})\n"
     return text + "#rules =" + " r" * times + "\n"
@@ -75,7 +75,7 @@ def vertices(count):
 
 
 def long(last, size):
-    """A name of this many bytes stands 2^(last + 1) + 2^last times in the rules."""
+    """A name of this many bytes is there 2^(last + 1) + 2^last times in the rules."""
     name = "n" * size
     text = HEAD.replace("w\n", "w, " + name + "\n", 1) + BOARD
     text += f"#m = {name}\n#a0 = m, m\n"
@@ -105,7 +105,7 @@ def stars_in_a_row(count):
 
 
 def stars_within(depth, count):
-    """A sum of so many actions, and then so many times a star of what is there with an action after it."""
+    """A sum of this many actions, and then this many times a star of what is there with an action after it."""
     return GAME + "(" * depth + "up+" * (count - 1) + "up" + ")* up" * depth + "\n"
 
 
@@ -148,7 +148,7 @@ def endless_chess():
 
 
 def knights(turns):
-    """So many messages: the knights of the kings' sides go out and back in turn."""
+    """This many messages: the knights of the kings' sides go out and back in turn."""
 
     def step(seat, start, to, more):
         return f"m {seat} 0 M{start} {69 + more} {to} {87 + more} {to} {90 + more} {to} {507 + more}\n"
@@ -170,7 +170,7 @@ def bytewise(script_text):
 
 
 def flood(size):
-    """A script in which seat 1 sends so many bytes that are no message."""
+    """A script in which seat 1 sends this many bytes that are no message."""
     return "config 1000 3 0\np 1 0 " + "78" * size + "\n"
 
 
@@ -182,7 +182,7 @@ def for_eight():
 
 
 def hall_flood(lines, times, seated, event, first):
-    """A script for a hall of 16 tables for eight: so many lines, from the first on, send something so many times, in turn.
+    """A script for a hall of 16 tables for eight: this many lines, from the first on, send something this many times, in turn.
 
     Before that the lines from 0 on take a seat each, as many as are to have one.
     """

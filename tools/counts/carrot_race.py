@@ -36,9 +36,9 @@ def choices(mover, squares, carrots, arrived):
             yield target, left, arrived + (mover,)
         elif target < GOAL and left >= 0 and target not in TORTOISES and target not in squares:
             yield target, left, arrived
-    behind = [other for other in TORTOISES if other < square]
-    if behind and behind[-1] not in squares:
-        yield behind[-1], purse + 10 * (square - behind[-1]), arrived
+    back = [other for other in TORTOISES if other < square]
+    if back and back[-1] not in squares:
+        yield back[-1], purse + 10 * (square - back[-1]), arrived
     if square in CARROTS:
         yield square, purse + 10, arrived
         if purse >= 10:

@@ -25,10 +25,10 @@ def targets(hole, taken):
     hopped, queue = {hole}, [hole]
     for here in queue:
         for step in STEPS:
-            over, behind = plus(here, step), plus(here, step, 2)
-            if over in taken and behind in STAR and behind not in taken and behind not in hopped:
-                hopped.add(behind)
-                queue.append(behind)
+            over, beyond = plus(here, step), plus(here, step, 2)
+            if over in taken and beyond in STAR and beyond not in taken and beyond not in hopped:
+                hopped.add(beyond)
+                queue.append(beyond)
     return (near | hopped) - {hole}
 
 

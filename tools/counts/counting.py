@@ -7,9 +7,9 @@
     python3 tools/counts/counting.py --match clobber      follows the match that is stored with the game
 
 A game is a module beside this one. It plays by its own board and its own rules, and knows nothing of the language:
-`START` is a place, `moves(place)` the places to which the moves lead, one for each move, and none where play is
+`START` is a place, `moves(place)` the places to which the moves lead, one for each move, and none if play is
 finished, `player(place)` the number of the player to move, `board(place)` the names of the pieces in the order of the
-vertices, and `scores(place)` the scores where play is finished. Where two moves may lead to the same board,
+vertices, and `scores(place)` the scores if play is finished. If two moves may lead to the same board,
 `values(place)` has what some variables hold, by name. `from_board(names)` is the place with the first player to move
 and these pieces, for the boards that are stored beside a game.
 """
@@ -27,7 +27,7 @@ STORED = TOP / "crates/rbg_games"
 
 
 def count(game, start, depth):
-    """For each depth how many sequences of so many moves there are, and after how many of them play is finished."""
+    """For each depth how many sequences of this many moves there are, and after how many of them play is finished."""
 
     @functools.lru_cache(maxsize=1 << 18)
     def counts_after(place, left):
@@ -78,7 +78,7 @@ def compare():
 
 
 class Seen:
-    """What `./rbg ask` says of a state: the pieces, who is to move (0 where play is finished), and the variables."""
+    """What `./rbg ask` says of a state: the pieces, who is to move (0 if play is finished), and the variables."""
 
     def __init__(self, state):
         self.board = [state.game.pieces[number] for number in state.board]

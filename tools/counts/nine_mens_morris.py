@@ -18,7 +18,7 @@ def in_mill(points, point):
 
 
 def ways(mover, points, hands):
-    """Pairs of the points after a man was put or has gone, and the point where it stands."""
+    """Pairs of the points after a man was put or has gone, and the point where it is."""
     mine = "wb"[mover - 1]
     empty = [point for point in range(24) if points[point] == "e"]
     if hands[mover - 1]:

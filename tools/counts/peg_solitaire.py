@@ -1,5 +1,5 @@
 """Peg solitaire on the English board of 33 holes. The board is a string of seven by seven squares, 1 for a peg, 0 for
-an empty hole, and blanks where there is none. A place is the same and the number of pegs that were taken."""
+an empty hole, and blanks if there is none. A place is the same and the number of pegs that were taken."""
 
 CENTRE = 24
 START = "  111  " "  111  " "1111111" "1110111" "1111111" "  111  " "  111  "
@@ -29,6 +29,6 @@ def board(place):
 
 
 def scores(place):
-    """A point for each peg that was taken, and one more if the last one stands in the middle."""
+    """A point for each peg that was taken, and one more if the last one is in the middle."""
     pegs = place.count("1")
     return [32 - pegs + (pegs == 1 and place[CENTRE] == "1")]

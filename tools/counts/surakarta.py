@@ -1,5 +1,5 @@
 """Surakarta. The two tracks, each of four lines and four loops, are lists of the points that a ride passes, and a piece
-may stand on a track twice. A place is the mover, the points, and the moves in a row in which nothing was taken."""
+may be on a track twice. A place is the mover, the points, and the moves in a row in which nothing was taken."""
 
 SIZE = 6
 LONGEST = 50

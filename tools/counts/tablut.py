@@ -25,11 +25,11 @@ def slides(squares, start):
 
 def takes(squares, arrived, step, friends, theirs, has_left):
     """The man of theirs beside the square that is taken, or None."""
-    man, behind = beyond(arrived, step), beyond(arrived, step, 2)
-    if behind is None or squares[man] != theirs:
+    man, opposite = beyond(arrived, step), beyond(arrived, step, 2)
+    if opposite is None or squares[man] != theirs:
         return None
-    empty_castle = behind == CASTLE and has_left
-    return man if empty_castle or squares[behind] in friends else None
+    empty_castle = opposite == CASTLE and has_left
+    return man if empty_castle or squares[opposite] in friends else None
 
 
 def king_is_taken(squares, arrived, has_left):

@@ -14,7 +14,7 @@ START = (1, "e" * len(CELLS), 0)
 
 
 def length_from(stones, stone, cell, step):
-    """How many stones of a colour stand in a row from a cell on."""
+    """How many stones of a colour are in a row from a cell on."""
     length = 0
     while cell in NUMBER and stones[NUMBER[cell]] == stone:
         cell = (cell[0] + step[0], cell[1] + step[1])

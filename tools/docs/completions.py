@@ -12,7 +12,7 @@ def dashed(command: Command) -> list[Option]:
 
 def for_bash(program: Program) -> str:
     """
-    >>> print(for_bash(Program("p", "", "", [Command("c", "does", [Option("log", "LOG", True, False, False, "h")])])))
+    >>> print(for_bash(Program("p", "", "", [Command("c", "does", "p c", [Option("log", "LOG", True, False, False, "h")])])))
     # Completions of p for bash.
     _p() {
         local word=${COMP_WORDS[COMP_CWORD]}
@@ -62,7 +62,7 @@ def quoted(text: str) -> str:
 
 def for_fish(program: Program) -> str:
     """
-    >>> print(for_fish(Program("p", "", "", [Command("c", "does", [Option("log", "LOG", True, False, False, "h")])])))
+    >>> print(for_fish(Program("p", "", "", [Command("c", "does", "p c", [Option("log", "LOG", True, False, False, "h")])])))
     # Completions of p for fish.
     complete -c p -n __fish_use_subcommand -a c -d 'does'
     complete -c p -n '__fish_seen_subcommand_from c' -l log -r -d 'h'
@@ -89,7 +89,7 @@ def bracketed(text: str) -> str:
 
 def for_zsh(program: Program) -> str:
     """
-    >>> print(for_zsh(Program("p", "", "", [Command("c", "does", [Option("log", "LOG", True, False, False, "h")])])))
+    >>> print(for_zsh(Program("p", "", "", [Command("c", "does", "p c", [Option("log", "LOG", True, False, False, "h")])])))
     #compdef p
     # Completions of p for zsh.
     _p() {
@@ -110,9 +110,9 @@ def for_zsh(program: Program) -> str:
     lines += ["    if (( CURRENT == 2 )); then", f"        local -a commands=({commands})"]
     lines += ["        _describe command commands", "        return", "    fi", "    case $words[2] in"]
     for command in program.commands:
-        told = []
+        reported = []
         for option in dashed(command):
             value = f":{option.value}:{'_files' if option.value in FILES else ''}" if option.value else ""
-            told.append(quoted(f"--{option.name}[{bracketed(option.help)}]{value}"))
-        lines.append(f"    {command.name}) _arguments {' '.join([*told, quoted('*:file:_files')])} ;;")
+            reported.append(quoted(f"--{option.name}[{bracketed(option.help)}]{value}"))
+        lines.append(f"    {command.name}) _arguments {' '.join([*reported, quoted('*:file:_files')])} ;;")
     return "\n".join([*lines, "    esac", "}", f'_{program.name} "$@"']) + "\n"

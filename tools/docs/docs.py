@@ -56,7 +56,7 @@ def used(listed: str) -> dict[str, list[str]]:
     return {name: [it for it in names if not any(it in below(other) for other in names)] for name, names in uses.items()}
 
 
-def told(name: str) -> tuple[str, str]:
+def said(name: str) -> tuple[str, str]:
     """What a crate holds, and what is proved of it, as its README says."""
     parts = (ROOT / "crates" / name / "README.md").read_text().split("\n\n")
     proved = next((it.removeprefix(PROVED).strip() for it in parts if it.startswith(PROVED)), "")
@@ -70,16 +70,16 @@ def held() -> str:
     lines = ["| Crate | Holds | Uses |", "|---|---|---|"]
     for title, names in groups(listed):
         lines += [f"| **{title}** | | |"]
-        lines += [f"| [{it}](../crates/{it}/README.md) | {told(it)[0]} | {', '.join(uses[it])} |" for it in names]
+        lines += [f"| [{it}](../crates/{it}/README.md) | {said(it)[0]} | {', '.join(uses[it])} |" for it in names]
     return "\n".join(lines) + "\n"
 
 
 def proved() -> str:
-    """The table of what is proved of the crates."""
-    lines = ["| Crate | Its contracts say |", "|---|---|"]
+    """The list of what the contracts of the crates say."""
+    lines: list[str] = []
     for title, names in groups((ROOT / "crates.txt").read_text()):
-        rows = [f"| [{it}](../crates/{it}/README.md) | {told(it)[1]} |" for it in names if told(it)[1]]
-        lines += [f"| **{title}** | |", *rows] if rows else []
+        rows = [f"- [{it}](../crates/{it}/README.md): {said(it)[1]}" for it in names if said(it)[1]]
+        lines += [*([""] if lines else []), f"**{title}**", "", *rows] if rows else []
     return "\n".join(lines) + "\n"
 
 

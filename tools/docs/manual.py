@@ -37,13 +37,13 @@ def page_of(programs: list[Program]) -> str:
 def section_of(program: Program, command: Command) -> list[str]:
     """A command's section of the page.
 
-    >>> print("\\n".join(section_of(Program("rbg", "1", "", []), Command("check", "Checks it", []))))
+    >>> print("\\n".join(section_of(Program("rbg", "1", "", []), Command("check", "Check it", "rbg check it", []))))
     ### rbg check
     <BLANKLINE>
-    Checks it.
+    Check it. Example: `rbg check it`
     <BLANKLINE>
     """
-    lines = [f"### {program.name} {command.name}", "", f"{command.about}.", ""]
+    lines = [f"### {program.name} {command.name}", "", f"{command.about}. Example: `{command.example}`", ""]
     if command.options:
         lines += ["| Argument | Meaning |", "|---|---|"]
         lines += [f"| `{described(it)}` | {it.help.replace('|', chr(92) + '|')} |" for it in command.options] + [""]
@@ -68,7 +68,7 @@ def manual_of(program: Program) -> str:
         lines += [f".B {escaped(program.name)} {escaped(command.name)}", escaped(command.usage().partition(" ")[2]), ".br"]
     lines.append(".SH COMMANDS")
     for command in program.commands:
-        lines += [f".SS {escaped(command.usage())}", escaped(command.about) + "."]
+        lines += [f".SS {escaped(command.usage())}", escaped(command.about) + ".", f"Example: {escaped(command.example)}"]
         for option in command.options:
             lines += [".TP", f".B {escaped(described(option))}", escaped(option.help) + "."]
     lines.append(".SH EXIT STATUS")

@@ -37,6 +37,7 @@ class Option:
 class Command:
     name: str
     about: str
+    example: str
     options: list[Option]
 
     def usage(self) -> str:
@@ -66,7 +67,7 @@ def words(text: str) -> Iterator[str]:
 
 
 class Reader:
-    """Reads values of structs, enums, lists, texts and numbers, with names that stand for values read before."""
+    """Reads values of structs, enums, lists, texts and numbers, with names of values read before."""
 
     def __init__(self, text: str, known: dict[str, Any]):
         self.tokens, self.at, self.known = list(words(text)), 0, known
@@ -150,7 +151,10 @@ def program(name: str) -> Program:
     known = constants((ROOT / SHARED).read_text(), {})
     text = (ROOT / SOURCES[name]).read_text()
     listed = constants(text, known)["COMMANDS"]
-    commands = [Command(it["name"], it["about"], [option_of(each) for each in it["arguments"]]) for it in listed]
+    commands = [
+        Command(it["name"], it["about"], it["example"].removeprefix("Example: "), [option_of(each) for each in it["arguments"]])
+        for it in listed
+    ]
     version, about = (re.search(rf'\.{it}\("([^"]*)"\)', text) for it in ("version", "about"))
     assert version and about
     return Program(name, version[1], about[1], commands)

@@ -28,7 +28,7 @@ def same(found: Any, wanted: Any, what: str) -> None:
 
 
 def place(text: str, mark: str, count: int = 0) -> dict[str, int]:
-    """The position of a part of a text, of which so many stand before."""
+    """The position of a part of a text, after this many others."""
     at = [it.start() for it in re.finditer(re.escape(mark), text)][count]
     return position(text, at)
 
@@ -57,11 +57,11 @@ def hovers(talk: Talk, text: str) -> None:
     same(hover("me;"), "parameter `me` of the macro `turn`\n\n", "hover over a parameter")
     same(hover("->white"), "position 1", "hover over an action")
     same(hover("{mine}"), "positions 6, 27", "hover over an action in a macro")
-    told = hover("turn(white")
-    if not told.startswith("macro `turn(me; opponent; mine; theirs; forward)`, on line 23\n\nexpands to\n```rbg\n(up* + down*)"):
-        raise Failed(f"hover over a call: {told}")
-    if "[$ white = 100, black = 0]" not in told:
-        raise Failed(f"hover over a call: {told}")
+    reported = hover("turn(white")
+    if not reported.startswith("macro `turn(me; opponent; mine; theirs; forward)`, on line 23\n\nexpands to\n```rbg\n(up* + down*)"):
+        raise Failed(f"hover over a call: {reported}")
+    if "[$ white = 100, black = 0]" not in reported:
+        raise Failed(f"hover over a call: {reported}")
     same(hover("Breakthrough"), "", "hover over a comment")
 
 
@@ -98,11 +98,11 @@ def renames(talk: Talk, text: str) -> None:
     same(renamed("forward", "onwards", 1), wanted, "rename of a parameter")
     same(renamed("anySquare", "somewhere"), text.replace("anySquare", "somewhere"), "rename of a macro")
     for mark, name, why in [
-        ("w, b", "b", "stands in the text already"),
+        ("w, b", "b", "is in the text already"),
         ("w, b", "2w", "a name is a letter"),
         ("anySquare", "rules", "that of a section"),
         ("pieces", "stones", "a section has its name"),
-        ("me;", "mine", "stands in the text already"),
+        ("me;", "mine", "is in the text already"),
     ]:
         error = rename(mark, name).get("error", {"message": "renamed"})
         if why not in error["message"]:
@@ -167,11 +167,11 @@ def graphs(talk: Talk) -> None:
 def faults(talk: Talk, text: str) -> None:
     same(talk.open(URI, text), [], "faults of a game that ships")
     broken = text.replace("{mine} [e]", "{mine [e]")
-    told, _ = talk.change(URI, 2, [{"text": broken}])
-    same([it["severity"] for it in told], [1], "faults of a bracket that stays open")
+    reported, _ = talk.change(URI, 2, [{"text": broken}])
+    same([it["severity"] for it in reported], [1], "faults of a bracket that stays open")
     start = broken.index("{mine")
-    told, _ = talk.change(URI, 3, [change(broken, start + 5, start + 5, "}")])
-    same(told, [], "faults of a bracket that was closed")
+    reported, _ = talk.change(URI, 3, [change(broken, start + 5, start + 5, "}")])
+    same(reported, [], "faults of a bracket that was closed")
 
 
 def formats(talk: Talk, text: str) -> None:

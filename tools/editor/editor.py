@@ -1,6 +1,6 @@
 #!/usr/bin/env python3
 """Talks with `rbg_author lsp` as editors do: each request once with the answer that is wanted, the layout of all games that
-ship, and edits by chance, after each of which the faults and warnings are told; now and then something is asked of the
+ship, and random edits, after each of which the faults and warnings are sent; now and then something is asked of the
 text in between, and a second document with the whole text has to have the same faults and warnings. It prints how long
 an answer took, and the longest one for chess and for the slowest game.
 
@@ -104,8 +104,8 @@ class Times:
         return f"mean {sum(ordered) / len(ordered):.1f} ms, 99 in 100 below {late:.1f} ms, most {ordered[-1]:.1f} ms"
 
 
-def edits_by_chance(talk: Talk, game: Path, count: int, seed: int, told: Times, asked: Times) -> None:
-    """Makes so many edits of a game, one after the other."""
+def random_edits(talk: Talk, game: Path, count: int, seed: int, reported: Times, asked: Times) -> None:
+    """Makes this many edits of a game, one after the other."""
     chance = random.Random(f"{seed} {game.name}")
     text = game.read_text()
     talk.open(URI, text)
@@ -113,7 +113,7 @@ def edits_by_chance(talk: Talk, game: Path, count: int, seed: int, told: Times, 
         start, end, new = edit(chance, text)
         found, took = talk.change(URI, version, [change(text, start, end, new)])
         text = text[:start] + new + text[end:]
-        told.add(took, game.stem)
+        reported.add(took, game.stem)
         if chance.random() < 0.3:
             asked.add(ask_by_chance(talk, chance, text), game.stem)
         if chance.random() < 0.05:
@@ -144,24 +144,24 @@ def main() -> int:
         talk = Talk(program)
         talk.begin()
         print(f"layouts of {len(games())} games have the same tokens, {layouts(talk)} have other blanks")
-        told, asked = Times(), Times()
+        reported, asked = Times(), Times()
         chosen = [it for it in games() if words.game in (None, it.stem)]
         for turn in range(0, words.count, AT_ONCE):
             game = chosen[turn // AT_ONCE % len(chosen)]
-            edits_by_chance(talk, game, min(AT_ONCE, words.count - turn), words.seed + turn, told, asked)
+            random_edits(talk, game, min(AT_ONCE, words.count - turn), words.seed + turn, reported, asked)
         if talk.end() != 0:
             raise Failed("the end after shutdown")
         timed = words.game or "chess"
-        if words.within is not None and told.most(timed) > words.within:
-            raise Failed(f"an edit of {timed} was answered after {told.most(timed):.1f} ms")
+        if words.within is not None and reported.most(timed) > words.within:
+            raise Failed(f"an edit of {timed} was answered after {reported.most(timed):.1f} ms")
     except Failed as failure:
         print(f"failed: {failure}")
         return 1
-    print(f"{len(told.all)} edits were answered: {told}")
+    print(f"{len(reported.all)} edits were answered: {reported}")
     print(f"{len(asked.all)} other requests: {asked}")
-    for game in dict.fromkeys([timed, told.slowest()]):
-        count = len(told.by_game.get(game, []))
-        print(f"{game}: {count} edits, most {told.most(game):.1f} ms; other requests, most {asked.most(game):.1f} ms")
+    for game in dict.fromkeys([timed, reported.slowest()]):
+        count = len(reported.by_game.get(game, []))
+        print(f"{game}: {count} edits, most {reported.most(game):.1f} ms; other requests, most {asked.most(game):.1f} ms")
     return 0
 
 

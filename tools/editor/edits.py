@@ -1,4 +1,4 @@
-"""Edits by chance, as a hand makes them that types, deletes, pastes and takes back."""
+"""Random edits, as of a hand that types, deletes, pastes and takes back."""
 
 import random
 from typing import Any
@@ -14,12 +14,12 @@ PIECES = [
 
 
 def whole(text: str, at: int) -> int:
-    """The index, or the one behind where it lies inside of a line end."""
+    """The index, or the one after it if it lies inside a line end."""
     return at + 1 if text[at - 1 : at + 1] == "\r\n" else at
 
 
 def edit(chance: random.Random, text: str) -> tuple[int, int, str]:
-    """An edit: from where to where, and what stands there then."""
+    """An edit: from where to where, and what is there then."""
     start = whole(text, chance.randint(0, len(text)))
     length = chance.choice([0, 0, 0, 0, 1, 1, 2, 5, 40]) if len(text) < 9000 else chance.choice([1, 40, 400])
     end = whole(text, min(len(text), start + length))

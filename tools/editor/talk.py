@@ -7,7 +7,7 @@ import time
 from pathlib import Path
 from typing import Any
 
-# What a request has been told where it takes longer.
+# What the answer to a request is if it takes longer.
 SECONDS = 120
 
 
@@ -142,12 +142,12 @@ class Talk:
         return self.notice(uri, version)
 
     def change(self, uri: str, version: int, changes: list[dict[str, Any]]) -> tuple[list[dict[str, Any]], float]:
-        """Makes changes; the faults and warnings that are told, and after how many seconds."""
+        """Makes changes; the faults and warnings that are sent, and after how many seconds."""
         began = time.perf_counter()
         document = {"uri": uri, "version": version}
         self.notify("textDocument/didChange", {"textDocument": document, "contentChanges": changes})
-        told = self.notice(uri, version)
-        return told, time.perf_counter() - began
+        reported = self.notice(uri, version)
+        return reported, time.perf_counter() - began
 
     def close(self, uri: str) -> None:
         self.notify("textDocument/didClose", {"textDocument": {"uri": uri}})

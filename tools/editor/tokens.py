@@ -7,7 +7,7 @@ TOKEN = re.compile(r"[A-Za-z_][A-Za-z0-9_]*|[0-9]+|->>|->|==|!=|<=|>=|[-=<>+*/()
 
 
 def tokens(text: str) -> list[str] | None:
-    """The tokens, or None where some character begins none.
+    """The tokens, or None if some character begins none.
 
     >>> tokens("a->>b // x")
     ['a', '->>', 'b']

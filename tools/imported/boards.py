@@ -1,4 +1,4 @@
-"""Boards of the paper's language by chance, and the graph that each of them is."""
+"""Random boards of the paper's language, and the graph that each of them is."""
 
 import random
 import re
@@ -76,7 +76,7 @@ NOTES = ["/* a note */", "/**/", "/* two\n   lines */", "// to the end\n", "/* /
 
 
 def blank(chance: random.Random) -> str:
-    """What may stand between two tokens."""
+    """What may be between two tokens."""
     kind = chance.random()
     if kind < 0.5:
         return ""
@@ -101,7 +101,7 @@ VERTEX = re.compile(r"(\w+)\[(\w+)\]\{([^}]*)\}")
 
 
 def read(text: str) -> list[tuple[str, str, list[tuple[str, str]]]] | None:
-    """The vertices of a graph as a description writes it, or None where it is none.
+    """The vertices of a graph as a description writes it, or None if it is none.
 
     >>> read("graph(a[e]{up: b, down: a} b[w]{})")
     [('a', 'e', [('up', 'b'), ('down', 'a')]), ('b', 'w', [])]

@@ -1,10 +1,10 @@
 #!/usr/bin/env python3
-"""Imports boards and comments by chance, and compares them with the geometry and the tokens: `rbg_author import`.
+"""Imports random boards and comments, and compares them with the geometry and the tokens: `rbg_author import`.
 
     imported.py --program ./rbg_author --count 500
 
 Each board is a cuboid or a rectangle of the paper's language, with holes and comments. The graph in its place has to
-have the vertices and edges that the geometry gives; what stands outside of it has to keep its tokens. Then games that
+have the vertices and edges that the geometry gives; what is outside of it has to keep its tokens. Then games that
 ship get comments between marks, and have to keep their tokens too.
 """
 
@@ -49,9 +49,9 @@ def judge_board(board: Board, text: str, status: int, new: str) -> None:
     if status != 0:
         raise Failed(f"status {status} for\n{text}")
     before, _, rest = without_comments(new).partition("#board =")
-    found, _, behind = rest.partition("#rules")
+    found, _, after = rest.partition("#rules")
     wanted = without_comments(text)
-    if tokens(before) != tokens(wanted.partition("#board =")[0]) or tokens(behind) != tokens(wanted.partition("#rules")[2]):
+    if tokens(before) != tokens(wanted.partition("#board =")[0]) or tokens(after) != tokens(wanted.partition("#rules")[2]):
         raise Failed(f"tokens outside of the board are other ones in\n{new}")
     if board.stays():
         if tokens(found) != tokens(wanted.partition("#board =")[2].partition("#rules")[0]):
@@ -65,15 +65,15 @@ def judge_board(board: Board, text: str, status: int, new: str) -> None:
 
 
 def notes_of(text: str) -> int:
-    """How many words stand in comments."""
+    """How many words are in comments."""
     return sum(len(re.findall(r"\w+", it)) for it in COMMENT.findall(text))
 
 
 def judge_refused(program: Path, text: str) -> None:
-    """Sees that a text that can't be rewritten is told with a line of it."""
-    status, new, told = imported(program, text)
-    if status != 2 or new or not re.match(r"-:\d+:\d+: ", told):
-        raise Failed(f"status {status}, {told!r} for\n{text}")
+    """Checks that a text that can't be rewritten is reported with a line of it."""
+    status, new, reported = imported(program, text)
+    if status != 2 or new or not re.match(r"-:\d+:\d+: ", reported):
+        raise Failed(f"status {status}, {reported!r} for\n{text}")
 
 
 def with_notes(text: str, chance: random.Random) -> str:
@@ -127,7 +127,7 @@ def main() -> int:
         print(f"failed: {failure}")
         return 1
     print(f"{kinds[0]} cuboids and {kinds[1]} rectangles with holes have the edges of the geometry, {kinds[2]} others stay")
-    print(f"{words.count // 10} games with comments keep their tokens, {len(REFUSED)} texts are told by line")
+    print(f"{words.count // 10} games with comments keep their tokens, {len(REFUSED)} texts are refused by line")
     return 0
 
 

@@ -91,8 +91,8 @@ def page_of(game: pathlib.Path, record: str) -> str:
     return made.stdout
 
 
-def bytes_told(page: str) -> int:
-    """How many bytes tell the moves: the lines of the record, behind the one that tells the first board."""
+def bytes_of_moves(page: str) -> int:
+    """How many bytes the moves take: the lines of the record, after the one with the first board."""
     _, lines = page.split("<pre id='record'>\n")
     _, moves = lines.split("\n", 1)
     return len(moves.split("</pre>")[0])
@@ -120,9 +120,9 @@ def main() -> None:
         page = folder / f"{name}.html"
         page.write_text(text)
         (folder / f"{name}.record").write_text(record)
-        told = bytes_told(text)
-        print(f"{name}: {len(moves)} moves, {len(text)} bytes, {told // len(moves)} of them for each move")
-        if told > MOST * len(moves):
+        reported = bytes_of_moves(text)
+        print(f"{name}: {len(moves)} moves, {len(text)} bytes, {reported // len(moves)} of them for each move")
+        if reported > MOST * len(moves):
             sys.exit(f"{name}: more than {MOST} bytes a move")
         if browser:
             for label, step in [("start", 0), ("middle", len(moves) // 2), ("end", len(moves))]:

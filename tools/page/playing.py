@@ -41,7 +41,7 @@ THREE = [
     "[e,e,e,e,e,e,e,e]", "[e,e,e,e,o,e,e,e]", "[e,e,e,e,e,e,e,e]", "[e,e,e,e,e,e,e,e]",
 ]  # fmt: skip
 THREE_CLICKS = [1, 51]
-# a game of which comments say where its vertices lie, and how a piece is drawn
+# a game of which comments say where its vertices are, and how a piece is drawn
 COMMENTED = """// Three in a ring
 // layout left 0 0, right 3 0
 // layout top 1.5 2
@@ -103,7 +103,7 @@ def moves_of(file):
 
 
 def make_by_clicks(page, pairs, at):
-    """Clicks the squares of the move with these pairs, and its button where squares don't suffice."""
+    """Clicks the squares of the move with these pairs, and its button if squares don't suffice."""
     clicks = page.run(
         "const move = RbgPlay.state().legal.find(one => one.pairs.join(' ') === arguments[0]); return move ? move.clicks : null",
         pairs,
@@ -202,13 +202,13 @@ def play_chess(words, page):
     with Server(words.author, game) as server:
         page.open(server.link)
         ready(page, 0)
-        for at, told in enumerate(CHESS, 1):
-            for name in (told[:2], told[2:4]):
+        for at, reported in enumerate(CHESS, 1):
+            for name in (reported[:2], reported[2:4]):
                 vertex = page.run("return RbgPlay.state().drawing.layout.names.indexOf(arguments[0])", name)
                 click_square(page, vertex)
-            if told[4:]:
+            if reported[4:]:
                 page.picture(words.folder / "chess_promotion.png")
-                piece = "wb"[at % 2 == 0] + told[4]
+                piece = "wb"[at % 2 == 0] + reported[4]
                 page.run(
                     "const all = Array.from(document.querySelectorAll('#choices .choice'));"
                     "all.find(one => one.textContent.trim().endsWith(arguments[0])).click()",
@@ -252,9 +252,9 @@ def play_edits(words, page):
             page.run("return RbgPlay.state().chosen")
             page.keys("\ue00c")
             page.run("RbgPlay.open('a list', arguments[0])", "\n".join(["// a list", *moves]))
-            told = page.until("return document.getElementById('problem').textContent")
-            if not told.startswith("a list:"):
-                sys.exit(f"a list isn't opened: {told}")
+            reported = page.until("return document.getElementById('problem').textContent")
+            if not reported.startswith("a list:"):
+                sys.exit(f"a list isn't opened: {reported}")
             game.write_text(text)
             page.until("return document.body.dataset.version === '3'")
             page.run("RbgPlay.open('a list', arguments[0])", "\n".join(["// a list", *moves]))
@@ -264,7 +264,7 @@ def play_edits(words, page):
                 sys.exit(f"the position is answered so: {described}")
             make_by_clicks(page, moves_of(DATA / "breakthrough.moves")[len(moves)], len(moves) + 1)
             leave(page, "edits")
-    print(f"edits: moves are kept, and a list is opened ({told}); another page's question ({other}) does no harm", flush=True)
+    print(f"edits: moves are kept, and a list is opened ({reported}); another page's question ({other}) does no harm", flush=True)
 
 
 def play_capture(words, page):
@@ -299,7 +299,7 @@ def page_at(page, link):
 
 
 def play_page(words, page):
-    """A page of a list of moves: what stands behind its address follows the stepping, and leads to a move."""
+    """A page of a list of moves: what comes after its address follows the stepping, and leads to a move."""
     game = DATA / "hex.rbg"
     moves = moves_of(DATA / "hex.moves")
     made = subprocess.run([words.author, "page", str(game)], input="\n".join(moves), capture_output=True, text=True)
@@ -309,9 +309,9 @@ def play_page(words, page):
     file.write_text(made.stdout)
     link = f"file://{file.resolve()}"
     last = len(moves)
-    for behind, wanted in [("", last), ("#7", 7), ("#0", 0), ("#abc", last), ("#-1", last), ("#100000", last), ("#7.5", last)]:
-        if (found := page_at(page, link + behind)) != wanted:
-            sys.exit(f"{behind!r} behind the address leads to {found}, and not to {wanted}")
+    for ending, wanted in [("", last), ("#7", 7), ("#0", 0), ("#abc", last), ("#-1", last), ("#100000", last), ("#7.5", last)]:
+        if (found := page_at(page, link + ending)) != wanted:
+            sys.exit(f"{ending!r} after the address leads to {found}, and not to {wanted}")
     page_at(page, link + "#3")
     page.keys("\ue014")
     if page.run("return [document.body.dataset.at, location.hash]") != ["4", "#4"]:
@@ -323,12 +323,12 @@ def play_page(words, page):
     broken = "\n".join([*moves[:3], moves[0]])
     made = subprocess.run([words.author, "page", str(game)], input=broken, capture_output=True, text=True)
     if (made.returncode, made.stdout, made.stderr) != (2, "", "bad 4\n"):
-        sys.exit(f"a fault is told as {made}")
-    print(f"page: a list of {last} moves has a page, and {last} and other numbers behind its address lead where they should", flush=True)
+        sys.exit(f"a fault is reported as {made}")
+    print(f"page: a list of {last} moves has a page, and {last} and other numbers after its address lead where they should", flush=True)
 
 
 def play_comments(words, page):
-    """Comment lines say where vertices lie and how a piece is drawn."""
+    """Comment lines say where vertices are and how a piece is drawn."""
     with tempfile.TemporaryDirectory() as folder:
         game = pathlib.Path(folder) / "ring.rbg"
         game.write_text(COMMENTED)

@@ -1,4 +1,4 @@
-"""Where the vertices of a board lie in a picture, and the lines between them. The board is that of the game's text."""
+"""Where the vertices of a board are in a picture, and the lines between them. The board is that of the game's text."""
 
 import pathlib
 import re

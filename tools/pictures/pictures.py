@@ -1,6 +1,6 @@
 #!/usr/bin/env python3
 """Draws a picture of each game in crates/rbg_games/data, into docs/games: an SVG file of a place of the match that is
-stored with the game. It needs ./rbg (make build), which says what stands on the board.
+stored with the game. It needs ./rbg (make build), which says what is on the board.
 
     python3 tools/pictures/pictures.py           draws all of them
     python3 tools/pictures/pictures.py chess hex     draws these
@@ -68,7 +68,7 @@ def ground(board, look, pieces):
 
 
 def lines(board):
-    """The lines of a board whose pieces stand on points, and the edges of a graph."""
+    """The lines of a board whose pieces are on points, and the edges of a graph."""
     ways = [[board.points[start], board.points[end]] for start, end in board.edges]
     if board.rows:
         columns = list(zip(*board.rows))

@@ -2,10 +2,10 @@
  *
  *   DISK_UNDER   only files below this folder are meant, and calls about others are the system's own
  *   DISK_CALL    which kind of call: open, write, sync, rename or lock
- *   DISK_AT      which one of this kind, from 1; none where it is 0 or missing
- *   DISK_ON      where it is 1, each later one too
+ *   DISK_AT      which one of this kind, from 1; none if it is 0 or missing
+ *   DISK_ON      if it is 1, each later one too
  *   DISK_ERRNO   it fails with this number
- *   DISK_SHORT   a write takes no more than so many bytes
+ *   DISK_SHORT   a write takes no more than this many bytes
  *   DISK_SIGNAL  a write takes half of the bytes, and then this signal comes
  *   DISK_COUNT   the file that gets the number of calls of each kind at exit
  */

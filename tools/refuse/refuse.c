@@ -1,7 +1,7 @@
 /* An allocator to preload: it refuses a program's Nth request for memory, and counts the requests.
  *
- *   REFUSE_AT     which request is refused, from 1; none where it is 0 or missing
- *   REFUSE_ON     where it is 1, each later request is refused too
+ *   REFUSE_AT     which request is refused, from 1; none if it is 0 or missing
+ *   REFUSE_ON     if it is 1, each later request is refused too
  *   REFUSE_COUNT  the file that gets the number of requests at exit
  *
  * A request for no bytes, and one that makes a block smaller, is a request as well.

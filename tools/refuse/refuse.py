@@ -6,8 +6,8 @@ of `whole_programs`, and a hall over connections in memory, as a case of rbg_cas
 ends with N above its requests, so that nothing was refused. Of a run with very many requests the first ones are refused,
 and then some that are spread over the rest.
 
-Each answer must be that of ample memory, byte for byte, or say that memory was refused, as told in `refusals_of`. A fault of
-the machine, a line on standard error or any other answer is printed, and the status is 1. Where each request of `referee` was
+Each answer must be that of ample memory, byte for byte, or say that memory was refused, as `refusals_of` says. A fault of
+the machine, a line on standard error or any other answer is printed, and the status is 1. If each request of `referee` was
 refused in turn, each of its refusals must have been answered: one that says `Memory` and nothing of the match fails.
 """
 
@@ -27,10 +27,10 @@ TOP = HERE.parent.parent
 WORDS = TOP / "crates" / "rbg_refusals" / "stdin"
 SECONDS = 120  # for one run of a program
 
-# A named run: the words of its command line, what it reads, and what it may print where memory was refused.
+# A named run: the words of its command line, what it reads, and what it may print if memory was refused.
 Run = collections.namedtuple("Run", "name command given refusals")
 
-# What a program answers, and how many requests it made: the status is below 0 where a signal ended it.
+# What a program answers, and how many requests it made: the status is below 0 if a signal ended it.
 Answer = collections.namedtuple("Answer", "status printed complained requests")
 
 # The ways to refuse: the Nth request alone, or each from the Nth on.
@@ -47,7 +47,7 @@ RECORD = "rbg 2\nplayers white black\nstart 1000 0\n0 0 0 1\n10 1 0 3 0 4 0 5\n2
 PLAIN_RECORD = "rbg 1\n0 0 1\n1 0 3 0 4 0 5\n2 1 8 1 9\nE0 100 0\n"
 
 WRITTEN_GAME = "".join(f"|{line}\n" for line in GAME.splitlines())
-# A hall of two matches. The connections of one match end behind the request for a seat, those of the other stay.
+# A hall of two matches. The connections of one match end after the request for a seat, those of the other stay.
 HALL_CASE = f"""case a hall
 words hall first.rbg second.rbg --port 4000 --quiet
 text game
@@ -69,7 +69,7 @@ stream that ends
 %00
 """
 
-# What is printed of it, with the seats whose streams end. Its connections and its output are in memory too, so where memory
+# What is printed of it, with the seats whose streams end. Its connections and its output are in memory too, so if memory
 # was refused the port can't be listened on, another seat's stream ends, or nothing can be written.
 HALL_MATCHES = """match 1
 rbg 2
@@ -89,7 +89,7 @@ HALL_REFUSALS = ["memory\nstatus 4\n", "device\nstatus 3\n", "status 3\n", HALL_
 
 # What runs over lines print then.
 BEGINNINGS = ["each line took the beginning of what is queued"]
-# What rbg_refusals prints after the word `memory`, by the name of the run; `setup memory` alone may stand for all of it.
+# What rbg_refusals prints after the word `memory`, by the name of the run; `setup memory` alone may be all of it.
 AFTERWARDS = {
     "feed": ["the inbox is as before"],
     "write-message": ["the bytes are as before"],
@@ -106,12 +106,12 @@ AFTERWARDS = {
     "serve-failing-and-taking-nothing": BEGINNINGS,
     "hall-run": BEGINNINGS,
 }
-# The same of `referee`, which tells how far it came: before the match, before the first event, or before the second one.
+# The same of `referee`, which says how far it came: before the match, before the first event, or before the second one.
 REFEREED = [["done 0"], ["done 0", "seat 1 186 bytes", "seat 2 186 bytes"], ["done 1", "seat 1 199 bytes", "seat 2 199 bytes"]]
 
 
 def refusals_of(word):
-    """All that a word of rbg_refusals may print where memory was refused."""
+    """All that a word of rbg_refusals may print if memory was refused."""
     texts = [["memory", *AFTERWARDS.get(word, [])]]
     if word == "referee":
         texts = [["memory", *lines] for lines in REFEREED]
@@ -154,7 +154,7 @@ class Refuser:
         self.allocator, self.folder, self.numbers = allocator, folder, itertools.count()
 
     def answer(self, run, at, way):
-        """What is answered where the request `at` is refused; none is where it is 0."""
+        """What is answered if the request `at` is refused; none is if it is 0."""
         count = os.path.join(self.folder, f"count{next(self.numbers)}")
         environment = {"LD_PRELOAD": self.allocator, "REFUSE_AT": str(at), "REFUSE_ON": WAYS[way], "REFUSE_COUNT": count}
         try:
@@ -185,13 +185,13 @@ def numbers_to_refuse(requests, first, spread):
 
 def fault_in(run, ample, answer, at):
     """Why an answer is none that may be given, or None."""
-    told = (answer.status, answer.printed)
-    is_ample = told == (ample.status, ample.printed)
+    reported = (answer.status, answer.printed)
+    is_ample = reported == (ample.status, ample.printed)
     if answer.status is not None and answer.status < 0:
         return f"a fault of the machine, signal {-answer.status}"
     if answer.status is None or answer.complained or answer.requests < 0:
         return "no end, or something on standard error"
-    if not is_ample and told not in run.refusals:
+    if not is_ample and reported not in run.refusals:
         return "an answer that is neither the one of ample memory nor a refusal of memory"
     if at > ample.requests and not is_ample:
         return "another answer, though nothing was refused"
@@ -220,13 +220,13 @@ def try_run(refuser, run, pool, first, spread):
         faults += 1
         print(f"{run.name}: no refused request is answered by {text!r}")
     tried = "each" if len(numbers) > ample.requests else f"{len(numbers) - 1} of them"
-    told = ", ".join(f"{refused[way]} answered Memory where refused {way}" for way in WAYS)
-    print(f"{run.name}: {ample.requests} requests, {tried} refused in turn; {told}", flush=True)
+    reported = ", ".join(f"{refused[way]} answered Memory if refused {way}" for way in WAYS)
+    print(f"{run.name}: {ample.requests} requests, {tried} refused in turn; {reported}", flush=True)
     return faults
 
 
 def stored_outputs_with_memory():
-    """The outputs stored for the gate that say that memory was refused, where nothing refuses it. A case whose name says that
+    """The outputs stored for the gate that say that memory was refused, if nothing refuses it. A case whose name says that
     there is no memory for something refuses it itself."""
     found = []
     for path in sorted(TOP.glob("crates/*/stdout")):

@@ -22,13 +22,13 @@ def cells_of(board):
 
 
 def ways_of(board):
-    """The edges as a table: where each vertex leads in the direction of each name. The first refusal that holds is told."""
+    """The edges as a table: where each vertex leads in the direction of each name. The first refusal that holds is raised."""
     make = {"rectangle": rectangle, "hexagon": hexagon, "graph": graph}
     return make[board.generator](board)
 
 
 def refuse_rows(board, fits):
-    """The refusals of rectangle and hexagon behind `NoCell`; `fits` says whether row `r` fits to those before it."""
+    """The refusals of rectangle and hexagon after `NoCell`; `fits` says whether row `r` fits those before it."""
     for row in range(1, len(board.rows)):
         if not fits(row):
             raise Refused("board", 2, "RowLength", row)
@@ -86,7 +86,7 @@ def hexagon(board):
     number = numbered_cells(board)
     ways = {}
     for (row, place), vertex in number.items():
-        # The next row begins half a cell before this one if it is longer, half a cell behind if it is shorter.
+        # The next row begins half a cell before this one if it is longer, half a cell after it if it is shorter.
         growing = row + 1 < len(lengths) and lengths[row + 1] > lengths[row]
         below = place if growing else place - 1
         for direction, back, cell in (

@@ -21,10 +21,10 @@ import stored
 from search import Question, TooSlow
 
 SECONDS = 60  # for one run of the program
-STEPS = 1_000_000  # of the interpreter's questions, for one case by chance
+STEPS = 1_000_000  # of the interpreter's questions, for one random case
 TRIES = 400  # to make a difference smaller
 # What standard error says of files and records beside the answer, which the interpreter doesn't know.
-TOLD = re.compile(rb"(?m)^(can't (read|create) .*|lines of .* end in CR LF, and not in LF alone)\n")
+REPORTED = re.compile(rb"(?m)^(can't (read|create) .*|lines of .* end in CR LF, and not in LF alone)\n")
 
 
 class TooLate(Exception):
@@ -51,7 +51,7 @@ class Comparer:
             raise TooLate
         folder = pathlib.Path(self.folder.name)
         files = {case.made: (folder / case.made).read_bytes()} if case.made and (folder / case.made).exists() else {}
-        return done.stdout + TOLD.sub(b"", done.stderr) + case.shown_file(files), done.returncode
+        return done.stdout + REPORTED.sub(b"", done.stderr) + case.shown_file(files), done.returncode
 
     def run_interpreter(self, case):
         files = {name: bytes(content) for name, content in case.files.items()}
@@ -152,7 +152,7 @@ def begin_worker(rbg):
 
 
 def compare_one(task):
-    """How a case came out: "same", "different", or "slow" or "late" where the interpreter or the program takes too long;
+    """How a case came out: "same", "different", or "slow" or "late" if the interpreter or the program takes too long;
     what was printed, in a few words; the smaller difference."""
     seed, index = task
     Question.steps_left = STEPS

@@ -1,4 +1,4 @@
-"""Small games by chance: every construct of the language, all three boards, macros, and games that burst."""
+"""Small random games: every construct of the language, all three boards, macros, and games that burst."""
 
 PLAYERS = ["white", "black", "red", "a", "e", "n", "keeper", "players"]
 PIECES = ["e", "w", "b", "x", "a", "up", "rectangle", "white"]
@@ -24,7 +24,7 @@ def bracketed(opening, tokens, closing):
 
 
 class Game:
-    """A game by chance, as lists of tokens: `sections` by their names."""
+    """A random game, as lists of tokens: `sections` by their names."""
 
     def __init__(self, chance):
         self.chance = chance
@@ -217,7 +217,7 @@ def choices(count):
 
 
 def tree(chance, openings):
-    """Offs by which about so many lists of modifiers come about."""
+    """Offs by which about this many lists of modifiers come about."""
     sizes = [chance.choice([2, 3, 10, 30, 300])]
     while True:
         counts = [1]

@@ -1,4 +1,4 @@
-"""Cases by chance: games, scripts and records. The interpreter itself plays the matches from which they are made."""
+"""Random cases: games, scripts and records. The interpreter itself plays the matches from which they are made."""
 
 import functools
 import pathlib
@@ -33,7 +33,7 @@ def make_case(seed, index):
 
 def game_case(chance, case):
     text = texts.text_of_game(chance, games.Game(chance))
-    command = chance.choice([check, moves, moves, moves_behind, *[referee] * 4, *[replay] * 3, migrate])
+    command = chance.choice([check, moves, moves, moves_after, *[referee] * 4, *[replay] * 3, migrate])
     command(chance, case, text)
 
 
@@ -139,7 +139,7 @@ def replay(chance, case, text):
     record_case(chance, case, text, "replay", make_record(chance, text, chance.choice([1, 2, 2])))
 
 
-def moves_behind(chance, case, text):
+def moves_after(chance, case, text):
     record_case(chance, case, text, "moves", make_record(chance, text, chance.choice([1, 2])))
 
 
@@ -161,7 +161,7 @@ def game_of(text):
 
 
 def some_move(chance, place):
-    """A legal move, where one is soon found, and often the first one."""
+    """A legal move, if one is soon found, and often the first one."""
     try:
         found = place.list_moves(chance.choice([1, 1, 5, 30]))
     except Over:

@@ -57,7 +57,7 @@ def parse_section(section):
 
 
 class Reader:
-    """Reads one section: `token` is the token that comes next, None where they have ended."""
+    """Reads one section: `token` is the token that comes next, None if they have ended."""
 
     def __init__(self, section):
         self.section = section
@@ -102,7 +102,7 @@ class Reader:
         return self.take_kind("name", "Name")
 
     def open(self, bracket):
-        """An opening bracket, where one may be: it is counted before what follows it is looked at."""
+        """An opening bracket, if one may be: it is counted before what follows it is looked at."""
         if self.text != bracket:
             raise self.expected("Opening")
         if self.open_brackets == MOST_OPEN_BRACKETS:

@@ -70,7 +70,7 @@ class Head:
         return token
 
     def read(self, macros):
-        """The name, the parameters, and the index of the first token behind the `=`."""
+        """The name, the parameters, and the index of the first token after the `=`."""
         name = self.next_token()
         if name.kind != "name":
             raise bad_definition(name)
@@ -161,7 +161,7 @@ def argument_count(name):
 
 
 def read_arguments(tokens, index, name):
-    """The arguments of a call whose name stands before `index`, and the index behind the call."""
+    """The arguments of a call whose name is before `index`, and the index after the call."""
     if index == len(tokens) or tokens[index].text != "(":
         raise argument_count(name)
     arguments = [[]]

@@ -22,16 +22,16 @@ class Follow:
     END = 0
 
     def __init__(self, game):
-        self.behind = {}  # by position
+        self.after = {}  # by position
         self.begin = {None: split(self.lay(game.rules, frozenset([self.END])))}  # by the position of a pattern
         for position, action in enumerate(game.actions):
             if isinstance(action, checks.Pattern):
                 self.begin[position] = split(self.lay(action.inside, frozenset([self.END])))
 
     def lay(self, rules, after):
-        """What begins `rules` where `after` comes behind them. Notes on the way what comes behind each position."""
+        """What begins `rules` if `after` comes after them. Notes on the way what comes after each position."""
         if isinstance(rules, int):
-            self.behind[rules] = split(after)
+            self.after[rules] = split(after)
             return frozenset([rules])
         if isinstance(rules, grammar.Sum):
             return frozenset().union(*[self.lay(part, after) for part in rules.parts])
@@ -45,7 +45,7 @@ class Follow:
 
 
 def split(after):
-    """A set of positions, in which 0 stands for the end, as the positions in order and whether the end is there."""
+    """A set of positions, in which 0 is the end, as the positions in order and whether the end is there."""
     return sorted(after - {Follow.END}), Follow.END in after
 
 

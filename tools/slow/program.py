@@ -120,7 +120,7 @@ def check(words, standard_input, files):
 
 
 def moves(words, standard_input, files):
-    """The keeper's moves, and then those of the player who is to move; with a record those at the place behind it."""
+    """The keeper's moves, and then those of the player who is to move; with a record those at the place after it."""
     if len(words) == 2:
         return of_record(lambda game, record: listed(records.follow(game, record)))(words, standard_input, files)
     place = Place(load(take_file(files, words[0])))
@@ -140,7 +140,7 @@ def moves(words, standard_input, files):
 
 
 def listed(place):
-    """The legal moves at a place, or the scores where there is none."""
+    """The legal moves at a place, or the scores if there is none."""
     try:
         found = place.list_moves(MOST_LISTED + 1)
     except Over:

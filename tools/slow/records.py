@@ -61,7 +61,7 @@ def read_entry(line):
 
 
 def read_timed_entry(line, version):
-    """The moment and the entry. In version 1 the moment is 0 of a turn of one millisecond, and 1 where time is over."""
+    """The moment and the entry. In version 1 the moment is 0 of a turn of one millisecond, and 1 if time is over."""
     if version == 1:
         entry = read_entry(line)
         return (1 if entry and entry[0] == "E1" else 0), entry

@@ -20,7 +20,7 @@ class Faulty(Exception):
 
 
 def read(script):
-    """The config, and the events as functions of a match. The first line that doesn't have its form is told."""
+    """The config, and the events as functions of a match. The first line that doesn't have its form is reported."""
     lines = script.split(b"\n")
     if lines[-1] == b"":
         lines.pop()  # the last line may lack its line feed

@@ -34,10 +34,10 @@ class Question:
         self.openings = 0
 
     def moves(self):
-        """The legal moves, in the order in which the search finds them: see `moves_behind`."""
-        return self.moves_behind(self.start, [])
+        """The legal moves, in the order in which the search finds them: see `moves_after`."""
+        return self.moves_after(self.start, [])
 
-    def moves_behind(self, begin, pairs):
+    def moves_after(self, begin, pairs):
         """From an opening: first the moves whose last pair is a switch of its flat part, in order of vertex, then
         position; then each other modifier in this order is applied, followed to its end, and undone."""
         modifiers, _ = self.take_up(begin, len(pairs))
@@ -49,7 +49,7 @@ class Question:
                 continue
             applied = self.state.apply(self.actions[pair[1]], pair[0])
             try:
-                yield from self.moves_behind(self.follow.behind[pair[1]], pairs + [pair])
+                yield from self.moves_after(self.follow.after[pair[1]], pairs + [pair])
             finally:
                 self.state.undo(applied)
 
@@ -66,7 +66,7 @@ class Question:
                     return count + 1 == len(pairs)
                 if count + 1 < len(pairs):
                     done.append(self.state.apply(self.actions[position], vertex))
-                    begin = self.follow.behind[position]
+                    begin = self.follow.after[position]
             return False
         finally:
             for applied in reversed(done):
@@ -97,7 +97,7 @@ class Question:
             reached = self.ask(position, vertex) if isinstance(action, checks.Pattern) else self.state.step(action, vertex)
             if reached is None:
                 continue
-            successors, may_end = self.follow.behind[position]
+            successors, may_end = self.follow.after[position]
             ends = ends or may_end
             for successor in successors:
                 if (reached, successor) not in met:
@@ -121,7 +121,7 @@ class Question:
             return True
         for vertex, position in modifiers:
             applied = self.state.apply(self.actions[position], vertex)
-            runs = self.word_runs(self.follow.behind[position], length + 1)
+            runs = self.word_runs(self.follow.after[position], length + 1)
             self.state.undo(applied)
             if runs:
                 return True
@@ -151,7 +151,7 @@ class Place:
         return next(iter(self.list_moves(1)), None)
 
     def list_moves(self, most):
-        """The first legal moves that the search finds; what comes behind them is not looked at."""
+        """The first legal moves that the search finds; what comes after them is not looked at."""
         with contextlib.closing(Question(self).moves()) as moves:
             return list(itertools.islice(moves, most))
 
@@ -162,7 +162,7 @@ class Place:
         """Makes a legal move."""
         for vertex, position in pairs:
             self.state.apply(self.game.actions[position], vertex)
-        self.next = self.follow.behind[pairs[-1][1]]
+        self.next = self.follow.after[pairs[-1][1]]
 
     def scores(self):
         return self.state.variables[: len(self.game.players)]

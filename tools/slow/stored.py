@@ -55,7 +55,7 @@ class Case:
 
 
 def cases():
-    """Pairs of a covered case of rbg_cases and its stored output. What a case has made is there for those behind it."""
+    """Pairs of a covered case of rbg_cases and its stored output. What a case has made is there for those after it."""
     made = {}
     read = list(read_cases((CRATES / "rbg_cases/stdin").read_bytes().splitlines()))
     stored = (CRATES / "rbg_cases/stdout").read_bytes()

@@ -141,7 +141,7 @@ def mutate_line(chance, text):
 
 
 def soup(chance):
-    """A text that is hardly a game: heads, calls and joins of macros by chance."""
+    """A text that is hardly a game: random heads, calls and joins of macros."""
     names = ["f", "g", "h", "a", "players", "rules", "pieces", "board", "variables"]
     tokens = []
     for _ in range(chance.randint(1, 6)):

@@ -1,4 +1,4 @@
-"""Games and places over a session of `rbg ask`, for where there is no library.
+"""Games and places over a session of `rbg ask`, used if there is no library.
 
 >>> ground = AskedGround("crates/rbg_games/data/tictactoe.rbg")
 >>> place = ground.place()
@@ -14,11 +14,11 @@
 from typing import Optional
 
 from rbg.backend import Answer, Backend, Question, Refused
-from rbg.told import Ending, Move, Place, Tried, tried
+from rbg.places import Ending, Move, Place, Tried, tried
 
 
 def endings_of(answer: Answer) -> list[Ending]:
-    """The endings that an answer to `random` tells."""
+    """The endings of an answer to `random`."""
     found = []
     for *scores, matches in answer[1:]:
         found.append(Ending(None if scores == ["-"] else list(map(int, scores)), int(matches)))
@@ -49,11 +49,11 @@ class AskedGround:
         self.heard += 1
 
     def place(self) -> "AskedPlace":
-        """Where play begins, or stands after the moves that were heard."""
+        """Where play begins, or goes on after the moves that were heard."""
         return AskedPlace(self, [])
 
     def ask_at(self, history: list[Move], questions: list[Question]) -> list[Answer]:
-        """The answers after so many moves. What has to be undone and made is asked in the same write."""
+        """The answers after this many moves. What has to be undone and made is asked in the same write."""
         same = 0
         for one, other in zip(self.made, history):
             if one != other:
@@ -88,7 +88,7 @@ class AskedPlace:
         return self.ground.ask_at(self.history, list(questions))
 
     def look(self) -> Place:
-        """All that is told of it."""
+        """All that is known of it."""
         [[first, standing, board, values]] = self.ask("state")
         numbers = list(map(int, standing[1:]))
         over = standing[0] == "finished"
@@ -102,7 +102,7 @@ class AskedPlace:
         )
 
     def moves(self, most: Optional[int]) -> list[Move]:
-        """The legal moves, or `most` of them where there are more."""
+        """The legal moves, or `most` of them if there are more."""
         [answer] = self.ask("moves" if most is None else "moves %d" % most)
         return [" ".join(line) for line in answer[1:]]
 
@@ -127,12 +127,12 @@ class AskedPlace:
         return copy
 
     def playouts(self, count: int, seed: int) -> list[Ending]:
-        """How so many random matches from here end."""
+        """How this many random matches from here end."""
         [answer] = self.ask("random %d %d" % (seed, count))
         return endings_of(answer)
 
     def try_out(self, moves: list[Move], count: int, seed: int, players: int) -> list[Tried]:
-        """Plays so many random matches after each of these moves. All is asked at once."""
+        """Plays this many random matches after each of these moves. All is asked at once."""
         questions: list[Question] = []
         for index, move in enumerate(moves):
             questions += ["make " + move, "random %d %d" % ((seed + index) % 2**64, count), "back"]

@@ -16,7 +16,7 @@ from typing import Iterable, Optional
 Answer = list[list[str]]  # the words of each line
 Question = str
 
-TOGETHER = 32_768  # so many bytes of questions are asked at once, at most: more could fill both pipes
+TOGETHER = 32_768  # this many bytes of questions are asked at once, at most: more could fill both pipes
 
 
 class Refused(Exception):

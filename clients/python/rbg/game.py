@@ -1,4 +1,4 @@
-"""Games and the states of their play, over the library `librbg.so`, or over the program `rbg` where there is none.
+"""Games and the states of their play, over the library `librbg.so`, or over the program `rbg` if there is none.
 
 >>> with Game.load("crates/rbg_games/data/tictactoe.rbg") as game:
 ...     state = game.state()
@@ -25,13 +25,13 @@ from rbg.backend import Refused
 from rbg.library import Library, find_library
 from rbg.loaded import LoadedGround, LoadedPlace
 from rbg.spelling import Spelling
-from rbg.told import Ending, Move, Place, Tried
+from rbg.places import Ending, Move, Place, Tried
 
 
 class Game:
     """A game. It is used by one thread.
 
-    It stands on the library, where one is found: `library` is its path, or False for none. Else it stands on a session of
+    It uses the library, if one is found: `library` is its path, or False for none. Else it uses a session of
     the program `rbg`, whose path is `program`.
     """
 
@@ -76,7 +76,7 @@ class Game:
         self.ground.close()
 
     def state(self) -> "State":
-        """Where play stands: where it begins, or after the moves that were heard."""
+        """The place of play: where it begins, or after the moves that were heard."""
         return State(self, [], self.ground.place())
 
     def hear(self, move: Move) -> None:
@@ -97,7 +97,7 @@ class Game:
         return state
 
     def spell(self, move: Move) -> str:
-        """The move for people. Where there is no program `rbg_author`, these are its pairs."""
+        """The move for people. If there is no program `rbg_author`, these are its pairs."""
         if self.spellings is None:
             self.spellings = Spelling.of(self.text, self.program)
         return self.spellings.spell(move)
@@ -108,19 +108,19 @@ class State:
 
     def __init__(self, game: Game, history: list[Move], stands: Union[AskedPlace, LoadedPlace]):
         self.game, self.history, self.stands = game, history, stands
-        self.after = len(game.heard)  # it stands after so many moves that were heard
+        self.after = len(game.heard)  # how many moves were heard before it
         self.known: Optional[Place] = None
 
     @property
     def place(self) -> Place:
-        """All that is told of it, asked once."""
+        """All that is known of it, asked once."""
         if self.known is None:
             self.known = self.stands.look()
         return self.known
 
     @property
     def player(self) -> int:
-        """The number of the player to move, from 1; 0 where play is over."""
+        """The number of the player to move, from 1; 0 if play is over."""
         return self.place.player
 
     @property
@@ -130,7 +130,7 @@ class State:
 
     @property
     def scores(self) -> Optional[list[int]]:
-        """The scores where play is over."""
+        """The scores if play is over."""
         return self.place.scores
 
     @property
@@ -149,7 +149,7 @@ class State:
         return dict(zip(self.game.variables, self.place.values))
 
     def moves(self, most: Optional[int] = None) -> list[Move]:
-        """The legal moves, or `most` of them where there are more."""
+        """The legal moves, or `most` of them if there are more."""
         return self.stands.moves(most)
 
     def make(self, move: Move) -> "State":
@@ -170,7 +170,7 @@ class State:
         return self
 
     def copy(self) -> "State":
-        """A state of its own that stands where this one does."""
+        """A state of its own at the place of this one."""
         copy = State(self.game, self.history, self.stands.copy())
         copy.after, copy.known = self.after, self.known
         return copy
@@ -180,11 +180,11 @@ class State:
         return ";".join(self.game.heard[: self.after]) + "|" + ";".join(self.history)
 
     def playouts(self, count: int = 1, seed: int = 0) -> list[Ending]:
-        """How so many random matches from here end."""
+        """How this many random matches from here end."""
         return self.stands.playouts(count, seed)
 
     def search(self, count: int, seed: int = 0, moves: Optional[list[Move]] = None) -> list[Tried]:
-        """Tries out these moves, or all that are legal: so many random matches after each."""
+        """Tries out these moves, or all that are legal: this many random matches after each."""
         return self.stands.try_out(self.moves() if moves is None else moves, count, seed, len(self.game.players))
 
     def spell(self, move: Move) -> str:

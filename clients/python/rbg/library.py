@@ -58,7 +58,7 @@ CALLS: dict[str, list[Any]] = {
 
 
 def find_library(path: Optional[str] = None) -> Optional[str]:
-    """The library: the one that is given, that of the variable RBG_LIBRARY, where an empty one stands for none, `./librbg.so`,
+    """The library: the one that is given, that of the variable RBG_LIBRARY, of which an empty one means none, `./librbg.so`,
     or the system's."""
     named = path if path is not None else os.environ.get("RBG_LIBRARY")
     if named is not None:
@@ -108,7 +108,7 @@ class Held:
 
     def __init__(self, library: Library):
         self.library, self.handle = library, Handle()
-        self.found: Optional[dict[str, int]] = None  # the legal moves, where they were asked for
+        self.found: Optional[dict[str, int]] = None  # the legal moves, if they were asked for
 
     def __del__(self) -> None:
         self.library.calls.rbg_free(byref(self.handle))

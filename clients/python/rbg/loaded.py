@@ -17,13 +17,13 @@
 from typing import Optional
 
 from rbg.library import PIECES, PLAYERS, VARIABLES, Held, Library, find_library
-from rbg.told import Ending, Move, Place, Tried, tried
+from rbg.places import Ending, Move, Place, Tried, tried
 
 __all__ = ["LoadedGround", "LoadedPlace", "find_library"]
 
 
 class LoadedGround:
-    """A game, by the place where it stands: where play begins, or after the moves that were heard."""
+    """A game at a place: where play begins, or after the moves that were heard."""
 
     def __init__(self, library: Library, text: bytes):
         self.library, self.text = library, text
@@ -44,7 +44,7 @@ class LoadedGround:
         self.heard = after
 
     def place(self) -> "LoadedPlace":
-        """Where play begins, or stands after the moves that were heard."""
+        """Where play begins, or goes on after the moves that were heard."""
         from_there = self.held if self.heard is None else self.heard
         return LoadedPlace(from_there, from_there.copy())
 
@@ -56,7 +56,7 @@ class LoadedPlace:
         self.root, self.held = root, held
 
     def look(self) -> Place:
-        """All that is told of it."""
+        """All that is known of it."""
         held, moves = self.held, self.held.count()
         return Place(
             player=held.player if moves else 0,
@@ -68,7 +68,7 @@ class LoadedPlace:
         )
 
     def moves(self, most: Optional[int]) -> list[Move]:
-        """The legal moves, in the order of their pairs, or `most` of them where there are more."""
+        """The legal moves, in the order of their pairs, or `most` of them if there are more."""
         return list(self.held.moves())[:most]
 
     def make(self, move: Move) -> None:
@@ -91,11 +91,11 @@ class LoadedPlace:
         return LoadedPlace(self.root, self.held.copy())
 
     def playouts(self, count: int, seed: int) -> list[Ending]:
-        """How so many random matches from here end."""
+        """How this many random matches from here end."""
         return endings_of(self.held, count, seed)
 
     def try_out(self, moves: list[Move], count: int, seed: int, players: int) -> list[Tried]:
-        """Plays so many random matches after each of these moves."""
+        """Plays this many random matches after each of these moves."""
         found = []
         for index, move in enumerate(moves):
             after = self.held.copy()
@@ -107,7 +107,7 @@ class LoadedPlace:
 
 
 def endings_of(held: Held, count: int, seed: int) -> list[Ending]:
-    """How so many random matches from there end."""
+    """How this many random matches from there end."""
     rows = held.playouts(seed, count)
     stopped = count - sum(row[0] for row in rows)
     endings = [Ending(row[1:], row[0]) for row in rows]

@@ -13,7 +13,7 @@ import time
 from typing import Callable, NamedTuple, Optional, Union
 
 from rbg.game import Game, State
-from rbg.told import Move
+from rbg.places import Move
 
 QUIET = 0.005  # seconds in which nothing comes before a move is said
 
@@ -26,7 +26,7 @@ class Clock(NamedTuple):
 
     @property
     def left(self) -> Optional[float]:
-        """What is left of the turn; None where its time isn't known.
+        """What is left of the turn; None if its time isn't known.
 
         >>> 9 < Clock(10.0, time.monotonic()).left <= 10, Clock(None, 0.0).left
         (True, None)
@@ -38,7 +38,7 @@ class Outcome(NamedTuple):
     """How a match ended for a player."""
 
     player: int  # its number
-    end: Optional[str]  # the last message, as `E0 100 0`; None where there was none
+    end: Optional[str]  # the last message, as `E0 100 0`; None if there was none
     scores: Optional[list[int]]  # the scores, if play was finished
     refused: Optional[int]  # for which reason a move was refused, after which nothing more was said
 
@@ -54,7 +54,7 @@ class Stream:
         self.rest = b""
 
     def hear(self) -> Optional[bytes]:
-        """The next message, or None where the stream has ended."""
+        """The next message, or None if the stream has ended."""
         while b"\0" not in self.rest:
             try:
                 piece = self.socket.recv(65536)
@@ -71,7 +71,7 @@ class Stream:
         return b"\0" in self.rest or bool(select.select([self.socket], [], [], seconds)[0])
 
     def say(self, message: str) -> None:
-        """Says a message. Where the other end is gone, what it said last is still to be heard."""
+        """Says a message. If the other end is gone, what it said last is still to be heard."""
         try:
             self.socket.sendall(message.encode("ascii") + b"\0")
         except ConnectionError:

@@ -1,4 +1,4 @@
-"""Moves for people: the actions of a description by position, and the names of its vertices, as `rbg_author explain` tells
+"""Moves for people: the actions of a description by position, and the names of its vertices, as `rbg_author explain` prints
 them.
 
 >>> with open("crates/rbg_games/data/tictactoe.rbg", "rb") as file:
@@ -24,7 +24,7 @@ class Spelling:
 
     @classmethod
     def of(cls, text: bytes, program: Optional[str] = None) -> "Spelling":
-        """The spelling of a description. It knows nothing where there is no program `rbg_author`."""
+        """The spelling of a description. It knows nothing if there is no program `rbg_author`."""
         spelling = cls()
         beside = program and program + "_author"
         try:

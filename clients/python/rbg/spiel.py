@@ -21,14 +21,14 @@ Moves are numbered as they are met, so a table of actions grows: `num_distinct_a
 from typing import Any, Iterable, Optional
 
 from rbg.game import Game, State
-from rbg.told import Move
+from rbg.places import Move
 
 try:
     import numpy
 except ImportError:
     numpy = None  # type: ignore[assignment]
 
-TERMINAL = -4  # the number of the player to move where play is over
+TERMINAL = -4  # the number of the player to move if play is over
 
 
 class Actions:
@@ -42,7 +42,7 @@ class Actions:
         return len(self.moves)
 
     def number(self, move: Move) -> int:
-        """The number of a move, a new one where it is met first."""
+        """The number of a move, a new one if it is met first."""
         if move not in self.numbers:
             self.numbers[move] = len(self.moves)
             self.moves.append(move)
@@ -51,7 +51,7 @@ class Actions:
 
 def planes(state: State, array: bool = True) -> Any:
     """What is seen of a state, a row for each vertex's numbers: which vertices hold each piece, then what each variable
-    holds, then which player is to move. An array of numpy where there is one, else lists."""
+    holds, then which player is to move. An array of numpy if there is one, else lists."""
     place, game = state.place, state.game
     rows: list[list[float]] = [[float(it == piece) for it in place.board] for piece in range(len(game.pieces))]
     rows += [[float(value)] * len(place.board) for value in place.values]

@@ -15,9 +15,9 @@ from typing import Optional
 
 from rbg.game import State
 from rbg.playing import Clock
-from rbg.told import Move
+from rbg.places import Move
 
-MOST = 256  # so many matches are played after each move at once, at most
+MOST = 256  # this many matches are played after each move at once, at most
 
 
 def lead(scores: list[float], player: int) -> float:
@@ -33,8 +33,8 @@ def lead(scores: list[float], player: int) -> float:
 class Thinker:
     """Chooses the move whose playouts ended best, by rounds: after each of them the better half of the moves is left.
 
-    It takes so many seconds, and no more than half of what is left of a turn. To try out all moves once can take longer
-    than a round: it begins with so many, by chance, as the time is likely to suffice for.
+    It takes this many seconds, and no more than half of what is left of a turn. To try out all moves once can take longer
+    than a round: it begins with as many, chosen at random, as the time is likely to suffice for.
     """
 
     def __init__(self, seconds: float, seed: Optional[int] = None):

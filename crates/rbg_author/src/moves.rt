@@ -2,14 +2,14 @@
 ghost use Rattle.rbg_rules.specs.Meaning.{IsPlaceOf};
 
 use crate::game_files::{Read, load_text, read_text, unreadable};
-use crate::page::refused;
+use crate::page::{TOO_LONG, refused};
 use crate::report::Report;
 use rbg_base::{Move, Pair, Piece, Vertex};
 use rbg_console::{Files, Input, Status, read_record};
 use rbg_game::{Layout, LoadedGame};
 use rbg_moves::{Over, Place, PlayedGame, Unsettled};
+use rbg_record::place_after;
 use rbg_rules::{Action, Game};
-use rbg_view::{PageError, follow_record};
 use rbg_wire::{after_text, cut_number, read_pairs, write_number, write_pairs};
 use std::alloc::{AllocError, Global};
 
@@ -42,7 +42,7 @@ fn moves_record<F: Files>(
 ) -> Result<Report, AllocError> {
     match read_record(alloc, files, record)? {
         Input::Whole(bytes) => moves_text(alloc, file, text, Some(&bytes)),
-        Input::TooLong => refused(alloc, PageError::Form { line: 0 }),
+        Input::TooLong => refused(alloc, TOO_LONG),
         Input::Device => unreadable(alloc, record),
     }
 }
@@ -72,9 +72,9 @@ fn moves_after(
     layout: &Layout,
     bytes: &[u8],
 ) -> Result<Report, AllocError> {
-    match follow_record(alloc, game, bytes) {
-        Ok(followed) => moves_at(alloc, game, layout, followed.last_place()),
-        Err(error) => refused(alloc, error),
+    match place_after(game, bytes) {
+        Ok(place) => moves_at(alloc, game, layout, &place),
+        Err(misfit) => refused(alloc, misfit),
     }
 }
 

@@ -5,10 +5,17 @@ use crate::report::Report;
 use rbg_console::{Files, Input, Note, Status, read_record_input};
 use rbg_game::LoadedGame;
 use rbg_moves::PlayedGame;
-use rbg_view::{PageError, page, push_game};
-use rbg_workbench::{TextRecord, record_text};
+use rbg_record::{LineFault, Misfit};
+use rbg_view::{page, push_game};
+use rbg_workbench::record_text;
 use std::alloc::{AllocError, Global};
 use std::io;
+
+/// What is wrong with a record that is too long: it has no line.
+pub(crate) const TOO_LONG: Misfit = Misfit {
+    line: 0,
+    fault: LineFault::Form,
+};
 
 /// The page of the match that the input holds, of the game that the file describes. Both are read before either is looked
 /// into. Why there is no page is reported, and nothing is printed, since what is printed mostly goes to a file.
@@ -95,13 +102,11 @@ fn page_moves(
     moves: Option<Vec<u8>>,
 ) -> Result<Report, AllocError> {
     let Some(moves) = moves else {
-        return refused(alloc, PageError::Form { line: 0 });
+        return refused(alloc, TOO_LONG);
     };
-    match record_text(alloc, text, moves)? {
-        TextRecord::Record(record) => page_record(alloc, loaded, described, &record),
-        TextRecord::Form { line } => refused(alloc, PageError::Form { line }),
-        TextRecord::Bad { line } => refused(alloc, PageError::Bad { line }),
-        TextRecord::Over { line } => refused(alloc, PageError::Over { line }),
+    match record_text(alloc, text, moves) {
+        Ok(record) => page_record(alloc, loaded, described, &record),
+        Err(misfit) => refused(alloc, misfit),
     }
 }
 
@@ -118,17 +123,18 @@ fn page_record(
             text,
             status: Status::Success,
         }),
-        Err(error) => refused(alloc, error),
+        Err(misfit) => refused(alloc, misfit),
     }
 }
 
 /// The line that says why there is no page, as `rbg replay` prints it.
-pub(crate) fn refused(alloc: Global, error: PageError) -> Result<Report, AllocError> {
-    let line = match error {
-        PageError::Form { line } => format!(in alloc; "form {line}\n")?,
-        PageError::Bad { line } => format!(in alloc; "bad {line}\n")?,
-        PageError::Over { line } => format!(in alloc; "over {line}\n")?,
-        PageError::Memory => return Err(AllocError),
+pub(crate) fn refused(alloc: Global, misfit: Misfit) -> Result<Report, AllocError> {
+    let line = misfit.line;
+    let line = match misfit.fault {
+        LineFault::Form => format!(in alloc; "form {line}\n")?,
+        LineFault::Bad => format!(in alloc; "bad {line}\n")?,
+        LineFault::Over => format!(in alloc; "over {line}\n")?,
+        LineFault::Memory => return Err(AllocError),
     };
     Ok(Report {
         text: line.into_bytes(),

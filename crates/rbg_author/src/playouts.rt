@@ -6,7 +6,8 @@ use crate::report::Report;
 use rbg_console::{Files, Status, fill_file};
 use rbg_game::Game;
 use rbg_questions::{Matches, PlayedGame, Refusal, moves_of, playouts, put_details};
-use rbg_workbench::{TextRecord, record_text};
+use rbg_record::LineFault;
+use rbg_workbench::record_text;
 use std::alloc::{AllocError, Global};
 
 /// The matches that are wanted.
@@ -121,9 +122,12 @@ fn keep_record<F: Files>(
     let Ok(moves) = moves_of(alloc, described.game, seed) else {
         return Err(AllocError);
     };
-    match record_text(alloc, described.text, moves)? {
-        TextRecord::Record(record) => Ok(fill(alloc, files, name.as_str(), &record)),
-        _ => Ok(false),
+    match record_text(alloc, described.text, moves) {
+        Ok(record) => Ok(fill(alloc, files, name.as_str(), &record)),
+        Err(misfit) => match misfit.fault {
+            LineFault::Memory => Err(AllocError),
+            _ => Ok(false),
+        },
     }
 }
 

@@ -3,7 +3,7 @@ ghost use Rattle.rbg_game.specs.Loading.{Loads};
 ghost use Rattle.rbg_macro.specs.Text.{HasTokens};
 
 use crate::game_files::{Read, read_text, refuse, unreadable};
-use crate::page::refused;
+use crate::page::{TOO_LONG, refused};
 use crate::report::Report;
 use rbg_console::{Files, Input, Status, read_record};
 use rbg_game::{LoadError, LoadedGame, load_with_layout};
@@ -11,7 +11,6 @@ use rbg_macro::{Tokens, tokens};
 use rbg_moves::PlayedGame;
 use rbg_position::{PositionError, position};
 use rbg_rules::Game;
-use rbg_view::PageError;
 use std::alloc::{AllocError, Global};
 
 /// The description of a file with the board as it stands after the moves of the record of another file. Both are read
@@ -72,7 +71,7 @@ fn position_after(
 {
     match bytes {
         Some(bytes) => position_bytes(alloc, text, tokens, loaded.game, bytes),
-        None => refused(alloc, PageError::Form { line: 0 }),
+        None => refused(alloc, TOO_LONG),
     }
 }
 
@@ -98,7 +97,7 @@ fn position_bytes(
 /// What is said where there is no description of the place.
 fn no_position(alloc: Global, game: &Game, error: PositionError) -> Result<Report, AllocError> {
     let line = match error {
-        PositionError::Record { error } => return refused(alloc, error),
+        PositionError::Record { misfit } => return refused(alloc, misfit),
         PositionError::Memory => return Err(AllocError),
         PositionError::Value {
             variable,

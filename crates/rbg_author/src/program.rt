@@ -155,7 +155,7 @@ const CHECK: &[Argument] = &[
         name: "strict",
         kind: Kind::Flag(None),
         value: Value::Text,
-        help: "Ends with status 2 where there are warnings",
+        help: "End with status 2 if there are warnings",
     },
 ];
 
@@ -163,42 +163,46 @@ const CHECK: &[Argument] = &[
 const COMMANDS: &[CommandWords] = &[
     CommandWords {
         name: "explain",
-        about: "Says why the description is refused, and where, or what its game has",
+        about: "Explain why a description is refused and where, or list what its game has",
+        example: "Example: rbg_author explain game.rbg --positions",
         arguments: &[
             GAME_OR_INPUT,
             Argument {
                 name: "vertices",
                 kind: Kind::Flag(None),
                 value: Value::Text,
-                help: "Lists each vertex too",
+                help: "List each vertex too",
             },
             Argument {
                 name: "positions",
                 kind: Kind::Flag(None),
                 value: Value::Text,
-                help: "Lists each position too, with its place and its action",
+                help: "List each position too, with its place and its action",
             },
             Argument {
                 name: "json",
                 kind: Kind::Flag(None),
                 value: Value::Text,
-                help: "Lists the faults, or the warnings of the game, in JSON",
+                help: "List the faults or the warnings as JSON",
             },
         ],
     },
     CommandWords {
         name: "lint",
-        about: "Warns of what is probably not meant in the description",
+        about: "Warn about likely mistakes in a description",
+        example: "Example: rbg_author lint game.rbg",
         arguments: CHECK,
     },
     CommandWords {
         name: "check",
         about: "The same as lint, by its name of version 0",
+        example: "Example: rbg_author check game.rbg",
         arguments: CHECK,
     },
     CommandWords {
         name: "perft",
-        about: "Counts the sequences of moves of the players: a line DEPTH SEQUENCES ENDED for each depth from 1 on",
+        about: "Count move sequences: a line DEPTH SEQUENCES ENDED for each depth from 1 on",
+        example: "Example: rbg_author perft game.rbg 4",
         arguments: &[
             GAME,
             Argument {
@@ -211,13 +215,14 @@ const COMMANDS: &[CommandWords] = &[
                 name: "count",
                 kind: Kind::Flag(None),
                 value: Value::Text,
-                help: "Counts the last moves without making them, so the lines are DEPTH SEQUENCES",
+                help: "List the last moves without making them, which is faster: the lines are DEPTH SEQUENCES",
             },
         ],
     },
     CommandWords {
         name: "playouts",
-        about: "Plays random matches: how long they are, the mean score of each player, and how they end",
+        about: "Play random matches: print their length, mean scores and endings",
+        example: "Example: rbg_author playouts game.rbg 1000",
         arguments: &[
             GAME,
             Argument {
@@ -236,13 +241,14 @@ const COMMANDS: &[CommandWords] = &[
                 name: "record",
                 kind: Kind::Named("DIR", None),
                 value: Value::Text,
-                help: "Keeps a record of one match of each way of ending in this folder, as DIR/seed-SEED.record",
+                help: "A folder for a record of one match of each way of ending, DIR/seed-SEED.record",
             },
         ],
     },
     CommandWords {
         name: "moves",
-        about: "Lists the legal moves by what they change, with their pairs, of the opening or after a record",
+        about: "List the legal moves by what they change, first moves or those after a record",
+        example: "Example: rbg_author moves game.rbg",
         arguments: &[
             GAME,
             Argument {
@@ -255,25 +261,28 @@ const COMMANDS: &[CommandWords] = &[
     },
     CommandWords {
         name: "show",
-        about: "Shows the moves that standard input lists as pairs, a script or a record, and each board",
+        about: "Show the moves on standard input, as pairs, a script or a record, on the board",
+        example: "Example: rbg_author show game.rbg < record",
         arguments: &[
             GAME,
             Argument {
                 name: "last",
                 kind: Kind::Flag(None),
                 value: Value::Text,
-                help: "Shows only the last move and the board after it",
+                help: "Show only the last move and the board after it",
             },
         ],
     },
     CommandWords {
         name: "page",
-        about: "Makes a page for a browser of the record, the script or the moves on standard input, with the board after each",
+        about: "Make a page for a browser of the record, the script or the moves on standard input",
+        example: "Example: rbg_author page game.rbg < record > match.html",
         arguments: &[GAME],
     },
     CommandWords {
         name: "play",
-        about: "Serves a page on which the game is played by hand in a browser, and prints its link",
+        about: "Serve a page to play the game by hand in a browser, and print its link",
+        example: "Example: rbg_author play game.rbg",
         arguments: &[
             GAME,
             Argument {
@@ -286,22 +295,26 @@ const COMMANDS: &[CommandWords] = &[
     },
     CommandWords {
         name: "setup",
-        about: "Prints the description with the board as it is after the moves of a record, or says why not",
+        about: "Print the description with the board after a record's moves, or say why not",
+        example: "Example: rbg_author setup game.rbg record > later.rbg",
         arguments: &[GAME, RECORD],
     },
     CommandWords {
         name: "position",
         about: "The same as setup, by its name of version 0",
+        example: "Example: rbg_author position game.rbg record > later.rbg",
         arguments: &[GAME, RECORD],
     },
     CommandWords {
         name: "import",
-        about: "Prints a description of the paper's language as this one spells it, or says by line what it can't rewrite",
+        about: "Print a description of the paper's language as this one spells it, or say by line what can't be rewritten",
+        example: "Example: rbg_author import paper.rbg > game.rbg",
         arguments: &[GAME_OR_INPUT],
     },
     CommandWords {
         name: "lsp",
-        about: "Serves an editor by the Language Server Protocol, on standard input and output",
+        about: "Serve an editor by the Language Server Protocol, on standard input and output",
+        example: "Example: rbg_author lsp",
         arguments: &[],
     },
 ];

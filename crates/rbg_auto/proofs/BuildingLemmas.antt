@@ -105,7 +105,7 @@ adds_list old new more entries nodes insides = record {
           may_be_empty = (inside q).may_be_empty;
         }
 
--- An action, and a pattern behind its inside.
+-- An action, and a pattern after its inside.
 pub lays_act : (p : ℕ) (old new : Table) (rest : Rest) → LaysAt old new p no_inside rest → LaysBefore old new (Act p) rest
 lays_act p old new rest at = record {
   extends = Extends-trans old at.middle new at.adds.extends at.sets.extends;

@@ -8,7 +8,7 @@ use crate::steps::{Expr, Glance, Steps};
 use crate::table::Table;
 use rbg_base::Position;
 
-/// The steps of a game's rules, with all lists in one array. Equal lists are in it once, and positions behind which the
+/// The steps of a game's rules, with all lists in one array. Equal lists are in it once, and positions after which the
 /// rules go on in the same way share one from the start. What `compact` makes has, beside what was laid at each
 /// position, a record of what a search reads of it: where its list is, and what is told at once of its action. These
 /// records are lent.

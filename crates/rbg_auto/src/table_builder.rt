@@ -16,7 +16,7 @@ use std::alloc::Global;
 
 /// The table as far as it is laid.
 ///
-/// A list goes into the table when the first action asks for it. Positions behind which the rules go on in the same way
+/// A list goes into the table when the first action asks for it. Positions after which the rules go on in the same way
 /// share it from then on: `kept` says where it is.
 #[derive(Drop)]
 pub(crate) struct TableBuilder {
@@ -71,7 +71,7 @@ impl TableBuilder {
         Ok(span)
     }
 
-    /// Lays a position, behind which the rest comes.
+    /// Lays a position, after which the rest comes.
     fn lay_at(
         &mut self,
         position: Position,

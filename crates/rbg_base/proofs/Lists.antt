@@ -39,7 +39,7 @@ lists_grow xs more (span ∷ spans) all =
     let rest : map (λ (s : Span). slice_range (xs ++ more) s.start s.end) spans ≡ map (λ (s : Span). slice_range xs s.start s.end) spans = lists_grow xs more spans (λ i d under. all (suc i) d (omega (arith, under))) in
     ap (λ (l : List (ℕ × ℕ)). l ∷ map (λ (s : Span). slice_range (xs ++ more) s.start s.end) spans) first ∙ ap (λ (ls : List (List (ℕ × ℕ))). slice_range xs span.start span.end ∷ ls) rest
 
--- the lists stay where the spans do and more stands behind them
+-- the lists stay where the spans do and more stands after them
 pub lists_kept : (xs ys more : List (ℕ × ℕ)) (spans spans' : List Span) → All (IsSpan (length xs)) spans → ys ≡ xs ++ more → spans' ≡ spans → lists_at ys spans' ≡ lists_at xs spans
 lists_kept xs ys more spans spans' all grown same =
     ap (λ (zs : List (ℕ × ℕ)). lists_at zs spans') grown

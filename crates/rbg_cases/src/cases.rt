@@ -41,7 +41,7 @@ pub struct Stream {
 
 /// What standard input gives after its bytes.
 #[derive(Clone, Copy)]
-pub enum Behind {
+pub enum After {
     End,
     /// Zero bytes without end.
     Zeros,
@@ -79,7 +79,7 @@ pub struct Case<'a> {
     /// What each of its clocks tells, one after the other.
     pub moments: Vec<u64>,
     pub input: Vec<u8>,
-    pub behind: Behind,
+    pub after: After,
     /// Whether what is printed can't be written.
     pub output_fails: bool,
 }
@@ -98,7 +98,7 @@ enum Setting {
     /// What it prints can't be written.
     OutputFails,
     /// What its standard input gives after its bytes.
-    Behind(Behind),
+    After(After),
     /// How many of its lines are shown, from the end.
     Last(usize),
 }
@@ -207,7 +207,7 @@ impl<'a> Reader<'a> {
             streams: Vec::new(alloc),
             moments: Vec::new(alloc),
             input: Vec::new(alloc),
-            behind: Behind::End,
+            after: After::End,
             output_fails: false,
         })?;
         self.target = Target::Input;
@@ -238,7 +238,7 @@ impl<'a> Reader<'a> {
             Setting::Logs => case.logs = true,
             Setting::Sent => case.sent = true,
             Setting::OutputFails => case.output_fails = true,
-            Setting::Behind(behind) => case.behind = behind,
+            Setting::After(after) => case.after = after,
             Setting::Last(count) => case.shown = count,
         }
         true
@@ -342,8 +342,8 @@ fn setting_of(line: &[u8]) -> Option<Setting> {
         "logs" => Some(Setting::Logs),
         "sent" => Some(Setting::Sent),
         "output fails" => Some(Setting::OutputFails),
-        "input endless" => Some(Setting::Behind(Behind::Zeros)),
-        "input fails" => Some(Setting::Behind(Behind::Failure)),
+        "input endless" => Some(Setting::After(After::Zeros)),
+        "input fails" => Some(Setting::After(After::Failure)),
         _ => None,
     }
 }

@@ -128,7 +128,7 @@ fn last_lines(text: &[u8], count: usize) -> &[u8] {
 fn input_of<'a>(case: &'a Case<'_>) -> CaseInput<'a> {
     CaseInput {
         bytes: case.input.as_slice(),
-        behind: case.behind,
+        after: case.after,
     }
 }
 

@@ -1,13 +1,13 @@
 //! Standard input and standard output of a case.
 
-use crate::cases::Behind;
+use crate::cases::After;
 use std::io::{self, ErrorKind, Read, Write};
 
 /// Standard input: bytes, and what it gives after them.
 #[derive(Drop)]
 pub struct CaseInput<'a> {
     pub bytes: &'a [u8],
-    pub behind: Behind,
+    pub after: After,
 }
 
 impl Read for CaseInput<'_> {
@@ -15,13 +15,13 @@ impl Read for CaseInput<'_> {
         if !self.bytes.is_empty() {
             return self.bytes.read(buf);
         }
-        match self.behind {
-            Behind::End => Ok(0),
-            Behind::Zeros => {
+        match self.after {
+            After::End => Ok(0),
+            After::Zeros => {
                 buf.fill(0);
                 Ok(buf.len())
             }
-            Behind::Failure => Err(io::Error::from(ErrorKind::ConnectionReset)),
+            After::Failure => Err(io::Error::from(ErrorKind::ConnectionReset)),
         }
     }
 }

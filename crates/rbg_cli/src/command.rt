@@ -1,6 +1,6 @@
 //! What the program is asked to do.
 
-use rbg_hosting::{HallService, Serving};
+use rbg_hosting::Serving;
 use rbg_match::Config;
 use rbg_serving::Clock;
 
@@ -83,7 +83,7 @@ pub struct ServedMatch<'a> {
 pub struct ServedHall<'a> {
     pub names: Vec<&'a str>,
     pub port: u16,
-    pub service: HallService<'a>,
+    pub serving: Serving<'a>,
 }
 
 /// A seat of the match that is served at the port, or of this one of the matches there.

@@ -8,7 +8,7 @@ const GAMES: Argument = Argument {
     name: "FILE",
     kind: Kind::Several,
     value: Value::Text,
-    help: "The descriptions of 1 to 16 games, one for each table",
+    help: "The descriptions of 1 to 16 games, one for each match",
 };
 
 const PORT: Argument = Argument {
@@ -22,28 +22,28 @@ const WAIT: Argument = Argument {
     name: "wait",
     kind: Kind::Named("SECONDS", None),
     value: Value::Number(0, u32::MAX),
-    help: "In how many seconds all players have to connect, 0 to 4294967295 [default: no limit]",
+    help: "Give up unless all players connect within SECONDS, 0 to 4294967295 [default: no limit]",
 };
 
 const QUIET: Argument = Argument {
     name: "quiet",
     kind: Kind::Flag(None),
     value: Value::Text,
-    help: "Says nothing of the players and the match on standard error",
+    help: "No news of the players and the match on standard error",
 };
 
 const SYNC: Argument = Argument {
     name: "sync",
     kind: Kind::Flag(None),
     value: Value::Text,
-    help: "What is written to the log is on the disk before the match goes on",
+    help: "Flush the log to disk before each event is handled",
 };
 
 const RECORDS: Argument = Argument {
     name: "records",
     kind: Kind::Named("DIR", None),
     value: Value::Text,
-    help: "A directory in which the record of each match is written to a new file when the match has ended, DIR/1.record and so on",
+    help: "A folder for the record of each match, DIR/1.record and so on, written when the match has ended",
 };
 
 const TURN: Argument = Argument {
@@ -76,13 +76,15 @@ const MINUTES: Argument = Argument {
 
 const CHECK: CommandWords = CommandWords {
     name: "check",
-    about: "Prints how many of each thing the game has, or why the description is refused",
+    about: "Check a description: print its counts, or its first error (rbg_author explain shows where)",
+    example: "Example: rbg check game.rbg",
     arguments: &[GAME],
 };
 
 const MOVES: CommandWords = CommandWords {
     name: "moves",
-    about: "Prints the moves of the game's opening, and then the legal moves of the player to move",
+    about: "Print the keeper's first moves, and the legal moves after them or after a record",
+    example: "Example: rbg moves game.rbg",
     arguments: &[
         GAME,
         Argument {
@@ -96,13 +98,15 @@ const MOVES: CommandWords = CommandWords {
 
 const ASK: CommandWords = CommandWords {
     name: "ask",
-    about: "Answers questions about the game, each a line of standard input",
+    about: "Answer questions about a game, one on each line of standard input",
+    example: "Example: echo moves | rbg ask game.rbg",
     arguments: &[GAME],
 };
 
 const REFEREE: CommandWords = CommandWords {
     name: "referee",
-    about: "Referees the match whose script is on standard input, and prints what each seat is sent",
+    about: "Referee the match whose script is on standard input, and print what each seat is sent",
+    example: "Example: rbg referee game.rbg < script",
     arguments: &[
         Argument {
             name: "FILE",
@@ -120,20 +124,22 @@ const REFEREE: CommandWords = CommandWords {
             name: "cut",
             kind: Kind::Flag(Some("record")),
             value: Value::Text,
-            help: "Leaves out a last line of the script that has no line feed",
+            help: "Leave out a last line of the script that has no line feed",
         },
     ],
 };
 
 const REPLAY: CommandWords = CommandWords {
     name: "replay",
-    about: "Checks whether a record is one of a match of the game, and right",
+    about: "Check that a record is a legal match of the game",
+    example: "Example: rbg replay game.rbg record",
     arguments: &[GAME, RECORD],
 };
 
 const MIGRATE: CommandWords = CommandWords {
     name: "migrate",
-    about: "Prints a record of version 1 as one of version 2",
+    about: "Print a record of version 1 as one of version 2",
+    example: "Example: rbg migrate game.rbg record > new.record",
     arguments: &[
         GAME,
         Argument {
@@ -147,7 +153,8 @@ const MIGRATE: CommandWords = CommandWords {
 
 const SCRIPT: CommandWords = CommandWords {
     name: "script",
-    about: "Prints a script of a record: its events bring the record's moves and its end about",
+    about: "Turn a record into a script that replays it",
+    example: "Example: rbg script record | rbg referee game.rbg",
     arguments: &[Argument {
         name: "RECORD",
         kind: Kind::Needed,
@@ -158,26 +165,28 @@ const SCRIPT: CommandWords = CommandWords {
 
 const DEMO: CommandWords = CommandWords {
     name: "demo",
-    about: "Referees a match between players of its own, and prints its record",
+    about: "Referee a match between players of its own, and print its record",
+    example: "Example: rbg demo game.rbg > record",
     arguments: &[GAME, TURN, REFUSALS, ROUNDS],
 };
 
 const SERVE: CommandWords = CommandWords {
     name: "serve",
-    about: "Referees a match between the players that connect to a port, and prints its record",
+    about: "Referee a match between the players that connect to a port, and print its record",
+    example: "Example: rbg serve game.rbg --port 4000 --minutes 60 > record",
     arguments: &[
         GAME,
         Argument {
             name: "log",
             kind: Kind::Named("LOG", Some("resume")),
             value: Value::Text,
-            help: "A new file in which each event of the match is written before it is handled, as a script; LOG.game beside it names the game",
+            help: "A new file for the events of the match, each written before it is handled; LOG.game beside it names the game",
         },
         Argument {
             name: "resume",
             kind: Kind::Named("LOG", None),
             value: Value::Text,
-            help: "The log of a match that was stopped and is to go on, with the log's time for a turn and refusals",
+            help: "The log of a stopped match to go on with; its time for a turn and its refusals hold",
         },
         SYNC,
         RECORDS,
@@ -186,7 +195,7 @@ const SERVE: CommandWords = CommandWords {
             name: "names",
             kind: Kind::Named("NAMES", None),
             value: Value::Text,
-            help: "Who sits where, seat 1 first, with a comma between two names; they are told on standard error, and stand in LOG.game",
+            help: "Who sits where, seat 1 first, separated by commas: printed on standard error, and written to LOG.game",
         },
         PORT,
         WAIT,
@@ -199,14 +208,15 @@ const SERVE: CommandWords = CommandWords {
 
 const PLAY: CommandWords = CommandWords {
     name: "play",
-    about: "Plays in the match that is served at a port, by the first move that it finds, and prints the last message",
+    about: "Play in a match that is served at a port, by first legal moves, and print the last message",
+    example: "Example: rbg play --port 4000",
     arguments: &[
         PORT,
         Argument {
             name: "match",
             kind: Kind::Named("MATCH", None),
             value: Value::Number(1, u32::MAX),
-            help: "The match to join, where a hall has several, 1 to 4294967295",
+            help: "The match of a hall to join, 1 to 4294967295",
         },
         MINUTES,
         ROUNDS,
@@ -215,16 +225,19 @@ const PLAY: CommandWords = CommandWords {
 
 const HALL: CommandWords = CommandWords {
     name: "hall",
-    about: "Referees a match of each game at once between the players that connect to a port, and prints the records",
+    about: "Referee a match of each game at once between the players that connect to a port, and print the records",
+    example: "Example: rbg hall one.rbg two.rbg --port 4000",
     arguments: &[
         GAMES,
         Argument {
             name: "log",
             kind: Kind::Named("LOG", None),
             value: Value::Text,
-            help: "A new file for each match, LOG.1 and so on, in which its events are written before they are handled, as a script",
+            help: "A new file for the events of each match, LOG.1 and so on, each written before it is handled",
         },
         SYNC,
+        RECORDS,
+        MINUTES,
         PORT,
         WAIT,
         QUIET,
@@ -236,7 +249,8 @@ const HALL: CommandWords = CommandWords {
 
 const HALL_SCRIPT: CommandWords = CommandWords {
     name: "hallscript",
-    about: "Lets a hall hear the script on standard input, whose seats are lines, and prints what each line is sent",
+    about: "Run a hall on the script on standard input, and print the messages to each connection",
+    example: "Example: rbg hallscript one.rbg two.rbg < script",
     arguments: &[GAMES],
 };
 
@@ -261,6 +275,8 @@ pub fn rbg_command<'a>(alloc: Global) -> Result<Command<'a>, AllocError> {
     let program = Command::new(alloc, "rbg")
         .version("1.0.0")
         .about("A referee for games of Regular Boardgames")
-        .after_help("Without a command it does what `referee` does without FILE.");
+        .after_help(
+            "Without a command it does what `referee` does without FILE. The program rbg_author helps to write games.",
+        );
     add_commands(alloc, program, COMMANDS)
 }

@@ -6,18 +6,19 @@ use crate::fault::Fault;
 use rbg_console::{Files, Status};
 use rbg_hosting::serve_files;
 use rbg_network::Network;
+use rbg_referee::Answer;
 use std::alloc::Global;
 use std::io::Write;
 
 /// Referees a match of each file's game at once, between the players that connect to the port and join it, and prints the
-/// records.
+/// records. Where one of them is to be kept in a file too, and can't be, the status says so.
 pub fn run_hall<F: Files, N: Network, R, W: Write>(
     alloc: Global,
     served: &ServedHall<'_>,
     devices: &mut Devices<F, N, R, W>,
 ) -> Status {
-    let records = serve_hall(alloc, served, devices);
-    devices.report_lines("the records", records)
+    let outcome = serve_hall(alloc, served, devices);
+    devices.report("the records", &outcome)
 }
 
 /// Referees a match of each file's game at once, and returns the records.
@@ -25,14 +26,14 @@ fn serve_hall<F: Files, N: Network, R, W>(
     alloc: Global,
     served: &ServedHall<'_>,
     devices: &mut Devices<F, N, R, W>,
-) -> Result<Vec<u8>, Fault> {
-    let records = serve_files(
+) -> Result<Answer, Fault> {
+    let answer = serve_files(
         alloc,
         served.names.as_slice(),
         &mut devices.files,
         &mut devices.network,
         served.port,
-        served.service,
+        &served.serving,
     )?;
-    Ok(records)
+    Ok(answer)
 }

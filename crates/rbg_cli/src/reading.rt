@@ -4,7 +4,7 @@ use crate::command::{Bound, Command, Seat, ServedHall, ServedMatch, Service};
 use crate::command_line::rbg_command;
 use clap::ArgMatches;
 use rbg_console::{WordsError, match_words};
-use rbg_hosting::{HallService, Keeping, Serving};
+use rbg_hosting::{Keeping, Serving};
 use rbg_match::Config;
 use rbg_network::Hosting;
 use std::alloc::{AllocError, Global};
@@ -26,7 +26,7 @@ pub fn read_command<'a>(alloc: Global, words: &'a [String]) -> Result<Command<'a
         "hall" => Ok(Command::Hall(ServedHall {
             names: names_of(alloc, words)?,
             port: port_of(words),
-            service: hall_service_of(words),
+            serving: serving_of(words),
         })),
         "hallscript" => Ok(Command::HallScript {
             names: names_of(alloc, words)?,
@@ -126,17 +126,6 @@ fn hosting_of(words: &ArgMatches<'_>) -> Hosting {
     Hosting {
         wait: words.get_one("wait"),
         quiet: words.get_flag("quiet"),
-    }
-}
-
-fn hall_service_of<'a>(words: &ArgMatches<'a>) -> HallService<'a> {
-    let service = service_of(words);
-    HallService {
-        config: service.config,
-        rounds: service.rounds,
-        log: words.get_str("log"),
-        sync: words.get_flag("sync"),
-        hosting: hosting_of(words),
     }
 }
 

@@ -11,7 +11,7 @@ pub record AppendsFront (old new : Option (List ℕ)) (text : List ℕ) : Type 0
   pub part : Appends old new (take count text)
 
 -- Either the text is added to what the writer holds, and the status is the one that is wanted; or a write or the flush
--- failed behind a front part of the text, and the status is that of a device.
+-- failed after a front part of the text, and the status is that of a device.
 pub data IsWritten (old new : Option (List ℕ)) (text : List ℕ) (wanted status : Status) : Type 0 where
   whole : Appends old new text → status ≡ wanted → IsWritten old new text wanted status
   failed : AppendsFront old new text → status ≡ Device → IsWritten old new text wanted status

@@ -3,7 +3,7 @@ use Rattle.std.specs.Prelude.{ℕ}
 use Rattle.rbg_console.specs.declared.status.Status.{Status}
 use Rattle.rbg_console.specs.declared.status.Status.TheVariants.{Success, Refused, BadInput, Device, Memory, CommandLine}
 
--- As docs/PROGRAM.md has them.
+-- As docs/COMMANDS.md has them.
 unfoldable pub status_code : Status → ℕ
 status_code Success = 0
 status_code Refused = 1

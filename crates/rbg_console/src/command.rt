@@ -4,11 +4,12 @@ use crate::argument::{Argument, argument_of};
 use clap::Command;
 use std::alloc::{AllocError, Global};
 
-/// A command: its name, what it does, and its arguments.
+/// A command: its name, what it does, an example, and its arguments.
 #[derive(Clone, Copy)]
 pub struct CommandWords {
     pub name: &'static str,
     pub about: &'static str,
+    pub example: &'static str,
     pub arguments: &'static [Argument],
 }
 
@@ -28,7 +29,9 @@ pub fn add_commands<'a>(
 
 /// The command of these words.
 fn command_of<'a>(alloc: Global, words: &CommandWords) -> Result<Command<'a>, AllocError> {
-    let mut command = Command::new(alloc, words.name).about(words.about);
+    let mut command = Command::new(alloc, words.name)
+        .about(words.about)
+        .after_help(words.example);
     for argument in words.arguments {
         let argument = argument_of(alloc, *argument)?;
         command = command.arg(argument)?;

@@ -151,7 +151,7 @@ fn push_going_back(
     };
     let mut warning = warning_at(alloc, "KeeperGoesBack", *token);
     let mut writer = MessageWriter::new(alloc, &mut warning.message);
-    writer.text("behind this `->>` the keeper goes back in the rules without another switch,");
+    writer.text("after this `->>` the keeper goes back in the rules without another switch,");
     writer.place(" and puts a piece at ", line_and_column(text, back.at), "");
     writer.text(": to end play, write `->> {}`");
     writer.end()?;

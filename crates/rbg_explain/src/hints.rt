@@ -21,7 +21,7 @@ impl<'a> Spot<'a> {
             TokenKind::Symbol(Symbol::Slash) => self.comment_words(),
             TokenKind::Symbol(Symbol::Comma) if self.is_hole() => ": a board has no holes",
             TokenKind::Symbol(Symbol::Semicolon) => {
-                ": it stands between the arguments of a macro alone"
+                ": it only separates the arguments of a macro"
             }
             _ => self.item_hint(what),
         }

@@ -262,10 +262,10 @@ impl<'a, 'k> Message<'a, 'k> {
         match self.call() {
             Some((wanted, CallForm::NoParenthesis)) => {
                 write_arguments(writer, "expected `(` and ", wanted);
-                self.write_around(writer, " behind the macro's name ", "");
+                self.write_around(writer, " after the macro's name ", "");
             }
             Some((_, CallForm::Open)) => {
-                self.write_around(writer, "expected a `)` behind the arguments of ", "");
+                self.write_around(writer, "expected a `)` after the arguments of ", "");
             }
             Some((wanted, CallForm::Arguments(count))) if count != wanted => {
                 write_arguments(writer, "expected ", wanted);
@@ -355,7 +355,7 @@ impl<'a, 'k> Message<'a, 'k> {
         writer.text("expected ");
         writer.text(expected);
         writer.text(if spot.token.is(Symbol::Comma) {
-            " behind this comma, found the end of the section"
+            " after this comma, found the end of the section"
         } else {
             ", found the end of the section"
         });

@@ -194,7 +194,7 @@ fn relate_call(
     let mut writer = MessageWriter::new(alloc, &mut words);
     writer.place("called at ", line_and_column(message.text, call), "");
     if is_same_name(message.error) {
-        writer.named(": the macro stands in place of the name ", head.text, "");
+        writer.named(": the macro replaces the name ", head.text, "");
     }
     writer.end()?;
     fault.relate(call, head.text.len(), words)

@@ -39,7 +39,7 @@ module _ (game : AbstractGame) (numbered : IsNumbered game.rules) where
   pub quiet_step : (q : ℕ) (s t : AbstractState) → ¬ IsModifierAt game.rules q → Applies game q s t → QuietStep game q s t
   quiet_step q s t quiet applied = quiet_by q s t applied.action applied.stands quiet applied.acts
 
-  -- A leap behind a shift is one before it.
+  -- A leap after a shift is one before it.
   leap_before : (f : Start) (v d u q p w : ℕ) → HasAction game.rules q (shift d) → next game.board v d ≡ Some u → Follows game.rules f (q ∷ []) → IsLeap game (after q) u p w → IsLeap game f v p w
   leap_before f v d u q p w stands edge follows leap = record {
     shifts = q ∷ leap.shifts;
@@ -48,12 +48,12 @@ module _ (game : AbstractGame) (numbered : IsNumbered game.rules) where
     plain = leap.plain;
   }
 
-  -- What is met from behind a shift is met from before it.
+  -- What is met from after a shift is met from before it.
   before_shift : (s : AbstractState) (f : Start) (d u q w p : ℕ) → HasAction game.rules q (shift d) → next game.board s.vertex d ≡ Some u → Follows game.rules f (q ∷ []) → IsMet game (at_vertex s u) (after q) w p → IsMet game s f w p
   before_shift s f d u q w p stands leads follows (first leap) = first (leap_before f s.vertex d u q p w stands leads follows leap)
   before_shift s f d u q w p stands leads follows (then {v = x} {q = r} so_far here leap) = then (before_shift s f d u q x r stands leads follows so_far) (record { quiet = here.quiet; plain = here.plain; applies = here.applies }) leap
 
-  -- What is met from behind an action that holds is met from before it.
+  -- What is met from after an action that holds is met from before it.
   before_hold : (s : AbstractState) (f : Start) (q w p : ℕ) → IsMet game s f s.vertex q → Holds game s s.vertex q → IsMet game s (after q) w p → IsMet game s f w p
   before_hold s f q w p here is (first leap) = then here is leap
   before_hold s f q w p here is (then {v = x} {q = r} so_far there leap) = then (before_hold s f q x r here is so_far) there leap
@@ -93,10 +93,10 @@ module _ (game : AbstractGame) (numbered : IsNumbered game.rules) where
   along : (s : AbstractState) (v : ℕ) (w : List ℕ) (u : ℕ) → Leads game v w u → AlongShifts (at_vertex s v) w u
   along s v w u stay = record { no_modifier = All-nil (λ (k : ℕ). ¬ IsModifierAt game.rules k); runs = rest }
   along s v w u (go {w = x} {p = q} {m = m} d stands leads more) =
-      let behind = along s x m u more in
+      let beyond = along s x m u more in
       record {
-        no_modifier = All-cons (λ (k : ℕ). ¬ IsModifierAt game.rules k) q m (shift_quiet q d stands) behind.no_modifier;
-        runs = step (record { action = shift d; stands = stands; acts = (x, leads, refl) }) behind.runs;
+        no_modifier = All-cons (λ (k : ℕ). ¬ IsModifierAt game.rules k) q m (shift_quiet q d stands) beyond.no_modifier;
+        runs = step (record { action = shift d; stands = stands; acts = (x, leads, refl) }) beyond.runs;
       }
 
   -- What is met is reached by words.
@@ -121,12 +121,12 @@ module _ (game : AbstractGame) (numbered : IsNumbered game.rules) where
         before = so_far.before ++ q ∷ leap.shifts;
         no_modifier = all_joined so_far.before (q ∷ leap.shifts) so_far.no_modifier (All-cons (λ (k : ℕ). ¬ IsModifierAt game.rules k) q leap.shifts is.quiet shifts.no_modifier);
         runs = Runs_join so_far.runs (step is.applies shifts.runs);
-        follows = behind so_far.before q leap.shifts p so_far.follows leap.follows;
+        follows = beyond so_far.before q leap.shifts p so_far.follows leap.follows;
         plain = leap.plain;
       }
     where
-      behind : (a : List ℕ) (q : ℕ) (m : List ℕ) (p : ℕ) → Follows game.rules f (a ++ q ∷ []) → Follows game.rules (after q) (m ++ p ∷ []) → Follows game.rules f ((a ++ q ∷ m) ++ p ∷ [])
-      behind a q m p follows more = subst (λ (w : List ℕ). Follows game.rules f w) (sym (append_assoc a (q ∷ m) (p ∷ []))) ((locality_law game.rules numbered f a q (m ++ p ∷ [])).0.1 (follows, more))
+      beyond : (a : List ℕ) (q : ℕ) (m : List ℕ) (p : ℕ) → Follows game.rules f (a ++ q ∷ []) → Follows game.rules (after q) (m ++ p ∷ []) → Follows game.rules f ((a ++ q ∷ m) ++ p ∷ [])
+      beyond a q m p follows more = subst (λ (w : List ℕ). Follows game.rules f w) (sym (append_assoc a (q ∷ m) (p ∷ []))) ((locality_law game.rules numbered f a q (m ++ p ∷ [])).0.1 (follows, more))
 
   pub candidate_of : (s : AbstractState) (f : Start) (v p : ℕ) → IsMet game s f v p → IsCandidate game s f v p
   candidate_of s f v p here =
@@ -136,7 +136,7 @@ module _ (game : AbstractGame) (numbered : IsNumbered game.rules) where
   pub met_of : (s : AbstractState) (f : Start) (v p : ℕ) → IsCandidate game s f v p → IsMet game s f v p
   met_of s f v p is = subst (λ (x : ℕ). IsMet game s f x p) is.vertex (met s is.here f is.before p is.no_modifier is.runs is.follows is.plain)
 
-  -- A word that ends behind a shift ends before it, and so behind what holds.
+  -- A word that ends after a shift ends before it, and so after what holds.
   end_before : (f : Start) (v d u q : ℕ) → HasAction game.rules q (shift d) → next game.board v d ≡ Some u → Follows game.rules f (q ∷ []) → EndsAcross game (after q) u → EndsAcross game f v
   end_before f v d u q stands edge follows end = record {
     shifts = q ∷ end.shifts;

@@ -172,7 +172,7 @@ module _
 
     ends_across : EndsMet game here f → EndsAcross game f v
     ends_across (inl end) = end
-    ends_across (inr behind) = absurd (not_held behind.vertex behind.position (leap_of behind.vertex behind.position behind.met) behind.holds)
+    ends_across (inr beyond) = absurd (not_held beyond.vertex beyond.position (leap_of beyond.vertex beyond.position beyond.met) beyond.holds)
 
     few : length targets ≤ length (positions_of game.rules) * length game.board.first
     few =

@@ -1,12 +1,12 @@
 -- What is found in the end.
-use Rattle.rbg_base.proofs.Common.{◌≡◌, ℕ, ◌+◌, ◌*◌, ◌/◌, ◌^◌, ◌<◌, ◌≤◌, ◌⊎◌, inl, inr, List, [], ◌++◌, Bool, true, false, length, get_or, refl, sym, ap, subst, ◌∙◌, arith, All, IsTrue, ◌↔◌, mul-le, div-mul-add, Contains-get_or, ℕ_discrete}
+use Rattle.rbg_base.proofs.Common.{◌≡◌, ℕ, ◌+◌, ◌*◌, ◌/◌, ◌^◌, ◌<◌, ◌≤◌, ◌⊎◌, inl, inr, List, [], Bool, true, false, length, refl, sym, ap, subst, ◌∙◌, arith, IsTrue, ◌↔◌, mul-le}
 use Rattle.rbg_rules.specs.Meaning.{AbstractAction, shift, on, off, assignment, comparison, switch, positive, negative, IsGame, HasAction, IsModifierAt, IsNumbered, is_modifier, positions_of, AbstractGame, AbstractState, Acts, Applies, Start}
 use Rattle.rbg_rules.proofs.PositionLemmas.{one_stands}
 use Rattle.rbg_state.proofs.Trying.{same_value}
 use Rattle.rbg_flat.proofs.Common.{IsFound, AreFound, HasCandidates, most_candidates, IsBegun, Lists, at_position, Gathers, Keeps, IsGone, IsKept, Gathered, Counted, CountsMet, AreOn, SetsOfVertices, IsMarked, IsOpen, ForgetsPlace, IsMetAt}
 use Rattle.rbg_flat.proofs.Countings.{InRow, row_listed, row_apart, row_cases, row_earlier, row_here, counted_more, counted_all, counted_both, few_on}
 use Rattle.rbg_flat.proofs.ChainLemmas.{candidate_of, met_of}
-use Rattle.rbg_flat.proofs.Lists.{lists_none, lists_same, lists_join, lists_map}
+use Rattle.rbg_flat.proofs.Lists.{lists_none, lists_same, lists_join}
 use Rattle.rbg_flat.proofs.Steps.{all_marked}
 
 false_not_true : false ≡ true → ⊥

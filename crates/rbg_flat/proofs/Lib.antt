@@ -19,6 +19,7 @@ pub mod Doing
 pub mod Lists
 pub mod Ones
 pub mod Spellings
+pub mod Onwards
 pub mod Switches
 pub mod FirstSwitches
 pub mod Having

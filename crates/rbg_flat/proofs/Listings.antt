@@ -83,7 +83,7 @@ module _ (words room : List ℕ) (many : ℕ) (are : AreListed words room many) 
         was q other (inl there) = there
         was q other (inr same) = absurd (other (sym same))
 
-    -- It is listed behind the others.
+    -- It is listed after the others.
     pub listed_more : AreListed (slice_set words p x) (slice_set room many p) (many + 1)
     listed_more = record {
       size = room_size ∙ are.size ∙ sym (length-set words p x);

@@ -15,15 +15,15 @@ module _ {X : Type 0} where
 
   record Split (xs : List X) (x : X) : Type 0 where
     before : List X
-    behind_it : List X
-    joined : xs ≡ before ++ x ∷ behind_it
+    after_it : List X
+    joined : xs ≡ before ++ x ∷ after_it
 
   split_at : (xs : List X) (x : X) → Contains xs x → Split xs x
   split_at [] x (k, under, is) = absurd (omega (arith, under))
-  split_at (y ∷ ys) x (zero, under, is) = record { before = []; behind_it = ys; joined = ap (λ (z : X). z ∷ ys) is }
+  split_at (y ∷ ys) x (zero, under, is) = record { before = []; after_it = ys; joined = ap (λ (z : X). z ∷ ys) is }
   split_at (y ∷ ys) x (suc k, under, is) =
       let cut = split_at ys x (k, omega (arith, under), is) in
-      record { before = y ∷ cut.before; behind_it = cut.behind_it; joined = ap (λ (zs : List X). y ∷ zs) cut.joined }
+      record { before = y ∷ cut.before; after_it = cut.after_it; joined = ap (λ (zs : List X). y ∷ zs) cut.joined }
 
   still_there : (us vs : List X) (x y : X) → x ≢ y → Contains (us ++ x ∷ vs) y → Contains (us ++ vs) y
   still_there us vs x y other there = elim (Contains-append_cases us (x ∷ vs) y there) [
@@ -40,13 +40,13 @@ module _ {X : Type 0} where
       let cut = split_at ys x (All-head (Contains ys) x xs there) in
       let others : All (λ y. x ≢ y) xs = λ k d under. different 0 (suc k) d (omega arith) (omega (arith, under)) in
       let rest_different : AllPairs (λ a b. a ≢ b) xs = λ i j d less under. different (suc i) (suc j) d (omega (arith, less)) (omega (arith, under)) in
-      let rest_there : All (Contains (cut.before ++ cut.behind_it)) xs = λ k d under.
-      still_there cut.before cut.behind_it x (get_or xs k d) (others k d under)
+      let rest_there : All (Contains (cut.before ++ cut.after_it)) xs = λ k d under.
+      still_there cut.before cut.after_it x (get_or xs k d) (others k d under)
       (subst (λ (zs : List X). Contains zs (get_or xs k d)) cut.joined (All-tail (Contains ys) x xs there k d under)) in
-      let fewer = no_longer xs (cut.before ++ cut.behind_it) rest_different rest_there in
-      let whole : length ys ≡ length (cut.before ++ x ∷ cut.behind_it) = ap (λ (zs : List X). length zs) cut.joined in
-      let first = length-append cut.before (x ∷ cut.behind_it) in
-      let second = length-append cut.before cut.behind_it in
+      let fewer = no_longer xs (cut.before ++ cut.after_it) rest_different rest_there in
+      let whole : length ys ≡ length (cut.before ++ x ∷ cut.after_it) = ap (λ (zs : List X). length zs) cut.joined in
+      let first = length-append cut.before (x ∷ cut.after_it) in
+      let second = length-append cut.before cut.after_it in
       omega (arith, fewer, whole, first, second)
 
   all_pairs_tail : (x : X) (xs : List X) → AllPairs (λ a b. a ≢ b) (x ∷ xs) → AllPairs (λ a b. a ≢ b) xs

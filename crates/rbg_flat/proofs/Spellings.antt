@@ -252,7 +252,7 @@ dropped_last words init last whole =
     let old : pairs_in words ≡ pairs_in init ++ pairs_of last = ap pairs_in whole ∙ flat_map-append pairs_of init (last ∷ []) ∙ ap (λ (ps : Pairs). pairs_in init ++ ps) (append-nil (pairs_of last)) in
     subst (λ (ps : Pairs). IsPermutation ps (pairs_of last ++ pairs_in init)) (sym old) (IsPermutation-append_comm (pairs_in init) (pairs_of last))
 
--- ---- words that are put behind others
+-- ---- words that are put after others
 
 abbrev pub one_pair : (v p : ℕ) → Word
 one_pair v p = record { base = v; position = p; bits = 1 }

@@ -77,7 +77,7 @@ tried_holds game numbered s f v p u here quiet applies = by_step (quiet_step gam
     by_step (shifts d w stands leads is) = absurd (met_plain game s f v p here (record { direction = d; stands = stands }))
     by_step (holds plain is) = record { quiet = quiet; plain = plain; applies = subst (λ (t : AbstractState). Applies game p (record s { vertex = v }) t) is applies }
 
--- Behind a word that was closed, less is left to be done, whatever is led on from.
+-- After a word that was closed, less is left to be done, whatever is led on from.
 pub lead_less : (old middle new : SetsOfVertices) (q c word : ℕ) → ClosesWord old middle q c word → weight new ≤ weight middle → (v : ℕ) → IsOpen old v q → IsInWord q c word v q → weight new < weight old
 lead_less old middle new q c word closing lighter v is there = let less = closing.less v is there in omega (arith, less, lighter)
 

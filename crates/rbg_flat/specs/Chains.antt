@@ -11,7 +11,7 @@ pub record Holds (game : AbstractGame) (s : AbstractState) (v q : ℕ) : Type 0 
   pub plain : ¬ IsShiftAt game.rules q
   pub applies : Applies game q (at_vertex s v) (at_vertex s v)
 
--- A leap leads from f to position p at vertex v, or one leads there from behind what was met so and holds.
+-- A leap leads from f to position p at vertex v, or one leads there from after what was met so and holds.
 pub data IsMet (game : AbstractGame) (s : AbstractState) (f : Start) : (v p : ℕ) → Type 0 where
   first : {v p : ℕ} → IsLeap game f s.vertex p v → IsMet game s f v p
   then :
@@ -21,8 +21,8 @@ pub data IsMet (game : AbstractGame) (s : AbstractState) (f : Start) : (v p : �
       IsLeap game (after q) v p u →
       IsMet game s f u p
 
--- Behind what was met and holds, a word may end with shifts alone.
-pub record EndsBehind (game : AbstractGame) (s : AbstractState) (f : Start) : Type 0 where
+-- After what was met and holds, a word may end with shifts alone.
+pub record EndsAfter (game : AbstractGame) (s : AbstractState) (f : Start) : Type 0 where
   pub vertex : ℕ
   pub position : ℕ
   pub met : IsMet game s f vertex position
@@ -31,7 +31,7 @@ pub record EndsBehind (game : AbstractGame) (s : AbstractState) (f : Start) : Ty
 
 -- A word may end so, or with shifts alone from the beginning.
 abbrev pub EndsMet : AbstractGame → AbstractState → Start → Type 0
-EndsMet game s f = EndsAcross game f s.vertex ⊎ EndsBehind game s f
+EndsMet game s f = EndsAcross game f s.vertex ⊎ EndsAfter game s f
 
 -- What is met by leaps are the candidates, and words may end where leaps tell so.
 abbrev pub ChainLaw : Type 0

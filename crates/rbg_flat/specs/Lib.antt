@@ -4,6 +4,7 @@ pub mod Chains
 pub mod Found
 pub mod Met
 pub mod Ending
+pub mod Onward
 pub mod Order
 pub mod Paths
 pub mod internal

@@ -4,12 +4,14 @@ use Rattle.rbg_base.specs.declared.relation.Relation.{Relation}
 use Rattle.rbg_rules.specs.Meaning.{Expression, AbstractArithmetic, on, off, comparison, switch, HasAction, IsModifierAt, IsPatternAt, positions_of, AbstractGame, after, Follows}
 use Rattle.rbg_shifts.specs.Leaps.{IsShiftAt}
 use Rattle.rbg_shifts.specs.Made.{AreLeapsOf}
+use Rattle.rbg_flat.specs.Onward.{IsOnward}
+use Rattle.rbg_flat.specs.declared.onward.Onward.{Onward}
 use Rattle.rbg_flat.specs.declared.paths.Facts.{Facts}
 use Rattle.rbg_flat.specs.declared.paths.Kind.{Kind}
 use Rattle.rbg_flat.specs.declared.paths.Kind.TheVariants.{OnEither, Modifier, Pattern, On, Comparison, Plain}
 use Rattle.rbg_flat.specs.declared.paths.Paths.{Paths}
 
--- No shift comes next behind the position.
+-- No shift comes next after the position.
 pub record IsStill (rules : Expression) (p : ℕ) : Type 0 where
   pub no_shift : (q : ℕ) → Follows rules (after p) (q ∷ []) → ¬ IsShiftAt rules q
 
@@ -46,8 +48,9 @@ pub record AreFacts (game : AbstractGame) (p : ℕ) (told : Facts) : Type 0 wher
   pub still : IsTrue told.still → IsStill game.rules p
   pub shown : AreShown game.rules p told
 
--- The leaps are those of the game, and the facts of each of its positions are told.
+-- The leaps are those of the game, and the facts of each of its positions are told; so is what comes next after some.
 pub record ArePathsOf (game : AbstractGame) (paths : Paths) : Type 0 where
   pub leaps : AreLeapsOf game paths.leaps
   pub all : length paths.facts.items ≡ length (positions_of game.rules) + 1
   pub told : (p : ℕ) (told : Facts) → slice_get paths.facts.items p ≡ Some told → AreFacts game p told
+  pub onward : (p : ℕ) (told : Onward) → slice_get paths.onward.items p ≡ Some told → IsOnward game.rules p told

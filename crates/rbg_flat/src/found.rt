@@ -60,7 +60,7 @@ impl Modifiers {
         self.words.clear();
     }
 
-    /// Puts the position with each vertex of a word behind what was there.
+    /// Puts the position with each vertex of a word after what was there.
     #[inline(always)]
     pub(crate) fn push_word(
         &mut self,
@@ -82,7 +82,7 @@ impl Modifiers {
         Ok(())
     }
 
-    /// Puts one more behind what was there.
+    /// Puts one more after what was there.
     pub fn push(&mut self, vertex: Vertex, position: Position) -> Result<(), Memory>
         ensures { OnOk result (self.new ≡ self.old ++ (vertex, position) ∷ []) }
     {
@@ -163,10 +163,10 @@ fn first_vertex(word: Word) -> Vertex
 
 /// Whether one vertex with its position stands before another one.
 #[inline(always)]
-fn is_before(vertex: Vertex, position: Position, other: Vertex, behind: Position) -> bool
-    ensures { IsTrue result ↔ IsBefore (vertex, position) (other, behind) }
+fn is_before(vertex: Vertex, position: Position, other: Vertex, beyond: Position) -> bool
+    ensures { IsTrue result ↔ IsBefore (vertex, position) (other, beyond) }
 {
-    vertex < other || (vertex == other && position < behind)
+    vertex < other || (vertex == other && position < beyond)
 }
 
 /// Which word has the least pair; none where there are no words.
@@ -342,7 +342,7 @@ fn has_bit(word: u64, bit: u32) -> bool
     bit < 64 && word >> bit & 1 == 1
 }
 
-/// Writes the pairs of words behind what the list held.
+/// Writes the pairs of words after what the list held.
 fn spell(words: &[Word], pairs: &mut Vec<Pair>) -> Result<(), Memory>
     requires { All IsFilled words.now }
     ensures { OnOk result (pairs.new.items ≡ pairs.old.items ++ pairs_in words.now) }
@@ -353,7 +353,7 @@ fn spell(words: &[Word], pairs: &mut Vec<Pair>) -> Result<(), Memory>
     Ok(())
 }
 
-/// Writes the pairs of a word behind what the list held.
+/// Writes the pairs of a word after what the list held.
 fn spell_word(word: Word, pairs: &mut Vec<Pair>) -> Result<(), Memory>
     requires { IsFilled word }
     ensures { OnOk result (pairs.new.items ≡ pairs.old.items ++ pairs_of word) }

@@ -64,7 +64,7 @@ fn count(word: u64) -> usize
     word.count_ones() as usize
 }
 
-/// Counts the vertices that were met at a place, and puts them behind what was found where they are kept.
+/// Counts the vertices that were met at a place, and puts them after what was found where they are kept.
 #[inline(always)]
 pub(crate) fn gather_place(
     found: &mut Modifiers,

@@ -154,7 +154,7 @@ fn looked_up(state: &SemiState, piece: Piece, column: usize) -> u64
     word
 }
 
-/// Whether a piece stands on a vertex that may be behind the end of the board.
+/// Whether a piece stands on a vertex that may be after the end of the board.
 #[inline(always)]
 fn stands_at(pieces: &[Piece], vertex: usize, piece: Piece) -> bool
     ensures { IsTrue result ↔ (slice_get pieces.now vertex ≡ Some piece) }

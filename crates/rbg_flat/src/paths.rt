@@ -1,12 +1,14 @@
 //! The leaps of a game, and what flat parts need to know of each position.
 ghost use Rattle.std.specs.Prelude.{◌≡◌, ℕ, ◌+◌, ◌≤◌, ◌<◌, ◌↔◌, All, Some, length, slice_get, true, IfOk, IfSome, IfNone, IsTrue};
-ghost use Rattle.rbg_rules.specs.Meaning.{IsGame, positions_of};
+ghost use Rattle.rbg_rules.specs.Meaning.{AbstractGame, IsGame, positions_of};
 ghost use Rattle.rbg_shifts.specs.Leaps.{IsShiftAt};
 ghost use Rattle.rbg_shifts.specs.Limits.{IsTooLarge};
+ghost use Rattle.rbg_flat.specs.Onward.{IsOnward};
 ghost use Rattle.rbg_flat.specs.Paths.{AreFacts, AreShown, ArePathsOf};
 ghost use Rattle.rbg_flat.specs.internal.Leading.{IsPositionIn};
 ghost use Rattle.rbg_flat.specs.internal.Shown.{ShowsFacts, HasNoPieces, HasPieces, shows_shift};
 
+use crate::onward::{Onward, all_onward};
 use rbg_auto::{Expr, Steps};
 use rbg_base::{Memory, Piece, Position, Vertex};
 use rbg_rules::{Action, Game};
@@ -34,7 +36,7 @@ pub(crate) enum Kind {
 /// field is read where it is.
 #[derive(Clone, Copy, Drop)]
 pub(crate) struct Facts {
-    /// Whether no shift comes next behind it.
+    /// Whether no shift comes next after it.
     pub still: bool,
     /// Whether it is an on of one piece. Most of what is met are such ons, and a flag of its own is tested before all
     /// kinds.
@@ -56,6 +58,8 @@ pub struct Paths {
     /// vertex at each, as far as was looked. It only tells where to look for a dead end: nothing rests on it. It is kept
     /// apart, so that the facts of a position stay one word.
     branches: Vec<bool>,
+    /// What comes next after each position, from 0 on, where it is one modifier alone.
+    pub(crate) onward: Vec<Onward>,
 }
 
 /// Written out, so that letting them go is one call in the proofs of those who hold them, not a step for each part.
@@ -65,6 +69,7 @@ impl Drop for Paths {
             leaps: _,
             facts: _,
             branches: _,
+            onward: _,
         } = self;
     }
 }
@@ -81,10 +86,12 @@ impl Paths {
         };
         let facts = all_facts(alloc, game, steps)?;
         let branches = all_branches(alloc, game, &leaps)?;
+        let onward = all_onward(alloc, game, steps)?;
         Ok(Some(Paths {
             leaps,
             facts,
             branches,
+            onward,
         }))
     }
 
@@ -96,6 +103,18 @@ impl Paths {
         ensures { AreFacts game.now position result.now }
     {
         &self.facts[position as usize]
+    }
+
+    /// What comes next after a position, where it is one modifier alone.
+    #[inline(always)]
+    pub fn onward(&self, position: Position) -> Onward
+        ensures { (game : AbstractGame) → ArePathsOf game self.now
+            → IsOnward game.rules position result }
+    {
+        match self.onward.get(position as usize) {
+            Some(onward) => *onward,
+            None => Onward::Unknown,
+        }
     }
 
     /// Whether to look for a dead end in the pattern at a position.
@@ -159,7 +178,7 @@ fn are_single(targets: &[Target]) -> bool {
     true
 }
 
-/// The facts of a position, behind which these come next. No action stands at position 0.
+/// The facts of a position, after which these come next. No action stands at position 0.
 fn facts_at(game: &Game, position: Position, next: &[Position]) -> Facts
     requires lawful { IsGame game.now }
     requires there { position ≤ length (positions_of game.now.rules) }

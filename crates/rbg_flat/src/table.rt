@@ -12,7 +12,7 @@ use std::marker::Model;
 #[derive(Drop)]
 pub(crate) struct BitTable {
     words: Vec<u64>,
-    /// The places that are listed, and behind them room for all others.
+    /// The places that are listed, and after them room for all others.
     room: Vec<usize>,
     listed: usize,
 }

@@ -134,11 +134,11 @@ module _ (e f : Expression) (b : Box Expression Global) (is : e ≡ expressions.
       subst (λ g. ArithmeticIs names g (arithmetic_of (arithmetics.Negated box))) (sym negated_is)
       (arithmetic_of a, is_operand, arithmetic_of-Negated box ∙ ap (λ (y : Arithmetic). negated (arithmetic_of y)) holds)
 
--- The items behind the first.
+-- The items after the first.
 
-pub item_behind : {A : Type 0} (xs : List A) (i : ℕ) (x : A) → i < length (take (length xs - 1) (drop 1 xs)) → x ≡ get_or (take (length xs - 1) (drop 1 xs)) i x → (i + 1 < length xs) × (x ≡ get_or xs (i + 1) x)
-item_behind [] i x below is = absurd (omega arith)
-item_behind (y ∷ xs) i x below is =
+pub item_after : {A : Type 0} (xs : List A) (i : ℕ) (x : A) → i < length (take (length xs - 1) (drop 1 xs)) → x ≡ get_or (take (length xs - 1) (drop 1 xs)) i x → (i + 1 < length xs) × (x ≡ get_or xs (i + 1) x)
+item_after [] i x below is = absurd (omega arith)
+item_after (y ∷ xs) i x below is =
     let below' : i < length (take (suc (length xs) - 1) xs) = below in
     let long = length-take (suc (length xs) - 1) xs in
     let within : i < length xs = omega arith in
@@ -148,9 +148,9 @@ item_behind (y ∷ xs) i x below is =
     at_next : get_or xs i x ≡ get_or (y ∷ xs) (i + 1) x
     at_next = let e : i + 1 ≡ suc i = omega arith in ap (λ n. get_or (y ∷ xs) n x) (sym e)
 
-pub length_behind : {A : Type 0} (xs : List A) → 0 < length xs → length (take (length xs - 1) (drop 1 xs)) + 1 ≡ length xs
-length_behind [] some = absurd (omega arith)
-length_behind (y ∷ xs) some =
+pub length_after : {A : Type 0} (xs : List A) → 0 < length xs → length (take (length xs - 1) (drop 1 xs)) + 1 ≡ length xs
+length_after [] some = absurd (omega arith)
+length_after (y ∷ xs) some =
     let long = length-take (suc (length xs) - 1) xs in
     let whole : length (take (suc (length xs) - 1) xs) + 1 ≡ suc (length xs) = omega arith in
     whole
@@ -166,7 +166,7 @@ pub chain_step : (names : Names) (operands : List Operand) (i : ℕ) (t : Operan
     → ChainIs names (operands_after no_operands (map operand_of (take (i + 1) operands))) (changed a (map operation_of os)) → Combines names (operand_of t) o
     → ChainIs names (operands_after no_operands (map operand_of (take (i + 1 + 1) operands))) (changed a (map operation_of (os ++ o ∷ [])))
 chain_step names operands i t a os o below is so_far combines =
-    let (within, at) = item_behind operands i t below is in
+    let (within, at) = item_after operands i t below is in
     rw (map-take_more operand_of operands (i + 1) t within at) (chain_more names (map operand_of (take (i + 1) operands)) (operand_of t) a os o so_far combines)
 
 chain_of : (first : Arithmetic) (box : Box Arithmetic Global) (rest : Vec Operation Global) → box.value ≡ first → arithmetic_of (arithmetics.Chain box rest) ≡ changed (arithmetic_of first) (map operation_of rest.items)
@@ -175,7 +175,7 @@ chain_of first box rest holds = arithmetic_of-Chain box rest ∙ ap (λ (a : Ari
 pub chain_made : (names : Names) (operands : List Operand) (i : ℕ) (first : Arithmetic) (box : Box Arithmetic Global) (rest : Vec Operation Global) → 0 < length operands → length (take (length operands - 1) (drop 1 operands)) ≤ i → box.value ≡ first
     → ChainIs names (operands_after no_operands (map operand_of (take (i + 1) operands))) (changed (arithmetic_of first) (map operation_of rest.items)) → ChainIs names (operands_after no_operands (map operand_of operands)) (arithmetic_of (arithmetics.Chain box rest))
 chain_made names operands i first box rest some done holds is =
-    let long = length_behind operands some in
+    let long = length_after operands some in
     let all : take (i + 1) operands ≡ operands = take_all (i + 1) operands (omega arith) in
     rw (chain_of first box rest holds) (subst (λ (l : List Operand). ChainIs names (operands_after no_operands (map operand_of l)) (changed (arithmetic_of first) (map operation_of rest.items))) all is)
 

@@ -5,7 +5,7 @@ use Rattle.rbg_grammar.specs.declared.description.Bounded.{Bounded}
 use Rattle.rbg_rules.specs.Meaning.{greatest_bound}
 use Rattle.rbg_game.proofs.Common.{GameError, game_error_of, holder_names, holders_of, StandsAgain, HasGreatBound, names_of_holders, HasFault, same_holder, same_piece, great_bound, memory, HasHolderFault, by_name, by_bound, AddsBounds}
 use Rattle.rbg_game.specs.declared.numbering_error.NumberingError.{NumberingError}
-use Rattle.rbg_game.proofs.NumberingCommon.{texts_of, StandsBehind, HasNameFault, same_name, no_memory}
+use Rattle.rbg_game.proofs.NumberingCommon.{texts_of, StandsAfter, HasNameFault, same_name, no_memory}
 use Rattle.rbg_game.proofs.LookUps.{name_fault_at}
 use Rattle.rbg_base.proofs.CallerLemmas.{slice_get-map_at, Contains-from_get, get_from-Contains, slice_get-append_left, slice_get-append_right, AllZip-append}
 use Rattle.rbg_game.proofs.Lists.{Contains-one, map_entry, entry_of_front, slice_get-map_read}
@@ -39,7 +39,7 @@ holder_fault_in_loop earlier table holders k holder error within is before =
     holder_fault_at earlier table (map bounded_of holders) k (bounded_of holder) error (slice_get-map_read bounded_of holders k holder within is) (before ∙ same)
 
 -- Names that stand again after others stand twice in the whole list.
-pub again_in_all : (before names after : List SpeltName) (at : ℕ) → StandsBehind (texts_of before) names at → StandsAgain ((before ++ names) ++ after) at
+pub again_in_all : (before names after : List SpeltName) (at : ℕ) → StandsAfter (texts_of before) names at → StandsAgain ((before ++ names) ++ after) at
 again_in_all before names after at h =
     let whole = (before ++ names) ++ after in
     let here : slice_get whole (length before + h.k) ≡ Some h.name = slice_get-append_left (before ++ names) after (length before + h.k) h.name (slice_get-append_right before names h.k h.name h.stands) in
@@ -83,10 +83,10 @@ module _ (d : SpeltDescription) (before here after : List SpeltBounded) (all : h
       ap names_in_list all ∙ map-append (λ (h : SpeltBounded). h.name) (before ++ here) after
       ∙ ap (λ l. l ++ names_in_list after) (map-append (λ (h : SpeltBounded). h.name) before here)
 
-  again_there : (at : ℕ) → StandsBehind (holder_names before) (names_in_list here) at → StandsAgain (names_of_holders d) at
+  again_there : (at : ℕ) → StandsAfter (holder_names before) (names_in_list here) at → StandsAgain (names_of_holders d) at
   again_there at h =
       let P : List SpeltName → Type 0 = λ l. StandsAgain l at in
-      let Q : List (List ℕ) → Type 0 = λ l. StandsBehind l (names_in_list here) at in
+      let Q : List (List ℕ) → Type 0 = λ l. StandsAfter l (names_in_list here) at in
       subst P (sym whole_names)
       (again_in_all (names_in_list before) (names_in_list here) (names_in_list after) at (subst Q (sym (texts_of-names before)) h))
 

@@ -62,9 +62,9 @@ first_once used x y xs ys left right there back = elim (first_or_later y ys x th
   ]
 ]
 
--- what stands behind the first of one list stands behind that of the other
-behind_first : (used : List (List ℕ)) (x y : List ℕ) (xs ys : List (List ℕ)) → IsInOrder used (x ∷ xs) → x ≡ y → ((z : List ℕ) → Stands (x ∷ xs) z → Stands (y ∷ ys) z) → (z : List ℕ) → Stands xs z → Stands ys z
-behind_first used x y xs ys order same there z (i, at) = elim (first_or_later y ys z (there z (suc i, at))) [
+-- what stands after the first of one list stands after that of the other
+beyond_first : (used : List (List ℕ)) (x y : List ℕ) (xs ys : List (List ℕ)) → IsInOrder used (x ∷ xs) → x ≡ y → ((z : List ℕ) → Stands (x ∷ xs) z → Stands (y ∷ ys) z) → (z : List ℕ) → Stands xs z → Stands ys z
+beyond_first used x y xs ys order same there z (i, at) = elim (first_or_later y ys z (there z (suc i, at))) [
   | inl is ↦
       let before : IsUsedBefore used x x = subst (IsUsedBefore used x) (sym (same ∙ is)) (first_before used x xs z order (i, at)) in
       absurd (never_both used x x before before (order.are_used x (0, refl)))
@@ -78,7 +78,7 @@ in_order_once used (x ∷ xs) [] left right there back = let (i, at) = there x (
 in_order_once used (x ∷ xs) (y ∷ ys) left right there back =
     let same : x ≡ y = first_once used x y xs ys left right (there x (0, refl)) (back y (0, refl)) in
     let rest : xs ≡ ys =
-    in_order_once used xs ys (rest_in_order used x xs left) (rest_in_order used y ys right) (behind_first used x y xs ys left same there) (behind_first used y x ys xs right (sym same) back) in
+    in_order_once used xs ys (rest_in_order used x xs left) (rest_in_order used y ys right) (beyond_first used x y xs ys left same there) (beyond_first used y x ys xs right (sym same) back) in
     cc
 
 stands : (xs : List (List ℕ)) (x : List ℕ) → Contains xs x → Stands xs x

@@ -60,9 +60,9 @@ pair_once : (make : Expression → Expression → Expression) (n : ℕ) (x x' y 
     → (IsCounted n y → IsCounted n y' → y ≡ y') → ((m : ℕ) → IsCounted m z → IsCounted m z' → z ≡ z') → x ≡ x'
 pair_once make n x x' y y' z z' e f counted counted' first second =
     let same : y ≡ y' = first (counts_left n (positions_of y) (positions_of z) counted) (counts_left n (positions_of y') (positions_of z') counted') in
-    let behind : CountsFrom (next_after n (positions_of y')) (positions_of z') = counts_right n (positions_of y') (positions_of z') counted' in
-    let same_behind : z ≡ z' = second (next_after n (positions_of y)) (counts_right n (positions_of y) (positions_of z) counted) (subst (λ v. CountsFrom (next_after n (positions_of v)) (positions_of z')) (sym same) behind) in
-    e ∙ ap (λ v. make v z) same ∙ ap (make y') same_behind ∙ sym f
+    let after : CountsFrom (next_after n (positions_of y')) (positions_of z') = counts_right n (positions_of y') (positions_of z') counted' in
+    let same_beyond : z ≡ z' = second (next_after n (positions_of y)) (counts_right n (positions_of y) (positions_of z) counted) (subst (λ v. CountsFrom (next_after n (positions_of v)) (positions_of z')) (sym same) after) in
+    e ∙ ap (λ v. make v z) same ∙ ap (make y') same_beyond ∙ sym f
 
 mutual
   action_once : (names : Names) → HasDifferentNames names → (a : SpeltAction) (n : ℕ) (b c : AbstractAction) → ActionIs names a b → ActionIs names a c → IsCountedInside n b → IsCountedInside n c → b ≡ c

@@ -20,7 +20,7 @@ pub data HasLookUpFault (known : List (List ℕ)) (names : List SpeltName) : Num
       HasLookUpFault known names Memory
 
 -- A name of the list stands at this offset, and the same name before it, in the list or among the earlier texts.
-pub record StandsBehind (earlier : List (List ℕ)) (names : List SpeltName) (at : ℕ) : Type 0 where
+pub record StandsAfter (earlier : List (List ℕ)) (names : List SpeltName) (at : ℕ) : Type 0 where
   pub k : ℕ
   pub name : SpeltName
   pub stands : slice_get names k ≡ Some name
@@ -30,7 +30,7 @@ pub record StandsBehind (earlier : List (List ℕ)) (names : List SpeltName) (at
 -- What is wrong with names that are added after the earlier ones.
 pub data HasNameFault (earlier : List (List ℕ)) (names : List SpeltName) : NumberingError → Type 0 where
   same_name : {at : ℕ}
-      → StandsBehind earlier names at
+      → StandsAfter earlier names at
       → HasNameFault earlier names (SameName at)
   no_memory :
       HasNameFault earlier names Memory

@@ -206,7 +206,7 @@ module _ {A : Type 0} (P : List Lexeme → A → List Lexeme → Type 0) (Follow
   pub listed_read : IsReadBy 0 (Listed P) (EndsList Follow test) (listed_at test read)
   listed_read = record { sound = listed_sound; complete = λ ts x rest d stop. listed_complete d stop; shorter = λ ts x rest d. listed_shorter d }
 
--- with a comma behind it
+-- with a comma after it
 module _ {A : Type 0} (least : ℕ) (P : List Lexeme → A → List Lexeme → Type 0) (Follow : List Lexeme → Type 0) (read : List Lexeme → Reading A)
     (reads : IsReadBy least P Follow read) (comma : (ts : List Lexeme) → next_is (is_symbol Comma) ts ≡ true → Follow ts) where
   comma_sound : (ts : List Lexeme) (x : A) (rest : List Lexeme) → with_comma_at read ts ≡ Ok (x, rest) → WithComma P ts x rest

@@ -63,7 +63,7 @@ too_deep_here at ts e = from 128 refl (deep_place 128 at ts e)
   where
     from : (n : ℕ) → n ≡ 128 → Deep (AreRules (suc n)) n at ts → IsTooDeep ts at
     from n same d = record {
-      here = record { before = d.before; token = d.bracket; behind = d.behind; whole = d.whole; place = d.place };
+      here = record { before = d.before; token = d.bracket; beyond = d.beyond; whole = d.whole; place = d.place };
       is_bracket = d.is_bracket;
       depth = d.depth 0 ∙ omega (arith, same);
       first = λ front rest is. let few : open_after 0 front ≤ 0 + n = front_fits (0 + n) 0 front rest (omega arith) (subst (λ us. Fits (0 + n) 0 us) is (d.fits 0)) in omega (arith, same, few);
@@ -71,7 +71,7 @@ too_deep_here at ts e = from 128 refl (deep_place 128 at ts e)
       fits = (suc n, (d.value, d.spells []));
     }
 
--- two lists with a bracket behind each front, where the fronts leave the same number of brackets open and neither leaves more before
+-- two lists with a bracket after each front, where the fronts leave the same number of brackets open and neither leaves more before
 one_bracket : (m n : ℕ) (xs ys : List Lexeme) (x y : Lexeme) (us vs : List Lexeme) → xs ++ x ∷ us ≡ ys ++ y ∷ vs → opens x.kind ≡ true → opens y.kind ≡ true → open_after n xs ≡ m → open_after n ys ≡ m
     → ((front rest : List Lexeme) → xs ≡ front ++ rest → open_after n front ≤ m) → ((front rest : List Lexeme) → ys ≡ front ++ rest → open_after n front ≤ m) → x ≡ y
 one_bracket m n [] [] x y us vs same is_x is_y depth_x depth_y first_x first_y = cc
@@ -94,17 +94,17 @@ one_bracket m n (a ∷ xs) (b ∷ ys) x y us vs same is_x is_y depth_x depth_y f
 
 pub one_too_deep : OneTooDeepLaw
 one_too_deep ts a b one other =
-    let same = one_bracket 128 0 one.here.before other.here.before one.here.token other.here.token one.here.behind other.here.behind (sym one.here.whole ∙ other.here.whole) one.is_bracket other.is_bracket one.depth other.depth one.first other.first in
+    let same = one_bracket 128 0 one.here.before other.here.before one.here.token other.here.token one.here.beyond other.here.beyond (sym one.here.whole ∙ other.here.whole) one.is_bracket other.is_bracket one.depth other.depth one.first other.first in
     sym one.here.place ∙ ap (λ (t : Lexeme). t.at) same ∙ other.here.place
 
 -- where a bracket is opened too deep nothing is spelt within the depth
-no_bracket_above : (n : ℕ) (ts before : List Lexeme) (bracket : Lexeme) (behind : List Lexeme) (r : SpeltRule) → ts ≡ before ++ bracket ∷ behind → opens bracket.kind ≡ true → open_after 0 before ≡ n → AreRules n ts r [] → ⊥
-no_bracket_above n ts before bracket behind r whole is depth d =
+no_bracket_above : (n : ℕ) (ts before : List Lexeme) (bracket : Lexeme) (beyond : List Lexeme) (r : SpeltRule) → ts ≡ before ++ bracket ∷ beyond → opens bracket.kind ≡ true → open_after 0 before ≡ n → AreRules n ts r [] → ⊥
+no_bracket_above n ts before bracket beyond r whole is depth d =
     let piece : Piece (AreRules (suc n)) n ts r [] = (outcome_of n ts (Ok (r, [])) ((rules_read n).complete ts r [] d nothing_ends_rules)).1 in
     let nil : piece.used ++ [] ≡ piece.used = rw append-nil in
-    let all : piece.used ≡ before ++ bracket ∷ behind = sym nil ∙ sym piece.whole ∙ whole in
-    let below = fits_bracket (0 + n) 0 before bracket behind (subst (λ us. Fits (0 + n) 0 us) all (piece.fits 0)) is in
+    let all : piece.used ≡ before ++ bracket ∷ beyond = sym nil ∙ sym piece.whole ∙ whole in
+    let below = fits_bracket (0 + n) 0 before bracket beyond (subst (λ us. Fits (0 + n) 0 us) all (piece.fits 0)) is in
     omega (arith, below, depth)
 
 pub too_deep_spells_nothing : (ts : List Lexeme) (at : ℕ) (r : SpeltRule) → IsTooDeep ts at → AreRules 128 ts r [] → ⊥
-too_deep_spells_nothing ts at r deep d = no_bracket_above 128 ts deep.here.before deep.here.token deep.here.behind r deep.here.whole deep.is_bracket deep.depth d
+too_deep_spells_nothing ts at r deep d = no_bracket_above 128 ts deep.here.before deep.here.token deep.here.beyond r deep.here.whole deep.is_bracket deep.depth d

@@ -78,15 +78,15 @@ closing_misfit ts = refl
 closing_spells_nothing : (k : ℕ) (ts : List Lexeme) (r : SpeltRule) → AreRules k (sign symbols.CloseParenthesis 0 ∷ ts) r [] → ⊥
 closing_spells_nothing k ts r d = spells_nothing 0 k (sign symbols.CloseParenthesis 0 ∷ ts) r (Some 0) (closing_misfit ts) d
 
-closing_not_deep : (ts before : List Lexeme) (bracket : Lexeme) (behind rest : List Lexeme) → sign symbols.CloseParenthesis 0 ∷ ts ≡ before ++ bracket ∷ behind → open_after 0 before ≡ 128
+closing_not_deep : (ts before : List Lexeme) (bracket : Lexeme) (beyond rest : List Lexeme) → sign symbols.CloseParenthesis 0 ∷ ts ≡ before ++ bracket ∷ beyond → open_after 0 before ≡ 128
     → IsSpelt Rules (before ++ bracket ∷ rest) → ⊥
-closing_not_deep ts [] bracket behind rest whole depth spelt = absurd (omega (arith, depth))
-closing_not_deep ts (t ∷ before) bracket behind rest whole depth spelt =
+closing_not_deep ts [] bracket beyond rest whole depth spelt = absurd (omega (arith, depth))
+closing_not_deep ts (t ∷ before) bracket beyond rest whole depth spelt =
     let first : sign symbols.CloseParenthesis 0 ≡ t = cc in
     closing_spells_nothing spelt.0 (before ++ bracket ∷ rest) spelt.1.0 (subst (λ u. AreRules spelt.0 (u ∷ (before ++ bracket ∷ rest)) spelt.1.0 []) (sym first) spelt.1.1)
 
 pub misspelt_alone : MisspeltAlone
 misspelt_alone = record {
   spells_nothing = λ k r d. closing_spells_nothing k (signs symbols.OpenParenthesis 1 129) r d;
-  not_deep = λ at h. closing_not_deep (signs symbols.OpenParenthesis 1 129) h.here.before h.here.token h.here.behind h.other h.here.whole h.depth h.fits;
+  not_deep = λ at h. closing_not_deep (signs symbols.OpenParenthesis 1 129) h.here.before h.here.token h.here.beyond h.other h.here.whole h.depth h.fits;
 }

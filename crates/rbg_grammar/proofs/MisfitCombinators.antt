@@ -9,7 +9,7 @@ use Rattle.rbg_macro.specs.declared.token.Symbol.TheVariants.{Comma}
 use Rattle.rbg_macro.specs.declared.token.TokenKind.{TokenKind}
 use Rattle.rbg_macro.specs.declared.token.TokenKind.TheVariants as kinds
 use Rattle.rbg_grammar.proofs.Common.{SpeltName, SpeltNumber, IsSymbol, symbol, IsName, name, IsNumber, number, IsWord, word, IsOneOf, one_of, Repeated, done, again, After, after, Separated, separated, Listed, nothing, listed, Within, within, WithComma, with_comma, Fault, misfit, Reading, ◌>>=◌, TakesSome, next_is, symbol_at, name_at, number_at, word_at, or_misfit, one_of_at, repeated_within, repeated_at, after_at, separated_at, listed_at, within_at, with_comma_at}
-use Rattle.rbg_grammar.proofs.Misfits.{Begun, Judged, Judges, Behind, seen, given, bind, bind_at, choose, choose_at, same_reader, as_read}
+use Rattle.rbg_grammar.proofs.Misfits.{Begun, Judged, Judges, Beyond, seen, given, bind, bind_at, choose, choose_at, same_reader, as_read}
 use Rattle.rbg_grammar.proofs.Readers.{kind_of-is_symbol, kind_of-is_name, kind_of-is_number}
 use Rattle.rbg_grammar.proofs.Turns.{after_some, within_enough}
 
@@ -20,8 +20,8 @@ module _ {A : Type 0} (table : TokenKind → Option A) (sample : Lexeme) (value 
 
   front_judged : (t : Lexeme) (ts : List Lexeme) (o : Option A) → table t.kind ≡ o → Judged (IsOneOf table) (one_of_at table) (t ∷ ts) (or_misfit o (t, ts))
   unfolding one_of_at
-  front_judged t ts (Some x) e = record { used = t ∷ []; whole = refl; spells = λ tail. one_of e; same = λ u behind other left. rw e }
-  front_judged t ts None e = record { here = record { before = []; token = t; behind = ts; whole = refl; place = refl }; begun = may_begin_one; same = λ other. rw e }
+  front_judged t ts (Some x) e = record { used = t ∷ []; whole = refl; spells = λ tail. one_of e; same = λ u beyond other left. rw e }
+  front_judged t ts None e = record { here = record { before = []; token = t; beyond = ts; whole = refl; place = refl }; begun = may_begin_one; same = λ other. rw e }
 
   some_front : (ts : List Lexeme) → Judged (IsOneOf table) (one_of_at table) ts (one_of_at table ts)
   unfolding one_of_at
@@ -42,8 +42,8 @@ module _ {A : Type 0} (P : List Lexeme → A → List Lexeme → Type 0) (test :
   may_begin = record { other = sample ∷ []; value = f sample; spells = λ tail. spells' sample is tail }
 
   one_token_at : (t : Lexeme) (ts : List Lexeme) (b : Bool) → test t ≡ b → Judged P (one_token test f) (t ∷ ts) (cond {A = Reading A} b (Ok (f t, ts)) (Err (misfit (Some t.at))))
-  one_token_at t ts true e = record { used = t ∷ []; whole = refl; spells = λ tail. spells' t e tail; same = λ u behind other left. rw e }
-  one_token_at t ts false e = record { here = record { before = []; token = t; behind = ts; whole = refl; place = refl }; begun = may_begin; same = λ other. rw e }
+  one_token_at t ts true e = record { used = t ∷ []; whole = refl; spells = λ tail. spells' t e tail; same = λ u beyond other left. rw e }
+  one_token_at t ts false e = record { here = record { before = []; token = t; beyond = ts; whole = refl; place = refl }; begun = may_begin; same = λ other. rw e }
 
   some_token : (ts : List Lexeme) → Judged P (one_token test f) ts (one_token test f ts)
   some_token [] = may_begin
@@ -139,7 +139,7 @@ within_judged {A} {P} {read} o c j = bind (symbol_judged o) (λ at. closed_at c 
 -- what stands before a closing bracket, as what is made of it with the opening one
 pub made_judged : {A B : Type 0} {o c : Symbol} {P : List Lexeme → A → List Lexeme → Type 0} {read : List Lexeme → Reading A} {at : ℕ} (R : List Lexeme → B → List Lexeme → Type 0) (u : List Lexeme) (make : A → B)
     → ((ts : List Lexeme) (x : A) (rest : List Lexeme) → Within o c P ts x rest → R ts (make x) rest) → ((tail : List Lexeme) → IsSymbol o (u ++ tail) at tail)
-    → Judges P read → Judges (Behind u R) (λ us. closed_at c read us >>= λ x. Ok (make x.0, x.1))
+    → Judges P read → Judges (Beyond u R) (λ us. closed_at c read us >>= λ x. Ok (make x.0, x.1))
 made_judged {c = c} R u make is d j =
     bind (closed_judged c j) (λ x. Ok (make x.0, x.1)) (λ x v e. given (λ tail. closed_as (e tail) (λ mid end k f. is (u ++ (v ++ tail)) x tail (within (d (v ++ tail)) k f))))
 
@@ -171,18 +171,18 @@ module _ {A : Type 0} (P : List Lexeme → A → List Lexeme → Type 0) (read :
   turned_to n ts few rec =
       choose_at (Repeated P) (next_is test) (λ t us vs. refl) (λ us. read us >>= more) (λ us. Ok ([], us)) ts
       (λ goes_on. bind_at P (Repeated P) read more (λ us. length us ≤ n) (omega arith) ts (λ x us e. let fewer = some ts x us e in omega (arith, few, fewer)) (j.at ts)
-      (λ x u d us left. bind_at (Repeated P) (Behind u (Repeated P)) (repeated_at test read) (λ m. Ok (x ∷ m.0, m.1)) (λ vs. Unit {0}) tt us (λ xs vs e. tt) (rec us left)
-      (λ xs v e vs k. (given {R = Behind v (Behind u (Repeated P))} {x = x ∷ xs} (λ tail. again (d (v ++ tail)) (e tail))).at vs)))
+      (λ x u d us left. bind_at (Repeated P) (Beyond u (Repeated P)) (repeated_at test read) (λ m. Ok (x ∷ m.0, m.1)) (λ vs. Unit {0}) tt us (λ xs vs e. tt) (rec us left)
+      (λ xs v e vs k. (given {R = Beyond v (Beyond u (Repeated P))} {x = x ∷ xs} (λ tail. again (d (v ++ tail)) (e tail))).at vs)))
       (λ stops. (given {R = Repeated P} {x = []} (λ tail. done)).at ts)
 
   as_turned : (ts : List Lexeme) → Judged (Repeated P) turned ts (turned ts) → Judged (Repeated P) (repeated_at test read) ts (repeated_at test read ts)
   as_turned ts k =
       subst (λ r. Judged (Repeated P) (repeated_at test read) ts r) (sym (unrolled ts))
-      (as_read (Repeated P) turned (repeated_at test read) ts (turned ts) (λ front t behind other is. sym (unrolled (front ++ t ∷ other))) k)
+      (as_read (Repeated P) turned (repeated_at test read) ts (turned ts) (λ front t beyond other is. sym (unrolled (front ++ t ∷ other))) k)
 
   repeated_to : (n : ℕ) (ts : List Lexeme) → length ts ≤ n → Judged (Repeated P) (repeated_at test read) ts (repeated_at test read ts)
   unfolding repeated_at
-  repeated_to zero [] few = record { used = []; whole = refl; spells = λ tail. done; same = λ t behind other e. cc }
+  repeated_to zero [] few = record { used = []; whole = refl; spells = λ tail. done; same = λ t beyond other e. cc }
   repeated_to zero (t ∷ ts) few = absurd (omega (arith, few))
   repeated_to (suc n) ts few = as_turned ts (turned_to n ts few (repeated_to n))
 

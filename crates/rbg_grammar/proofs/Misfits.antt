@@ -3,7 +3,7 @@ use Rattle.std.proofs.Common.{◌≡◌, ℕ, List, [], ◌∷◌, ◌++◌, Boo
 use Rattle.rbg_macro.specs.Token.{Lexeme}
 use Rattle.rbg_grammar.proofs.Common.{misfit, too_deep, Reading, ◌>>=◌, TokenAt}
 
--- with some tokens behind them the tokens are such a phrase, whatever follows
+-- with some tokens after them the tokens are such a phrase, whatever follows
 pub record Begun {A : Type 0} (P : List Lexeme → A → List Lexeme → Type 0) (ts : List Lexeme) : Type 0 where
   pub other : List Lexeme
   pub value : A
@@ -14,7 +14,7 @@ pub record Taken {A : Type 0} (P : List Lexeme → A → List Lexeme → Type 0)
   pub used : List Lexeme
   pub whole : ts ≡ used ++ rest
   pub spells : (tail : List Lexeme) → P (used ++ tail) x tail
-  pub same : (t : Lexeme) (behind other : List Lexeme) → rest ≡ t ∷ behind → read (used ++ t ∷ other) ≡ Ok (x, t ∷ other)
+  pub same : (t : Lexeme) (beyond other : List Lexeme) → rest ≡ t ∷ beyond → read (used ++ t ∷ other) ≡ Ok (x, t ∷ other)
 
 -- The tokens before the one at this place may begin such a phrase, and with it nothing is read, whatever follows.
 pub record Stuck {A : Type 0} (P : List Lexeme → A → List Lexeme → Type 0) (read : List Lexeme → Reading A) (ts : List Lexeme) (at : ℕ) : Type 0 where
@@ -33,8 +33,8 @@ pub record Judges {A : Type 0} (P : List Lexeme → A → List Lexeme → Type 0
   pub at : (ts : List Lexeme) → Judged P read ts (read ts)
 
 -- the phrase after tokens that were used
-abbrev pub Behind : {A : Type 0} → List Lexeme → (List Lexeme → A → List Lexeme → Type 0) → List Lexeme → A → List Lexeme → Type 0
-Behind used R ts x rest = R (used ++ ts) x rest
+abbrev pub Beyond : {A : Type 0} → List Lexeme → (List Lexeme → A → List Lexeme → Type 0) → List Lexeme → A → List Lexeme → Type 0
+Beyond used R ts x rest = R (used ++ ts) x rest
 
 no_token : (xs : List Lexeme) (t : Lexeme) (ys : List Lexeme) → [] ≡ xs ++ t ∷ ys → ⊥
 no_token [] t ys e = cc
@@ -46,18 +46,18 @@ nothing_left (x ∷ xs) ys e = cc
 
 -- the same front is read in the same way by another reader
 pub as_read : {A : Type 0} (P : List Lexeme → A → List Lexeme → Type 0) (read other : List Lexeme → Reading A) (ts : List Lexeme) (r : Reading A)
-    → ((front : List Lexeme) (t : Lexeme) (behind more : List Lexeme) → ts ≡ front ++ t ∷ behind → read (front ++ t ∷ more) ≡ other (front ++ t ∷ more)) → Judged P read ts r → Judged P other ts r
+    → ((front : List Lexeme) (t : Lexeme) (beyond more : List Lexeme) → ts ≡ front ++ t ∷ beyond → read (front ++ t ∷ more) ≡ other (front ++ t ∷ more)) → Judged P read ts r → Judged P other ts r
 as_read P read other ts (Ok q) same j = record {
   used = j.used;
   whole = j.whole;
   spells = j.spells;
-  same = λ t behind more e. sym (same j.used t behind more (j.whole ∙ ap (λ us. j.used ++ us) e)) ∙ j.same t behind more e;
+  same = λ t beyond more e. sym (same j.used t beyond more (j.whole ∙ ap (λ us. j.used ++ us) e)) ∙ j.same t beyond more e;
 }
 as_read P read other ts (Err (misfit None)) same j = j
 as_read P read other ts (Err (misfit (Some at))) same j = record {
   here = j.here;
   begun = j.begun;
-  same = λ more. sym (same j.here.before j.here.token j.here.behind more j.here.whole) ∙ j.same more;
+  same = λ more. sym (same j.here.before j.here.token j.here.beyond more j.here.whole) ∙ j.same more;
 }
 as_read P read other ts (Err (too_deep at)) same j = j
 
@@ -82,7 +82,7 @@ seen {A} {P} {R} {read} see j = record { at = λ ts. seen_at P R read see ts (re
 
 -- nothing more is read
 given_at : {A : Type 0} (R : List Lexeme → A → List Lexeme → Type 0) (x : A) → ((tail : List Lexeme) → R tail x tail) → (ts : List Lexeme) → Taken R (λ us. Ok (x, us)) ts x ts
-given_at R x spells' ts = record { used = []; whole = refl; spells = spells'; same = λ t behind other e. refl }
+given_at R x spells' ts = record { used = []; whole = refl; spells = spells'; same = λ t beyond other e. refl }
 
 pub given : {A : Type 0} {R : List Lexeme → A → List Lexeme → Type 0} {x : A} → ((tail : List Lexeme) → R tail x tail) → Judges R (λ us. Ok (x, us))
 given {A} {R} {x} spells = record { at = given_at R x spells }
@@ -91,14 +91,14 @@ given {A} {R} {x} spells = record { at = given_at R x spells }
 begun_here : {A : Type 0} (R : List Lexeme → A → List Lexeme → Type 0) (read : List Lexeme → Reading A) (r : Reading A) → Judged R read [] r → Begun R []
 begun_here R read (Ok q) j = record { other = j.used; value = q.0; spells = j.spells }
 begun_here R read (Err (misfit None)) j = j
-begun_here R read (Err (misfit (Some at))) j = absurd (no_token j.here.before j.here.token j.here.behind j.here.whole)
+begun_here R read (Err (misfit (Some at))) j = absurd (no_token j.here.before j.here.token j.here.beyond j.here.whole)
 begun_here R read (Err (too_deep at)) j = absurd (j refl)
 
 -- the tokens that are left begin with the same token
 read_again : {A : Type 0} (P : List Lexeme → A → List Lexeme → Type 0) (read : List Lexeme → Reading A) (ts : List Lexeme) (x : A) (rest : List Lexeme) (k : Taken P read ts x rest)
-    (front : List Lexeme) (t : Lexeme) (behind other : List Lexeme) → rest ≡ front ++ t ∷ behind → read (k.used ++ (front ++ t ∷ other)) ≡ Ok (x, front ++ t ∷ other)
-read_again P read ts x rest k [] t behind other e = k.same t behind other e
-read_again P read ts x rest k (u ∷ front) t behind other e = k.same u (front ++ t ∷ behind) (front ++ t ∷ other) e
+    (front : List Lexeme) (t : Lexeme) (beyond other : List Lexeme) → rest ≡ front ++ t ∷ beyond → read (k.used ++ (front ++ t ∷ other)) ≡ Ok (x, front ++ t ∷ other)
+read_again P read ts x rest k [] t beyond other e = k.same t beyond other e
+read_again P read ts x rest k (u ∷ front) t beyond other e = k.same u (front ++ t ∷ beyond) (front ++ t ∷ other) e
 
 -- one reading after another
 module _ {A C : Type 0} (P : List Lexeme → A → List Lexeme → Type 0) (R : List Lexeme → C → List Lexeme → Type 0) (read : List Lexeme → Reading A) (next : A × List Lexeme → Reading C) where
@@ -106,9 +106,9 @@ module _ {A C : Type 0} (P : List Lexeme → A → List Lexeme → Type 0) (R : 
   joined ts = read ts >>= next
 
   -- a first reading that may go on
-  begun_first : (before : List Lexeme) (b : Begun P before) → Judged (Behind (before ++ b.other) R) (λ us. next (b.value, us)) [] (next (b.value, [])) → Begun R before
+  begun_first : (before : List Lexeme) (b : Begun P before) → Judged (Beyond (before ++ b.other) R) (λ us. next (b.value, us)) [] (next (b.value, [])) → Begun R before
   begun_first before b j =
-      let rest = begun_here (Behind (before ++ b.other) R) (λ us. next (b.value, us)) (next (b.value, [])) j in
+      let rest = begun_here (Beyond (before ++ b.other) R) (λ us. next (b.value, us)) (next (b.value, [])) j in
       record {
         other = b.other ++ rest.other;
         value = rest.value;
@@ -117,40 +117,40 @@ module _ {A C : Type 0} (P : List Lexeme → A → List Lexeme → Type 0) (R : 
       }
 
   -- a second reading that may go on, after a first one
-  begun_second : (used before : List Lexeme) → Begun (Behind used R) before → Begun R (used ++ before)
+  begun_second : (used before : List Lexeme) → Begun (Beyond used R) before → Begun R (used ++ before)
   begun_second used before b = record { other = b.other; value = b.value; spells = λ tail. subst (λ us. R us b.value tail) (sym (append_assoc used before (b.other ++ tail))) (b.spells tail) }
 
-  second : (ts : List Lexeme) (x : A) (mid : List Lexeme) (k : Taken P read ts x mid) (s : Reading C) → Judged (Behind k.used R) (λ us. next (x, us)) mid s → Judged R joined ts s
+  second : (ts : List Lexeme) (x : A) (mid : List Lexeme) (k : Taken P read ts x mid) (s : Reading C) → Judged (Beyond k.used R) (λ us. next (x, us)) mid s → Judged R joined ts s
   unfolding joined
   second ts x mid k (Ok q) j = record {
     used = k.used ++ j.used;
     whole = k.whole ∙ ap (λ us. k.used ++ us) j.whole ∙ sym (append_assoc k.used j.used q.1);
     spells = λ tail. subst (λ us. R us q.0 tail) (sym (append_assoc k.used j.used tail)) (j.spells tail);
-    same = λ t behind other e.
+    same = λ t beyond other e.
         ap (λ us. read us >>= next) (append_assoc k.used j.used (t ∷ other))
-        ∙ ap (λ u. u >>= next) (read_again P read ts x mid k j.used t behind other (j.whole ∙ ap (λ us. j.used ++ us) e))
-        ∙ j.same t behind other e;
+        ∙ ap (λ u. u >>= next) (read_again P read ts x mid k j.used t beyond other (j.whole ∙ ap (λ us. j.used ++ us) e))
+        ∙ j.same t beyond other e;
   }
   second ts x mid k (Err (misfit None)) j = subst (λ us. Begun R us) (sym k.whole) (begun_second k.used mid j)
   second ts x mid k (Err (misfit (Some at))) j = record {
     here = record {
       before = k.used ++ j.here.before;
       token = j.here.token;
-      behind = j.here.behind;
-      whole = k.whole ∙ ap (λ us. k.used ++ us) j.here.whole ∙ sym (append_assoc k.used j.here.before (j.here.token ∷ j.here.behind));
+      beyond = j.here.beyond;
+      whole = k.whole ∙ ap (λ us. k.used ++ us) j.here.whole ∙ sym (append_assoc k.used j.here.before (j.here.token ∷ j.here.beyond));
       place = j.here.place;
     };
     begun = begun_second k.used j.here.before j.begun;
     same = λ other.
         ap (λ us. read us >>= next) (append_assoc k.used j.here.before (j.here.token ∷ other))
-        ∙ ap (λ u. u >>= next) (read_again P read ts x mid k j.here.before j.here.token j.here.behind other j.here.whole)
+        ∙ ap (λ u. u >>= next) (read_again P read ts x mid k j.here.before j.here.token j.here.beyond other j.here.whole)
         ∙ j.same other;
   }
   second ts x mid k (Err (too_deep at)) j = λ none. j (nothing_left k.used mid (sym k.whole ∙ none))
 
   -- what is left after the first reading meets a condition, and so does the empty list
   first : (Left : List Lexeme → Type 0) → Left [] → (ts : List Lexeme) (r : Reading A) → ((x : A) (us : List Lexeme) → r ≡ Ok (x, us) → Left us) → Judged P read ts r
-      → ((x : A) (used : List Lexeme) → ((tail : List Lexeme) → P (used ++ tail) x tail) → (us : List Lexeme) → Left us → Judged (Behind used R) (λ vs. next (x, vs)) us (next (x, us)))
+      → ((x : A) (used : List Lexeme) → ((tail : List Lexeme) → P (used ++ tail) x tail) → (us : List Lexeme) → Left us → Judged (Beyond used R) (λ vs. next (x, vs)) us (next (x, us)))
       → Judged R joined ts (r >>= next)
   unfolding joined
   first Left nil ts (Ok q) left j more = second ts q.0 q.1 j (next q) (more q.0 j.used j.spells q.1 (left q.0 q.1 refl))
@@ -165,24 +165,24 @@ module _ {A C : Type 0} (P : List Lexeme → A → List Lexeme → Type 0) (R : 
   first Left nil ts (Err (too_deep at)) left j more = j
 
   pub bind_at : (Left : List Lexeme → Type 0) → Left [] → (ts : List Lexeme) → ((x : A) (us : List Lexeme) → read ts ≡ Ok (x, us) → Left us) → Judged P read ts (read ts)
-      → ((x : A) (used : List Lexeme) → ((tail : List Lexeme) → P (used ++ tail) x tail) → (us : List Lexeme) → Left us → Judged (Behind used R) (λ vs. next (x, vs)) us (next (x, us)))
+      → ((x : A) (used : List Lexeme) → ((tail : List Lexeme) → P (used ++ tail) x tail) → (us : List Lexeme) → Left us → Judged (Beyond used R) (λ vs. next (x, vs)) us (next (x, us)))
       → Judged R (λ us. read us >>= next) ts (read ts >>= next)
   unfolding joined
   bind_at Left nil ts left j more = first Left nil ts (read ts) left j more
 
 pub bind : {A C : Type 0} {P : List Lexeme → A → List Lexeme → Type 0} {R : List Lexeme → C → List Lexeme → Type 0} {read : List Lexeme → Reading A} → Judges P read → (next : A × List Lexeme → Reading C)
-    → ((x : A) (used : List Lexeme) → ((tail : List Lexeme) → P (used ++ tail) x tail) → Judges (Behind used R) (λ us. next (x, us))) → Judges R (λ ts. read ts >>= next)
+    → ((x : A) (used : List Lexeme) → ((tail : List Lexeme) → P (used ++ tail) x tail) → Judges (Beyond used R) (λ us. next (x, us))) → Judges R (λ ts. read ts >>= next)
 bind {A} {C} {P} {R} {read} j next more = record { at = λ ts. bind_at P R read next (λ us. Unit {0}) tt ts (λ x us e. tt) (j.at ts) (λ x used spells us left. (more x used spells).at us) }
 
 -- by a test of the next token
 module _ {A : Type 0} (P : List Lexeme → A → List Lexeme → Type 0) (test : List Lexeme → Bool) (of_front : (t : Lexeme) (us vs : List Lexeme) → test (t ∷ us) ≡ test (t ∷ vs)) (yes no : List Lexeme → Reading A) where
-  same_test : (front : List Lexeme) (t : Lexeme) (behind other : List Lexeme) → test (front ++ t ∷ other) ≡ test (front ++ t ∷ behind)
-  same_test [] t behind other = of_front t other behind
-  same_test (u ∷ front) t behind other = of_front u (front ++ t ∷ other) (front ++ t ∷ behind)
+  same_test : (front : List Lexeme) (t : Lexeme) (beyond other : List Lexeme) → test (front ++ t ∷ other) ≡ test (front ++ t ∷ beyond)
+  same_test [] t beyond other = of_front t other beyond
+  same_test (u ∷ front) t beyond other = of_front u (front ++ t ∷ other) (front ++ t ∷ beyond)
 
   chosen : (ts : List Lexeme) (b : Bool) → test ts ≡ b → (b ≡ true → Judged P yes ts (yes ts)) → (b ≡ false → Judged P no ts (no ts)) → Judged P (λ us. cond (test us) (yes us) (no us)) ts (cond b (yes ts) (no ts))
-  chosen ts true e j k = as_read P yes (λ us. cond (test us) (yes us) (no us)) ts (yes ts) (λ front t behind more is. let so : test (front ++ t ∷ more) ≡ true = same_test front t behind more ∙ sym (ap test is) ∙ e in rw so) (j refl)
-  chosen ts false e j k = as_read P no (λ us. cond (test us) (yes us) (no us)) ts (no ts) (λ front t behind more is. let so : test (front ++ t ∷ more) ≡ false = same_test front t behind more ∙ sym (ap test is) ∙ e in rw so) (k refl)
+  chosen ts true e j k = as_read P yes (λ us. cond (test us) (yes us) (no us)) ts (yes ts) (λ front t beyond more is. let so : test (front ++ t ∷ more) ≡ true = same_test front t beyond more ∙ sym (ap test is) ∙ e in rw so) (j refl)
+  chosen ts false e j k = as_read P no (λ us. cond (test us) (yes us) (no us)) ts (no ts) (λ front t beyond more is. let so : test (front ++ t ∷ more) ≡ false = same_test front t beyond more ∙ sym (ap test is) ∙ e in rw so) (k refl)
 
   pub choose_at : (ts : List Lexeme) → (test ts ≡ true → Judged P yes ts (yes ts)) → (test ts ≡ false → Judged P no ts (no ts)) → Judged P (λ us. cond (test us) (yes us) (no us)) ts (cond (test ts) (yes ts) (no ts))
   choose_at ts j k = chosen ts (test ts) refl j k
@@ -193,4 +193,4 @@ choose {A} {P} {yes} {no} test of_front j k = record { at = λ ts. choose_at P t
 
 -- a reader that reads the same
 pub same_reader : {A : Type 0} {P : List Lexeme → A → List Lexeme → Type 0} {read other : List Lexeme → Reading A} → ((ts : List Lexeme) → read ts ≡ other ts) → Judges P other → Judges P read
-same_reader {A} {P} {read} {other} same j = record { at = λ ts. subst (λ r. Judged P read ts r) (sym (same ts)) (as_read P other read ts (other ts) (λ front t behind more is. sym (same (front ++ t ∷ more))) (j.at ts)) }
+same_reader {A} {P} {read} {other} same j = record { at = λ ts. subst (λ r. Judged P read ts r) (sym (same ts)) (as_read P other read ts (other ts) (λ front t beyond more is. sym (same (front ++ t ∷ more))) (j.at ts)) }

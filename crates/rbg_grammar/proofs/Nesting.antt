@@ -17,9 +17,9 @@ pub fits_append : (limit n : ℕ) (xs ys : List Lexeme) → Fits limit n xs → 
 fits_append limit n [] ys f g = g
 fits_append limit n (x ∷ xs) ys f g = (f.0, fits_append limit (open_with n x.kind) xs ys f.1 g)
 
-pub fits_bracket : (limit n : ℕ) (before : List Lexeme) (bracket : Lexeme) (behind : List Lexeme) → Fits limit n (before ++ bracket ∷ behind) → opens bracket.kind ≡ true → open_after n before < limit
-fits_bracket limit n [] bracket behind f is = f.0 is
-fits_bracket limit n (x ∷ xs) bracket behind f is = fits_bracket limit (open_with n x.kind) xs bracket behind f.1 is
+pub fits_bracket : (limit n : ℕ) (before : List Lexeme) (bracket : Lexeme) (beyond : List Lexeme) → Fits limit n (before ++ bracket ∷ beyond) → opens bracket.kind ≡ true → open_after n before < limit
+fits_bracket limit n [] bracket beyond f is = f.0 is
+fits_bracket limit n (x ∷ xs) bracket beyond f is = fits_bracket limit (open_with n x.kind) xs bracket beyond f.1 is
 
 pub opened : (n : ℕ) (k : TokenKind) → opens k ≡ true → open_with n k ≡ n + 1
 opened n k e = rw e

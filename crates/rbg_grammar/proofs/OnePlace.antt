@@ -11,10 +11,10 @@ data Places (xs ys : List Lexeme) (x y : Lexeme) : Type 0 where
   first_before : (mid : List Lexeme) → ys ≡ xs ++ x ∷ mid → Places xs ys x y
   second_before : (mid : List Lexeme) → xs ≡ ys ++ y ∷ mid → Places xs ys x y
 
-behind_both : (a b : Lexeme) (xs ys : List Lexeme) (x y : Lexeme) → a ≡ b → Places xs ys x y → Places (a ∷ xs) (b ∷ ys) x y
-behind_both a b xs ys x y head (same_place e) = same_place e
-behind_both a b xs ys x y head (first_before mid e) = first_before mid (λ i. sym head i ∷ e i)
-behind_both a b xs ys x y head (second_before mid e) = second_before mid (λ i. head i ∷ e i)
+beyond_both : (a b : Lexeme) (xs ys : List Lexeme) (x y : Lexeme) → a ≡ b → Places xs ys x y → Places (a ∷ xs) (b ∷ ys) x y
+beyond_both a b xs ys x y head (same_place e) = same_place e
+beyond_both a b xs ys x y head (first_before mid e) = first_before mid (λ i. sym head i ∷ e i)
+beyond_both a b xs ys x y head (second_before mid e) = second_before mid (λ i. head i ∷ e i)
 
 places : (xs ys : List Lexeme) (x y : Lexeme) (us vs : List Lexeme) → xs ++ x ∷ us ≡ ys ++ y ∷ vs → Places xs ys x y
 places [] [] x y us vs e = let same : x ≡ y = cc in same_place same
@@ -23,7 +23,7 @@ places (a ∷ xs) [] x y us vs e = let head : a ≡ y = cc in second_before xs (
 places (a ∷ xs) (b ∷ ys) x y us vs e =
     let head : a ≡ b = cc in
     let tails : xs ++ x ∷ us ≡ ys ++ y ∷ vs = cc in
-    behind_both a b xs ys x y head (places xs ys x y us vs tails)
+    beyond_both a b xs ys x y head (places xs ys x y us vs tails)
 
 -- tokens that can go on could go on before their last ones were there
 could_go_on : (kind : SectionKind) (xs : List Lexeme) (x : Lexeme) (mid ts : List Lexeme) → ts ≡ xs ++ x ∷ mid → CanGoOn kind ts → CanGoOn kind (xs ++ x ∷ [])
@@ -32,7 +32,7 @@ could_go_on kind xs x mid ts is goes =
     (mid ++ goes.0, subst (λ us. IsSpelt kind us) same goes.1)
 
 one_misfit : (kind : SectionKind) (ts : List Lexeme) (a b : ℕ) → IsMisfit kind ts a → IsMisfit kind ts b → a ≡ b
-one_misfit kind ts a b one other = go (places one.here.before other.here.before one.here.token other.here.token one.here.behind other.here.behind (sym one.here.whole ∙ other.here.whole))
+one_misfit kind ts a b one other = go (places one.here.before other.here.before one.here.token other.here.token one.here.beyond other.here.beyond (sym one.here.whole ∙ other.here.whole))
   where
     go : Places one.here.before other.here.before one.here.token other.here.token → a ≡ b
     go (same_place e) = sym one.here.place ∙ ap (λ (t : Lexeme). t.at) e ∙ other.here.place
@@ -40,7 +40,7 @@ one_misfit kind ts a b one other = go (places one.here.before other.here.before 
     go (second_before mid e) = absurd (other.refused (could_go_on kind other.here.before other.here.token mid one.here.before e one.fits))
 
 not_both : (kind : SectionKind) (section : SectionTokens) (a b : ℕ) → IsMisfit kind section.tokens a → EndsEarly kind section b → ⊥
-not_both kind section a b one other = one.refused (could_go_on kind one.here.before one.here.token one.here.behind section.tokens one.here.whole other.fits)
+not_both kind section a b one other = one.refused (could_go_on kind one.here.before one.here.token one.here.beyond section.tokens one.here.whole other.fits)
 
 pub one_place : OnePlaceLaw
 one_place kind section a b (inl one) (inl other) = one_misfit kind section.tokens a b one other

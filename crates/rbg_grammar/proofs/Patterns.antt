@@ -1,4 +1,4 @@
--- A pattern as its brace's place and its rules, behind either sign.
+-- A pattern as its brace's place and its rules, after either sign.
 use Rattle.std.proofs.Common.{ℕ, List}
 use Rattle.rbg_macro.specs.Token.{Lexeme}
 use Rattle.rbg_macro.specs.declared.token.Symbol.{Symbol}

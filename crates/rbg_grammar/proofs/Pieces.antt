@@ -18,10 +18,10 @@ pub record Piece {A : Type 0} (P : List Lexeme → A → List Lexeme → Type 0)
 pub record Deep {A : Type 0} (P : List Lexeme → A → List Lexeme → Type 0) (n at : ℕ) (ts : List Lexeme) : Type 0 where
   pub before : List Lexeme
   pub bracket : Lexeme
-  pub behind : List Lexeme
+  pub beyond : List Lexeme
   pub other : List Lexeme
   pub value : A
-  pub whole : ts ≡ before ++ bracket ∷ behind
+  pub whole : ts ≡ before ++ bracket ∷ beyond
   pub place : bracket.at ≡ at
   pub is_bracket : opens bracket.kind ≡ true
   pub depth : (k : ℕ) → open_after k before ≡ k + n
@@ -60,7 +60,7 @@ pub seen_deep : {A C : Type 0} (P : List Lexeme → A → List Lexeme → Type 0
 seen_deep P R f n at see ts d = record {
   before = d.before;
   bracket = d.bracket;
-  behind = d.behind;
+  beyond = d.beyond;
   other = d.other;
   value = f d.value;
   whole = d.whole;
@@ -87,10 +87,10 @@ module _ {A B C : Type 0} (P : List Lexeme → A → List Lexeme → Type 0) (Q 
   second_deep ts x mid at p d = record {
     before = p.used ++ d.before;
     bracket = d.bracket;
-    behind = d.behind;
+    beyond = d.beyond;
     other = d.other;
     value = f x d.value;
-    whole = p.whole ∙ ap (λ us. p.used ++ us) d.whole ∙ sym (append_assoc p.used d.before (d.bracket ∷ d.behind));
+    whole = p.whole ∙ ap (λ us. p.used ++ us) d.whole ∙ sym (append_assoc p.used d.before (d.bracket ∷ d.beyond));
     place = d.place;
     is_bracket = d.is_bracket;
     depth = λ k. open_after-append k p.used d.before ∙ ap (λ j. open_after j d.before) (p.balanced k) ∙ d.depth k;
@@ -103,7 +103,7 @@ module _ {A B C : Type 0} (P : List Lexeme → A → List Lexeme → Type 0) (Q 
   first_deep ts at d s = record {
     before = d.before;
     bracket = d.bracket;
-    behind = d.behind;
+    beyond = d.beyond;
     other = d.other ++ s.tokens;
     value = f d.value s.value;
     whole = d.whole;
@@ -149,7 +149,7 @@ module _ {A C : Type 0} (o c : Symbol) (opening : opens (kinds.Symbol o) ≡ tru
   within_deep {at = at} mark l (symbol {t = t} {rest = first} k) d = record {
     before = t ∷ d.before;
     bracket = d.bracket;
-    behind = d.behind;
+    beyond = d.beyond;
     other = d.other ++ mark ∷ [];
     value = f t.at d.value;
     whole = ap (λ us. t ∷ us) d.whole;

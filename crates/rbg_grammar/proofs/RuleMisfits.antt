@@ -11,7 +11,7 @@ use Rattle.rbg_grammar.proofs.Common.{Rank, SpeltExpression, SpeltRule, SpeltAct
 use Rattle.rbg_grammar.specs.declared.expression.Rank.TheVariants as ranks
 use Rattle.rbg_grammar.specs.Grammar.{relation_of, operator_of, IsOperator, IsFurtherOperand, further_operand, IsChain, chained, IsFactor, plain, minus, IsSumOver, IsNumberOrName, number as a_number, name as a_name, IsPrimary, IsSum, IsRelation, IsOpenAtom, moves, switches, keeps, IsComparison, comparison, IsAssignment, assignment, AreAssignments, assignments, IsBracketAtom, groups, stands_on, puts, compares, assigns, IsItem, once, starred, IsSequence, in_turn, AreRulesOver, either, IsAtom, AreRules}
 use Rattle.rbg_grammar.proofs.Patterns.{IsPattern, pattern, positive_is, negative_is}
-use Rattle.rbg_grammar.proofs.Misfits.{Judged, Judges, Behind, seen, given, bind, choose, choose_at, same_reader}
+use Rattle.rbg_grammar.proofs.Misfits.{Judged, Judges, Beyond, seen, given, bind, choose, choose_at, same_reader}
 use Rattle.rbg_grammar.proofs.MisfitCombinators.{one_of_judged, symbol_judged, name_judged, number_judged, after_judged, closed_as, closed_at, closed_judged, made_judged, within_judged, repeated_judged, separated_judged}
 use Rattle.rbg_grammar.proofs.PhraseLaws.{further_operand_takes_some, assignment_takes_some, item_takes_some, sequence_takes_some}
 use Rattle.rbg_grammar.proofs.SectionMisfits.{names_judged}
@@ -162,29 +162,29 @@ module _ (Rules : List Lexeme → SpeltRule → List Lexeme → Type 0) (rules' 
       ∙ second_chosen OpenBrace (is_symbol Dollar) compare_part (λ q. cond (next_is (is_symbol Question) q.1) (hold_part q) (cond (next_is (is_symbol Exclamation) q.1) (fail_part q) (on_part q))) ts
 
   module _ (at : ℕ) (u : List Lexeme) (d : (tail : List Lexeme) → IsSymbol OpenBrace (u ++ tail) at tail) where
-    compare_part_judged : Judges (Behind u (IsBracketAtom Rules Sum)) (λ us. compare_part (at, us))
+    compare_part_judged : Judges (Beyond u (IsBracketAtom Rules Sum)) (λ us. compare_part (at, us))
     unfolding compare_part
     compare_part_judged = seen (λ ts x rest k. closed_as k (λ mid end e f. compares (within (d ts) e f))) (closed_judged CloseBrace (after_judged Dollar (comparison_judged Sum sum' j)))
 
-    pattern_part_judged : (sign : Symbol) → Judges (Behind u (IsPattern sign Rules)) (λ us. pattern_part sign (at, us))
+    pattern_part_judged : (sign : Symbol) → Judges (Beyond u (IsPattern sign Rules)) (λ us. pattern_part sign (at, us))
     unfolding pattern_part
     pattern_part_judged sign =
         bind (after_judged sign rules_j) (λ r. symbol_at CloseBrace r.1 >>= λ end. Ok ((at, r.0), end.1))
         (λ x v e. bind (symbol_judged CloseBrace) (λ end. Ok ((at, x), end.1)) (λ end w f. given (λ tail. pattern (d (v ++ (w ++ tail))) (e (w ++ tail)) (f tail))))
 
-    hold_part_judged : Judges (Behind u (IsBracketAtom Rules Sum)) (λ us. hold_part (at, us))
+    hold_part_judged : Judges (Beyond u (IsBracketAtom Rules Sum)) (λ us. hold_part (at, us))
     unfolding hold_part
     hold_part_judged = bind (pattern_part_judged Question) (λ p. Ok (act (positive p.0.0 p.0.1), p.1)) (λ p v e. given (λ tail. positive_is (u ++ (v ++ tail)) p tail (e tail)))
 
-    fail_part_judged : Judges (Behind u (IsBracketAtom Rules Sum)) (λ us. fail_part (at, us))
+    fail_part_judged : Judges (Beyond u (IsBracketAtom Rules Sum)) (λ us. fail_part (at, us))
     unfolding fail_part
     fail_part_judged = bind (pattern_part_judged Exclamation) (λ p. Ok (act (negative p.0.0 p.0.1), p.1)) (λ p v e. given (λ tail. negative_is (u ++ (v ++ tail)) p tail (e tail)))
 
-    on_part_judged : Judges (Behind u (IsBracketAtom Rules Sum)) (λ us. on_part (at, us))
+    on_part_judged : Judges (Beyond u (IsBracketAtom Rules Sum)) (λ us. on_part (at, us))
     unfolding on_part
     on_part_judged = made_judged (IsBracketAtom Rules Sum) u (λ ns. act (SpeltAction.on ns)) (λ ts ns rest k. stands_on k) d names_judged
 
-    braces_part_judged : Judges (Behind u (IsBracketAtom Rules Sum)) (λ us. braces_part (at, us))
+    braces_part_judged : Judges (Beyond u (IsBracketAtom Rules Sum)) (λ us. braces_part (at, us))
     unfolding braces_part
     braces_part_judged =
         choose (next_is (is_symbol Dollar)) (λ t us vs. refl) compare_part_judged
@@ -211,15 +211,15 @@ module _ (Rules : List Lexeme → SpeltRule → List Lexeme → Type 0) (rules' 
       ∙ second_chosen OpenBracket (is_symbol Dollar) assign_part off_part ts
 
   module _ (at : ℕ) (u : List Lexeme) (d : (tail : List Lexeme) → IsSymbol OpenBracket (u ++ tail) at tail) where
-    assign_part_judged : Judges (Behind u (IsBracketAtom Rules Sum)) (λ us. assign_part (at, us))
+    assign_part_judged : Judges (Beyond u (IsBracketAtom Rules Sum)) (λ us. assign_part (at, us))
     unfolding assign_part
     assign_part_judged = seen (λ ts x rest k. closed_as k (λ mid end e f. assigns (within (d ts) e f))) (closed_judged CloseBracket (after_judged Dollar (assignments_judged Sum sum' j some)))
 
-    off_part_judged : Judges (Behind u (IsBracketAtom Rules Sum)) (λ us. off_part (at, us))
+    off_part_judged : Judges (Beyond u (IsBracketAtom Rules Sum)) (λ us. off_part (at, us))
     unfolding off_part
     off_part_judged = made_judged (IsBracketAtom Rules Sum) u (λ n. act (SpeltAction.off n)) (λ ts n rest k. puts k) d name_judged
 
-    brackets_part_judged : Judges (Behind u (IsBracketAtom Rules Sum)) (λ us. brackets_part (at, us))
+    brackets_part_judged : Judges (Beyond u (IsBracketAtom Rules Sum)) (λ us. brackets_part (at, us))
     unfolding brackets_part
     brackets_part_judged = choose (next_is (is_symbol Dollar)) (λ t us vs. refl) assign_part_judged off_part_judged
 

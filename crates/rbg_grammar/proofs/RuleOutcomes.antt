@@ -256,7 +256,7 @@ deep_atom : (t : Lexeme) (ts other' : List Lexeme) (value' : SpeltRule) → open
 deep_atom t ts other' value' is spells' = record {
   before = [];
   bracket = t;
-  behind = ts;
+  beyond = ts;
   other = other';
   value = value';
   whole = refl;

@@ -86,7 +86,7 @@ deep_primary : (t : Lexeme) (ts : List Lexeme) → t.kind ≡ kinds.Symbol OpenP
 deep_primary t ts k = record {
   before = [];
   bracket = t;
-  behind = ts;
+  beyond = ts;
   other = a_token ∷ closing_token ∷ [];
   value = SpeltExpression.name (record { text = a_token.text; at = a_token.at });
   whole = refl;

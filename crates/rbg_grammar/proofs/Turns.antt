@@ -11,7 +11,7 @@ unfolding after_at symbol_at
 after_at-taken s read [] e = cc
 after_at-taken s read (t ∷ ts) e = rw e
 
--- what is read, behind what was read before
+-- what is read, after what was read before
 abbrev pub prepend : {A : Type 0} → List A → Reading (List A) → Reading (List A)
 prepend xs r = r >>= λ m. Ok (xs ++ m.0, m.1)
 

@@ -23,8 +23,8 @@ AreDifferent sections = (kind : SectionKind) → count_of kind sections ≤ 1
 pub record IsFirstTwice (sections : List SectionTokens) (kind : SectionKind) : Type 0 where
   pub before : List SectionTokens
   pub again : SectionTokens
-  pub behind : List SectionTokens
-  pub whole : sections ≡ before ++ again ∷ behind
+  pub beyond : List SectionTokens
+  pub whole : sections ≡ before ++ again ∷ beyond
   pub different : AreDifferent before
   pub same : again.kind ≡ kind
   pub twice : 0 < count_of kind before

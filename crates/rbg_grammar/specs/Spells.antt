@@ -49,16 +49,16 @@ IsSpelt Variables ts = (vs : List SpeltBounded) × AreVariables ts vs []
 IsSpelt Board ts = (b : SpeltBoard) × IsBoard ts b []
 IsSpelt Rules ts = (brackets : ℕ) × ((r : SpeltRule) × AreRules brackets ts r [])
 
--- with some tokens behind them, or none, the tokens spell something of this kind
+-- with some tokens after them, or none, the tokens spell something of this kind
 abbrev pub CanGoOn : SectionKind → List Lexeme → Type 0
 CanGoOn kind ts = (more : List Lexeme) × IsSpelt kind (ts ++ more)
 
--- a token at this place, with the tokens before it and behind it
+-- a token at this place, with the tokens before it and after it
 pub record TokenAt (ts : List Lexeme) (at : ℕ) : Type 0 where
   pub before : List Lexeme
   pub token : Lexeme
-  pub behind : List Lexeme
-  pub whole : ts ≡ before ++ token ∷ behind
+  pub beyond : List Lexeme
+  pub whole : ts ≡ before ++ token ∷ beyond
   pub place : token.at ≡ at
 
 -- The token at this place is the first that doesn't fit: the tokens before it can go on, and with it they can't.
@@ -67,7 +67,7 @@ pub record IsMisfit (kind : SectionKind) (ts : List Lexeme) (at : ℕ) : Type 0 
   pub fits : CanGoOn kind here.before
   pub refused : CanGoOn kind (here.before ++ here.token ∷ []) → ⊥
 
--- All tokens of the section fit, but more are needed behind them. The place is that of the section's `#`.
+-- All tokens of the section fit, but more are needed after them. The place is that of the section's `#`.
 pub record EndsEarly (kind : SectionKind) (section : SectionTokens) (at : ℕ) : Type 0 where
   pub place : section.at ≡ at
   pub fits : CanGoOn kind section.tokens

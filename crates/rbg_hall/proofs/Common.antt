@@ -3,7 +3,7 @@ pub use Rattle.rbg_hall.specs.Allowed.{IsAllowed, bytes_by, bytes_for}
 pub use Rattle.rbg_hall.specs.Apart.{asks_for, concerning, concerns}
 pub use Rattle.rbg_hall.specs.Events.{AbstractHallEvent, ends, event_of, sends, ticks}
 pub use Rattle.rbg_hall.specs.Failing.{HeldHall}
-pub use Rattle.rbg_hall.specs.Halls.{AbstractTable, EachHears, HallRun, HallState, HallSteps, HearsEach, begun_at, begun_of, line_at, line_behind, lines_after, new_hall, refused_by, refused_first, refused_for, refused_in}
+pub use Rattle.rbg_hall.specs.Halls.{AbstractTable, EachHears, HallRun, HallState, HallSteps, HearsEach, begun_at, begun_of, line_at, line_beyond, lines_after, new_hall, refused_by, refused_first, refused_for, refused_in}
 pub use Rattle.rbg_hall.specs.Hearing.{HallHears}
 pub use Rattle.rbg_hall.specs.Laws.{BegunMatchesHoldTranscripts, HoldsMatch, LinesHaveTheSameBytes, LogSends, LoggedRun, LogsSendWhatIsTold, OthersAreUnheard, RunIsAllowed, ServedHallIsAllowed, ServedHallRunsOn, TablesAreApart, early_refusal}
 pub use Rattle.rbg_hall.specs.Ledgers.{Becomes, EachBecomes, EachWrites, HallStops, HallWrites, HasLogFailed, IsLogAt, KeptHearsEach, given_at, given_to, kept, log_at, log_of}

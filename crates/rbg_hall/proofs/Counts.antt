@@ -12,10 +12,10 @@ use Rattle.rbg_hall.proofs.Requesting.{requested_within, same_text}
 -- a text asks for one table
 text_of_one : (a b : ℕ) → a < 2 ^ 64 → b < 2 ^ 64 → message_text (join_message a) ≡ message_text (join_message b) → a ≡ b
 unfolding message_text
-text_of_one a b small small' same = decimal_injective a b small small' (behind (decimal a) (decimal b) same)
+text_of_one a b small small' same = decimal_injective a b small small' (beyond (decimal a) (decimal b) same)
   where
-    behind : (xs ys : List ℕ) → 72 ∷ xs ≡ 72 ∷ ys → xs ≡ ys
-    behind xs ys is = cc
+    beyond : (xs ys : List ℕ) → 72 ∷ xs ≡ 72 ∷ ys → xs ≡ ys
+    beyond xs ys is = cc
 
 one_request : (a b : ℕ) (item : Item) → a < 2 ^ 64 → b < 2 ^ 64 → is_request a item ≡ true → is_request b item ≡ true → a ≡ b
 one_request a b (complete text) small small' asked asked' = text_of_one a b small small' (sym (same_text text (message_text (join_message a)) asked) ∙ same_text text (message_text (join_message b)) asked')
@@ -91,14 +91,14 @@ module _ (count count' table : ℕ) (small : count < 2 ^ 64) (small' : count' < 
   same_heard before (ends line at) = end_same line at (has_ended line before) (nat_lt line lines_in_all) (stream_of line before)
   same_heard before (ticks at) = refl
 
-  same_behind : (before events : List AbstractHallEvent) → own_after count table before events ≡ own_after count' table before events
-  same_behind before [] = refl
-  same_behind before (event ∷ events) = λ i. same_heard before event i ++ same_behind (before ++ event ∷ []) events i
+  same_beyond : (before events : List AbstractHallEvent) → own_after count table before events ≡ own_after count' table before events
+  same_beyond before [] = refl
+  same_beyond before (event ∷ events) = λ i. same_heard before event i ++ same_beyond (before ++ event ∷ []) events i
 
   -- two lists of events that agree on what concerns a table are the same to it
   pub same_own : (events elsewhere : List AbstractHallEvent) → concerning count table events ≡ concerning count' table elsewhere → own count table events ≡ own count' table elsewhere
   same_own events elsewhere same =
       sym (others_are_unheard count table events)
-      ∙ same_behind [] (concerning count table events)
+      ∙ same_beyond [] (concerning count table events)
       ∙ ap (own count' table) same
       ∙ others_are_unheard count' table elsewhere

@@ -16,7 +16,7 @@ use Rattle.rbg_hall.proofs.Keeping.{first_so}
 
 -- bytes are appended in two parts
 appends_both : {W : Type 0} (told : W → List ℕ → Type 0) (first middle last : W) (one more : List ℕ) → Appends told first middle one → Appends told middle last more → Appends told first last (one ++ more)
-appends_both told first middle last one more before behind = λ held tells. subst (told last) (append_assoc held one more) (behind (held ++ one) (before held tells))
+appends_both told first middle last one more before beyond = λ held tells. subst (told last) (append_assoc held one more) (beyond (held ++ one) (before held tells))
 
 pub written_so : {W E : Type 0} (told : W → List ℕ → Type 0) (first middle last : W) (old new : TableState) (event : OwnEvent) (waited : Bool) (config : Config) (at : ℕ) (result : Result (Unit {0}) E) → waited ≡ is_none old.begun → config ≡ old.config → at ≡ heard_at event → at < 2 ^ 64 → IsNotedIn told first middle old event → OnOk result (Appends told middle last (first_for waited new.begun config at)) → OnOk result (IsWritten told first last old event new)
 written_so told first middle last old new event waited config at (Ok done) waits_so config_so at_so small noted appends = record {

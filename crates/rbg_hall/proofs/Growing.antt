@@ -5,7 +5,7 @@ use Rattle.rbg_wire.specs.Streams.{Item, Rest, incomplete, Cut, cut}
 use Rattle.rbg_wire.proofs.CutLemmas.{cut-append}
 use Rattle.rbg_match.specs.Limits.{message_limit}
 use Rattle.rbg_hall.specs.TableLimits.{lines_in_all}
-use Rattle.rbg_hall.proofs.Common.{AbstractHallEvent, sends, ends, ticks, HallLine, silent, asks, over, asking, line_cut, sent_by, has_ended, stream_of, line_after, line_behind, requested}
+use Rattle.rbg_hall.proofs.Common.{AbstractHallEvent, sends, ends, ticks, HallLine, silent, asks, over, asking, line_cut, sent_by, has_ended, stream_of, line_after, line_beyond, requested}
 
 -- the bytes that an event brings of a line, and whether it ends it
 abbrev pub brings : (line : ℕ) → AbstractHallEvent → List ℕ
@@ -64,16 +64,16 @@ abbrev pub standing : (ended there : Bool) → (tables : ℕ) → Cut → HallLi
 standing ended there tables c = if ended then over else if there then line_cut tables c.items c.rest else over
 
 -- a line that has cut its stream, and cuts more
-cut_on : (tables : ℕ) (items : List Item) (rest : Rest) (bytes : List ℕ) → line_cut tables (items ++ (cut message_limit rest bytes).items) (cut message_limit rest bytes).rest ≡ line_behind tables (line_cut tables items rest) bytes
+cut_on : (tables : ℕ) (items : List Item) (rest : Rest) (bytes : List ℕ) → line_cut tables (items ++ (cut message_limit rest bytes).items) (cut message_limit rest bytes).rest ≡ line_beyond tables (line_cut tables items rest) bytes
 cut_on tables [] rest bytes = refl
 cut_on tables (item ∷ items) rest bytes = asked (requested tables item)
   where
-    asked : (table : Option ℕ) → asking table (cut message_limit rest bytes).rest ≡ line_behind tables (asking table rest) bytes
+    asked : (table : Option ℕ) → asking table (cut message_limit rest bytes).rest ≡ line_beyond tables (asking table rest) bytes
     asked (Some table) = refl
     asked None = refl
 
 -- a line that sends more
-sent_on : (ended there : Bool) (tables : ℕ) (sent bytes : List ℕ) → standing ended there tables (cut message_limit (incomplete []) (sent ++ (if ended then [] else bytes))) ≡ line_behind tables (standing ended there tables (cut message_limit (incomplete []) sent)) bytes
+sent_on : (ended there : Bool) (tables : ℕ) (sent bytes : List ℕ) → standing ended there tables (cut message_limit (incomplete []) (sent ++ (if ended then [] else bytes))) ≡ line_beyond tables (standing ended there tables (cut message_limit (incomplete []) sent)) bytes
 sent_on true there tables sent bytes = refl
 sent_on false false tables sent bytes = refl
 sent_on false true tables sent bytes =
@@ -86,7 +86,7 @@ still_ended false = refl
 
 -- a line after an event that brings these bytes of it and doesn't end it
 module _ (tables line : ℕ) (events : List AbstractHallEvent) (event : AbstractHallEvent) where
-  goes_on : (bytes : List ℕ) → brings line event ≡ bytes → is_end_of line event ≡ false → line_after tables line (events ++ event ∷ []) ≡ line_behind tables (line_after tables line events) bytes
+  goes_on : (bytes : List ℕ) → brings line event ≡ bytes → is_end_of line event ≡ false → line_after tables line (events ++ event ∷ []) ≡ line_beyond tables (line_after tables line events) bytes
   goes_on bytes are going =
       let sent : sent_by line (events ++ event ∷ []) ≡ sent_by line events ++ (if has_ended line events then [] else bytes) = sent_more line events event ∙ ap (λ more. sent_by line events ++ (if has_ended line events then [] else more)) are in
       let ended : has_ended line (events ++ event ∷ []) ≡ has_ended line events = ended_more line events event ∙ ap (λ last. if has_ended line events then true else last) going ∙ still_ended (has_ended line events) in
@@ -108,13 +108,13 @@ none_sent : (tables : ℕ) (rest : Rest) → cut message_limit rest [] ≡ recor
 unfolding cut
 none_sent tables rest = refl
 
-after_nothing : (tables : ℕ) (one : HallLine) → line_behind tables one [] ≡ one
+after_nothing : (tables : ℕ) (one : HallLine) → line_beyond tables one [] ≡ one
 after_nothing tables (silent rest) = ap (λ c. line_cut tables c.items c.rest) (none_sent tables rest)
 after_nothing tables (asks table rest) = ap (λ c. asks table c.rest) (none_sent tables rest)
 after_nothing tables over = refl
 
 -- the line of an event, and another line
-pub line_sends : (tables line at : ℕ) (bytes : List ℕ) (events : List AbstractHallEvent) → line_after tables line (events ++ sends line at bytes ∷ []) ≡ line_behind tables (line_after tables line events) bytes
+pub line_sends : (tables line at : ℕ) (bytes : List ℕ) (events : List AbstractHallEvent) → line_after tables line (events ++ sends line at bytes ∷ []) ≡ line_beyond tables (line_after tables line events) bytes
 line_sends tables line at bytes events = goes_on tables line events (sends line at bytes) bytes (rw (eq-eqb line line refl) refl) refl
 
 pub line_ends : (tables line at : ℕ) (events : List AbstractHallEvent) → line_after tables line (events ++ ends line at ∷ []) ≡ over

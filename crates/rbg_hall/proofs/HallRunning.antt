@@ -10,7 +10,7 @@ use Rattle.rbg_hall.proofs.TableCommon.{lines_in_all, TableState, TableRun, OwnE
 use Rattle.rbg_hall.specs.Tables as tables
 use Rattle.rbg_hall.proofs.Places.{same_or_other}
 use Rattle.rbg_hall.proofs.Telling.{bytes_to-append, bytes_to-same, bytes_to-other}
-use Rattle.rbg_hall.proofs.Common.{AbstractHallEvent, sends, ends, ticks, AbstractTable, HallState, new_hall, line_at, line_behind, lines_after, refused_for, refused_first, refused_in, refused_by, HearsEach, EachHears, HallSteps, HallRun, HallLine, silent, asks, over, asking, line_cut, sent_by, has_ended, stream_of, line_after, first_request, heard_of, heard_of_piece, heard_of_end, own, requested, is_for}
+use Rattle.rbg_hall.proofs.Common.{AbstractHallEvent, sends, ends, ticks, AbstractTable, HallState, new_hall, line_at, line_beyond, lines_after, refused_for, refused_first, refused_in, refused_by, HearsEach, EachHears, HallSteps, HallRun, HallLine, silent, asks, over, asking, line_cut, sent_by, has_ended, stream_of, line_after, first_request, heard_of, heard_of_piece, heard_of_end, own, requested, is_for}
 use Rattle.rbg_hall.specs.Halls as halls
 use Rattle.rbg_hall.proofs.Growing.{by_test, brings, brings_own, brings_other, sent_more, standing, line_sends, line_ends, other_sends, other_ends, clock_ticks}
 use Rattle.rbg_hall.proofs.Owning.{own_more, asks_in, asked_later, own_lacks}
@@ -176,10 +176,10 @@ changed tables line lines events all now count is = elim (cases_lt line (length 
 
 lines_step : (tables : ℕ) (lines : List HallLine) (events : List AbstractHallEvent) (event : AbstractHallEvent) → length lines ≡ lines_in_all → ((line : ℕ) → line_at lines line ≡ line_after tables line events) → (line : ℕ) → line_at (lines_after tables lines event) line ≡ line_after tables line (events ++ event ∷ [])
 lines_step tables lines events (sends other at bytes) count are line = elim (same_or_other line other) [
-  | inl same ↦ subst (λ one. line_at (set lines other (line_behind tables (line_at lines other) bytes)) one ≡ line_after tables one (events ++ sends other at bytes ∷ [])) (sym same)
-      (changed tables other lines events (events ++ sends other at bytes ∷ []) (line_behind tables (line_at lines other) bytes) count
-      (line_sends tables other at bytes events ∙ ap (λ one. line_behind tables one bytes) (sym (are other))))
-  | inr differ ↦ get_or-set_other lines other line (line_behind tables (line_at lines other) bytes) over differ ∙ are line ∙ sym (other_sends tables line other at bytes events (λ same. differ (sym same)))
+  | inl same ↦ subst (λ one. line_at (set lines other (line_beyond tables (line_at lines other) bytes)) one ≡ line_after tables one (events ++ sends other at bytes ∷ [])) (sym same)
+      (changed tables other lines events (events ++ sends other at bytes ∷ []) (line_beyond tables (line_at lines other) bytes) count
+      (line_sends tables other at bytes events ∙ ap (λ one. line_beyond tables one bytes) (sym (are other))))
+  | inr differ ↦ get_or-set_other lines other line (line_beyond tables (line_at lines other) bytes) over differ ∙ are line ∙ sym (other_sends tables line other at bytes events (λ same. differ (sym same)))
 ]
 lines_step tables lines events (ends other at) count are line = elim (same_or_other line other) [
   | inl same ↦ subst (λ one. line_at (set lines other over) one ≡ line_after tables one (events ++ ends other at ∷ [])) (sym same)
@@ -189,7 +189,7 @@ lines_step tables lines events (ends other at) count are line = elim (same_or_ot
 lines_step tables lines events (ticks at) count are line = are line ∙ sym (clock_ticks tables line at events)
 
 count_step : (tables : ℕ) (lines : List HallLine) (event : AbstractHallEvent) → length lines ≡ lines_in_all → length (lines_after tables lines event) ≡ lines_in_all
-count_step tables lines (sends line at bytes) count = length-set lines line (line_behind tables (line_at lines line) bytes) ∙ count
+count_step tables lines (sends line at bytes) count = length-set lines line (line_beyond tables (line_at lines line) bytes) ∙ count
 count_step tables lines (ends line at) count = length-set lines line over ∙ count
 count_step tables lines (ticks at) count = count
 

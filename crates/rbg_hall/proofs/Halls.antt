@@ -3,7 +3,7 @@ use Rattle.rbg_base.proofs.Common.{◌≡◌, ℕ, zero, suc, ◌+◌, ◌<◌, 
 use Rattle.rbg_hall.proofs.TableCommon.{OwnEvent, clock, Telling, told_to}
 use Rattle.rbg_hall.proofs.Telling.{told_to-none}
 use Rattle.rbg_hall.specs.Kept.{KeptState}
-use Rattle.rbg_hall.proofs.Common.{LinePhase, Over, sends, ends, ticks, EachHears, HearsEach, line_at, line_behind, refused_in, HallLine, over, heard_of_piece, heard_of_end, EachBecomes, EachWrites, HallStops, HallWrites, KeptHearsEach, EachKeptHears, PieceHeard, TablesHear, TablesStop, said_by, hall_of, ledgers_of, line_of, lines_of, states_of}
+use Rattle.rbg_hall.proofs.Common.{LinePhase, Over, sends, ends, ticks, EachHears, HearsEach, line_at, line_beyond, refused_in, HallLine, over, heard_of_piece, heard_of_end, EachBecomes, EachWrites, HallStops, HallWrites, KeptHearsEach, EachKeptHears, PieceHeard, TablesHear, TablesStop, said_by, hall_of, ledgers_of, line_of, lines_of, states_of}
 use Rattle.rbg_hall.specs.Halls as halls
 use Rattle.rbg_hall.specs.Ledgers as ledgers
 use Rattle.rbg_hall.specs.internal.Hearing as hearing
@@ -61,7 +61,7 @@ module _ {W : Type 0} (tells : W → List ℕ → Type 0) (tables : List (KeptSt
       steps = record {
         by_tables = silence tables;
         tables = all_states (none_sent bytes);
-        lines = sym (set_past (lines_of lines) line (line_behind (length (states_of tables)) (line_at (lines_of lines) line) bytes) there_none);
+        lines = sym (set_past (lines_of lines) line (line_beyond (length (states_of tables)) (line_at (lines_of lines) line) bytes) there_none);
         is_told = λ i. sym (ap (λ one. refused_in (length (states_of tables)) one line bytes) over_there) i ++ sym (nobody_tells tables) i;
       };
       queued = sym (told_to-none queues);
@@ -106,7 +106,7 @@ module _ {W : Type 0} (tells : W → List ℕ → Type 0) (tables news : List (K
         by_tables = hears.told;
         tables = all_states (has_sent bytes (line_of next) hears);
         lines = ap lines_of (set_twice lines line left next) ∙ map-set line_of lines line next
-            ∙ ap (set (lines_of lines) line) (hears.stands ∙ ap (λ standing. line_behind (length tables) standing bytes) stands_so ∙ ap (λ (count : ℕ). line_behind count (line_at (lines_of lines) line) bytes) (as_many tables));
+            ∙ ap (set (lines_of lines) line) (hears.stands ∙ ap (λ standing. line_beyond (length tables) standing bytes) stands_so ∙ ap (λ (count : ℕ). line_beyond count (line_at (lines_of lines) line) bytes) (as_many tables));
         is_told = ap (λ standing. refused_in (length (states_of tables)) standing line bytes ++ flat_map (λ one. one) hears.told) stands_so;
       };
       queued = hears.queued ∙ ap (λ (count : ℕ). told_to before (refused_in count (line_of one) line bytes ++ flat_map (λ one. one) hears.told)) (as_many tables);

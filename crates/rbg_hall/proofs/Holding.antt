@@ -72,8 +72,8 @@ pub step_on : {old new : MatchState} {event : AbstractEvent} {before after : Lis
 step_on others step = search (silent_on others step)
 
 -- what is told after what a line was told
-behind : (one : ℕ) (told next : List Telling) (before more : List ℕ) → bytes_to one told ≡ before → bytes_to one next ≡ more → bytes_to one (told ++ next) ≡ before ++ more
-behind one told next before more had has = bytes_to-append one told next ∙ (λ i. had i ++ has i)
+beyond : (one : ℕ) (told next : List Telling) (before more : List ℕ) → bytes_to one told ≡ before → bytes_to one next ≡ more → bytes_to one (told ++ next) ≡ before ++ more
+beyond one told next before more had has = bytes_to-append one told next ∙ (λ i. had i ++ has i)
 
 -- the one line of a telling
 told_one : (one line : ℕ) (bytes : List ℕ) → bytes_to one (telling line bytes) ≡ (if line == one then bytes else [])
@@ -98,7 +98,7 @@ module _ (game : AbstractGame) (text : List ℕ) (config : Config) (events : Lis
   -- a line without a seat, after one more event
   further : (one : ℕ) (early told next : List Telling) (after : List OwnEvent) → bytes_to one told ≡ bytes_to one early ++ flat_map (late_refusal one) after → bytes_to one next ≡ late_refusal one event → bytes_to one (told ++ next) ≡ bytes_to one early ++ flat_map (late_refusal one) (after ++ event ∷ [])
   further one early told next after had has =
-      behind one told next (bytes_to one early ++ flat_map (late_refusal one) after) (late_refusal one event) had has
+      beyond one told next (bytes_to one early ++ flat_map (late_refusal one) after) (late_refusal one event) had has
       ∙ append_assoc (bytes_to one early) (flat_map (late_refusal one) after) (late_refusal one event)
       ∙ ap (λ more. bytes_to one early ++ more)
       (ap (λ last. flat_map (late_refusal one) after ++ last) (sym (append-nil (late_refusal one event))) ∙ sym (flat_map-append (late_refusal one) after (event ∷ [])))
@@ -110,7 +110,7 @@ module _ (game : AbstractGame) (text : List ℕ) (config : Config) (events : Lis
     course = began.course;
     hands = subst (λ one. HandsEach seats (began.beginning.after ++ event ∷ []) one) (append-nil began.handed) (laws.more began.hands hands);
     on_seats = λ index one there.
-        behind one told next (bytes_to one began.beginning.early ++ get_or began.last index []) [] (began.on_seats index one there) (seated index one there)
+        beyond one told next (bytes_to one began.beginning.early ++ get_or began.last index []) [] (began.on_seats index one there) (seated index one there)
         ∙ append-nil (bytes_to one began.beginning.early ++ get_or began.last index []);
     elsewhere = λ one nowhere. further one began.beginning.early told next began.beginning.after (began.elsewhere one nowhere) (others one nowhere);
   }
@@ -139,7 +139,7 @@ module _ (game : AbstractGame) (text : List ℕ) (config : Config) (events : Lis
           let there_was : index < length began.last = subst (λ n. index < n) (sym began.count) there_is in
           let own : bytes_to one (to_lines seats queues) ≡ bytes_for (1 + index) step.said =
           own_on one seats queues index differ there ∙ ap (λ all. get_or all index []) step.told ∙ from_nothing (seats_of game) index step.said there_is in
-          behind one told (to_lines seats queues) (bytes_to one began.beginning.early ++ get_or began.last index []) (bytes_for (1 + index) step.said) (began.on_seats index one there) own
+          beyond one told (to_lines seats queues) (bytes_to one began.beginning.early ++ get_or began.last index []) (bytes_for (1 + index) step.said) (began.on_seats index one there) own
           ∙ append_assoc (bytes_to one began.beginning.early) (get_or began.last index []) (bytes_for (1 + index) step.said)
           ∙ ap (λ all. bytes_to one began.beginning.early ++ all) (sym (delivered_at 1 began.last step.said index there_was))
 
@@ -212,8 +212,8 @@ opened_here game text config events line at old told seats opened queues run non
           count = seats_of_opened game text config at opened queues own_opens ∙ ap seats_of own_opens.of_game;
         };
         hands = laws.none;
-        on_seats = λ index one there. behind one told (to_lines seats queues) (bytes_to one told) (get_or queues index []) refl (own_on one seats queues index differ there);
-        elsewhere = λ one nowhere. behind one told (to_lines seats queues) (bytes_to one told) [] refl (none_on one seats queues nowhere);
+        on_seats = λ index one there. beyond one told (to_lines seats queues) (bytes_to one told) (get_or queues index []) refl (own_on one seats queues index differ there);
+        elsewhere = λ one nowhere. beyond one told (to_lines seats queues) (bytes_to one told) [] refl (none_on one seats queues nowhere);
       });
 }
   where

@@ -8,19 +8,19 @@ use Rattle.rbg_hall.proofs.TableCommon.{lines_in_all, OwnEvent, clock, joins, ar
 use Rattle.rbg_hall.proofs.Common.{AbstractHallEvent, sends, ends, ticks, HallLine, silent, asks, over, asking, line_cut, sent_by, has_ended, stream_of, line_after, first_request, heard_first, heard_of_piece, heard_of_end, heard_of, own_after, own, requested, is_for}
 use Rattle.rbg_hall.proofs.Growing.{by_test, brings, brings_own, sent_more, standing}
 
-behind_more : (tables table : ℕ) (before events : List AbstractHallEvent) (event : AbstractHallEvent) → own_after tables table before (events ++ event ∷ []) ≡ own_after tables table before events ++ heard_of tables table (λ line. line_after tables line (before ++ events)) event
-behind_more tables table before [] event =
+after_more : (tables table : ℕ) (before events : List AbstractHallEvent) (event : AbstractHallEvent) → own_after tables table before (events ++ event ∷ []) ≡ own_after tables table before events ++ heard_of tables table (λ line. line_after tables line (before ++ events)) event
+after_more tables table before [] event =
     append-nil (heard_of tables table (λ line. line_after tables line before) event)
     ∙ ap (λ (all : List AbstractHallEvent). heard_of tables table (λ line. line_after tables line all) event) (sym (append-nil before))
-behind_more tables table before (first ∷ events) event =
+after_more tables table before (first ∷ events) event =
     let heard = heard_of tables table (λ line. line_after tables line before) first in
-    ap (λ next. heard ++ next) (behind_more tables table (before ++ first ∷ []) events event)
+    ap (λ next. heard ++ next) (after_more tables table (before ++ first ∷ []) events event)
     ∙ sym (append_assoc heard (own_after tables table (before ++ first ∷ []) events) (heard_of tables table (λ line. line_after tables line ((before ++ first ∷ []) ++ events)) event))
     ∙ ap (λ (all : List AbstractHallEvent). (heard ++ own_after tables table (before ++ first ∷ []) events) ++ heard_of tables table (λ line. line_after tables line all) event) (append_assoc before (first ∷ []) events)
 
 -- what a table hears of one more event
 pub own_more : (tables table : ℕ) (events : List AbstractHallEvent) (event : AbstractHallEvent) → own tables table (events ++ event ∷ []) ≡ own tables table events ++ heard_of tables table (λ line. line_after tables line events) event
-own_more tables table events event = behind_more tables table [] events event
+own_more tables table events event = after_more tables table [] events event
 
 -- whether what a table hears is of this line
 abbrev pub is_of : (line : ℕ) → OwnEvent → Bool

@@ -48,14 +48,14 @@ begun_at tables zero = None
 begun_at tables (suc index) = begun_of (slice_get tables index)
 
 -- a line after it has sent bytes
-abbrev pub line_behind : (tables : ℕ) → HallLine → (bytes : List ℕ) → HallLine
-line_behind tables (silent rest) bytes = line_cut tables (cut message_limit rest bytes).items (cut message_limit rest bytes).rest
-line_behind tables (asks table rest) bytes = asks table (cut message_limit rest bytes).rest
-line_behind tables over bytes = over
+abbrev pub line_beyond : (tables : ℕ) → HallLine → (bytes : List ℕ) → HallLine
+line_beyond tables (silent rest) bytes = line_cut tables (cut message_limit rest bytes).items (cut message_limit rest bytes).rest
+line_beyond tables (asks table rest) bytes = asks table (cut message_limit rest bytes).rest
+line_beyond tables over bytes = over
 
 -- The lines after an event: one that sends or ends has changed, and no other.
 abbrev pub lines_after : (tables : ℕ) → List HallLine → AbstractHallEvent → List HallLine
-lines_after tables lines (sends line at bytes) = slice_set lines line (line_behind tables (line_at lines line) bytes)
+lines_after tables lines (sends line at bytes) = slice_set lines line (line_beyond tables (line_at lines line) bytes)
 lines_after tables lines (ends line at) = slice_set lines line over
 lines_after tables lines (ticks at) = lines
 

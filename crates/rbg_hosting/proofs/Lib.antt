@@ -2,4 +2,5 @@
 mod HallLemmas
 mod PrintedLemmas
 mod RecordLemmas
+mod RecordedLemmas
 mod TableLemmas

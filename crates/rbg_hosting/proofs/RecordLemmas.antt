@@ -1,18 +1,15 @@
 -- Lemmas on the records of a hall that was served.
-use Rattle.rbg_base.proofs.Common.{◌≡◌, ℕ, suc, ◌+◌, ◌<◌, ◌≤◌, List, [], ◌∷◌, ◌++◌, Option, Some, None, length, map, take, slice_get, false, ap, sym, ◌∙◌, refl, subst, append-nil, arith, Ok, slice_index_or, slice_get-get_or, slice_get_within, get_or_from_slice_get}
+use Rattle.rbg_base.proofs.Common.{◌≡◌, ℕ, suc, ◌+◌, ◌<◌, ◌≤◌, List, [], ◌∷◌, ◌++◌, Option, Some, None, length, map, take, slice_get, false, ap, sym, ◌∙◌, refl, subst, append-nil, arith, slice_index_or, slice_get-get_or, slice_get_within, get_or_from_slice_get}
 use Rattle.std.proofs.lemmas.List.{length-map, length-take-le, take_more, take_all}
 use Rattle.rbg_base.proofs.CallerLemmas.{slice_get-map_at}
-use Rattle.rbg_hall.proofs.Common.{HeldHall, AbstractTable, HallState, begun_at, begun_of, IsNewHall, of_hall, hall_events}
+use Rattle.rbg_hall.proofs.Common.{AbstractTable, HallState, begun_at, begun_of}
 use Rattle.rbg_hall.proofs.Beginnings.{begun_matches_hold_transcripts}
 use Rattle.rbg_hall.proofs.HallRunning.{EachRuns, run_of, run_stands}
 use Rattle.rbg_hall.proofs.HallRunning as running
-use Rattle.rbg_hall.proofs.Served.{handled_run}
-use Rattle.rbg_hall.proofs.Wholes.{new_run}
 use Rattle.rbg_hall.proofs.TableCommon.{TableState, OwnEvent, Telling}
 use Rattle.rbg_match.specs.Matches.{MatchState}
 use Rattle.rbg_record.specs.Right.{IsRightRecord}
-use Rattle.rbg_serving.proofs.Common.{Serves, Told, TellEach, nothing_told}
-use Rattle.rbg_serving.specs.declared.served.Served.{Served}
+use Rattle.rbg_serving.proofs.Common.{Told, TellEach, nothing_told}
 use Rattle.rbg_hosting.specs.Records.{match_line, IsPrintedMatch, ArePrintedMatches, HasEnded}
 use Rattle.rbg_hosting.specs.Records.IsPrintedMatch.{not_begun, begun}
 use Rattle.rbg_hosting.specs.Records.ArePrintedMatches.{one_more}
@@ -30,15 +27,6 @@ all_tell told failure_count any lines = record {
     record_of = any line (slice_index_or (map (told_by failure_count) lines) index nothing_told);
     counted = sym (ap (λ (one : Told). one.failures) (get_or_from_slice_get (map (told_by failure_count) lines) index (told_by failure_count line) nothing_told (slice_get-map_at (told_by failure_count) lines index line there)));
   };
-}
-
--- a new hall that was served to its end
-pub ended_so : {starts : List AbstractTable} {rounds : ℕ} {before after : List Told} {moments : List ℕ} {W : Type 0} {keeps : W → List ℕ → Type 0} {old new : HeldHall W} {queued_before queued : List (List ℕ)} {served : Served} → IsNewHall starts old queued_before → Serves (of_hall keeps) rounds before after moments old new queued_before queued (Ok served) → HasEnded starts new.state
-ended_so {starts} {old = old} {queued_before = queued_before} {queued = queued} made serves = record {
-  events = hall_events serves.heard;
-  queues = queued;
-  run = handled_run (new_run starts old queued_before made) serves.ends.0.handles;
-  over = serves.ends.1.over;
 }
 
 -- the match of a table is printed

@@ -22,7 +22,7 @@ pub(crate) fn accept_players<N: Network>(
 }
 
 /// The news of how long a match may take.
-fn most_of(serving: &Serving<'_>) -> News<'static> {
+pub(crate) fn most_of(serving: &Serving<'_>) -> News<'static> {
     match serving.keeping.minutes {
         Some(minutes) => News::MostMinutes { minutes },
         None => News::MostRounds {

@@ -4,6 +4,7 @@
 
 mod again;
 mod answer;
+mod archive;
 mod beginning;
 mod bounded;
 mod cut;
@@ -15,6 +16,7 @@ mod keeping_serving;
 mod printed;
 mod reading;
 mod record;
+mod recorded_hall;
 mod resuming;
 mod run;
 mod script;
@@ -34,5 +36,5 @@ pub use keeping_serving::serve_match;
 pub use record::keep_record;
 pub use run::{run_hall_script, serve_files};
 pub use script::run_script;
-pub use serving::{HallService, serve_hall};
+pub use serving::serve_hall;
 pub use task::{Keeping, NOTHING_KEPT, Serving};

@@ -1,6 +1,6 @@
 //! Runs of a hall's commands, from the names of files.
 
-use crate::HallService;
+use crate::Serving;
 use crate::answer::answer_hall;
 use crate::fault::ServingFault;
 use crate::reading::{read_all, whole_texts};
@@ -56,20 +56,20 @@ fn answer_read(
 }
 
 /// Plays a match of each file's game at once, between the players that connect to the port and join it, and gives the
-/// records.
+/// records. Where one of them is to be kept in a file too, and can't be, the status says so.
 pub fn serve_files<F: Files, N: Network>(
     alloc: Global,
     names: &[&str],
     files: &mut F,
     network: &mut N,
     port: u16,
-    service: HallService<'_>,
-) -> Result<Vec<u8>, ServingFault> {
+    serving: &Serving<'_>,
+) -> Result<Answer, ServingFault> {
     let Some(descriptions) = read_all(alloc, names, files)? else {
         return Err(ServingFault::Device);
     };
     match whole_texts(alloc, descriptions)? {
-        Ok(texts) => serve_hall(alloc, texts.as_slice(), network, port, service),
+        Ok(texts) => serve_hall(alloc, texts.as_slice(), network, port, serving),
         Err(error) => Err(ServingFault::from(error)),
     }
 }

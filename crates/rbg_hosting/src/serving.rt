@@ -8,57 +8,68 @@ ghost use Rattle.rbg_hosting.specs.Tables.{texts_of};
 ghost use Rattle.rbg_hosting.specs.internal.Writing.{AppendsMatch, AppendsRecord};
 ghost use Rattle.rbg_match.specs.Matches.{HasHistory};
 
+use crate::archive::{Archive, RecordFiles, begin_records};
 use crate::fault::ServingFault;
+use crate::joining::most_of;
+use crate::recorded_hall::RecordedHall;
 use crate::tables::tables_of;
+use crate::task::{Keeping, Serving};
+use rbg_console::Status;
 use rbg_hall::{Hall, HallError, HallOut, LINES, Table};
-use rbg_match::{Config, Match};
+use rbg_match::Match;
 use rbg_network::{Hosting, Network, News, StreamLine, gather};
 use rbg_record::write_record;
-use rbg_serving::{Clock, Log, ServeError};
+use rbg_referee::Answer;
+use rbg_serving::{Clock, Log, serve_engine};
 use std::alloc::{AllocError, Global};
 use std::io::{Read, Write};
 
-/// How the matches are served.
-#[derive(Clone, Copy)]
-pub struct HallService<'a> {
-    pub config: Config,
-    /// The most rounds.
-    pub rounds: u64,
-    /// The beginning of the names of the new files for the logs, one for each match.
-    pub log: Option<&'a str>,
-    /// Whether each write to a log waits for the disk.
-    pub sync: bool,
-    pub hosting: Hosting,
-}
-
 /// Plays a match of each description's game between the players that connect to the port and join it. Returns the line
-/// `match <k>` and the record of each match. The logs are made before players are waited for.
+/// `match <k>` and the record of each match, and a status that says whether each record that is to be kept in a file was. The
+/// logs are made before players are waited for.
 pub fn serve_hall<N: Network>(
     alloc: Global,
     descriptions: &[Vec<u8>],
     network: &mut N,
     port: u16,
-    service: HallService<'_>,
-) -> Result<Vec<u8>, ServingFault>
-    ensures { IfOk result (λ records.
-        AreHallsRecords service.entry.config (texts_of descriptions.now) records.items) }
+    serving: &Serving<'_>,
+) -> Result<Answer, ServingFault>
+    ensures { IfOk result (λ answer.
+        AreHallsRecords serving.now.config (texts_of descriptions.now) answer.text.items) }
 {
-    let tables = tables_of(alloc, descriptions, service.config)?;
+    let tables = tables_of(alloc, descriptions, serving.config)?;
     let count = tables.len();
     let players = players_of(tables.as_slice());
+    begin_records(network, &serving.keeping, count)?;
     let (mut hall, mut out) = open_hall(alloc, tables)?;
-    keep_logs(alloc, network, &mut hall, count, service)?;
-    let mut lines = accept_lines(alloc, network, port, players, service)?;
+    keep_logs(alloc, network, &mut hall, count, &serving.keeping)?;
+    let mut lines = accept_lines(alloc, network, port, players, serving)?;
     let mut clock = network.start_clock()?;
-    run_hall(
-        &mut hall,
+    let (ended, lost) = play_hall(
+        alloc,
+        network,
+        hall,
         lines.as_mut_slice(),
         &mut out,
         &mut clock,
-        service.rounds,
+        count,
+        serving,
     )?;
-    tell_stalled(network, service.hosting, lines.as_slice());
-    Ok(records_of(alloc, &hall, count)?)
+    tell_stalled(network, serving.hosting, lines.as_slice());
+    let text = records_of(alloc, &ended, count)?;
+    Ok(Answer {
+        text,
+        status: status_of(lost),
+    })
+}
+
+/// The status of a hall whose matches have ended, by whether a record couldn't be kept.
+fn status_of(lost: bool) -> Status {
+    if lost {
+        Status::Device
+    } else {
+        Status::Success
+    }
 }
 
 /// A new hall of these tables.
@@ -81,25 +92,67 @@ fn keep_logs<N: Network>(
     network: &mut N,
     hall: &mut Hall<N::Log>,
     tables: usize,
-    service: HallService<'_>,
+    keeping: &Keeping<'_>,
 ) -> Result<(), ServingFault>
     ensures state { hall.new.state ≡ hall.old.state }
     ensures failed { hall.new.failed ≡ hall.old.failed }
 {
-    let Some(name) = service.log else {
+    let Some(name) = keeping.log else {
         return Ok(());
     };
     for index in 0..tables {
         let table = index as u64 + 1;
         let file = format!(in alloc; "{name}.{table}")?;
-        hall.keep(table, network.create_log(file.as_str(), service.sync)?);
+        hall.keep(table, network.create_log(file.as_str(), keeping.sync)?);
     }
     Ok(())
 }
 
+/// Serves the matches over the lines until all have ended, and keeps the record of each. Returns the hall, and whether a
+/// record couldn't be kept.
+fn play_hall<N: Network, C: Clock>(
+    alloc: Global,
+    network: &mut N,
+    hall: Hall<N::Log>,
+    lines: &mut [StreamLine<N::Stream>],
+    out: &mut HallOut,
+    clock: &mut C,
+    matches: usize,
+    serving: &Serving<'_>,
+) -> Result<(Hall<N::Log>, bool), ServingFault>
+    requires lines { length lines.old ≤ lines_in_all }
+    requires clock { C.told clock.old [] }
+    ensures { IfOk result (λ made. (starts : List AbstractTable) →
+        IsNewHall starts hall out.old →
+        HasEnded starts made.0.state) }
+{
+    let files = RecordFiles::new(network, serving.keeping.records);
+    let until = end_of(&serving.keeping);
+    let mut recorded = RecordedHall::new(alloc, hall, files, matches, until)?;
+    run_hall(alloc, &mut recorded, lines, out, clock, rounds_of(serving))?;
+    Ok(recorded.into_parts())
+}
+
+/// The moment at which the time for the matches is over, if it is bounded.
+fn end_of(keeping: &Keeping<'_>) -> Option<u64> {
+    match keeping.minutes {
+        Some(minutes) => Some(minutes.saturating_mul(60_000)),
+        None => None,
+    }
+}
+
+/// The most rounds. With a bound on the time they aren't counted.
+fn rounds_of(serving: &Serving<'_>) -> u64 {
+    match serving.keeping.minutes {
+        Some(_) => u64::MAX,
+        None => serving.rounds,
+    }
+}
+
 /// Serves the matches over the lines until all have ended.
-fn run_hall<S: Read + Write + Drop, C: Clock, W: Log>(
-    hall: &mut Hall<W>,
+fn run_hall<S: Read + Write + Drop, C: Clock, W: Log, A: Archive>(
+    alloc: Global,
+    recorded: &mut RecordedHall<W, A>,
     lines: &mut [StreamLine<S>],
     out: &mut HallOut,
     clock: &mut C,
@@ -108,23 +161,14 @@ fn run_hall<S: Read + Write + Drop, C: Clock, W: Log>(
     requires lines { length lines.old ≤ lines_in_all }
     requires clock { C.told clock.old [] }
     ensures { OnOk result ((starts : List AbstractTable) →
-        IsNewHall starts hall.old out.old →
-        HasEnded starts hall.new.state) }
+        IsNewHall starts recorded.old.hall out.old →
+        HasEnded starts recorded.new.hall.state) }
 {
-    match hall.run(lines, out, clock, rounds) {
+    // The outbox has a queue for each of a hall's lines.
+    let _lines = out.lines();
+    match serve_engine(alloc, lines, recorded, out, clock, rounds) {
         Ok(_served) => Ok(()),
-        Err(error) => Err(fault_of(hall, error)),
-    }
-}
-
-/// Why a hall is served no more. Where a log failed, that is the reason.
-fn fault_of<W: Log>(hall: &Hall<W>, error: ServeError) -> ServingFault {
-    if hall.has_log_failed() {
-        return ServingFault::Device;
-    }
-    match error {
-        ServeError::Rounds => ServingFault::Rounds,
-        ServeError::Memory => ServingFault::Memory(AllocError),
+        Err(error) => Err(recorded.fault_of(error)),
     }
 }
 
@@ -143,18 +187,17 @@ fn accept_lines<N: Network>(
     network: &mut N,
     port: u16,
     players: usize,
-    service: HallService<'_>,
+    serving: &Serving<'_>,
 ) -> Result<Vec<StreamLine<N::Stream>>, ServingFault>
     ensures { IfOk result (λ lines. length lines.items ≤ lines_in_all) }
 {
     if players > LINES {
         return Err(ServingFault::Config);
     }
-    let hosting = service.hosting;
-    let rounds = service.rounds;
+    let hosting = serving.hosting;
     let mut listener = network.listen(port)?;
     hosting.tell(network, &News::Listening { port });
-    hosting.tell(network, &News::MostRounds { rounds });
+    hosting.tell(network, &most_of(serving));
     // who connects has a line, and no seat yet: so this isn't told
     let silent = Hosting {
         wait: hosting.wait,

@@ -72,7 +72,7 @@ impl FaultKind {
                 "the board isn't of a form that can be written as a graph: this token doesn't fit"
             }
             FaultKind::MacroInBoard => {
-                "a board can't be written as a graph where it calls a macro: write out what the macro stands for"
+                "a board can't be written as a graph where it calls a macro: write out what the macro puts there"
             }
             FaultKind::VertexMacro => {
                 "the vertices of a graph are named like this macro: give the macro another name"

@@ -22,6 +22,7 @@ mod printed_lines;
 mod signs;
 mod stars;
 mod stray_characters;
+mod sums;
 mod unrolled;
 mod unroller;
 

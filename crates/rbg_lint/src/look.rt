@@ -4,6 +4,7 @@ use crate::diagnostic::{Diagnostic, Severity};
 use crate::parameters::push_parameters;
 use crate::signs::push_signs;
 use crate::stars::push_stars;
+use crate::sums::push_sums;
 use crate::unrolled::{TokenOrigin, Unrolled};
 use rbg_macro::Token;
 use std::alloc::{AllocError, Global};
@@ -43,6 +44,7 @@ pub fn push_warnings(
     found: &mut Vec<Diagnostic>,
 ) -> Result<(), AllocError> {
     push_stars(alloc, look, found)?;
+    push_sums(alloc, look, found)?;
     push_signs(alloc, look, found)?;
     push_parameters(alloc, look, found)
 }

@@ -28,7 +28,7 @@ fn sign_words(look: Look<'_>, index: usize) -> Option<Words> {
     match look.flat.get(index..)? {
         [open, close, next, ..]
             if open.is(Symbol::OpenBrace) && close.is(Symbol::CloseBrace) && begins_item(next) => {
-            Some(("Unreached", "nothing behind `{}` is ever reached"))
+            Some(("Unreached", "nothing after `{}` is ever reached"))
         }
         [_, plus, ..] if plus.is(Symbol::Plus) => repetition_words(look, index),
         _ => None,
@@ -55,7 +55,7 @@ fn repetition_words(look: Look<'_>, index: usize) -> Option<Words> {
     if is_next && next.is_ascii_whitespace() {
         Some((
             "Plus",
-            "`+` is a choice between what stands before it and behind it: once or more is `x x*`",
+            "`+` is a choice between what is before it and after it: once or more is `x x*`",
         ))
     } else {
         None

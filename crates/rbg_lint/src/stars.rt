@@ -54,7 +54,7 @@ fn is_own(look: Look<'_>, index: usize, at: usize) -> bool {
 }
 
 /// The offset at which a token, or the call from which it comes, stands in the body that a call has put.
-fn place_at(look: Look<'_>, index: usize, level: Option<usize>) -> Option<usize> {
+pub(crate) fn place_at(look: Look<'_>, index: usize, level: Option<usize>) -> Option<usize> {
     let mut origin: TokenOrigin = look.origin(index)?;
     for _ in 0..MOST_CALLS {
         if origin.call == level {
@@ -92,7 +92,7 @@ fn is_operator(tokens: &[Token<'_>], index: usize) -> bool {
 }
 
 /// Whether a star is one of rules, and no product.
-fn is_rule(tokens: &[Token<'_>], star: usize) -> bool {
+pub(crate) fn is_rule(tokens: &[Token<'_>], star: usize) -> bool {
     let rules = after_head(tokens, b"rules");
     let (Some(first), Some(token)) = (rules.first(), tokens.get(star)) else {
         return false;
@@ -135,11 +135,11 @@ fn push_star(
     };
     let mut writer = MessageWriter::new(alloc, &mut warning.message);
     writer.named(
-        "the star behind ",
+        "the star after ",
         token.text,
         " binds only the last item of what",
     );
-    writer.text(" stands here for it: put it in parentheses");
+    writer.text(" it puts here: put it in parentheses");
     writer.end()?;
     found.push(warning)?;
     Ok(())

@@ -57,7 +57,7 @@ fn refusal(analysis: &Analysis<'_>, found: &Found<'_>, name: &[u8]) -> Option<&'
     match found.target {
         Target::Section(_) => return Some("a section has its name from the language"),
         Target::Things(kinds) if is_mixed(analysis, found, kinds) => {
-            return Some("the name stands for two things, and is used for both at one place");
+            return Some("the name is used for two things at one place");
         }
         _ => {}
     }
@@ -68,7 +68,7 @@ fn refusal(analysis: &Analysis<'_>, found: &Found<'_>, name: &[u8]) -> Option<&'
         return Some("the new name is that of a section");
     }
     if stands_in(analysis, name) {
-        return Some("the new name stands in the text already");
+        return Some("the new name is in the text already");
     }
     None
 }

@@ -3,8 +3,8 @@ use Rattle.rbg_base.proofs.Common.{ℕ, ◌≡◌, ◌+◌, ◌≤◌, true, fal
 use Rattle.rbg_macro.proofs.Common.{Template, arguments, Calls, met, meets, called, AreArguments, IsCall, begins_with_parenthesis, Macro, filled, item_in, macro_of, IsNamed}
 use Rattle.rbg_macro.specs.Token.{Lexeme}
 
-called_with : (m : Macro) (behind rest : List Lexeme) (lists : List (List Lexeme)) (n : ℕ) → begins_with_parenthesis behind ≡ true → rest ≡ drop 1 behind →
-    AreArguments rest lists n → length lists ≡ m.parameters → called m behind ≡ Calls (filled m.body lists) (drop (n + 1) behind)
+called_with : (m : Macro) (beyond rest : List Lexeme) (lists : List (List Lexeme)) (n : ℕ) → begins_with_parenthesis beyond ≡ true → rest ≡ drop 1 beyond →
+    AreArguments rest lists n → length lists ≡ m.parameters → called m beyond ≡ Calls (filled m.body lists) (drop (n + 1) beyond)
 called_with m [] rest lists n opens is found many = cc
 called_with m (t ∷ ts) rest lists n opens is found many =
     let arguments_are : arguments 0 ts ≡ Some found.found = ap (arguments 0) (sym is) ∙ found.is_found in
@@ -13,15 +13,15 @@ called_with m (t ∷ ts) rest lists n opens is found many =
     let left : found.found.rest ≡ drop n ts = found.rest ∙ ap (drop n) is in
     rw (opens, arguments_are, enough, ← found.are, left, add-one) refl
 
-pub call_meets : (template : Template) (name : List ℕ) (behind : List Lexeme) (rest : List Lexeme) (lists : List (List Lexeme)) (n : ℕ) →
-    (template.parameters ≡ 0 → ⊥) → begins_with_parenthesis behind ≡ true → rest ≡ drop 1 behind →
+pub call_meets : (template : Template) (name : List ℕ) (beyond : List Lexeme) (rest : List Lexeme) (lists : List (List Lexeme)) (n : ℕ) →
+    (template.parameters ≡ 0 → ⊥) → begins_with_parenthesis beyond ≡ true → rest ≡ drop 1 beyond →
     AreArguments rest lists n → length lists ≡ template.parameters →
-    met (Some (macro_of name template)) behind ≡ Calls (filled (map item_in template.body.items) lists) (drop (n + 1) behind)
-call_meets template name behind rest lists n some opens is_rest found many =
+    met (Some (macro_of name template)) beyond ≡ Calls (filled (map item_in template.body.items) lists) (drop (n + 1) beyond)
+call_meets template name beyond rest lists n some opens is_rest found many =
     let none : nat_eq template.parameters 0 ≡ false = grind (arith, nat_tests) in
-    rw none (called_with (macro_of name template) behind rest lists n opens is_rest found many)
+    rw none (called_with (macro_of name template) beyond rest lists n opens is_rest found many)
 
-pub call_within : (behind rest : List Lexeme) (lists : List (List Lexeme)) (n : ℕ) → begins_with_parenthesis behind ≡ true → rest ≡ drop 1 behind → AreArguments rest lists n → n + 1 ≤ length behind
+pub call_within : (beyond rest : List Lexeme) (lists : List (List Lexeme)) (n : ℕ) → begins_with_parenthesis beyond ≡ true → rest ≡ drop 1 beyond → AreArguments rest lists n → n + 1 ≤ length beyond
 call_within [] rest lists n opens is found = cc
 call_within (t ∷ ts) rest lists n opens is found = omega (arith, found.within, ap length is)
 

@@ -1,9 +1,9 @@
 -- The definitions of this crate that most proofs cite, passed on from one place. Declares nothing.
 pub use Rattle.rbg_macro.specs.Call.{Arguments, Calls, Cuts, Ends, Meets, Mismatched, Nesting, NoCall, Stays, Within, arguments, arguments_by, called, closing, cutting, meets, met, nesting, with_argument, with_arguments, with_token}
-pub use Rattle.rbg_macro.specs.Definition.{A_Macro, A_Section, Defined, Definitions, Part, behind_equals, behind_name, defined, defined_as, definitions, definitions_of, expect, first_at, is_hash_token, is_new_name, parameter_list, part_of, parts, section_named, with_defined, with_section}
+pub use Rattle.rbg_macro.specs.Definition.{A_Macro, A_Section, Defined, Definitions, Part, after_equals, beyond_name, defined, defined_as, definitions, definitions_of, expect, first_at, is_hash_token, is_new_name, parameter_list, part_of, parts, section_named, with_defined, with_section}
 pub use Rattle.rbg_macro.specs.Errors.{UnlessMemory}
-pub use Rattle.rbg_macro.specs.Expansion.{Expands, ExpandsAll, ExpandsWithin, Fails, FailsAll, FailsReading, HasFault, HasMacroFault, HasSections, Reads, behind_call, behind_kept, call, here, in_call, kept, later, list, no_call, no_join, none, nothing, one_more, reading, stays, too_deep, too_many_kept, too_many_read}
-pub use Rattle.rbg_macro.specs.Joining.{behind, join_at, joined, joined_from, joined_kind, joined_token, with_kind}
+pub use Rattle.rbg_macro.specs.Expansion.{Expands, ExpandsAll, ExpandsWithin, Fails, FailsAll, FailsReading, HasFault, HasMacroFault, HasSections, Reads, after_call, beyond_kept, call, here, in_call, kept, later, list, no_call, no_join, none, nothing, one_more, reading, stays, too_deep, too_many_kept, too_many_read}
+pub use Rattle.rbg_macro.specs.Joining.{beyond, join_at, joined, joined_from, joined_kind, joined_token, with_kind}
 pub use Rattle.rbg_macro.specs.Macro.{Macro, body_of, filled, filled_item, macro_named}
 pub use Rattle.rbg_macro.specs.Sections.{AreLexemes, SectionTokens}
 pub use Rattle.rbg_macro.specs.Steps.{◌>>=◌}

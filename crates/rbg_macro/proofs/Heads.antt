@@ -6,7 +6,7 @@ use Rattle.rbg_macro.specs.declared.token.Token.{Token}
 use Rattle.rbg_macro.proofs.TextCommon.{is_name_kind, is_symbol, Lexeme, lexeme_of}
 use Rattle.rbg_macro.specs.declared.token.Symbol.TheVariants as symbols
 
--- a text among those behind references
+-- a text among those after references
 pub among_texts : (text : List ℕ) (keys : List (Bor (List ℕ))) → list_any (λ k. bytes_eq text k.now) keys ≡ list_any (bytes_eq text) (texts_in keys)
 among_texts text [] = refl
 among_texts text (k ∷ keys) = ap (λ (b : Bool). bytes_eq text k.now || b) (among_texts text keys)
@@ -80,12 +80,12 @@ two_more earlier parameters ts at next within adds =
     omega (arith, within, ap length adds.tokens, length-map (drop at ts) lexeme_of, length-drop at ts)
 
 -- what is listed after one more parameter
-listed_behind : (end : ℕ) (tokens : List Token) (at : ℕ) (keys new_keys : List (Bor (List ℕ))) (rest : List Token) (next : Lexeme) →
+listed_after : (end : ℕ) (tokens : List Token) (at : ℕ) (keys new_keys : List (Bor (List ℕ))) (rest : List Token) (next : Lexeme) →
     HasListed end tokens at keys → rest ≡ drop at tokens → AddsParameter (texts_in keys) (texts_in new_keys) (map lexeme_of rest) next →
     parameter_list end [] (map lexeme_of tokens) ≡
     cond (is_symbol symbols.CloseParenthesis next.kind) (Ok (texts_in new_keys, map lexeme_of (drop (at + 2) tokens)))
     (cond (is_symbol symbols.Semicolon next.kind) (parameter_list end (texts_in new_keys) (map lexeme_of (drop (at + 2) tokens))) (Err (BadDefinition next.at)))
-listed_behind end tokens at keys new_keys rest next so_far is adds =
+listed_after end tokens at keys new_keys rest next so_far is adds =
     so_far.goes_on ∙ rw (← is, listed_step end (texts_in keys) (texts_in new_keys) (map lexeme_of rest) next adds, is, two_tokens lexeme_of tokens at) refl
 
 pub list_ends : (end : ℕ) (tokens : List Token) (at : ℕ) (keys new_keys : List (Bor (List ℕ))) (rest : List Token) (next : Lexeme) →
@@ -93,7 +93,7 @@ pub list_ends : (end : ℕ) (tokens : List Token) (at : ℕ) (keys new_keys : Li
     is_symbol symbols.CloseParenthesis next.kind ≡ true →
     parameter_list end [] (map lexeme_of tokens) ≡ Ok (texts_in new_keys, map lexeme_of (drop (at + 2) tokens))
 list_ends end tokens at keys new_keys rest next so_far is adds closes =
-    listed_behind end tokens at keys new_keys rest next so_far is adds ∙ rw closes refl
+    listed_after end tokens at keys new_keys rest next so_far is adds ∙ rw closes refl
 
 pub list_goes_on : (end : ℕ) (tokens : List Token) (at : ℕ) (keys new_keys : List (Bor (List ℕ))) (rest : List Token) (next : Lexeme) →
     HasListed end tokens at keys → rest ≡ drop at tokens → AddsParameter (texts_in keys) (texts_in new_keys) (map lexeme_of rest) next →
@@ -101,7 +101,7 @@ pub list_goes_on : (end : ℕ) (tokens : List Token) (at : ℕ) (keys new_keys :
     HasListed end tokens (at + 2) new_keys
 list_goes_on end tokens at keys new_keys rest next so_far is adds no_close goes_on = record {
   within = two_more (texts_in keys) (texts_in new_keys) tokens at next so_far.within (rw is at adds);
-  goes_on = listed_behind end tokens at keys new_keys rest next so_far is adds ∙ rw (no_close, goes_on) refl;
+  goes_on = listed_after end tokens at keys new_keys rest next so_far is adds ∙ rw (no_close, goes_on) refl;
 }
 
 pub list_fails : (end : ℕ) (tokens : List Token) (at : ℕ) (keys new_keys : List (Bor (List ℕ))) (rest : List Token) (next : Lexeme) →
@@ -109,7 +109,7 @@ pub list_fails : (end : ℕ) (tokens : List Token) (at : ℕ) (keys new_keys : L
     is_symbol symbols.CloseParenthesis next.kind ≡ false → is_symbol symbols.Semicolon next.kind ≡ false →
     parameter_list end [] (map lexeme_of tokens) ≡ Err (BadDefinition next.at)
 list_fails end tokens at keys new_keys rest next so_far is adds no_close no_more =
-    listed_behind end tokens at keys new_keys rest next so_far is adds ∙ rw (no_close, no_more) refl
+    listed_after end tokens at keys new_keys rest next so_far is adds ∙ rw (no_close, no_more) refl
 
 pub list_faults : (end : ℕ) (tokens : List Token) (at : ℕ) (keys : List (Bor (List ℕ))) (rest : List Token) (e : MacroError) →
     HasListed end tokens at keys → rest ≡ drop at tokens → parameter_list end (texts_in keys) (map lexeme_of rest) ≡ Err e →

@@ -2,7 +2,7 @@
 use Rattle.rbg_base.proofs.Common.{ℕ, ◌≡◌, ◌+◌, ◌-◌, ◌<◌, ◌≤◌, true, false, List, [], ◌∷◌, ◌++◌, length, get_or, take, drop, map, Option, Result, Ok, Err, refl, sym, subst, ap, ◌∙◌, arith, append_assoc, add-one, drop-cons, suc, length-drop, or_parts, All, list_any, All-push}
 use Rattle.std.proofs.Math.ListN.{drop_of_length-le}
 use Rattle.std.proofs.lemmas.List.{map-append, append-nil, drop-drop, drop-map, length-map, take_rest}
-use Rattle.rbg_macro.proofs.Common.{MacroError, BadJoin, JoinedToken, Single, Joined, ReadToken, joined_word, IsJoinedWithin, word_at, JoinsChain, AddsChain, FailsChain, begins_with_tilde, IsMarked, IsMarkedWord, Word, lexeme_in_word, word_of, lexeme_in, Span, Macro, joined, joined_from, behind, read_lexeme}
+use Rattle.rbg_macro.proofs.Common.{MacroError, BadJoin, JoinedToken, Single, Joined, ReadToken, joined_word, IsJoinedWithin, word_at, JoinsChain, AddsChain, FailsChain, begins_with_tilde, IsMarked, IsMarkedWord, Word, lexeme_in_word, word_of, lexeme_in, Span, Macro, joined, joined_from, beyond, read_lexeme}
 use Rattle.rbg_macro.specs.declared.token.TokenKind.{TokenKind}
 use Rattle.rbg_macro.proofs.TextCommon.{is_symbol, Lexeme}
 use Rattle.rbg_macro.specs.declared.token.Symbol.TheVariants as symbols
@@ -66,16 +66,16 @@ adds_chain texts new_texts tokens new_tokens ts d kind count start end number al
 }
 
 -- the list with several tokens before it
-abbrev pub behind_all : List Lexeme → Result (List Lexeme) MacroError → Result (List Lexeme) MacroError
-behind_all us (Ok ts) = Ok (us ++ ts)
-behind_all us (Err e) = Err e
+abbrev pub beyond_all : List Lexeme → Result (List Lexeme) MacroError → Result (List Lexeme) MacroError
+beyond_all us (Ok ts) = Ok (us ++ ts)
+beyond_all us (Err e) = Err e
 
-behind_one_more : (us : List Lexeme) (t : Lexeme) (read : Result (List Lexeme) MacroError) → behind_all us (behind t read) ≡ behind_all (us ++ t ∷ []) read
-behind_one_more us t (Ok ts) = ap Ok (sym (append_assoc us (t ∷ []) ts))
-behind_one_more us t (Err e) = refl
+after_one_more : (us : List Lexeme) (t : Lexeme) (read : Result (List Lexeme) MacroError) → beyond_all us (beyond t read) ≡ beyond_all (us ++ t ∷ []) read
+after_one_more us t (Ok ts) = ap Ok (sym (append_assoc us (t ∷ []) ts))
+after_one_more us t (Err e) = refl
 
 -- a token that no `~` follows stays
-joined_from-apart : (t : Lexeme) (rest : List Lexeme) → begins_with_tilde rest ≡ false → joined_from t rest ≡ behind t (joined rest)
+joined_from-apart : (t : Lexeme) (rest : List Lexeme) → begins_with_tilde rest ≡ false → joined_from t rest ≡ beyond t (joined rest)
 joined_from-apart t [] apart = refl
 joined_from-apart t (s ∷ []) apart = rw apart refl
 joined_from-apart t (s ∷ u ∷ ts) apart = rw apart refl
@@ -88,12 +88,12 @@ joined_first t rest apart = rw apart refl
 pub record HasJoinedTo (list : List ReadToken) (at : ℕ) (done : List Lexeme) : Type 0 where
   pub within : at ≤ length list
   pub apart : begins_with_tilde (map read_lexeme (drop at list)) ≡ false
-  pub goes_on : joined (map read_lexeme list) ≡ behind_all done (joined (map read_lexeme (drop at list)))
+  pub goes_on : joined (map read_lexeme list) ≡ beyond_all done (joined (map read_lexeme (drop at list)))
 
 pub join_begins : (list : List ReadToken) → begins_with_tilde (map read_lexeme list) ≡ false → HasJoinedTo list 0 []
 join_begins list apart = record { within = omega arith; apart = apart; goes_on = none (joined (map read_lexeme list)) }
   where
-    none : (read : Result (List Lexeme) MacroError) → read ≡ behind_all [] read
+    none : (read : Result (List Lexeme) MacroError) → read ≡ beyond_all [] read
     none (Ok ts) = refl
     none (Err e) = refl
 
@@ -107,8 +107,8 @@ single_joined list rest at d done new so_far below is apart added = record {
       let t : Lexeme = read_lexeme (get_or list at d) in
       let begins : map read_lexeme (drop at list) ≡ t ∷ map read_lexeme rest = ap (map read_lexeme) (drop-cons list at d below) ∙ rw (is, add-one) refl in
       so_far.goes_on
-      ∙ ap (behind_all done) (ap joined begins ∙ joined_first t (map read_lexeme rest) (rw begins at so_far.apart) ∙ joined_from-apart t (map read_lexeme rest) apart)
-      ∙ behind_one_more done t (joined (map read_lexeme rest))
+      ∙ ap (beyond_all done) (ap joined begins ∙ joined_first t (map read_lexeme rest) (rw begins at so_far.apart) ∙ joined_from-apart t (map read_lexeme rest) apart)
+      ∙ after_one_more done t (joined (map read_lexeme rest))
       ∙ rw (← added, is) refl;
 }
 
@@ -121,11 +121,11 @@ chain_added list rest at n done new so_far is adds = record {
       let ts : List Lexeme = map read_lexeme rest in
       let w : Lexeme = word_at adds.chain.first.at adds.kind adds.word in
       so_far.goes_on
-      ∙ ap (behind_all done)
+      ∙ ap (beyond_all done)
       (ap (λ us. joined (map read_lexeme us)) (sym is) ∙ ap joined adds.chain.tokens
       ∙ joined_first adds.chain.first adds.chain.rest (rw (adds.chain.tokens) at clean)
       ∙ adds.chain.joins ∙ joined_from-apart w (drop n ts) adds.chain.apart)
-      ∙ behind_one_more done w (joined (drop n ts))
+      ∙ after_one_more done w (joined (drop n ts))
       ∙ rw (← adds.added, further) refl;
 }
   where
@@ -140,7 +140,7 @@ pub join_fails : (list rest : List ReadToken) (at : ℕ) (done : List Lexeme) (e
 join_fails list rest at done e so_far is fails =
     let clean : begins_with_tilde (map read_lexeme rest) ≡ false = rw is so_far.apart in
     so_far.goes_on
-    ∙ ap (behind_all done)
+    ∙ ap (beyond_all done)
     (ap (λ us. joined (map read_lexeme us)) (sym is) ∙ ap joined fails.tokens
     ∙ joined_first fails.first fails.rest (rw (fails.tokens) at clean) ∙ fails.fails)
 

@@ -1,6 +1,6 @@
 -- Tokens have one first fault at most.
 use Rattle.std.proofs.Common.{ℕ, ◌≡◌, ◌≢◌, ◌+◌, ◌<◌, ◌≤◌, List, ◌∷◌, length, Ok, Err, refl, arith, subst, inl, inr}
-use Rattle.rbg_macro.proofs.Common.{MacroError, BadDefinition, Twice, ArgumentCount, Depth, TooManyTokens, BadJoin, Memory, MAX_KEPT, MAX_LEVEL, MAX_READ, Stays, Calls, NoCall, meets, Definitions, Expands, Fails, too_many_read, no_join, reading, FailsReading, too_many_kept, behind_kept, no_call, too_deep, in_call, behind_call, FailsAll, here, later, HasFault, HasMacroFault, joined, Macro, SectionTokens}
+use Rattle.rbg_macro.proofs.Common.{MacroError, BadDefinition, Twice, ArgumentCount, Depth, TooManyTokens, BadJoin, Memory, MAX_KEPT, MAX_LEVEL, MAX_READ, Stays, Calls, NoCall, meets, Definitions, Expands, Fails, too_many_read, no_join, reading, FailsReading, too_many_kept, beyond_kept, no_call, too_deep, in_call, after_call, FailsAll, here, later, HasFault, HasMacroFault, joined, Macro, SectionTokens}
 use Rattle.rbg_macro.specs.Token.{Lexeme}
 use Rattle.rbg_macro.proofs.OneExpansion.{expands_once, list_has_no_fault}
 
@@ -18,25 +18,25 @@ fails_as macros _ _ _ _ _ (reading d n k ts js e counted joins fails) = unread j
 -- a fault at or after a first token that stays
 data FailsStaying (macros : List Macro) (d n k : ℕ) (ts : List Lexeme) (e : MacroError) : Type 0 where
   full : MAX_KEPT ≤ k → TooManyTokens ≡ e → FailsStaying macros d n k ts e
-  behind : k < MAX_KEPT → FailsReading macros d n (k + 1) ts e → FailsStaying macros d n k ts e
+  beyond : k < MAX_KEPT → FailsReading macros d n (k + 1) ts e → FailsStaying macros d n k ts e
 
 fails_staying : (macros : List Macro) (d n k : ℕ) (t : Lexeme) (ts : List Lexeme) (e : MacroError) → FailsReading macros d n k (t ∷ ts) e → meets macros t ts ≡ Stays →
     FailsStaying macros d n k ts e
 fails_staying macros _ _ _ _ _ _ (too_many_kept d n k t ts met over) is = full over refl
-fails_staying macros _ _ _ _ _ _ (behind_kept d n k t ts e met room fails) is = behind room fails
+fails_staying macros _ _ _ _ _ _ (beyond_kept d n k t ts e met room fails) is = beyond room fails
 fails_staying macros _ _ _ _ _ _ (no_call d n k t ts met) is = cc
 fails_staying macros _ _ _ _ _ _ (too_deep d n k t ts body rest met deep) is = cc
 fails_staying macros _ _ _ _ _ _ (in_call d n k t ts body rest e met not_deep fails) is = cc
-fails_staying macros _ _ _ _ _ _ (behind_call d n k l t ts body rest given e met not_deep expands counted room fails) is = cc
+fails_staying macros _ _ _ _ _ _ (after_call d n k l t ts body rest given e met not_deep expands counted room fails) is = cc
 
 fails_no_call : (macros : List Macro) (d n k : ℕ) (t : Lexeme) (ts : List Lexeme) (e : MacroError) → FailsReading macros d n k (t ∷ ts) e → meets macros t ts ≡ NoCall →
     ArgumentCount t.at ≡ e
 fails_no_call macros _ _ _ _ _ _ (too_many_kept d n k t ts met over) is = cc
-fails_no_call macros _ _ _ _ _ _ (behind_kept d n k t ts e met room fails) is = cc
+fails_no_call macros _ _ _ _ _ _ (beyond_kept d n k t ts e met room fails) is = cc
 fails_no_call macros _ _ _ _ _ _ (no_call d n k t ts met) is = refl
 fails_no_call macros _ _ _ _ _ _ (too_deep d n k t ts body rest met deep) is = cc
 fails_no_call macros _ _ _ _ _ _ (in_call d n k t ts body rest e met not_deep fails) is = cc
-fails_no_call macros _ _ _ _ _ _ (behind_call d n k l t ts body rest given e met not_deep expands counted room fails) is = cc
+fails_no_call macros _ _ _ _ _ _ (after_call d n k l t ts body rest given e met not_deep expands counted room fails) is = cc
 
 -- a fault at, in or after a call
 data FailsCall (macros : List Macro) (d n k at : ℕ) (body rest : List Lexeme) (e : MacroError) : Type 0 where
@@ -48,13 +48,13 @@ data FailsCall (macros : List Macro) (d n k at : ℕ) (body rest : List Lexeme) 
 fails_call : (macros : List Macro) (d n k : ℕ) (t : Lexeme) (ts : List Lexeme) (e : MacroError) → FailsReading macros d n k (t ∷ ts) e → (body rest : List Lexeme) → meets macros t ts ≡ Calls body rest →
     FailsCall macros d n k t.at body rest e
 fails_call macros _ _ _ _ _ _ (too_many_kept d n k t ts met over) body rest is = cc
-fails_call macros _ _ _ _ _ _ (behind_kept d n k t ts e met room fails) body rest is = cc
+fails_call macros _ _ _ _ _ _ (beyond_kept d n k t ts e met room fails) body rest is = cc
 fails_call macros _ _ _ _ _ _ (no_call d n k t ts met) body rest is = cc
 fails_call macros _ _ _ _ _ _ (too_deep d n k t ts called left met is_deep) body rest is = deep is_deep refl
 fails_call macros _ _ _ _ _ _ (in_call d n k t ts called left e met not_deep fails) body rest is =
     let same : called ≡ body = cc (met, is) in
     inside not_deep (subst (λ (xs : List Lexeme). Fails macros (d + 1) n k xs e) same fails)
-fails_call macros _ _ _ _ _ _ (behind_call d n k l t ts called left given e met not_deep expands counted room fails) body rest is =
+fails_call macros _ _ _ _ _ _ (after_call d n k l t ts called left given e met not_deep expands counted room fails) body rest is =
     let same_body : called ≡ body = cc (met, is) in
     let same_rest : left ≡ rest = cc (met, is) in
     beyond given l not_deep (subst (λ (xs : List Lexeme). Expands macros (d + 1) xs given l) same_body expands) counted room
@@ -88,12 +88,12 @@ mutual
   reading_fails_once macros _ _ _ _ _ (too_many_kept d n k t ts met over) f other =
       elim (fails_staying macros d n k t ts f other met) [
         | full over' is ↦ is
-        | behind room fails ↦ absurd (omega arith)
+        | beyond room fails ↦ absurd (omega arith)
       ]
-  reading_fails_once macros _ _ _ _ _ (behind_kept d n k t ts e met room fails) f other =
+  reading_fails_once macros _ _ _ _ _ (beyond_kept d n k t ts e met room fails) f other =
       elim (fails_staying macros d n k t ts f other met) [
         | full over is ↦ absurd (omega arith)
-        | behind room' fails' ↦ reading_fails_once macros d n (k + 1) ts e fails f fails'
+        | beyond room' fails' ↦ reading_fails_once macros d n (k + 1) ts e fails f fails'
       ]
   reading_fails_once macros _ _ _ _ _ (no_call d n k t ts met) f other = fails_no_call macros d n k t ts f other met
   reading_fails_once macros _ _ _ _ _ (too_deep d n k t ts body rest met is_deep) f other =
@@ -109,7 +109,7 @@ mutual
         | beyond given spent not_deep' expands counted room fails' ↦
             absurd (list_has_no_fault macros (d + 1) n k body e fails given spent expands counted room)
       ]
-  reading_fails_once macros _ _ _ _ _ (behind_call d n k l t ts body rest given e met not_deep expands counted room fails) f other =
+  reading_fails_once macros _ _ _ _ _ (after_call d n k l t ts body rest given e met not_deep expands counted room fails) f other =
       elim (fails_call macros d n k t ts f other body rest met) [
         | deep is_deep is ↦ absurd (omega arith)
         | inside not_deep' fails' ↦ absurd (list_has_no_fault macros (d + 1) n k body f fails' given l expands counted room)

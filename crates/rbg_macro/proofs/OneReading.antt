@@ -2,7 +2,7 @@
 use Rattle.rbg_base.proofs.Common.{ℕ, ◌≡◌, ◌≢◌, ◌+◌, ◌==◌, Bool, true, false, ◌&&◌, List, [], ◌∷◌, ◌++◌, length, get_or, drop, Some, Result, Ok, Err, cond, refl, sym, ap, ◌∙◌, arith, subst, find, list_all, bytes_eq}
 use Rattle.std.proofs.lemmas.Bool.{and_parts, ne_eqb}
 use Rattle.std.specs.Char.{is_ascii_digit}
-use Rattle.rbg_macro.proofs.TextCommon.{TextError, TooLong, ZeroByte, BadByte, Memory, Symbol, DoubleArrow, Arrow, DoubleEquals, NotEquals, LessOrEqual, GreaterOrEqual, Equals, LessThan, GreaterThan, Plus, Minus, Star, Slash, OpenParenthesis, CloseParenthesis, OpenBracket, CloseBracket, OpenBrace, CloseBrace, Comma, Semicolon, Colon, Tilde, Hash, Dollar, Question, Exclamation, TokenKind, Lexes, end, blank, comment, token, zero_byte, zero_in_comment, bad_byte, behind_token, is_blank, is_comment_byte, IsComment, IsLineEnd, IsToken, BeginsNoToken, HasTokens, HasFirstFault, HasTextFault, spelling, Spells, Lexeme}
+use Rattle.rbg_macro.proofs.TextCommon.{TextError, TooLong, ZeroByte, BadByte, Memory, Symbol, DoubleArrow, Arrow, DoubleEquals, NotEquals, LessOrEqual, GreaterOrEqual, Equals, LessThan, GreaterThan, Plus, Minus, Star, Slash, OpenParenthesis, CloseParenthesis, OpenBracket, CloseBracket, OpenBrace, CloseBrace, Comma, Semicolon, Colon, Tilde, Hash, Dollar, Question, Exclamation, TokenKind, Lexes, end, blank, comment, token, zero_byte, zero_in_comment, bad_byte, after_token, is_blank, is_comment_byte, IsComment, IsLineEnd, IsToken, BeginsNoToken, HasTokens, HasFirstFault, HasTextFault, spelling, Spells, Lexeme}
 use Rattle.rbg_macro.specs.declared.token.TokenKind.TheVariants.{Name, Number, Symbol as A_Symbol}
 use Rattle.rbg_base.specs.Names.{is_name_start, is_name_part}
 use Rattle.rbg_macro.proofs.Words.{digit_starts_no_name, symbol_starts_no_name, symbol_starts_no_number}
@@ -70,7 +70,7 @@ data ReadsComment (at : ℕ) (bytes : List ℕ) (read : Result (List Lexeme) Tex
 -- bytes that begin with a token or a bad byte: what the rest gives
 data ReadsOther (at : ℕ) (bytes : List ℕ) (all : Result (List Lexeme) TextError) : Type 0 where
   is_token : (kind : TokenKind) (word rest : List ℕ) (read : Result (List Lexeme) TextError) → bytes ≡ word ++ rest → IsToken kind word rest → Lexes (at + length word) rest read →
-      all ≡ behind_token (record { kind = kind; text = word; at = at }) read → ReadsOther at bytes all
+      all ≡ after_token (record { kind = kind; text = word; at = at }) read → ReadsOther at bytes all
   is_bad : BeginsNoToken bytes → all ≡ Err (BadByte at) → ReadsOther at bytes all
 
 -- what the bytes give, by how they begin
@@ -83,11 +83,11 @@ Reads Other at bytes read = ReadsOther at bytes read
 
 reads : (at : ℕ) (bytes : List ℕ) (read : Result (List Lexeme) TextError) → Lexes at bytes read → Reads (opening bytes) at bytes read
 reads _ _ _ (end at) = refl
-reads _ _ _ (blank at b rest read is behind) = subst (λ (o : Opening). Reads o at (b ∷ rest) read) (sym (opens_blank b rest is)) behind
-reads _ _ _ (comment at bytes word line rest read begins is ends behind) =
-    subst (λ (o : Opening). Reads o at bytes read) (sym (opens_comment bytes word line rest begins is)) (ended word line rest begins is ends behind)
-reads _ _ _ (token at kind bytes word rest read all begins is behind gives) =
-    subst (λ (o : Opening). Reads o at bytes all) (sym (opens_token_at kind bytes word rest begins is)) (is_token kind word rest read begins is behind gives)
+reads _ _ _ (blank at b rest read is beyond) = subst (λ (o : Opening). Reads o at (b ∷ rest) read) (sym (opens_blank b rest is)) beyond
+reads _ _ _ (comment at bytes word line rest read begins is ends beyond) =
+    subst (λ (o : Opening). Reads o at bytes read) (sym (opens_comment bytes word line rest begins is)) (ended word line rest begins is ends beyond)
+reads _ _ _ (token at kind bytes word rest read all begins is beyond gives) =
+    subst (λ (o : Opening). Reads o at bytes all) (sym (opens_token_at kind bytes word rest begins is)) (is_token kind word rest read begins is beyond gives)
 reads _ _ _ (zero_byte at rest) = refl
 reads _ _ _ (zero_in_comment at bytes word line rest begins is) =
     subst (λ (o : Opening). Reads o at bytes (Err ZeroByte)) (sym (opens_comment bytes word line (0 ∷ rest) begins is)) (zero_inside word line rest begins is refl)
@@ -121,8 +121,8 @@ same_line (a ∷ line) [] rest (c ∷ cs) all all' stops stops' e =
     absurd (cc (passes, stops', same))
 same_line (a ∷ line) (b ∷ line') rest rest' all all' stops stops' e =
     let first : a ≡ b = cc in
-    let behind : line ++ rest ≡ line' ++ rest' = cc in
-    let (lines, rests) = same_line line line' rest rest' (and_parts (is_comment_byte a) (list_all is_comment_byte line) all).1 (and_parts (is_comment_byte b) (list_all is_comment_byte line') all').1 stops stops' behind in
+    let beyond : line ++ rest ≡ line' ++ rest' = cc in
+    let (lines, rests) = same_line line line' rest rest' (and_parts (is_comment_byte a) (list_all is_comment_byte line) all).1 (and_parts (is_comment_byte b) (list_all is_comment_byte line') all').1 stops stops' beyond in
     (cc (first, lines), rests)
 
 -- two comments at the front of the same bytes are the same
@@ -141,8 +141,8 @@ same_split [] (b ∷ v) x y e size = absurd (omega (arith, size))
 same_split (a ∷ u) [] x y e size = absurd (omega (arith, size))
 same_split (a ∷ u) (b ∷ v) x y e size =
     let first : a ≡ b = cc in
-    let behind : u ++ x ≡ v ++ y = cc in
-    let (fronts, rests) = same_split u v x y behind (omega (arith, size)) in
+    let beyond : u ++ x ≡ v ++ y = cc in
+    let (fronts, rests) = same_split u v x y beyond (omega (arith, size)) in
     (cc (first, fronts), rests)
 
 abbrev symbols : List Symbol
@@ -218,37 +218,37 @@ no_end (x ∷ xs) ys e ends = let zero : x ≡ 0 = cc in omega (arith, zero, end
 
 pub reads_once : (at : ℕ) (bytes : List ℕ) (read : Result (List Lexeme) TextError) → Lexes at bytes read → (other : Result (List Lexeme) TextError) → Lexes at bytes other → read ≡ other
 reads_once _ _ _ (end at) other lexes = reads_as at [] other Nothing refl lexes
-reads_once _ _ _ (blank at b rest read is behind) other lexes =
-    reads_once (at + 1) rest read behind other (reads_as at (b ∷ rest) other Blank (opens_blank b rest is) lexes)
-reads_once _ _ _ (comment at bytes word line rest read begins is ends behind) other lexes =
+reads_once _ _ _ (blank at b rest read is beyond) other lexes =
+    reads_once (at + 1) rest read beyond other (reads_as at (b ∷ rest) other Blank (opens_blank b rest is) lexes)
+reads_once _ _ _ (comment at bytes word line rest read begins is ends beyond) other lexes =
     elim (reads_as at bytes other Comment (opens_comment bytes word line rest begins is) lexes) [
-      | ended word' line' rest' begins' is' ends' behind' ↦
+      | ended word' line' rest' begins' is' ends' beyond' ↦
           let (words, rests) = same_comment bytes word word' line line' rest rest' begins begins' is is' (stops_at_end rest ends) (stops_at_end rest' ends') in
-          reads_once (at + length word) rest read behind other (moved at word word' rest rest' other words rests behind')
+          reads_once (at + length word) rest read beyond other (moved at word word' rest rest' other words rests beyond')
       | zero_inside word' line' rest' begins' is' gives ↦
           let (words, rests) = same_comment bytes word word' line line' rest (0 ∷ rest') begins begins' is is' (stops_at_end rest ends) refl in
           absurd (no_end rest rest' rests ends)
     ]
-reads_once _ _ _ (token at kind bytes word rest read all begins is behind gives) other lexes =
+reads_once _ _ _ (token at kind bytes word rest read all begins is beyond gives) other lexes =
     elim (reads_as at bytes other Other (opens_token_at kind bytes word rest begins is) lexes) [
-      | is_token kind' word' rest' read' begins' is' behind' gives' ↦
+      | is_token kind' word' rest' read' begins' is' beyond' gives' ↦
           let same = same_token kind kind' bytes word word' rest rest' begins begins' is is' in
-          let reads_same = reads_once (at + length word) rest read behind read' (moved at word word' rest rest' read' same.words same.rests behind') in
-          let lexemes : behind_token (record { kind = kind; text = word; at = at }) read ≡ behind_token (record { kind = kind'; text = word'; at = at }) read' = rw (same.kinds, same.words, reads_same) refl in
+          let reads_same = reads_once (at + length word) rest read beyond read' (moved at word word' rest rest' read' same.words same.rests beyond') in
+          let lexemes : after_token (record { kind = kind; text = word; at = at }) read ≡ after_token (record { kind = kind'; text = word'; at = at }) read' = rw (same.kinds, same.words, reads_same) refl in
           gives ∙ lexemes ∙ sym gives'
       | is_bad no_token gives' ↦ absurd (no_token kind word rest is.spelt (sym begins))
     ]
 reads_once _ _ _ (zero_byte at rest) other lexes = reads_as at (0 ∷ rest) other Zero refl lexes
 reads_once _ _ _ (zero_in_comment at bytes word line rest begins is) other lexes =
     elim (reads_as at bytes other Comment (opens_comment bytes word line (0 ∷ rest) begins is) lexes) [
-      | ended word' line' rest' begins' is' ends' behind' ↦
+      | ended word' line' rest' begins' is' ends' beyond' ↦
           let (words, rests) = same_comment bytes word word' line line' (0 ∷ rest) rest' begins begins' is is' refl (stops_at_end rest' ends') in
           absurd (no_end rest' rest (sym rests) ends')
       | zero_inside word' line' rest' begins' is' gives ↦ sym gives
     ]
 reads_once _ _ _ (bad_byte at b rest not_zero not_blank no_token) other lexes =
     elim (reads_as at (b ∷ rest) other Other (opens_bad b rest not_zero not_blank no_token) lexes) [
-      | is_token kind word rest' read begins is behind gives ↦ absurd (no_token kind word rest' is.spelt (sym begins))
+      | is_token kind word rest' read begins is beyond gives ↦ absurd (no_token kind word rest' is.spelt (sym begins))
       | is_bad none gives ↦ sym gives
     ]
 

@@ -21,7 +21,7 @@ blank_first [] some is = absurd (omega arith)
 blank_first (b ∷ bs) some is = record {
   some = omega arith;
   within = omega arith;
-  reads = λ at read behind. blank at b bs read is behind;
+  reads = λ at read beyond. blank at b bs read is beyond;
 }
 
 -- a comment with these bytes after its slashes
@@ -36,8 +36,8 @@ line_end (b ∷ bs) stops no_zero =
     let other = no_zero (omega arith) in
     grind (arith, nat_tests)
 
-behind_front : (p : ℕ → Bool) (line : List ℕ) → 0 < length (drop (prefix_len p line) line) → p (get_or (drop (prefix_len p line) line) 0 0) ≡ false
-behind_front p line more =
+after_front : (p : ℕ → Bool) (line : List ℕ) → 0 < length (drop (prefix_len p line) line) → p (get_or (drop (prefix_len p line) line) 0 0) ≡ false
+after_front p line more =
     let short : prefix_len p line < length line = omega (arith, length-drop (prefix_len p line) line) in
     rw (get_or-drop (prefix_len p line) line 0 0, add-zero) (prefix_len_stops p line 0 short)
 
@@ -47,13 +47,13 @@ skips_comment line no_zero =
     let short : n ≤ length line = prefix_len-le-length is_comment_byte line in
     let two : n + 2 ≡ suc (suc n) = omega arith in
     let size : length (take n line) ≡ n = length-take-le n line short in
-    let ends : IsLineEnd (drop n line) = line_end (drop n line) (behind_front is_comment_byte line)
+    let ends : IsLineEnd (drop n line) = line_end (drop n line) (after_front is_comment_byte line)
     (λ more. let below : n < length line = omega (arith, length-drop n line) in rw (get_or-drop n line 0 0, add-zero) (no_zero below)) in
     record {
       some = omega arith;
       within = omega arith;
-      reads = λ at read behind.
-          let rest : Lexes (at + suc (suc (length (take n line)))) (drop n line) read = rw size (rw two at behind) in
+      reads = λ at read beyond.
+          let rest : Lexes (at + suc (suc (length (take n line)))) (drop n line) read = rw size (rw two at beyond) in
           comment at (47 ∷ 47 ∷ line) (47 ∷ 47 ∷ take n line) (take n line) (drop n line) read
           (ap (λ (bs : List ℕ). 47 ∷ 47 ∷ bs) (sym (take-append-drop n line))) (comment_word line) ends rest;
     }
@@ -72,8 +72,8 @@ pub token_first : (kind : TokenKind) (bytes : List ℕ) (n : ℕ) → 0 < n → 
 token_first kind bytes n some within is = record {
   some = some;
   within = within;
-  reads = λ at read behind.
-      token at kind bytes (take n bytes) (drop n bytes) read _ (sym (take-append-drop n bytes)) is (rw (length-take-le n bytes within) behind) refl;
+  reads = λ at read beyond.
+      token at kind bytes (take n bytes) (drop n bytes) read _ (sym (take-append-drop n bytes)) is (rw (length-take-le n bytes within) beyond) refl;
 }
 
 pub bad_first : (bytes : List ℕ) → 0 < length bytes → get_or bytes 0 0 ≢ 0 → is_blank (get_or bytes 0 0) ≡ false → BeginsNoToken bytes → (at : ℕ) → Lexes at bytes (Err (BadByte at))

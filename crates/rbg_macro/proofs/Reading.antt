@@ -2,7 +2,7 @@
 use Rattle.std.proofs.Common.{ℕ, ◌≡◌, ◌+◌, ◌<◌, ◌≤◌, List, [], ◌∷◌, ◌++◌, length, get_or, drop, map, refl, sym, ap, ◌∙◌, arith, append_assoc, length-append, length-drop, drop-cons, add-one, Vec, vec_len, Global}
 use Rattle.std.proofs.Math.ListN.{drop_of_length-le}
 use Rattle.std.proofs.lemmas.List.{append-nil, drop-map, drop-drop, length-map}
-use Rattle.rbg_macro.proofs.Common.{MacroError, ExpandedTokens, MAX_KEPT, ReadToken, Stays, meets, Expands, list, Reads, nothing, stays, call, Fails, no_join, reading, FailsReading, too_many_kept, behind_kept, in_call, behind_call, Macro, read_lexeme}
+use Rattle.rbg_macro.proofs.Common.{MacroError, ExpandedTokens, MAX_KEPT, ReadToken, Stays, meets, Expands, list, Reads, nothing, stays, call, Fails, no_join, reading, FailsReading, too_many_kept, beyond_kept, in_call, after_call, Macro, read_lexeme}
 use Rattle.rbg_macro.specs.internal.ExpandedTokens.{IsWithinLimits, ReadsOn, ReadsJoined, FailsJoined, GivesWay, IsTooMany, no_join as joins_not, reading as fails_reading}
 use Rattle.rbg_macro.specs.Token.{Lexeme}
 
@@ -35,15 +35,15 @@ nothing_read macros d tokens now limits = record {
 }
 
 -- the token at a place, and what follows it
-next_token : (tokens behind : List ReadToken) (at : ℕ) (d : ReadToken) → at < length tokens → behind ≡ drop (at + 1) tokens →
-    map read_lexeme (drop at tokens) ≡ read_lexeme (get_or tokens at d) ∷ map read_lexeme behind
-next_token tokens behind at d below is = ap (map read_lexeme) (drop-cons tokens at d below) ∙ rw (is, add-one) refl
+next_token : (tokens beyond : List ReadToken) (at : ℕ) (d : ReadToken) → at < length tokens → beyond ≡ drop (at + 1) tokens →
+    map read_lexeme (drop at tokens) ≡ read_lexeme (get_or tokens at d) ∷ map read_lexeme beyond
+next_token tokens beyond at d below is = ap (map read_lexeme) (drop-cons tokens at d below) ∙ rw (is, add-one) refl
 
-pub token_kept : (macros : List Macro) (l : ℕ) (tokens behind : List ReadToken) (at : ℕ) (d : ReadToken) (old now new : ExpandedTokens) → HasRead macros l tokens at old now →
-    at < length tokens → behind ≡ drop (at + 1) tokens → meets macros (read_lexeme (get_or tokens at d)) (map read_lexeme behind) ≡ Stays →
+pub token_kept : (macros : List Macro) (l : ℕ) (tokens beyond : List ReadToken) (at : ℕ) (d : ReadToken) (old now new : ExpandedTokens) → HasRead macros l tokens at old now →
+    at < length tokens → beyond ≡ drop (at + 1) tokens → meets macros (read_lexeme (get_or tokens at d)) (map read_lexeme beyond) ≡ Stays →
     new ≡ record now { kept = now.kept ++ read_lexeme (get_or tokens at d) ∷ [] } → length now.kept < MAX_KEPT →
     HasRead macros l tokens (at + 1) old new
-token_kept macros l tokens behind at d old now new so_far below is met kept room = record {
+token_kept macros l tokens beyond at d old now new so_far below is met kept room = record {
   within = omega arith;
   limits = record {
     read = rw kept so_far.limits.read;
@@ -54,34 +54,34 @@ token_kept macros l tokens behind at d old now new so_far below is met kept room
   kept = ap (λ (p : ExpandedTokens). p.kept) kept ∙ ap (λ (ts : List Lexeme). ts ++ t ∷ []) so_far.kept ∙ append_assoc old.kept so_far.added (t ∷ []);
   read = ap (λ (p : ExpandedTokens). p.read) kept ∙ so_far.read;
   reads = λ us m r.
-      let here : Reads macros l (map read_lexeme (drop at tokens)) (t ∷ us) m = rw begins (stays l t (map read_lexeme behind) us m met (rw is r)) in
+      let here : Reads macros l (map read_lexeme (drop at tokens)) (t ∷ us) m = rw begins (stays l t (map read_lexeme beyond) us m met (rw is r)) in
       rw (append_assoc so_far.added (t ∷ []) us) (so_far.reads (t ∷ us) m here);
   fails = λ e f.
       let one_more : length new.kept ≡ length now.kept + 1 =
       ap (λ (p : ExpandedTokens). length p.kept) kept ∙ length-append now.kept (t ∷ []) in
       let same_read : new.read ≡ now.read = ap (λ (p : ExpandedTokens). p.read) kept in
-      let behind_it : FailsReading macros l now.read (length now.kept + 1) (map read_lexeme behind) e = rw (← one_more, ← same_read, is) f in
-      so_far.fails e (rw begins (behind_kept l now.read (length now.kept) t (map read_lexeme behind) e met room behind_it));
+      let after_it : FailsReading macros l now.read (length now.kept + 1) (map read_lexeme beyond) e = rw (← one_more, ← same_read, is) f in
+      so_far.fails e (rw begins (beyond_kept l now.read (length now.kept) t (map read_lexeme beyond) e met room after_it));
 }
   where
     t : Lexeme
     t = read_lexeme (get_or tokens at d)
 
-    begins : map read_lexeme (drop at tokens) ≡ read_lexeme (get_or tokens at d) ∷ map read_lexeme behind
-    begins = next_token tokens behind at d below is
+    begins : map read_lexeme (drop at tokens) ≡ read_lexeme (get_or tokens at d) ∷ map read_lexeme beyond
+    begins = next_token tokens beyond at d below is
 
 -- a body that was counted and read expands
 body_expands : (macros : List Macro) (d : ℕ) (body : List Lexeme) (counted new : ExpandedTokens) (reads : ReadsJoined macros d body counted new) →
     Expands macros d body reads.reads.added (length body + reads.reads.spent)
 body_expands macros d body counted new reads = list d body reads.js reads.reads.added reads.reads.spent reads.joins reads.reads.reads
 
-pub call_read : (macros : List Macro) (l : ℕ) (tokens behind : List ReadToken) (at n : ℕ) (d : ReadToken) (body : List Lexeme) (old now counted new : ExpandedTokens) → HasRead macros l tokens at old now →
-    at < length tokens → behind ≡ drop (at + 1) tokens →
-    GivesWay macros l (read_lexeme (get_or tokens at d)) (map read_lexeme behind) now.read body n →
+pub call_read : (macros : List Macro) (l : ℕ) (tokens beyond : List ReadToken) (at n : ℕ) (d : ReadToken) (body : List Lexeme) (old now counted new : ExpandedTokens) → HasRead macros l tokens at old now →
+    at < length tokens → beyond ≡ drop (at + 1) tokens →
+    GivesWay macros l (read_lexeme (get_or tokens at d)) (map read_lexeme beyond) now.read body n →
     counted ≡ record now { read = now.read + length body } → ReadsJoined macros (l + 1) body counted new →
     HasRead macros l tokens (at + (n + 1)) old new
-call_read macros l tokens behind at n d body old now counted new so_far below is way counts reads = record {
-  within = omega (arith, way.within, length-map behind read_lexeme, ap length is, length-drop (at + 1) tokens);
+call_read macros l tokens beyond at n d body old now counted new so_far below is way counts reads = record {
+  within = omega (arith, way.within, length-map beyond read_lexeme, ap length is, length-drop (at + 1) tokens);
   limits = reads.reads.within;
   added = so_far.added ++ vs;
   spent = so_far.spent + (length body + reads.reads.spent);
@@ -89,16 +89,16 @@ call_read macros l tokens behind at n d body old now counted new so_far below is
   read = omega (arith, new_read, so_far.read);
   reads = λ us m r.
       let here : Reads macros l (map read_lexeme (drop at tokens)) (vs ++ us) (length body + reads.reads.spent + m) =
-      rw begins (call l t (map read_lexeme behind) body (drop n (map read_lexeme behind)) vs us (length body + reads.reads.spent) m way.meets way.not_deep expands (rw further r)) in
+      rw begins (call l t (map read_lexeme beyond) body (drop n (map read_lexeme beyond)) vs us (length body + reads.reads.spent) m way.meets way.not_deep expands (rw further r)) in
       let sum : so_far.spent + (length body + reads.reads.spent) + m ≡ so_far.spent + (length body + reads.reads.spent + m) = omega arith in
       rw (append_assoc so_far.added vs us, sum) (so_far.reads (vs ++ us) (length body + reads.reads.spent + m) here);
   fails = λ e f.
       let read_is : now.read + (length body + reads.reads.spent) ≡ new.read = sym new_read in
       let kept_is : length now.kept + length vs ≡ length new.kept = omega (arith, ap length new_kept, length-append now.kept vs) in
-      let behind_it : FailsReading macros l (now.read + (length body + reads.reads.spent)) (length now.kept + length vs) (drop n (map read_lexeme behind)) e =
+      let after_it : FailsReading macros l (now.read + (length body + reads.reads.spent)) (length now.kept + length vs) (drop n (map read_lexeme beyond)) e =
       rw (read_is, kept_is, further) f in
-      so_far.fails e (rw begins (behind_call l now.read (length now.kept) (length body + reads.reads.spent) t (map read_lexeme behind) body (drop n (map read_lexeme behind)) vs e
-      way.meets way.not_deep expands (omega (arith, new_read, reads.reads.within.read)) (omega (arith, kept_is, reads.reads.within.kept)) behind_it));
+      so_far.fails e (rw begins (after_call l now.read (length now.kept) (length body + reads.reads.spent) t (map read_lexeme beyond) body (drop n (map read_lexeme beyond)) vs e
+      way.meets way.not_deep expands (omega (arith, new_read, reads.reads.within.read)) (omega (arith, kept_is, reads.reads.within.kept)) after_it));
 }
   where
     t : Lexeme
@@ -107,13 +107,13 @@ call_read macros l tokens behind at n d body old now counted new so_far below is
     vs : List Lexeme
     vs = reads.reads.added
 
-    begins : map read_lexeme (drop at tokens) ≡ read_lexeme (get_or tokens at d) ∷ map read_lexeme behind
-    begins = next_token tokens behind at d below is
+    begins : map read_lexeme (drop at tokens) ≡ read_lexeme (get_or tokens at d) ∷ map read_lexeme beyond
+    begins = next_token tokens beyond at d below is
 
-    further : drop n (map read_lexeme behind) ≡ map read_lexeme (drop (at + (n + 1)) tokens)
+    further : drop n (map read_lexeme beyond) ≡ map read_lexeme (drop (at + (n + 1)) tokens)
     further =
         let place : at + 1 + n ≡ at + (n + 1) = omega arith in
-        drop-map read_lexeme n behind ∙ ap (λ ts. map read_lexeme (drop n ts)) is ∙ ap (map read_lexeme) (drop-drop n (at + 1) tokens)
+        drop-map read_lexeme n beyond ∙ ap (λ ts. map read_lexeme (drop n ts)) is ∙ ap (map read_lexeme) (drop-drop n (at + 1) tokens)
         ∙ ap (λ (i : ℕ). map read_lexeme (drop i tokens)) place
 
     expands : Expands macros (l + 1) body reads.reads.added (length body + reads.reads.spent)
@@ -126,14 +126,14 @@ call_read macros l tokens behind at n d body old now counted new so_far below is
     new_read = omega (arith, reads.reads.read, ap (λ (p : ExpandedTokens). p.read) counts)
 
 -- a fault in a call's body
-pub call_fails : (macros : List Macro) (l : ℕ) (tokens behind : List ReadToken) (at n : ℕ) (d : ReadToken) (body : List Lexeme) (old now counted : ExpandedTokens) (e : MacroError) → HasRead macros l tokens at old now →
-    at < length tokens → behind ≡ drop (at + 1) tokens →
-    GivesWay macros l (read_lexeme (get_or tokens at d)) (map read_lexeme behind) now.read body n →
+pub call_fails : (macros : List Macro) (l : ℕ) (tokens beyond : List ReadToken) (at n : ℕ) (d : ReadToken) (body : List Lexeme) (old now counted : ExpandedTokens) (e : MacroError) → HasRead macros l tokens at old now →
+    at < length tokens → beyond ≡ drop (at + 1) tokens →
+    GivesWay macros l (read_lexeme (get_or tokens at d)) (map read_lexeme beyond) now.read body n →
     counted ≡ record now { read = now.read + length body } → FailsJoined macros (l + 1) body counted e →
     FailsReading macros l old.read (length old.kept) (map read_lexeme tokens) e
-call_fails macros l tokens behind at n d body old now counted e so_far below is way counts fails =
-    so_far.fails e (rw (next_token tokens behind at d below is)
-    (in_call l now.read (length now.kept) (read_lexeme (get_or tokens at d)) (map read_lexeme behind) body (drop n (map read_lexeme behind)) e way.meets way.not_deep (inside fails)))
+call_fails macros l tokens beyond at n d body old now counted e so_far below is way counts fails =
+    so_far.fails e (rw (next_token tokens beyond at d below is)
+    (in_call l now.read (length now.kept) (read_lexeme (get_or tokens at d)) (map read_lexeme beyond) body (drop n (map read_lexeme beyond)) e way.meets way.not_deep (inside fails)))
   where
     inside : FailsJoined macros (l + 1) body counted e → Fails macros (l + 1) now.read (length now.kept) body e
     inside (joins_not joins) = no_join (l + 1) now.read (length now.kept) body e way.counted joins
@@ -143,18 +143,18 @@ call_fails macros l tokens behind at n d body old now counted e so_far below is 
         reading (l + 1) now.read (length now.kept) body js e way.counted joins (rw (← read_is, ← kept_is) f)
 
 -- a fault at a token
-pub token_fails : (macros : List Macro) (l : ℕ) (tokens behind : List ReadToken) (at : ℕ) (d : ReadToken) (old now : ExpandedTokens) (e : MacroError) → HasRead macros l tokens at old now →
-    at < length tokens → behind ≡ drop (at + 1) tokens →
-    FailsReading macros l now.read (length now.kept) (read_lexeme (get_or tokens at d) ∷ map read_lexeme behind) e →
+pub token_fails : (macros : List Macro) (l : ℕ) (tokens beyond : List ReadToken) (at : ℕ) (d : ReadToken) (old now : ExpandedTokens) (e : MacroError) → HasRead macros l tokens at old now →
+    at < length tokens → beyond ≡ drop (at + 1) tokens →
+    FailsReading macros l now.read (length now.kept) (read_lexeme (get_or tokens at d) ∷ map read_lexeme beyond) e →
     FailsReading macros l old.read (length old.kept) (map read_lexeme tokens) e
-token_fails macros l tokens behind at d old now e so_far below is f = so_far.fails e (rw (next_token tokens behind at d below is) f)
+token_fails macros l tokens beyond at d old now e so_far below is f = so_far.fails e (rw (next_token tokens beyond at d below is) f)
 
-pub token_too_many : (macros : List Macro) (l : ℕ) (tokens behind : List ReadToken) (at : ℕ) (d : ReadToken) (old now : ExpandedTokens) (e : MacroError) → HasRead macros l tokens at old now →
-    at < length tokens → behind ≡ drop (at + 1) tokens → meets macros (read_lexeme (get_or tokens at d)) (map read_lexeme behind) ≡ Stays →
+pub token_too_many : (macros : List Macro) (l : ℕ) (tokens beyond : List ReadToken) (at : ℕ) (d : ReadToken) (old now : ExpandedTokens) (e : MacroError) → HasRead macros l tokens at old now →
+    at < length tokens → beyond ≡ drop (at + 1) tokens → meets macros (read_lexeme (get_or tokens at d)) (map read_lexeme beyond) ≡ Stays →
     IsTooMany e (MAX_KEPT ≤ length now.kept) → FailsReading macros l old.read (length old.kept) (map read_lexeme tokens) e
-token_too_many macros l tokens behind at d old now e so_far below is met many =
-    token_fails macros l tokens behind at d old now e so_far below is
-    (rw many.is (too_many_kept l now.read (length now.kept) (read_lexeme (get_or tokens at d)) (map read_lexeme behind) met many.holds))
+token_too_many macros l tokens beyond at d old now e so_far below is met many =
+    token_fails macros l tokens beyond at d old now e so_far below is
+    (rw many.is (too_many_kept l now.read (length now.kept) (read_lexeme (get_or tokens at d)) (map read_lexeme beyond) met many.holds))
 
 pub all_read : (macros : List Macro) (l : ℕ) (tokens : List ReadToken) (at : ℕ) (old now : ExpandedTokens) → HasRead macros l tokens at old now → length tokens ≤ at →
     ReadsOn macros l (map read_lexeme tokens) old now

@@ -100,10 +100,10 @@ section_expanded macros bodies i d now new spans new_spans span so_far below rea
       let sum : new.read + m ≡ now.read + (reads.spent + m) = omega (arith, reads.read) in
       rw (all_spans, sum, append_assoc (map (section_in now.kept) spans) (record s { tokens = reads.added } ∷ []) ts) whole;
   fails = λ e f.
-      let behind_it : FailsAll macros (now.read + reads.spent) (length now.kept + length reads.added) (map section_of (drop (i + 1) bodies)) e =
+      let after_it : FailsAll macros (now.read + reads.spent) (length now.kept + length reads.added) (map section_of (drop (i + 1) bodies)) e =
       rw (← reads.read, ← new_len) f in
       so_far.fails e (rw begins (later now.read (length now.kept) reads.spent s reads.added (map section_of (drop (i + 1) bodies)) e reads.expands
-      (omega (arith, reads.read, reads.within.read)) (omega (arith, new_len, reads.within.kept)) behind_it));
+      (omega (arith, reads.read, reads.within.read)) (omega (arith, new_len, reads.within.kept)) after_it));
 }
   where
     s : SectionTokens

@@ -1,6 +1,6 @@
 -- The tokens of expanded sections are spelt, since those of the text are.
 use Rattle.rbg_base.proofs.Common.{ℕ, ◌≡◌, ◌+◌, Bool, true, false, cond, nat_eq, List, [], ◌∷◌, ◌++◌, length, arith, map, take, zero, suc, find, Option, None, Some, slice_get, unwrap_or, Result, Ok, Err, refl, subst, All-nil, All-cons, All, AllByRecursion, list_any, position_or_len, option_map, bytes_eq}
-use Rattle.rbg_macro.proofs.Common.{MacroError, BadDefinition, Twice, SectionKind, SectionSpan, Arguments, Nesting, Within, Cuts, Ends, Mismatched, nesting, arguments, arguments_by, with_token, with_argument, Meets, Stays, Calls, NoCall, with_arguments, called, met, meets, Part, parts, part_of, is_hash_token, expect, behind_equals, is_new_name, parameter_list, behind_name, section_named, Defined, A_Section, A_Macro, defined_as, defined, Definitions, with_section, with_defined, definitions, definitions_of, Expands, list, Reads, nothing, stays, call, ExpandsAll, none, one_more, HasSections, ◌>>=◌, section_in, IsSectionWithin, IsSectionIn, AreLexemes, SectionTokens}
+use Rattle.rbg_macro.proofs.Common.{MacroError, BadDefinition, Twice, SectionKind, SectionSpan, Arguments, Nesting, Within, Cuts, Ends, Mismatched, nesting, arguments, arguments_by, with_token, with_argument, Meets, Stays, Calls, NoCall, with_arguments, called, met, meets, Part, parts, part_of, is_hash_token, expect, after_equals, is_new_name, parameter_list, beyond_name, section_named, Defined, A_Section, A_Macro, defined_as, defined, Definitions, with_section, with_defined, definitions, definitions_of, Expands, list, Reads, nothing, stays, call, ExpandsAll, none, one_more, HasSections, ◌>>=◌, section_in, IsSectionWithin, IsSectionIn, AreLexemes, SectionTokens}
 use Rattle.rbg_macro.proofs.TextCommon.{is_name_kind, is_symbol, IsLexeme, HasTokens, Lexeme}
 use Rattle.rbg_macro.specs.declared.token.Symbol.TheVariants as symbols
 use Rattle.rbg_macro.specs.Macro.{BodyItem, Word, Place, Macro, parameter_named, word_or_place, body_of, filled, macro_named}
@@ -42,23 +42,23 @@ bound : {A B : Type 0} (r : Result A MacroError) (f : A → Result B MacroError)
 bound (Ok x) f y is = (x, refl, is)
 bound (Err e) f y is = cc
 
-body_behind_equals : (end : ℕ) (ts body : List Lexeme) → behind_equals end ts ≡ Ok body → Spelt ts → Spelt body
-body_behind_equals end ts body is spelt =
+body_after_equals : (end : ℕ) (ts body : List Lexeme) → after_equals end ts ≡ Ok body → Spelt ts → Spelt body
+body_after_equals end ts body is spelt =
     let (found, found_is, body_is) = bound (expect (λ e. is_symbol symbols.Equals e.kind) end ts) (λ found. Ok found.1) body is in
     let same : found.1 ≡ body = cc (body_is) in
     subst Spelt same (expected (λ e. is_symbol symbols.Equals e.kind) end ts found found_is spelt)
 
-behind_parameters : (end : ℕ) (earlier : List (List ℕ)) (ts : List Lexeme) (found : List (List ℕ) × List Lexeme) →
+after_parameters : (end : ℕ) (earlier : List (List ℕ)) (ts : List Lexeme) (found : List (List ℕ) × List Lexeme) →
     parameter_list end earlier ts ≡ Ok found → Spelt ts → Spelt found.1
-behind_parameters end earlier [] found is spelt = cc
-behind_parameters end earlier (p ∷ []) found is spelt = by_new (is_new_name earlier p) is
+after_parameters end earlier [] found is spelt = cc
+after_parameters end earlier (p ∷ []) found is spelt = by_new (is_new_name earlier p) is
   where
     by_new : (new : Bool) → cond new (Err (BadDefinition end)) (Err (BadDefinition p.at)) ≡ Ok found → Spelt found.1
     by_new true is = cc
     by_new false is = cc
-behind_parameters end earlier (p ∷ t ∷ ts) found is spelt =
+after_parameters end earlier (p ∷ t ∷ ts) found is spelt =
     by_tests (is_new_name earlier p) (is_symbol symbols.CloseParenthesis t.kind) (is_symbol symbols.Semicolon t.kind) is
-    (λ more_is. behind_parameters end (earlier ++ p.text ∷ []) ts found more_is spelt.1.1)
+    (λ more_is. after_parameters end (earlier ++ p.text ∷ []) ts found more_is spelt.1.1)
   where
     by_tests : (new closes more : Bool) →
         cond new (cond closes (Ok (earlier ++ p.text ∷ [], ts)) (cond more (parameter_list end (earlier ++ p.text ∷ []) ts) (Err (BadDefinition t.at)))) (Err (BadDefinition p.at)) ≡ Ok found →
@@ -70,22 +70,22 @@ behind_parameters end earlier (p ∷ t ∷ ts) found is spelt =
     by_tests true false true is going_on = going_on is
     by_tests true false false is going_on = cc
 
-body_behind_name : (end : ℕ) (ts : List Lexeme) (found : List (List ℕ) × List Lexeme) → behind_name end ts ≡ Ok found → Spelt ts → Spelt found.1
-body_behind_name end [] found is spelt = cc
-body_behind_name end (t ∷ ts) found is spelt = by_tests (is_symbol symbols.Equals t.kind) (is_symbol symbols.OpenParenthesis t.kind) is
+body_after_name : (end : ℕ) (ts : List Lexeme) (found : List (List ℕ) × List Lexeme) → beyond_name end ts ≡ Ok found → Spelt ts → Spelt found.1
+body_after_name end [] found is spelt = cc
+body_after_name end (t ∷ ts) found is spelt = by_tests (is_symbol symbols.Equals t.kind) (is_symbol symbols.OpenParenthesis t.kind) is
   where
     by_tests : (equals opens : Bool) →
-        cond equals (Ok ([], ts)) (cond opens (parameter_list end [] ts >>= λ listed. behind_equals end listed.1 >>= λ body. Ok (listed.0, body)) (Err (BadDefinition t.at))) ≡ Ok found →
+        cond equals (Ok ([], ts)) (cond opens (parameter_list end [] ts >>= λ listed. after_equals end listed.1 >>= λ body. Ok (listed.0, body)) (Err (BadDefinition t.at))) ≡ Ok found →
         Spelt found.1
     by_tests true opens is =
         let same : ([], ts) ≡ found = cc in
         subst (λ (f : List (List ℕ) × List Lexeme). Spelt f.1) same spelt.1
     by_tests false true is =
-        let (listed, listed_is, rest_is) = bound (parameter_list end [] ts) (λ listed. behind_equals end listed.1 >>= λ body. Ok (listed.0, body)) found is in
-        let (body, body_is, found_is) = bound (behind_equals end listed.1) (λ body. Ok (listed.0, body)) found rest_is in
+        let (listed, listed_is, rest_is) = bound (parameter_list end [] ts) (λ listed. after_equals end listed.1 >>= λ body. Ok (listed.0, body)) found is in
+        let (body, body_is, found_is) = bound (after_equals end listed.1) (λ body. Ok (listed.0, body)) found rest_is in
         let same : (listed.0, body) ≡ found = cc (found_is) in
         subst (λ (f : List (List ℕ) × List Lexeme). Spelt f.1) same
-        (body_behind_equals end listed.1 body body_is (behind_parameters end [] ts listed listed_is spelt.1))
+        (body_after_equals end listed.1 body body_is (after_parameters end [] ts listed listed_is spelt.1))
     by_tests false false is = cc
 
 -- bodies
@@ -118,20 +118,20 @@ defined_spelt earlier part what is spelt =
     by_section found (section_named found.0.text) rest_is (expected (λ t. is_name_kind t.kind) part.end part.tokens found found_is spelt)
   where
     by_section : (found : Lexeme × List Lexeme) (section : Option SectionKind) → defined_as earlier part found.0 found.1 section ≡ Ok what → Spelt found.1 → DefinedSpelt what
-    by_section found (Some kind) is behind_spelt =
-        let (body, body_is, what_is) = bound (behind_equals part.end found.1) (λ body. Ok (A_Section (record { kind = kind; at = part.at; tokens = body }))) what is in
+    by_section found (Some kind) is after_spelt =
+        let (body, body_is, what_is) = bound (after_equals part.end found.1) (λ body. Ok (A_Section (record { kind = kind; at = part.at; tokens = body }))) what is in
         let same : A_Section (record { kind = kind; at = part.at; tokens = body }) ≡ what = cc (what_is) in
-        subst DefinedSpelt same (body_behind_equals part.end found.1 body body_is behind_spelt)
-    by_section found None is behind_spelt = by_name (list_any (λ m. bytes_eq found.0.text m.name) earlier) is
+        subst DefinedSpelt same (body_after_equals part.end found.1 body body_is after_spelt)
+    by_section found None is after_spelt = by_name (list_any (λ m. bytes_eq found.0.text m.name) earlier) is
       where
         by_name : (twice : Bool) →
-            cond twice (Err (Twice found.0.at)) (behind_name part.end found.1 >>= λ named. Ok (A_Macro (record { name = found.0.text; parameters = length named.0; body = body_of named.0 named.1 }))) ≡ Ok what →
+            cond twice (Err (Twice found.0.at)) (beyond_name part.end found.1 >>= λ named. Ok (A_Macro (record { name = found.0.text; parameters = length named.0; body = body_of named.0 named.1 }))) ≡ Ok what →
             DefinedSpelt what
         by_name true is = cc
         by_name false is =
-            let (named, named_is, what_is) = bound (behind_name part.end found.1) (λ named. Ok (A_Macro (record { name = found.0.text; parameters = length named.0; body = body_of named.0 named.1 }))) what is in
+            let (named, named_is, what_is) = bound (beyond_name part.end found.1) (λ named. Ok (A_Macro (record { name = found.0.text; parameters = length named.0; body = body_of named.0 named.1 }))) what is in
             let same : A_Macro (record { name = found.0.text; parameters = length named.0; body = body_of named.0 named.1 }) ≡ what = cc (what_is) in
-            subst DefinedSpelt same (body_spelt named.0 named.1 (body_behind_name part.end found.1 named named_is behind_spelt))
+            subst DefinedSpelt same (body_spelt named.0 named.1 (body_after_name part.end found.1 named named_is after_spelt))
 
 abbrev DefinitionsSpelt : Definitions → Type 0
 DefinitionsSpelt ds = AllByRecursion SectionSpelt ds.sections × AllByRecursion MacroSpelt ds.macros

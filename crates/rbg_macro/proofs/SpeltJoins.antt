@@ -3,7 +3,7 @@ use Rattle.rbg_base.proofs.Common.{ℕ, ◌≡◌, ◌+◌, Bool, true, false, �
 use Rattle.std.proofs.lemmas.List.Folds.{list_all-append}
 use Rattle.std.specs.Char.{is_ascii_digit}
 use Rattle.rbg_base.specs.Names.{is_name, is_name_start, is_name_part}
-use Rattle.rbg_macro.proofs.Common.{MacroError, BadJoin, MAX_JOINED, joined_kind, joined_token, with_kind, behind, join_at, joined_from, joined}
+use Rattle.rbg_macro.proofs.Common.{MacroError, BadJoin, MAX_JOINED, joined_kind, joined_token, with_kind, beyond, join_at, joined_from, joined}
 use Rattle.rbg_macro.specs.declared.token.TokenKind.{TokenKind}
 use Rattle.rbg_macro.specs.declared.token.TokenKind.TheVariants.{Name, Number, Symbol as A_Symbol}
 use Rattle.rbg_macro.proofs.TextCommon.{is_symbol, is_number, Spells, IsLexeme, Lexeme}
@@ -79,7 +79,7 @@ joined_from_spelt t (s ∷ u ∷ ts) js is first others =
     by_tilde (is_symbol symbols.Tilde s.kind) is (λ v v_spelt ks v_is. joined_from_spelt v ts ks v_is v_spelt others.1.1)
     (λ ks s_is. joined_from_spelt s (u ∷ ts) ks s_is others.0 others.1)
   where
-    by_tilde : (tilde : Bool) → cond tilde (join_at s.at (joined_token t u) (λ v. joined_from v ts)) (behind t (joined_from s (u ∷ ts))) ≡ Ok js →
+    by_tilde : (tilde : Bool) → cond tilde (join_at s.at (joined_token t u) (λ v. joined_from v ts)) (beyond t (joined_from s (u ∷ ts))) ≡ Ok js →
         ((v : Lexeme) → IsLexeme v → (ks : List Lexeme) → joined_from v ts ≡ Ok ks → Spelt ks) →
         ((ks : List Lexeme) → joined_from s (u ∷ ts) ≡ Ok ks → Spelt ks) → Spelt js
     by_tilde true is going_on staying = by_token (joined_token t u) refl is
@@ -89,7 +89,7 @@ joined_from_spelt t (s ∷ u ∷ ts) js is first others =
         by_token (Some v) made_is is = going_on v (joined_token_spelt t u v made_is first others.1.0) js is
     by_tilde false is going_on staying = by_rest (joined_from s (u ∷ ts)) refl is
       where
-        by_rest : (rest : Result (List Lexeme) MacroError) → joined_from s (u ∷ ts) ≡ rest → behind t rest ≡ Ok js → Spelt js
+        by_rest : (rest : Result (List Lexeme) MacroError) → joined_from s (u ∷ ts) ≡ rest → beyond t rest ≡ Ok js → Spelt js
         by_rest (Ok ks) rest_is is = let same : t ∷ ks ≡ js = cc in rw (← same) (first, staying ks rest_is)
         by_rest (Err e) rest_is is = cc
 

@@ -1,9 +1,9 @@
 -- Texts that spell a token of their kind.
 use Rattle.rbg_base.proofs.Common.{ℕ, ◌≡◌, ◌+◌, true, List, [], ◌∷◌, length, Some, Result, Ok, refl, sym, ◌∙◌, ap, subst, arith, zero, suc, slice_get, All-nil, All-cons, All, AllByRecursion}
 use Rattle.rbg_base.specs.Names.{is_name}
-use Rattle.rbg_macro.proofs.TextCommon.{TextError, TokenKind, is_number, Spells, IsLexeme, Lexes, end, blank, comment, token, zero_byte, zero_in_comment, bad_byte, behind_token, HasTokens, Lexeme}
+use Rattle.rbg_macro.proofs.TextCommon.{TextError, TokenKind, is_number, Spells, IsLexeme, Lexes, end, blank, comment, token, zero_byte, zero_in_comment, bad_byte, after_token, HasTokens, Lexeme}
 use Rattle.rbg_macro.specs.declared.token.TokenKind.TheVariants.{Name, Number, Symbol as A_Symbol}
-use Rattle.rbg_macro.proofs.ZeroBytes.{tokens_behind}
+use Rattle.rbg_macro.proofs.ZeroBytes.{tokens_after}
 
 -- each token's text spells a token of its kind
 abbrev pub Spelt : List Lexeme → Type 0
@@ -16,8 +16,8 @@ read_spelt _ _ _ (blank at b rest read is_blank others) ts is = read_spelt (at +
 read_spelt _ _ _ (comment at bytes word line rest read begins is_comment ends others) ts is = read_spelt (at + length word) rest read others ts is
 read_spelt _ _ _ (token at kind bytes word rest read all begins is_token others gives) ts is =
     let t : Lexeme = record { kind = kind; text = word; at = at } in
-    let (us, read_is) = tokens_behind t read ts (sym gives ∙ is) in
-    let whole : Ok (t ∷ us) ≡ Ok ts = ap (behind_token t) (sym read_is) ∙ sym gives ∙ is in
+    let (us, read_is) = tokens_after t read ts (sym gives ∙ is) in
+    let whole : Ok (t ∷ us) ≡ Ok ts = ap (after_token t) (sym read_is) ∙ sym gives ∙ is in
     let same : t ∷ us ≡ ts = cc (whole) in
     rw (← same) (is_token.spelt, read_spelt (at + length word) rest read others us read_is)
 read_spelt _ _ _ (zero_byte at rest) ts is = cc

@@ -1,7 +1,7 @@
 -- The definitions of this crate that most proofs cite, passed on from one place. Declares nothing.
 pub use Rattle.rbg_macro.specs.Kinds.{closes, is_name_kind, is_number_kind, is_symbol, opens}
 pub use Rattle.rbg_macro.specs.Spelling.{IsLexeme, Spells, is_number, spelling}
-pub use Rattle.rbg_macro.specs.Text.{BeginsNoToken, HasFirstFault, HasTextFault, HasTokens, IsComment, IsLineEnd, IsToken, Lexes, bad_byte, behind_token, blank, comment, end, is_blank, is_comment_byte, token, zero_byte, zero_in_comment}
+pub use Rattle.rbg_macro.specs.Text.{BeginsNoToken, HasFirstFault, HasTextFault, HasTokens, IsComment, IsLineEnd, IsToken, Lexes, bad_byte, after_token, blank, comment, end, is_blank, is_comment_byte, token, zero_byte, zero_in_comment}
 pub use Rattle.rbg_macro.specs.Token.{Lexeme, lexeme_of}
 pub use Rattle.rbg_macro.specs.declared.text_error.TextError.{TextError}
 pub use Rattle.rbg_macro.specs.declared.text_error.TextError.TheVariants.{BadByte, Memory, TooLong, ZeroByte}

@@ -32,8 +32,8 @@ start_is_part b h = rw h refl
 pub name_parts : (word : List ℕ) → is_name word ≡ true → list_all is_name_part word ≡ true
 name_parts [] h = refl
 name_parts (b ∷ bs) h =
-    let (first, behind) = and_parts (is_name_start b) (list_all is_name_part bs) h in
-    rw (start_is_part b first) behind
+    let (first, beyond) = and_parts (is_name_start b) (list_all is_name_part bs) h in
+    rw (start_is_part b first) beyond
 
 pub number_digits : (word : List ℕ) → is_number word ≡ true → list_all is_ascii_digit word ≡ true
 number_digits [] h = refl
@@ -43,8 +43,8 @@ number_digits (b ∷ bs) h = h
 length-le-prefix_len : (p : ℕ → Bool) (front rest : List ℕ) → list_all p front ≡ true → length front ≤ prefix_len p (front ++ rest)
 length-le-prefix_len p [] rest passes = omega arith
 length-le-prefix_len p (b ∷ front) rest passes =
-    let (first, behind) = and_parts (p b) (list_all p front) passes in
-    let shorter = length-le-prefix_len p front rest behind in
+    let (first, beyond) = and_parts (p b) (list_all p front) passes in
+    let shorter = length-le-prefix_len p front rest beyond in
     rw first (omega arith)
 
 pub list_all-prefix_len : (p : ℕ → Bool) (bytes : List ℕ) → list_all p (take (prefix_len p bytes) bytes) ≡ true
@@ -52,15 +52,15 @@ list_all-prefix_len p [] = refl
 list_all-prefix_len p (b ∷ bs) = by_first (p b) refl (list_all-prefix_len p bs)
   where
     by_first : (passes : Bool) → p b ≡ passes → list_all p (take (prefix_len p bs) bs) ≡ true → list_all p (take (cond passes (1 + prefix_len p bs) 0) (b ∷ bs)) ≡ true
-    by_first false e behind = refl
-    by_first true e behind = rw (add_comm 1 (prefix_len p bs), add-one, e) behind
+    by_first false e beyond = refl
+    by_first true e beyond = rw (add_comm 1 (prefix_len p bs), add-one, e) beyond
 
 -- if bytes begin with a name, no token at the front is longer than the longest prefix of name bytes
 longest_name : (k : TokenKind) (longer after : List ℕ) → is_name_start (get_or (longer ++ after) 0 0) ≡ true → Spells k longer → length longer ≤ prefix_len is_name_part (longer ++ after)
 longest_name Name longer after start spelt = length-le-prefix_len is_name_part longer after (name_parts longer spelt)
 longest_name Number [] after start spelt = cc
 longest_name Number (b ∷ bs) after start spelt =
-    let (first, behind) = and_parts (is_ascii_digit b) (list_all is_ascii_digit bs) spelt in
+    let (first, beyond) = and_parts (is_ascii_digit b) (list_all is_ascii_digit bs) spelt in
     let none = digit_starts_no_name b first in
     cc
 longest_name (A_Symbol s) longer after start spelt =
@@ -70,7 +70,7 @@ longest_name (A_Symbol s) longer after start spelt =
 longest_number : (k : TokenKind) (longer after : List ℕ) → is_ascii_digit (get_or (longer ++ after) 0 0) ≡ true → Spells k longer → length longer ≤ prefix_len is_ascii_digit (longer ++ after)
 longest_number Name [] after start spelt = cc
 longest_number Name (b ∷ bs) after start spelt =
-    let (first, behind) = and_parts (is_name_start b) (list_all is_name_part bs) spelt in
+    let (first, beyond) = and_parts (is_name_start b) (list_all is_name_part bs) spelt in
     let none = digit_starts_no_name b start in
     cc
 longest_number Number longer after start spelt = length-le-prefix_len is_ascii_digit longer after (number_digits longer spelt)
@@ -81,11 +81,11 @@ longest_number (A_Symbol s) longer after start spelt =
 longest_symbol : (k : TokenKind) (symbol : Symbol) (longer after : List ℕ) → is_name_start (get_or (longer ++ after) 0 0) ≡ false → is_ascii_digit (get_or (longer ++ after) 0 0) ≡ false → IsLongestSymbol (longer ++ after) symbol → Spells k longer → length longer ≤ length (spelling symbol)
 longest_symbol Name symbol [] after no_name no_number is spelt = cc
 longest_symbol Name symbol (b ∷ bs) after no_name no_number is spelt =
-    let (first, behind) = and_parts (is_name_start b) (list_all is_name_part bs) spelt in
+    let (first, beyond) = and_parts (is_name_start b) (list_all is_name_part bs) spelt in
     cc
 longest_symbol Number symbol [] after no_name no_number is spelt = cc
 longest_symbol Number symbol (b ∷ bs) after no_name no_number is spelt =
-    let (first, behind) = and_parts (is_ascii_digit b) (list_all is_ascii_digit bs) spelt in
+    let (first, beyond) = and_parts (is_ascii_digit b) (list_all is_ascii_digit bs) spelt in
     cc
 longest_symbol (A_Symbol s) symbol longer after no_name no_number is spelt =
     rw spelt (is.longest s after (ap (λ (word : List ℕ). word ++ after) (sym spelt)))
@@ -93,11 +93,11 @@ longest_symbol (A_Symbol s) symbol longer after no_name no_number is spelt =
 no_word : (k : TokenKind) (word after : List ℕ) → is_name_start (get_or (word ++ after) 0 0) ≡ false → is_ascii_digit (get_or (word ++ after) 0 0) ≡ false → BeginsNoSymbol (word ++ after) 0 → Spells k word → ⊥
 no_word Name [] after no_name no_number none spelt = cc
 no_word Name (b ∷ bs) after no_name no_number none spelt =
-    let (first, behind) = and_parts (is_name_start b) (list_all is_name_part bs) spelt in
+    let (first, beyond) = and_parts (is_name_start b) (list_all is_name_part bs) spelt in
     cc
 no_word Number [] after no_name no_number none spelt = cc
 no_word Number (b ∷ bs) after no_name no_number none spelt =
-    let (first, behind) = and_parts (is_ascii_digit b) (list_all is_ascii_digit bs) spelt in
+    let (first, beyond) = and_parts (is_ascii_digit b) (list_all is_ascii_digit bs) spelt in
     cc
 no_word (A_Symbol s) word after no_name no_number none spelt =
     none s after (0<length-spelling s) (ap (λ (w : List ℕ). w ++ after) (sym spelt))

@@ -49,8 +49,8 @@ expect fits end [] = Err (BadDefinition end)
 expect fits end (t ∷ ts) = cond (fits t) (Ok (t, ts)) (Err (BadDefinition t.at))
 
 -- what follows the next token of a head, which is `=`
-abbrev pub behind_equals : ℕ → List Lexeme → Result (List Lexeme) MacroError
-behind_equals end ts = expect (λ e. is_symbol symbols.Equals e.kind) end ts >>= λ found. Ok found.1
+abbrev pub after_equals : ℕ → List Lexeme → Result (List Lexeme) MacroError
+after_equals end ts = expect (λ e. is_symbol symbols.Equals e.kind) end ts >>= λ found. Ok found.1
 
 -- a parameter: a name other than the earlier ones
 abbrev pub is_new_name : List (List ℕ) → Lexeme → Bool
@@ -67,12 +67,12 @@ parameter_list end earlier (p ∷ t ∷ ts) =
     (Err (BadDefinition p.at))
 
 -- a macro's parameters and body, after its name: `=` and the body, or parameters in parentheses before these
-abbrev pub behind_name : ℕ → List Lexeme → Result (List (List ℕ) × List Lexeme) MacroError
-behind_name end [] = Err (BadDefinition end)
-behind_name end (t ∷ ts) =
+abbrev pub beyond_name : ℕ → List Lexeme → Result (List (List ℕ) × List Lexeme) MacroError
+beyond_name end [] = Err (BadDefinition end)
+beyond_name end (t ∷ ts) =
     cond (is_symbol symbols.Equals t.kind) (Ok ([], ts))
     (cond (is_symbol symbols.OpenParenthesis t.kind)
-    (parameter_list end [] ts >>= λ listed. behind_equals end listed.1 >>= λ body. Ok (listed.0, body))
+    (parameter_list end [] ts >>= λ listed. after_equals end listed.1 >>= λ body. Ok (listed.0, body))
     (Err (BadDefinition t.at)))
 
 -- the names of the sections
@@ -92,10 +92,10 @@ pub data Defined : Type 0 where
 -- a name that names no section names a macro, which no earlier one may be
 abbrev pub defined_as : List Macro → Part → Lexeme → List Lexeme → Option SectionKind → Result Defined MacroError
 defined_as earlier part name ts (Some kind) =
-    behind_equals part.end ts >>= λ body. Ok (A_Section (record { kind = kind; at = part.at; tokens = body }))
+    after_equals part.end ts >>= λ body. Ok (A_Section (record { kind = kind; at = part.at; tokens = body }))
 defined_as earlier part name ts None =
     cond (list_any (λ m. bytes_eq name.text m.name) earlier) (Err (Twice name.at))
-    (behind_name part.end ts >>= λ found.
+    (beyond_name part.end ts >>= λ found.
     Ok (A_Macro (record { name = name.text; parameters = length found.0; body = body_of found.0 found.1 })))
 
 abbrev pub defined : List Macro → Part → Result Defined MacroError

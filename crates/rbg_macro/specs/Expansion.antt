@@ -41,7 +41,7 @@ mutual
   pub data FailsReading (macros : List Macro) : ℕ → ℕ → ℕ → List Lexeme → MacroError → Type 0 where
     too_many_kept : (d n k : ℕ) (t : Lexeme) (ts : List Lexeme) →
         meets macros t ts ≡ Stays → most_kept ≤ k → FailsReading macros d n k (t ∷ ts) TooManyTokens
-    behind_kept : (d n k : ℕ) (t : Lexeme) (ts : List Lexeme) (e : MacroError) →
+    beyond_kept : (d n k : ℕ) (t : Lexeme) (ts : List Lexeme) (e : MacroError) →
         meets macros t ts ≡ Stays → k < most_kept → FailsReading macros d n (k + 1) ts e →
         FailsReading macros d n k (t ∷ ts) e
     no_call : (d n k : ℕ) (t : Lexeme) (ts : List Lexeme) →
@@ -51,7 +51,7 @@ mutual
     in_call : (d n k : ℕ) (t : Lexeme) (ts body rest : List Lexeme) (e : MacroError) →
         meets macros t ts ≡ Calls body rest → d < deepest_level → Fails macros (d + 1) n k body e →
         FailsReading macros d n k (t ∷ ts) e
-    behind_call : (d n k m : ℕ) (t : Lexeme) (ts body rest us : List Lexeme) (e : MacroError) →
+    after_call : (d n k m : ℕ) (t : Lexeme) (ts body rest us : List Lexeme) (e : MacroError) →
         meets macros t ts ≡ Calls body rest → d < deepest_level → Expands macros (d + 1) body us m →
         n + m ≤ most_read → k + length us ≤ most_kept → FailsReading macros d (n + m) (k + length us) rest e →
         FailsReading macros d n k (t ∷ ts) e

@@ -39,9 +39,9 @@ abbrev pub joined_token : Lexeme → Lexeme → Option Lexeme
 joined_token left right = with_kind left right (joined_kind left.kind right.kind)
 
 -- the list with one more token before it
-abbrev pub behind : Lexeme → Result (List Lexeme) MacroError → Result (List Lexeme) MacroError
-behind t (Ok ts) = Ok (t ∷ ts)
-behind t (Err e) = Err e
+abbrev pub beyond : Lexeme → Result (List Lexeme) MacroError → Result (List Lexeme) MacroError
+beyond t (Ok ts) = Ok (t ∷ ts)
+beyond t (Err e) = Err e
 
 -- what a `~` at this offset gives: the joined token goes on, or can't be made
 abbrev pub join_at : ℕ → Option Lexeme → (Lexeme → Result (List Lexeme) MacroError) → Result (List Lexeme) MacroError
@@ -54,7 +54,7 @@ abbrev pub joined_from : Lexeme → List Lexeme → Result (List Lexeme) MacroEr
 joined_from t [] = Ok (t ∷ [])
 joined_from t (s ∷ []) = cond (is_symbol symbols.Tilde s.kind) (Err (BadJoin s.at)) (Ok (t ∷ s ∷ []))
 joined_from t (s ∷ u ∷ ts) =
-    cond (is_symbol symbols.Tilde s.kind) (join_at s.at (joined_token t u) (λ v. joined_from v ts)) (behind t (joined_from s (u ∷ ts)))
+    cond (is_symbol symbols.Tilde s.kind) (join_at s.at (joined_token t u) (λ v. joined_from v ts)) (beyond t (joined_from s (u ∷ ts)))
 
 -- a list, joined over its whole length; a `~` at the front has no left neighbour
 abbrev pub joined : List Lexeme → Result (List Lexeme) MacroError

@@ -9,6 +9,6 @@ line_feeds bytes = length (filter (λ byte. byte == 10) bytes)
 abbrev pub IsOneLine : List ℕ → Type 0
 IsOneLine bytes = All (λ byte. byte ≢ 10) bytes
 
--- A line begins behind these bytes: there are none, or the last of them is a line feed.
+-- A line begins after these bytes: there are none, or the last of them is a line feed.
 abbrev pub IsLineStart : (bytes : List ℕ) → (start : ℕ) → Type 0
 IsLineStart bytes start = (start ≡ 0) ⊎ ((before : ℕ) × (start ≡ before + 1) × (slice_get bytes before ≡ Some 10))

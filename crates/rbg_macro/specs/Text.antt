@@ -39,9 +39,9 @@ abbrev pub BeginsNoToken : List ℕ → Type 0
 BeginsNoToken bytes = (k : TokenKind) (word rest : List ℕ) → Spells k word → word ++ rest ≡ bytes → ⊥
 
 -- the tokens with one more before them
-abbrev pub behind_token : Lexeme → Result (List Lexeme) TextError → Result (List Lexeme) TextError
-behind_token t (Ok ts) = Ok (t ∷ ts)
-behind_token t (Err e) = Err e
+abbrev pub after_token : Lexeme → Result (List Lexeme) TextError → Result (List Lexeme) TextError
+after_token t (Ok ts) = Ok (t ∷ ts)
+after_token t (Err e) = Err e
 
 -- What the bytes from the offset `at` on give, by their first part: the tokens in order, or the first fault.
 pub data Lexes : ℕ → List ℕ → Result (List Lexeme) TextError → Type 0 where
@@ -53,7 +53,7 @@ pub data Lexes : ℕ → List ℕ → Result (List Lexeme) TextError → Type 0 
       Lexes at bytes read
   token : (at : ℕ) (kind : TokenKind) (bytes word rest : List ℕ) (read all : Result (List Lexeme) TextError) →
       bytes ≡ word ++ rest → IsToken kind word rest → Lexes (at + length word) rest read →
-      all ≡ behind_token (record { kind = kind; text = word; at = at }) read → Lexes at bytes all
+      all ≡ after_token (record { kind = kind; text = word; at = at }) read → Lexes at bytes all
   zero_byte : (at : ℕ) (rest : List ℕ) → Lexes at (0 ∷ rest) (Err ZeroByte)
   zero_in_comment : (at : ℕ) (bytes word line rest : List ℕ) →
       bytes ≡ word ++ 0 ∷ rest → IsComment word line → Lexes at bytes (Err ZeroByte)

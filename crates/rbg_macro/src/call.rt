@@ -115,22 +115,22 @@ pub(crate) fn read_arguments<'t, 'j>(
     found: &mut Arguments<'t, 'j>,
     template: &Template<'t>,
     at: usize,
-    behind: &'j [ReadToken<'t, 'j>],
+    beyond: &'j [ReadToken<'t, 'j>],
 ) -> Result<usize, MacroError>
     requires { found.old.items ≡ [] }
-    ensures ok { IfOk result (IsCall template.now (map read_lexeme behind.now)
+    ensures ok { IfOk result (IsCall template.now (map read_lexeme beyond.now)
         (lists_in found.new.items)) }
-    ensures marks { IfOk result (λ _. KeepsMarks behind.now found.new.items) }
+    ensures marks { IfOk result (λ _. KeepsMarks beyond.now found.new.items) }
     ensures err { IfErr result (UnlessMemory
-        (IsMiscall template.now at (map read_lexeme behind.now))) }
+        (IsMiscall template.now at (map read_lexeme beyond.now))) }
 {
     if template.parameters == 0 {
         return Ok(0);
     }
-    if !begins_with_parenthesis(behind) {
+    if !begins_with_parenthesis(beyond) {
         return Err(MacroError::ArgumentCount { at });
     }
-    let Some(len) = find_arguments(found, &behind[1..])? else {
+    let Some(len) = find_arguments(found, &beyond[1..])? else {
         return Err(MacroError::ArgumentCount { at });
     };
     if found.len() != template.parameters {

@@ -3,8 +3,8 @@ ghost use Rattle.std.specs.Prelude.{◌≡◌, ◌+◌, ◌<◌, ◌≤◌, [], 
 ghost use Rattle.std.specs.Prelude.{IfErr, OnOk};
 ghost use Rattle.std.specs.List.{position_or_len};
 ghost use Rattle.rbg_macro.specs.internal.Defines.{defines_of, AddsDefined};
-ghost use Rattle.rbg_macro.specs.Definition.{expect, behind_equals, parameter_list, behind_name};
-ghost use Rattle.rbg_macro.specs.internal.Defines.{AddsParameter, IsTemplateBehind};
+ghost use Rattle.rbg_macro.specs.Definition.{expect, after_equals, parameter_list, beyond_name};
+ghost use Rattle.rbg_macro.specs.internal.Defines.{AddsParameter, IsTemplateAfter};
 ghost use Rattle.rbg_macro.specs.Definition.{section_named, first_at, defined, definitions_of};
 ghost use Rattle.rbg_macro.specs.internal.Defines.{BeginsDefinition};
 ghost use Rattle.rbg_macro.specs.internal.Gives.{Gives};
@@ -45,27 +45,27 @@ fn expect_name<'t, 's>(
     ensures { Gives (λ x. (lexeme_of x.0, map lexeme_of x.1.now)) result
         (expect (λ t. is_name_kind t.kind) end (map lexeme_of tokens.now)) }
 {
-    let Some((token, behind)) = tokens.split_first() else {
+    let Some((token, beyond)) = tokens.split_first() else {
         return Err(MacroError::BadDefinition { at: end });
     };
     if !token.kind.is_name() {
         return Err(MacroError::BadDefinition { at: token.at });
     }
-    Ok((*token, behind))
+    Ok((*token, beyond))
 }
 
 /// What follows the next token of a head, if the token is `=`.
 fn expect_equals<'t, 's>(tokens: &'s [Token<'t>], end: usize) -> Result<&'s [Token<'t>], MacroError>
     ensures { Gives (λ x.
-        map lexeme_of x.now) result (behind_equals end (map lexeme_of tokens.now)) }
+        map lexeme_of x.now) result (after_equals end (map lexeme_of tokens.now)) }
 {
-    let Some((token, behind)) = tokens.split_first() else {
+    let Some((token, beyond)) = tokens.split_first() else {
         return Err(MacroError::BadDefinition { at: end });
     };
     if !token.kind.is(Symbol::Equals) {
         return Err(MacroError::BadDefinition { at: token.at });
     }
-    Ok(behind)
+    Ok(beyond)
 }
 
 /// Adds the parameter that is the first token, and returns the token after it.
@@ -120,26 +120,26 @@ fn parameter_list<'t, 's>(
 }
 
 /// Puts the parameters of the macro whose name the tokens follow into an empty set of names, and returns its body.
-fn behind_name<'t, 's>(
+fn beyond_name<'t, 's>(
     names: &mut IndexSet<&'t [u8]>,
     tokens: &'s [Token<'t>],
     end: usize,
 ) -> Result<&'s [Token<'t>], MacroError>
     requires { names.old.keys ≡ [] }
     ensures { Gives (λ x. (texts_in names.new.keys, map lexeme_of x.now)) result
-        (behind_name end (map lexeme_of tokens.now)) }
+        (beyond_name end (map lexeme_of tokens.now)) }
 {
-    let Some((token, behind)) = tokens.split_first() else {
+    let Some((token, beyond)) = tokens.split_first() else {
         return Err(MacroError::BadDefinition { at: end });
     };
     if token.kind.is(Symbol::Equals) {
-        return Ok(behind);
+        return Ok(beyond);
     }
     if !token.kind.is(Symbol::OpenParenthesis) {
         return Err(MacroError::BadDefinition { at: token.at });
     }
-    let behind = parameter_list(names, behind, end)?;
-    expect_equals(behind, end)
+    let beyond = parameter_list(names, beyond, end)?;
+    expect_equals(beyond, end)
 }
 
 /// The template of the macro whose name the tokens follow.
@@ -148,11 +148,11 @@ fn read_template<'t>(
     tokens: &[Token<'t>],
     end: usize,
 ) -> Result<Template<'t>, MacroError>
-    ensures ok { IfOk result (IsTemplateBehind end (map lexeme_of tokens.now)) }
-    ensures err { IfErr result (UnlessMemory (λ e. behind_name end (map lexeme_of tokens.now) ≡ Err e)) }
+    ensures ok { IfOk result (IsTemplateAfter end (map lexeme_of tokens.now)) }
+    ensures err { IfErr result (UnlessMemory (λ e. beyond_name end (map lexeme_of tokens.now) ≡ Err e)) }
 {
     let mut parameters = IndexSet::new(alloc);
-    let body = behind_name(&mut parameters, tokens, end)?;
+    let body = beyond_name(&mut parameters, tokens, end)?;
     Ok(Template::new(alloc, &parameters, body)?)
 }
 
@@ -199,16 +199,16 @@ fn define<'t, 's>(
     ensures err { IfErr result (UnlessMemory (λ e. defined (defines_of definitions.old).macros
         (record { at = at; tokens = map lexeme_of tokens.now; end = end }) ≡ Err e)) }
 {
-    let (name, behind) = expect_name(tokens, end)?;
+    let (name, beyond) = expect_name(tokens, end)?;
     if let Some(kind) = section_named(name.text) {
-        let tokens = expect_equals(behind, end)?;
+        let tokens = expect_equals(beyond, end)?;
         definitions.sections.push(SectionBody { kind, at, tokens })?;
         return Ok(());
     }
     if definitions.macros.contains(name.text) {
         return Err(MacroError::Twice { at: name.at });
     }
-    let template = read_template(alloc, behind, end)?;
+    let template = read_template(alloc, beyond, end)?;
     definitions.macros.insert(name.text, template)?;
     Ok(())
 }
@@ -259,9 +259,9 @@ pub(crate) fn read_definitions<'t, 's>(
     let mut at = 0;
     while at < tokens.len() {
         let hash = tokens[at];
-        let behind = &tokens[at + 1..];
-        let len = part_len(behind);
-        let (part, next) = behind.split_at(len);
+        let beyond = &tokens[at + 1..];
+        let len = part_len(beyond);
+        let (part, next) = beyond.split_at(len);
         let end = first_at(next, hash.at);
         define(alloc, &mut definitions, hash.at, part, end)?;
         at += len + 1;

@@ -67,20 +67,20 @@ fn body_of_call<'t, 'j>(
     macros: &MarkedMacros<'t>,
     level: usize,
     name: &ReadToken<'t, 'j>,
-    behind: &'j [ReadToken<'t, 'j>],
+    beyond: &'j [ReadToken<'t, 'j>],
     read: usize,
 ) -> Result<Option<(Vec<ReadToken<'t, 'j>>, usize)>, MacroError>
     requires within { read ≤ MAX_READ }
     requires named { IsMarked macros.now name.now }
-    requires behind { All (IsMarked macros.now) behind.now }
+    requires beyond { All (IsMarked macros.now) beyond.now }
     ensures ok { IfOk result (λ o. MatchOption o
-        (meets macros.now (read_lexeme name.now) (map read_lexeme behind.now) ≡ Stays)
-        (λ x. GivesWay macros.now level (read_lexeme name.now) (map read_lexeme behind.now) read
+        (meets macros.now (read_lexeme name.now) (map read_lexeme beyond.now) ≡ Stays)
+        (λ x. GivesWay macros.now level (read_lexeme name.now) (map read_lexeme beyond.now) read
         (map read_lexeme x.0.items) x.1)) }
     ensures marked { IfOk result (λ o. IfSome o (λ x. All (IsMarked macros.now) x.0.items)) }
     ensures err { IfErr result (UnlessMemory (λ e. (k : ℕ) →
         FailsReading macros.now level read k (read_lexeme name.now
-        ∷ map read_lexeme behind.now) e)) }
+        ∷ map read_lexeme beyond.now) e)) }
 {
     let Some(template) = macros.get(name) else {
         return Ok(None);
@@ -89,7 +89,7 @@ fn body_of_call<'t, 'j>(
         body: template.body.as_slice(),
         arguments: SmallVec::new(alloc),
     };
-    let len = read_arguments(&mut call.arguments, template, name.at, behind)?;
+    let len = read_arguments(&mut call.arguments, template, name.at, beyond)?;
     if level >= MAX_LEVEL {
         return Err(MacroError::Depth { at: name.at });
     }

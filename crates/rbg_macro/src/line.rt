@@ -42,7 +42,7 @@ pub fn count_line_feeds(bytes: &[u8]) -> usize
     bytes.iter().filter(|byte| **byte == b'\n').count()
 }
 
-/// The offset behind the last line feed before the offset, or 0.
+/// The offset after the last line feed before the offset, or 0.
 fn line_start(text: &[u8], at: usize) -> usize
     requires { at ≤ length text.now }
     ensures before { result ≤ at }

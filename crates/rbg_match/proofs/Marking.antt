@@ -30,20 +30,20 @@ marks_of_items {Z} (queue ∷ queues) marks are i within =
 
 -- the fronts by the marks are what each seat had
 pub taken_back : {Z : Type 0} (old new : List (Vec ℕ Z)) (marks : List ℕ) (before : List (List ℕ)) (said : List Delivery) → length new ≡ length old → ((i : ℕ) (d : Vec ℕ Z) → i < length old → (get_or new i d).items ≡ take (get_or marks i 0) (get_or old i d).items) → map (λ queue. queue.items) old ≡ delivered before said → AreMarks before marks → map (λ queue. queue.items) new ≡ before
-taken_back {Z} old new marks before said same_length cut behind are =
+taken_back {Z} old new marks before said same_length cut beyond are =
     let items : Vec ℕ Z → List ℕ = λ one. one.items in
-    let seats : length old ≡ length before = sym (length-map old items) ∙ ap length behind ∙ length-delivered before said in
+    let seats : length old ≡ length before = sym (length-map old items) ∙ ap length beyond ∙ length-delivered before said in
     ext_get_or [] (map items new) before (length-map new items ∙ same_length ∙ seats)
     (λ i within.
     let in_new : i < length new = rw (length-map new items) at within in
     let in_old : i < length old = omega arith in
     let in_before : i < length before = omega arith in
-    taken_at old new marks before said cut behind are i in_new in_old in_before)
+    taken_at old new marks before said cut beyond are i in_new in_old in_before)
   where
     taken_at : (old new : List (Vec ℕ Z)) (marks : List ℕ) (before : List (List ℕ)) (said : List Delivery) → ((i : ℕ) (d : Vec ℕ Z) → i < length old → (get_or new i d).items ≡ take (get_or marks i 0) (get_or old i d).items) → map (λ queue. queue.items) old ≡ delivered before said → AreMarks before marks → (i : ℕ) → i < length new → i < length old → i < length before → get_or (map (λ queue. queue.items) new) i [] ≡ get_or before i []
-    taken_at old [] marks before said cut behind are i in_new in_old in_before = absurd (omega arith)
-    taken_at old (queue ∷ new) marks before said cut behind are i in_new in_old in_before =
+    taken_at old [] marks before said cut beyond are i in_new in_old in_before = absurd (omega arith)
+    taken_at old (queue ∷ new) marks before said cut beyond are i in_new in_old in_before =
         let items : Vec ℕ Z → List ℕ = λ one. one.items in
         let had : (get_or old i queue).items ≡ get_or before i [] ++ bytes_for (1 + i) said =
-        sym (get_or-map items old i queue [] in_old) ∙ ap (λ outbox. get_or outbox i []) behind ∙ get_or-delivered_from 1 before said i in_before in
+        sym (get_or-map items old i queue [] in_old) ∙ ap (λ outbox. get_or outbox i []) beyond ∙ get_or-delivered_from 1 before said i in_before in
         get_or-map items (queue ∷ new) i queue [] in_new ∙ cut i queue in_old ∙ rw (had, are i in_before) (take-append_seam (get_or before i []) (bytes_for (1 + i) said))

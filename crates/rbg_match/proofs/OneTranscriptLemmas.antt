@@ -151,8 +151,8 @@ stops_here : (game : AbstractGame) (play : AbstractPlay) (others : List Delivery
 stops_here game play others heavy = record { heavy = heavy; before = []; after = others; told = refl; goes_on = refl }
 
 -- the same messages before both
-stops_behind : {game : AbstractGame} {play : AbstractPlay} {said others : List Delivery} (first first' : List Delivery) → first ≡ first' → StopsWithin game play said others → StopsWithin game play (first ++ said) (first' ++ others)
-stops_behind {game = game} first first' is stops = record {
+stops_beyond : {game : AbstractGame} {play : AbstractPlay} {said others : List Delivery} (first first' : List Delivery) → first ≡ first' → StopsWithin game play said others → StopsWithin game play (first ++ said) (first' ++ others)
+stops_beyond {game = game} first first' is stops = record {
   heavy = stops.heavy;
   before = first ++ stops.before;
   after = stops.after;
@@ -162,8 +162,8 @@ stops_behind {game = game} first first' is stops = record {
 
 alike_after : {game : AbstractGame} {one other : AbstractPlay} {said others : List Delivery} (first first' : List Delivery) → first ≡ first' → AreAlike game one other said others → AreAlike game one other (first ++ said) (first' ++ others)
 alike_after {said = said} first first' is (equal plays tells) = equal plays (ap (λ (l : List Delivery). l ++ said) is ∙ ap (λ (l : List Delivery). first' ++ l) tells)
-alike_after first first' is (one_stops stops) = one_stops (stops_behind first first' is stops)
-alike_after first first' is (other_stops stops) = other_stops (stops_behind first' first (sym is) stops)
+alike_after first first' is (one_stops stops) = one_stops (stops_beyond first first' is stops)
+alike_after first first' is (other_stops stops) = other_stops (stops_beyond first' first (sym is) stops)
 
 module _ (game : AbstractGame) (numbered : IsNumbered game.rules) where
   plays_on_alike : {moment n : ℕ} {play one other : AbstractPlay} {said others : List Delivery} → PlaysOn game moment n play one said → PlaysOn game moment n play other others → keeper_run 0 play.made ≡ n → HaveOneKeeper one other → AreAlike game one other said others

@@ -33,7 +33,7 @@ pub replies_saying : {T U E F : Type 0} {outbox : List (List ℕ)} {result : Res
 replies_saying referee says play answer IsReply whole = record {
   after = play;
   said = says.said;
-  becomes = ap (λ outbox. let one : RefereeState = record referee { play = play; outbox = outbox } in one) says.behind;
+  becomes = ap (λ outbox. let one : RefereeState = record referee { play = play; outbox = outbox } in one) says.beyond;
   whole = whole;
 }
 

@@ -10,13 +10,13 @@ said_more old first next before after = after ∙ ap (λ outbox. delivered outbo
 
 -- two calls that were not refused
 abbrev pub both_said : {T U E F : Type 0} {old middle new : List (List ℕ)} {first : T} {next : U} {IsFirst : T → List Delivery → Type 0} {IsNext : U → List Delivery → Type 0} → Says {E = E} old middle (Ok first) IsFirst → Says {E = F} middle new (Ok next) IsNext → Says {E = F} old new (Ok next) (λ _ _. Unit {0})
-both_said {old = old} one two = record { said = one.said ++ two.said; behind = said_more old one.said two.said one.behind two.behind; whole = tt }
+both_said {old = old} one two = record { said = one.said ++ two.said; beyond = said_more old one.said two.said one.beyond two.beyond; whole = tt }
 
 -- after what was said first, a call that was refused: the answer is a refusal
 pub said_refused : {T U E F : Type 0} {old middle new : List (List ℕ)} {result : Result T E} {IsToSay : T → List Delivery → Type 0} (first : List Delivery) → middle ≡ delivered old first → Says middle new result IsToSay → (refusal : Result U F) → IsErr refusal → (Both : U → List Delivery → Type 0) → Says old new refusal Both
 said_refused {old = old} first before says refusal is_err Both = record {
   said = first ++ says.said;
-  behind = said_more old first says.said before says.behind;
+  beyond = said_more old first says.said before says.beyond;
   whole = IfOk-from_err refusal (λ value. Both value (first ++ says.said)) is_err;
 }
 
@@ -24,12 +24,12 @@ said_refused {old = old} first before says refusal is_err Both = record {
 pub one_said : {E : Type 0} (old : List (List ℕ)) (index : ℕ) (message : AbstractMessage) (bytes : List ℕ) (result : Result (Unit {0}) E) → index < length old → OnOk result (bytes ≡ get_or old index [] ++ spelling message) → OnErr result (bytes ≡ get_or old index []) → Says old (set old index bytes) result (λ _ said. said ≡ to_seat (index + 1) message)
 one_said old index message bytes (Ok done) within ok err = record {
   said = to_seat (index + 1) message;
-  behind = ap (λ queue. set old index queue) ok ∙ sym (delivered-one old index message within);
+  beyond = ap (λ queue. set old index queue) ok ∙ sym (delivered-one old index message within);
   whole = refl;
 }
 one_said old index message bytes (Err e) within ok err = record {
   said = [];
-  behind = ap (λ queue. set old index queue) err ∙ set-get_or old index [] ∙ sym (delivered-none old);
+  beyond = ap (λ queue. set old index queue) err ∙ set-get_or old index [] ∙ sym (delivered-none old);
   whole = tt;
 }
 
@@ -47,8 +47,8 @@ queue_said {Z = Z} queues seat message was is result some most found ok err =
 
 -- nothing was said, and the answer is a refusal
 pub nothing_err : {T E : Type 0} (outbox : List (List ℕ)) (refusal : Result T E) → IsErr refusal → (IsToSay : T → List Delivery → Type 0) → Says outbox outbox refusal IsToSay
-nothing_err outbox refusal is_err IsToSay = record { said = []; behind = sym (delivered-none outbox); whole = IfOk-from_err refusal (λ value. IsToSay value []) is_err }
+nothing_err outbox refusal is_err IsToSay = record { said = []; beyond = sym (delivered-none outbox); whole = IfOk-from_err refusal (λ value. IsToSay value []) is_err }
 
 -- a call that says something leaves the number of seats
 pub length-says : {T E : Type 0} {old new : List (List ℕ)} {result : Result T E} {IsToSay : T → List Delivery → Type 0} → Says old new result IsToSay → length new ≡ length old
-length-says {old = old} says = ap length says.behind ∙ length-delivered old says.said
+length-says {old = old} says = ap length says.beyond ∙ length-delivered old says.said

@@ -4,11 +4,11 @@ use Rattle.rbg_rules.specs.Meaning.{IsNumbered, IsSwitchAt, AbstractState, Abstr
 use Rattle.rbg_search.proofs.Common.{CountsOpenings, IsOverBudget, CountsForced, GoesOn, Searching, CountsPairs}
 use Rattle.rbg_search.specs.declared.over.Over.{Over}
 use Rattle.rbg_search.specs.declared.over.Over.TheVariants.{Deep, Wide}
-use Rattle.rbg_search.proofs.CallerLemmas.{try_begins, deep_begin, over_begin, deep_behind, over_on, counts_reached, counts_on}
+use Rattle.rbg_search.proofs.CallerLemmas.{try_begins, deep_begin, over_begin, deep_after, over_on, counts_reached, counts_on}
 use Rattle.rbg_search.proofs.Counted.{ok_not_err}
 use Rattle.rbg_search.proofs.Countings.{none_counted}
 use Rattle.rbg_search.proofs.Takings.{any_part, takes_none_yet, takes_part_of}
-use Rattle.rbg_moves.specs.internal.Stepping.{place_behind, IsStep, IsTried, IsFollowed}
+use Rattle.rbg_moves.specs.internal.Stepping.{place_beyond, IsStep, IsTried, IsFollowed}
 use Rattle.rbg_moves.proofs.Forcing.{legal_move, tried_forced}
 use Rattle.rbg_moves.proofs.Steps.{legal_some, step_goes_on, tried_on}
 use Rattle.rbg_moves.proofs.Tallies.{more_takes}
@@ -59,10 +59,10 @@ module _ (old middle : Searching) (place : AbstractPlace) (v p : ℕ) (qs : List
       forced = forced;
     }
 
-    -- The rest is followed behind the first one.
-    module _ (new : Searching) (later to : AbstractState) (result : Result (Option ℕ) Over) (kept : middle ≡ record old { opened = middle.opened; taken = middle.taken }) (taken : IsStep old.game place.state (stand_of place.last) v p later) (plain : ¬ IsSwitchAt old.game.rules p) (behind : IsFollowed middle new (place_behind later p) qs to result) where
-      more : IsFollowed (record old { opened = middle.opened; taken = middle.taken }) new (place_behind later p) qs to result
-      more = subst (λ (x : Searching). IsFollowed x new (place_behind later p) qs to result) kept behind
+    -- The rest is followed after the first one.
+    module _ (new : Searching) (later to : AbstractState) (result : Result (Option ℕ) Over) (kept : middle ≡ record old { opened = middle.opened; taken = middle.taken }) (taken : IsStep old.game place.state (stand_of place.last) v p later) (plain : ¬ IsSwitchAt old.game.rules p) (beyond : IsFollowed middle new (place_beyond later p) qs to result) where
+      more : IsFollowed (record old { opened = middle.opened; taken = middle.taken }) new (place_beyond later p) qs to result
+      more = subst (λ (x : Searching). IsFollowed x new (place_beyond later p) qs to result) kept beyond
 
       on : GoesOn old.game (try_move ((v, p) ∷ qs)) place.state (stand_of place.last) v p (try_move qs) later
       on = step_goes_on old.game place.state (stand_of place.last) v p qs later taken plain
@@ -71,24 +71,24 @@ module _ (old middle : Searching) (place : AbstractPlace) (v p : ℕ) (qs : List
       on_ok (Ok x) P Q then h = then h
       on_ok (Err e) P Q then h = tt
 
-      some_then : (r : Result (Option ℕ) Over) (A B : Type 0) → ((last : ℕ) → IsTried old.game (place_behind later p) qs to (Some last) → A → B) → IfOk r (IsTried old.game (place_behind later p) qs to) → IfOk r (λ end. IfSome end (λ _. A)) → IfOk r (λ end. IfSome end (λ _. B))
+      some_then : (r : Result (Option ℕ) Over) (A B : Type 0) → ((last : ℕ) → IsTried old.game (place_beyond later p) qs to (Some last) → A → B) → IfOk r (IsTried old.game (place_beyond later p) qs to) → IfOk r (λ end. IfSome end (λ _. A)) → IfOk r (λ end. IfSome end (λ _. B))
       some_then (Ok (Some last)) A B f tried fact = f last tried fact
       some_then (Ok None) A B f tried fact = tt
       some_then (Err e) A B f tried fact = tt
 
-      longer : (end : AbstractPlace) (ps : List (ℕ × ℕ)) → Legal old.game (place_behind later p) ps end → 0 < length ps
-      longer end [] legal = absurd (legal_some old.game numbered (place_behind later p) end legal)
+      longer : (end : AbstractPlace) (ps : List (ℕ × ℕ)) → Legal old.game (place_beyond later p) ps end → 0 < length ps
+      longer end [] legal = absurd (legal_some old.game numbered (place_beyond later p) end legal)
       longer end (q ∷ ps) legal = omega arith
 
       pub follows_on : ((left : ℕ) → CountsForced old.game false reach place.state (stand_of place.last) old.opened middle.opened left old.modifiers) → IsFollowed old new place ((v, p) ∷ qs) to result
       follows_on forced = record {
-        tried = IfOk-weaker result (IsTried old.game (place_behind later p) qs to) (IsTried old.game place ((v, p) ∷ qs) to) (λ end tried. tried_on old.game numbered place v p qs later to taken plain end tried) more.tried;
-        deep = λ e. deep_behind old.game numbered on (more.deep e);
+        tried = IfOk-weaker result (IsTried old.game (place_beyond later p) qs to) (IsTried old.game place ((v, p) ∷ qs) to) (λ end tried. tried_on old.game numbered place v p qs later to taken plain end tried) more.tried;
+        deep = λ e. deep_after old.game numbered on (more.deep e);
         wide = λ e. over_on old.game numbered (try_begins old.game place.state (stand_of place.last) (v, p) qs) counted on (more.wide e);
         counted = on_ok result _ _ (λ counts. counts_on old.game numbered (try_begins old.game place.state (stand_of place.last) (v, p) qs) counted on counts) more.counted;
         paired = on_ok result _ _ (λ takes. more_takes old.game old.game (try_move ((v, p) ∷ qs)) (try_move qs) place.state later (stand_of place.last) v p old.opened middle.opened new.opened old.taken middle.taken new.taken refl on first_paired takes) more.paired;
         forced = some_then result _ _
             (λ last legal counts.
-            tried_forced old.game numbered place.state later (stand_of place.last) v p qs old.opened middle.opened new.opened old.modifiers taken.applies (legal_move old.game (place_behind later p) (place_behind to last) qs legal) (longer (place_behind to last) qs legal) (forced (suc (length qs))) counts)
+            tried_forced old.game numbered place.state later (stand_of place.last) v p qs old.opened middle.opened new.opened old.modifiers taken.applies (legal_move old.game (place_beyond later p) (place_beyond to last) qs legal) (longer (place_beyond to last) qs legal) (forced (suc (length qs))) counts)
             more.tried more.forced;
       }

@@ -1,13 +1,13 @@
 -- Which openings are forced of the questions about moves, and that they were taken up.
 use Rattle.rbg_base.proofs.Common.{◌≡◌, ◌≢◌, ℕ, zero, suc, ◌-◌, ◌<◌, ◌≤◌, List, [], ◌∷◌, ◌++◌, length, Bool, true, false, refl, sym, ap, subst, inl, inr, arith, All, Contains, Some, All-head, All-contains, All-weaker}
-use Rattle.rbg_rules.specs.Meaning.{IsNumbered, IsSwitchAt, Start, after, AbstractGame, AbstractState, Applies, switch, stay, modify, AbstractPlace, stand_of, Legal, IsLegal, Finished, most_openings, most_modifiers, Question, try_move, find_move, list_moves, reach, pattern, Item, IsMove, AnswersBehind, GoesTo, IsForcedTo, Forced, at, behind, IsForcedDeep}
+use Rattle.rbg_rules.specs.Meaning.{IsNumbered, IsSwitchAt, Start, after, AbstractGame, AbstractState, Applies, switch, stay, modify, AbstractPlace, stand_of, Legal, IsLegal, Finished, most_openings, most_modifiers, Question, try_move, find_move, list_moves, reach, pattern, Item, IsMove, AnswersAfter, GoesTo, IsForcedTo, Forced, at, beyond, IsForcedDeep}
 use Rattle.rbg_rules.proofs.PlaceLemmas.{RunPairs_join}
 use Rattle.rbg_rules.proofs.MoveLemmas.{Applies_one}
 use Rattle.rbg_pairs.specs.Flat.{IsNext, IsFlatPart}
-use Rattle.rbg_search.proofs.Common.{CountsForced, TakesBehind, Passes, finding, listing, CountsAllForced}
-use Rattle.rbg_search.proofs.Forcing.{ForcesOn, all_counted, none_deep, takes_none, takes_more, forced_at_once, forced_behind}
+use Rattle.rbg_search.proofs.Common.{CountsForced, TakesAfter, Passes, finding, listing, CountsAllForced}
+use Rattle.rbg_search.proofs.Forcing.{ForcesOn, all_counted, none_deep, takes_none, takes_more, forced_at_once, forced_after}
 use Rattle.rbg_moves.specs.Limits.{FitsLimits}
-use Rattle.rbg_moves.specs.internal.Stepping.{at_vertex, place_behind}
+use Rattle.rbg_moves.specs.internal.Stepping.{at_vertex, place_beyond}
 use Rattle.rbg_moves.specs.internal.Asking.{question_of, is_cut}
 use Rattle.rbg_moves.specs.internal.Gathering.{Gathers, IsLegalBy, IsSwitchOr}
 use Rattle.rbg_moves.proofs.Steps.{legal_on}
@@ -36,8 +36,8 @@ uncut_to game cut pattern s f ps forced = forced
 
 pub uncut : (game : AbstractGame) (cut : Bool) (question : Question) (s : AbstractState) (f : Start) (o : List Item) → Forced game cut question s f o → Forced game false question s f o
 uncut game cut question s f o (at {ps = ps} on goes forced) = at on goes (uncut_to game cut question s f ps forced)
-uncut game cut question s f o (behind {t = t} {ps = ps} on goes forced follows is inner) =
-    behind on goes (uncut_to game cut question s f ps forced) follows is (uncut game cut pattern t _ _ inner)
+uncut game cut question s f o (beyond {t = t} {ps = ps} on goes forced follows is inner) =
+    beyond on goes (uncut_to game cut question s f ps forced) follows is (uncut game cut pattern t _ _ inner)
 
 pub counts_uncut : (game : AbstractGame) (cut : Bool) (question : Question) (s : AbstractState) (f : Start) (a b left most : ℕ) → CountsForced game false question s f a b left most → CountsForced game cut question s f a b left most
 counts_uncut game cut question s f a b left most counts = record {
@@ -66,26 +66,26 @@ all_forced game false question s f a b left most counts =
 
 -- ---- while the modifiers that come next are taken in turn
 
--- What is forced with no modifier was taken up, and what is forced behind the pairs that are done.
+-- What is forced with no modifier was taken up, and what is forced after the pairs that are done.
 pub record TakenSoFar (game : AbstractGame) (question : Question) (s : AbstractState) (f : Start) (done : List (ℕ × ℕ)) (a b left most : ℕ) : Type 0 where
   pub middle : ℕ
   pub at_once : CountsForced game false reach s f a middle left most
-  pub behind_it : TakesBehind game false question s done middle b left most
+  pub after_it : TakesAfter game false question s done middle b left most
 
 module _ (game : AbstractGame) (numbered : IsNumbered game.rules) where
   pub so_far_one : (question : Question) (s : AbstractState) (f : Start) (done : List (ℕ × ℕ)) (q : ℕ × ℕ) (later : AbstractState) (a b c left most : ℕ) → Applies game q.1 (at_vertex s q.0) later → 1 < left → TakenSoFar game question s f done a b left most → CountsForced game false question later (after q.1) b c (left - 1) most → TakenSoFar game question s f (done ++ q ∷ []) a c left most
   so_far_one question s f done q later a b c left most applies more_left taken more = record {
     middle = taken.middle;
     at_once = taken.at_once;
-    behind_it = takes_more game numbered false question s done q.0 q.1 later taken.middle b c left most applies more_left taken.behind_it more;
+    after_it = takes_more game numbered false question s done q.0 q.1 later taken.middle b c left most applies more_left taken.after_it more;
   }
 
-  -- Nothing is forced behind switches.
+  -- Nothing is forced after switches.
   pub so_far_switches : (question : Question) (s : AbstractState) (f : Start) (done : List (ℕ × ℕ)) (a b left most : ℕ) → All (λ (q : ℕ × ℕ). IsSwitchAt game.rules q.1) done → CountsForced game false reach s f a b left most → TakenSoFar game question s f done a b left most
   so_far_switches question s f done a b left most switching counts = record {
     middle = b;
     at_once = counts;
-    behind_it = record {
+    after_it = record {
       openings = [];
       all = λ v p later o there plain applies forced. absurd (plain (switches_at (v, p) there));
       fits = omega arith;
@@ -98,24 +98,24 @@ module _ (game : AbstractGame) (numbered : IsNumbered game.rules) where
 
   -- ---- some move is looked for
 
-  -- Where there is a move, nothing is forced behind a modifier.
+  -- Where there is a move, nothing is forced after a modifier.
   found_at_once : (s : AbstractState) (f : Start) (ps : List (ℕ × ℕ)) → IsMove game s f ps → (o : List Item) → Forced game false find_move s f o → Forced game false reach s f o
   found_at_once s f ps move o (at on goes (inl none)) = at on none tt
   found_at_once s f ps move o (at on goes (inr never)) = absurd (never ps move)
-  found_at_once s f ps move o (behind on goes (inl none) follows is inner) = behind on none tt follows is inner
-  found_at_once s f ps move o (behind on goes (inr never) follows is inner) = absurd (never ps move)
+  found_at_once s f ps move o (beyond on goes (inl none) follows is inner) = beyond on none tt follows is inner
+  found_at_once s f ps move o (beyond on goes (inr never) follows is inner) = absurd (never ps move)
 
   found_forced : (place : AbstractPlace) (ps : List (ℕ × ℕ)) (a b c left most : ℕ) → IsLegal game place ps → b ≤ c → CountsForced game false reach place.state (stand_of place.last) a b left most → CountsForced game false find_move place.state (stand_of place.last) a c left most
   found_forced place ps a b c left most legal grows counts =
       forced_at_once game numbered false find_move place.state (stand_of place.last) a b c left most (found_at_once place.state (stand_of place.last) ps (legal_move game place legal.0 ps legal.1)) grows counts
 
-  -- An answer behind these modifiers is a move of them and of one switch.
+  -- An answer after these modifiers is a move of them and of one switch.
   record AnswerMove (s : AbstractState) (f : Start) (qs : List (ℕ × ℕ)) : Type 0 where
     pair : ℕ × ℕ
     switches : IsSwitchAt game.rules pair.1
     move : IsMove game s f (qs ++ pair ∷ [])
 
-  answer_move : (s : AbstractState) (f : Start) (qs : List (ℕ × ℕ)) → AnswersBehind game find_move s f qs → AnswerMove s f qs
+  answer_move : (s : AbstractState) (f : Start) (qs : List (ℕ × ℕ)) → AnswersAfter game find_move s f qs → AnswerMove s f qs
   answer_move s f qs (m, t, q, on, follows, switches) =
       let end : AbstractState = record t { player = switches.player } in
       let applied : Applies game q t end = record { action = switch switches.player; stands = switches.stands; acts = refl } in
@@ -125,11 +125,11 @@ module _ (game : AbstractGame) (numbered : IsNumbered game.rules) where
         move = record { before = m; last = q; end = end; no_switch = on.no_switch; switches = switches; follows = follows; runs = RunPairs_join on.runs (modify applied refl stay) };
       }
 
-  -- Where there is none, there is none behind a modifier, and there too all is forced.
+  -- Where there is none, there is none after a modifier, and there too all is forced.
   finished_forces : (place : AbstractPlace) → Finished game place → ForcesOn game false find_move find_move place.state (stand_of place.last)
   finished_forces place finished = λ v p later ps next applies plain goes forced.
       let never : (qs : List (ℕ × ℕ)) → ¬ IsMove game later (after p) qs = λ qs move.
-      let legal = move_legal game (place_behind later p) qs move in
+      let legal = move_legal game (place_beyond later p) qs move in
       finished.no_move ((v, p) ∷ qs) legal.0 (legal_on game numbered place v p later qs legal.0 next plain applies legal.1) in (
         (λ qs prefix answer. let last = answer_move later (after p) qs answer in never (qs ++ last.pair ∷ []) last.move),
         inr never,
@@ -137,19 +137,19 @@ module _ (game : AbstractGame) (numbered : IsNumbered game.rules) where
 
   finished_forced : (place : AbstractPlace) (pairs : List (ℕ × ℕ)) (ends : Bool) (a b left most : ℕ) → Finished game place → IsFlatPart game place.state (stand_of place.last) pairs ends → TakenSoFar game find_move place.state (stand_of place.last) pairs a b left most → CountsForced game false find_move place.state (stand_of place.last) a b left most
   finished_forced place pairs ends a b left most finished part taken =
-      forced_behind game numbered false find_move find_move place.state (stand_of place.last) pairs a taken.middle b left most (finished_forces place finished) (λ v p ps next plain goes. (part.next v p).1 next) taken.at_once taken.behind_it
+      forced_after game numbered false find_move find_move place.state (stand_of place.last) pairs a taken.middle b left most (finished_forces place finished) (λ v p ps next plain goes. (part.next v p).1 next) taken.at_once taken.after_it
 
   -- ---- the moves are listed
 
-  -- Where the list is cut, nothing is forced behind a modifier.
+  -- Where the list is cut, nothing is forced after a modifier.
   cut_at_once : (s : AbstractState) (f : Start) (o : List Item) → Forced game true list_moves s f o → Forced game true reach s f o
   cut_at_once s f o (at on goes (inl none)) = at on none tt
   cut_at_once s f o (at on goes (inr is)) = absurd (true_not_false is)
     where
       true_not_false : true ≡ false → ⊥
       true_not_false e = cc
-  cut_at_once s f o (behind on goes (inl none) follows is inner) = behind on none tt follows is inner
-  cut_at_once s f o (behind on goes (inr is) follows stands inner) = absurd (true_not_false is)
+  cut_at_once s f o (beyond on goes (inl none) follows is inner) = beyond on none tt follows is inner
+  cut_at_once s f o (beyond on goes (inr is) follows stands inner) = absurd (true_not_false is)
     where
       true_not_false : true ≡ false → ⊥
       true_not_false e = cc
@@ -160,11 +160,11 @@ module _ (game : AbstractGame) (numbered : IsNumbered game.rules) where
   -- Where it isn't, all is forced.
   listed_forced : (s : AbstractState) (f : Start) (pairs : List (ℕ × ℕ)) (ends : Bool) (a b left most : ℕ) → IsFlatPart game s f pairs ends → TakenSoFar game list_moves s f pairs a b left most → CountsForced game false list_moves s f a b left most
   listed_forced s f pairs ends a b left most part taken =
-      forced_behind game numbered false list_moves list_moves s f pairs a taken.middle b left most (λ v p later ps next applies plain goes forced. (tt, inr refl)) (λ v p ps next plain goes. (part.next v p).1 next) taken.at_once taken.behind_it
+      forced_after game numbered false list_moves list_moves s f pairs a taken.middle b left most (λ v p later ps next applies plain goes forced. (tt, inr refl)) (λ v p ps next plain goes. (part.next v p).1 next) taken.at_once taken.after_it
 
   -- ---- a walk that looks for some move or lists the moves
 
-  -- It goes on behind a modifier: where it looks for some move, no switch came next.
+  -- It goes on after a modifier: where it looks for some move, no switch came next.
   pub walk_passes : (max : ℕ) (place : AbstractPlace) (done front : List (ℕ × ℕ)) (had has : List (List (ℕ × ℕ))) (first : List (ℕ × ℕ)) (v p : ℕ) → Gathers (IsLegalBy game place (IsSwitchOr game.rules done)) front max had has first false → Passes game place.state (stand_of place.last) v p (question_of max) (question_of max)
   walk_passes zero place done front had has first v p gathers =
       finding (λ answer.
@@ -193,10 +193,10 @@ module _ (game : AbstractGame) (numbered : IsNumbered game.rules) where
   no_rest q (x ∷ []) (y ∷ more) some e = absurd cc
   no_rest q (x ∷ y ∷ ps) more some e = absurd cc
 
-  -- The last pair is a switch: nothing is opened behind it.
+  -- The last pair is a switch: nothing is opened after it.
   last_at_once : (s : AbstractState) (f : Start) (q : ℕ × ℕ) (o : List Item) → Forced game false (try_move (q ∷ [])) s f o → Forced game false reach s f o
   last_at_once s f q o (at {ps = ps} on (more, some, e) forced) = at on (no_rest q ps more some e) tt
-  last_at_once s f q o (behind {ps = ps} on (more, some, e) forced follows is inner) = behind on (no_rest q ps more some e) tt follows is inner
+  last_at_once s f q o (beyond {ps = ps} on (more, some, e) forced follows is inner) = beyond on (no_rest q ps more some e) tt follows is inner
 
   pub last_forced : (s : AbstractState) (f : Start) (q : ℕ × ℕ) (a b left most : ℕ) → CountsForced game false reach s f a b left most → CountsForced game false (try_move (q ∷ [])) s f a b left most
   last_forced s f q a b left most counts = forced_at_once game numbered false (try_move (q ∷ [])) s f a b b left most (last_at_once s f q) (omega arith) counts
@@ -204,12 +204,12 @@ module _ (game : AbstractGame) (numbered : IsNumbered game.rules) where
   heads : (x y : ℕ × ℕ) (xs ys : List (ℕ × ℕ)) → x ∷ xs ≡ y ∷ ys → (x ≡ y) × (xs ≡ ys)
   heads x y xs ys e = (cc, cc)
 
-  -- Another pair is followed, and the rest is a move behind it.
+  -- Another pair is followed, and the rest is a move after it.
   pub tried_forced : (s later : AbstractState) (f : Start) (v p : ℕ) (rest : List (ℕ × ℕ)) (a b c most : ℕ) → Applies game p (at_vertex s v) later → IsMove game later (after p) rest → 0 < length rest → CountsForced game false reach s f a b (suc (length rest)) most → CountsForced game false (try_move rest) later (after p) b c (length rest) most → CountsForced game false (try_move ((v, p) ∷ rest)) s f a c (suc (length rest)) most
   tried_forced s later f v p rest a b c most applies move some counts more =
-      forced_behind game numbered false (try_move ((v, p) ∷ rest)) (try_move rest) s f ((v, p) ∷ []) a b c (suc (length rest)) most onward among counts takes
+      forced_after game numbered false (try_move ((v, p) ∷ rest)) (try_move rest) s f ((v, p) ∷ []) a b c (suc (length rest)) most onward among counts takes
     where
-      takes : TakesBehind game false (try_move rest) s ((v, p) ∷ []) b c (suc (length rest)) most
+      takes : TakesAfter game false (try_move rest) s ((v, p) ∷ []) b c (suc (length rest)) most
       takes =
           let same : length rest ≡ suc (length rest) - 1 = omega arith in
           takes_more game numbered false (try_move rest) s [] v p later b b c (suc (length rest)) most applies (omega (arith, some))
@@ -255,7 +255,7 @@ fits_none game cut question place never = record {
 -- Pairs that are no move force nothing.
 try_forces : (game : AbstractGame) (cut : Bool) (s : AbstractState) (f : Start) (qs : List (ℕ × ℕ)) (o : List Item) → Forced game cut (try_move qs) s f o → IsMove game s f qs
 try_forces game cut s f qs o (at on goes forced) = forced
-try_forces game cut s f qs o (behind on goes forced follows is inner) = forced
+try_forces game cut s f qs o (beyond on goes forced follows is inner) = forced
 
 pub illegal_fits : (game : AbstractGame) (cut : Bool) (place : AbstractPlace) (qs : List (ℕ × ℕ)) → ((to : AbstractPlace) → ¬ Legal game place qs to) → FitsLimits game cut (try_move qs) place
 illegal_fits game cut place qs illegal = fits_none game cut (try_move qs) place (λ o forced.

@@ -1,4 +1,4 @@
--- A walk takes the modifiers that come next in turn, and goes on behind each.
+-- A walk takes the modifiers that come next in turn, and goes on after each.
 use Rattle.rbg_base.proofs.Common.{◌≡◌, ◌≢◌, ℕ, zero, suc, ◌+◌, ◌-◌, ◌<◌, ◌≤◌, List, [], ◌∷◌, ◌++◌, length, Bool, true, false, Option, refl, sym, ap, subst, arith, All, Contains, IsOk, Result, Ok, Err, IsPermutation, length_push, All-head, All-nil, All-push, All-tail}
 use Rattle.std.proofs.lemmas.List.Sorted.{All-permutation, IsPermutation-append_right, IsPermutation-refl}
 use Rattle.rbg_base.specs.Move.{most_pairs}
@@ -17,10 +17,10 @@ use Rattle.rbg_search.proofs.Takings.{any_part, is_answer, ok_held, takes_as, ta
 use Rattle.rbg_search.proofs.Turns.{turned, turn_under, turn_at, turn_front, turn_rest, none_left}
 use Rattle.rbg_moves.specs.internal.Asking.{question_of, IsGivenUp}
 use Rattle.rbg_moves.specs.internal.Gathering.{AddsMove, Gathers, IsLegalBy, IsSwitchOr, ListsSwitches, LeavesOthers, IsWalked}
-use Rattle.rbg_moves.specs.internal.Stepping.{at_vertex, place_behind, Behind, IsValidAt}
+use Rattle.rbg_moves.specs.internal.Stepping.{at_vertex, place_beyond, Beyond, IsValidAt}
 use Rattle.rbg_search.proofs.Openings.{next_applies}
 use Rattle.rbg_moves.proofs.Steps.{next_there, valid_next, modifier_position}
-use Rattle.rbg_moves.proofs.Gathering.{gathers_any, gathers_behind}
+use Rattle.rbg_moves.proofs.Gathering.{gathers_any, gathers_after}
 use Rattle.rbg_moves.proofs.Listing.{lists_none, lists_more, lists_cut, lists_any, lists_all, switches_cut, others_begin, others_more, others_cut, others_end}
 use Rattle.rbg_moves.proofs.Forcing.{TakenSoFar, so_far_one, so_far_switches, early_forced, all_forced_at, walk_passes}
 use Rattle.rbg_moves.proofs.Tallies.{more_takes}
@@ -41,11 +41,6 @@ answered_as {now = now} {s} {l} {result = result} = asked_as (λ x g. IsAnswered
 pub has_come : {lent old now : Searching} {s l : History} {f f' : Start} {result : Result Bool Over} {pairs : List (ℕ × ℕ)} {ends : Bool} → lent ≡ old → f' ≡ f → IsAnswered lent now s l reach f' result → result ≡ Ok ends → HasReached lent now s l f' pairs ends → HasCome old now s l f result pairs ends
 has_come {now = now} {s} {l} {result = result} {pairs} {ends} same start asked was found =
     asked_as (λ x g. HasCome x now s l g result pairs ends) same start (record { asked = asked; was = was; found = found })
-
--- .. and it is this modifier alone, where one stands.
-pub has_come_here : {lent old now : Searching} {s l : History} {f f' : Start} {result : Result Bool Over} {v p : ℕ} {ends : Bool} → lent ≡ old → f' ≡ f → IsAnswered lent now s l reach f' result → result ≡ Ok ends → v ≡ s.state.vertex → HasReached lent now s l f' ((s.state.vertex, p) ∷ []) ends → HasCome old now s l f result ((v, p) ∷ []) ends
-has_come_here {lent} {now = now} {s} {l} {f' = f'} {p = p} {ends} same start asked was here found =
-    has_come same start asked was (subst (λ (w : ℕ). HasReached lent now s l f' ((w, p) ∷ []) ends) (sym here) found)
 
 -- The switches of what comes next were added.
 pub switches_as : {game game' : AbstractGame} {pairs front front' : List (ℕ × ℕ)} {max : ℕ} {had has : List (List (ℕ × ℕ))} {first : List (ℕ × ℕ)} {cut cut' : Bool} → game ≡ game' → front ≡ front' → cut ≡ cut' → ListsSwitches game pairs pairs front max had has first cut → ListsSwitches game' pairs pairs front' max had has first cut'
@@ -74,7 +69,7 @@ untried (suc n) e = cc
 -- ---- what was counted and gathered so far
 
 -- The walk found moves that begin with a switch or with one of the pairs that are done, and counted what its question
--- takes up with no modifier and behind these.
+-- takes up with no modifier and after these.
 pub record IsSoFar
     (old now : Searching) (place : AbstractPlace) (front : List (ℕ × ℕ)) (max : ℕ)
     (had has : List (List (ℕ × ℕ))) (first done : List (ℕ × ℕ))
@@ -209,13 +204,13 @@ module _ {old now : Searching} {place : AbstractPlace} {s' : AbstractState} {fro
   one_more : length (front ++ q ∷ []) ≡ length front + 1
   one_more = length_push front q
 
-  -- What is so behind the modifier, wherever it leads, is so behind the one that comes next.
-  at_later : (Is : Searching → List (ℕ × ℕ) → ℕ → AbstractState → Type 0) → Behind now.game s' q (Is now front' max') → Is here front max turn_next.later
-  at_later Is behind =
+  -- What is so after the modifier, wherever it leads, is so after the one that comes next.
+  at_later : (Is : Searching → List (ℕ × ℕ) → ℕ → AbstractState → Type 0) → Beyond now.game s' q (Is now front' max') → Is here front max turn_next.later
+  at_later Is beyond =
       subst (λ (n : ℕ). Is here front n turn_next.later) turn.same_max
       (subst (λ (ps : List (ℕ × ℕ)). Is here ps max' turn_next.later) turn.same_front
       (subst (λ (x : Searching). Is x front' max' turn_next.later) turn.kept
-      (behind turn_next.later (applied_back old.game now.game place.state s' turn_next.later q.0 q.1 same turn.there goes_on.applies))))
+      (beyond turn_next.later (applied_back old.game now.game place.state s' turn_next.later q.0 q.1 same turn.there goes_on.applies))))
 
   pub turn_whole : IsWhole old.game place.state (stand_of place.last) ((done ++ q ∷ []) ++ others)
   turn_whole = record { ends = turn.ends; part = subst (λ (ps : List (ℕ × ℕ)). IsFlatPart old.game place.state (stand_of place.last) ps turn.ends) (sym (turn_rest done others q)) turn.part }
@@ -229,20 +224,20 @@ module _ {old now : Searching} {place : AbstractPlace} {s' : AbstractState} {fro
       let valid : IsValidAt old.game place.state q.0 q.1 = valid_next old.game turn.lawful.numbered place.state f q.0 q.1 (next_there old.game turn.lawful place.state f q.0 q.1 fits turn_next) turn_next in
       subst (λ (g : AbstractGame). IsValidAt g s' q.0 q.1) (sym same) (subst (λ (s : AbstractState). IsValidAt old.game s q.0 q.1) (sym turn.there) valid)
 
-  -- The walk behind the modifier was given up.
-  pub turn_given_up : (D W : Type 0) → length front < most_pairs → Behind now.game s' q (λ later. IsGivenUp now (question_of max') later (after q.1) (most_pairs - length (front' ++ q ∷ [])) D W) → IsGivenUp old (question_of max) place.state (stand_of place.last) (most_pairs - length front) D W
-  turn_given_up D W short behind =
-      let more = at_later (λ x ps n later. IsGivenUp x (question_of n) later (after q.1) (most_pairs - length (ps ++ q ∷ [])) D W) behind in
+  -- The walk after the modifier was given up.
+  pub turn_given_up : (D W : Type 0) → length front < most_pairs → Beyond now.game s' q (λ later. IsGivenUp now (question_of max') later (after q.1) (most_pairs - length (front' ++ q ∷ [])) D W) → IsGivenUp old (question_of max) place.state (stand_of place.last) (most_pairs - length front) D W
+  turn_given_up D W short beyond =
+      let more = at_later (λ x ps n later. IsGivenUp x (question_of n) later (after q.1) (most_pairs - length (ps ++ q ∷ [])) D W) beyond in
       let fewer : suc (most_pairs - length (front ++ q ∷ [])) ≡ most_pairs - length front = omega (arith, one_more, short) in
       record {
         deep = λ d. subst (λ (n : ℕ). IsTooDeep old.game (question_of max) place.state (stand_of place.last) n old.modifiers) fewer (deep_more old.game turn.lawful.numbered goes_on (more.deep d));
         wide = λ w. over_more old.game turn.lawful.numbered turn.so_far.counted fresh goes_on (more.wide w);
       }
 
-  -- The walk behind it came to an end, or ended early.
-  module _ {new : Searching} {now_has : List (List (ℕ × ℕ))} {now_first : List (ℕ × ℕ)} {ended : Bool} (is : Bool) (ends : ended ≡ is) (behind : Behind now.game s' q (λ later. IsWalked now new (place_behind later q.1) (front' ++ q ∷ []) max' has now_has now_first ended)) where
-    more : IsWalked here new (place_behind turn_next.later q.1) (front ++ q ∷ []) max has now_has now_first is
-    more = subst (IsWalked here new (place_behind turn_next.later q.1) (front ++ q ∷ []) max has now_has now_first) ends (at_later (λ x ps n later. IsWalked x new (place_behind later q.1) (ps ++ q ∷ []) n has now_has now_first ended) behind)
+  -- The walk after it came to an end, or ended early.
+  module _ {new : Searching} {now_has : List (List (ℕ × ℕ))} {now_first : List (ℕ × ℕ)} {ended : Bool} (is : Bool) (ends : ended ≡ is) (beyond : Beyond now.game s' q (λ later. IsWalked now new (place_beyond later q.1) (front' ++ q ∷ []) max' has now_has now_first ended)) where
+    more : IsWalked here new (place_beyond turn_next.later q.1) (front ++ q ∷ []) max has now_has now_first is
+    more = subst (IsWalked here new (place_beyond turn_next.later q.1) (front ++ q ∷ []) max has now_has now_first) ends (at_later (λ x ps n later. IsWalked x new (place_beyond later q.1) (ps ++ q ∷ []) n has now_has now_first ended) beyond)
 
     counted_on : CountsUpTo old.game (question_of max) place.state (stand_of place.last) (done ++ q ∷ []) old.opened new.opened
     counted_on = counts_more old.game turn.lawful.numbered turn.so_far.counted fresh goes_on more.counts.counted
@@ -253,33 +248,33 @@ module _ {old now : Searching} {place : AbstractPlace} {s' : AbstractState} {fro
     gathers_on : Gathers (IsLegalBy old.game place (IsSwitchOr old.game.rules (done ++ q ∷ []))) front max had now_has now_first is
     gathers_on =
         others_more old.game turn.lawful.numbered place done front max had has now_has first now_first is q turn_next.later turn_next fresh turn.plain goes_on.applies turn.so_far.gathers
-        (gathers_behind (IsLegal old.game (place_behind turn_next.later q.1)) front q max has now_has now_first is more.gathers)
+        (gathers_after (IsLegal old.game (place_beyond turn_next.later q.1)) front q max has now_has now_first is more.gathers)
 
-  pub turn_on : {new : Searching} {now_has : List (List (ℕ × ℕ))} {now_first : List (ℕ × ℕ)} {ended : Bool} → ended ≡ false → Behind now.game s' q (λ later. IsWalked now new (place_behind later q.1) (front' ++ q ∷ []) max' has now_has now_first ended) → IsSoFar old new place front max had now_has now_first (done ++ q ∷ [])
-  turn_on {new} ends behind =
-      let walked = more false ends behind in
+  pub turn_on : {new : Searching} {now_has : List (List (ℕ × ℕ))} {now_first : List (ℕ × ℕ)} {ended : Bool} → ended ≡ false → Beyond now.game s' q (λ later. IsWalked now new (place_beyond later q.1) (front' ++ q ∷ []) max' has now_has now_first ended) → IsSoFar old new place front max had now_has now_first (done ++ q ∷ [])
+  turn_on {new} ends beyond =
+      let walked = more false ends beyond in
       let short = walked.short in
       let fewer : most_pairs - length (front ++ q ∷ []) ≡ most_pairs - length front - 1 = omega (arith, one_more) in
       record {
-        counted = counted_on false ends behind;
-        paired = paired_on false ends behind;
+        counted = counted_on false ends beyond;
+        paired = paired_on false ends beyond;
         forced = so_far_one old.game turn.lawful.numbered (question_of max) place.state (stand_of place.last) done q turn_next.later old.opened now.opened new.opened (most_pairs - length front) old.modifiers goes_on.applies (omega (arith, one_more, short)) turn.so_far.forced
             (subst (λ (n : ℕ). CountsForced old.game false (question_of max) turn_next.later (after q.1) now.opened new.opened n old.modifiers) fewer walked.counts.forced);
-        gathers = gathers_on false ends behind;
+        gathers = gathers_on false ends beyond;
       }
 
-  pub turn_ended : {new : Searching} {now_has : List (List (ℕ × ℕ))} {now_first : List (ℕ × ℕ)} {ended : Bool} → length front < most_pairs → ended ≡ true → Behind now.game s' q (λ later. IsWalked now new (place_behind later q.1) (front' ++ q ∷ []) max' has now_has now_first ended) → IsWalked old new place front max had now_has now_first true
-  turn_ended {new} {now_has} {now_first} short ends behind =
-      let walked = more true ends behind in
-      let gathers = others_cut old.game place (done ++ q ∷ []) front max had now_has now_first (gathers_on true ends behind) in
-      let so_far = turn.so_far.forced.behind_it.fits in
+  pub turn_ended : {new : Searching} {now_has : List (List (ℕ × ℕ))} {now_first : List (ℕ × ℕ)} {ended : Bool} → length front < most_pairs → ended ≡ true → Beyond now.game s' q (λ later. IsWalked now new (place_beyond later q.1) (front' ++ q ∷ []) max' has now_has now_first ended) → IsWalked old new place front max had now_has now_first true
+  turn_ended {new} {now_has} {now_first} short ends beyond =
+      let walked = more true ends beyond in
+      let gathers = others_cut old.game place (done ++ q ∷ []) front max had now_has now_first (gathers_on true ends beyond) in
+      let so_far = turn.so_far.forced.after_it.fits in
       let later = walked.counts.forced.fits in
       record {
         short = short;
         gathers = gathers;
         counts = record {
-          counted = counts_end old.game turn.lawful.numbered (counted_on true ends behind);
-          paired = paired_on true ends behind;
+          counted = counts_end old.game turn.lawful.numbered (counted_on true ends beyond);
+          paired = paired_on true ends beyond;
           forced = early_forced old.game turn.lawful.numbered max place front had now_has now_first old.opened turn.so_far.forced.middle new.opened (most_pairs - length front) old.modifiers gathers (omega (arith, so_far, later)) turn.so_far.forced.at_once;
         };
       }
@@ -309,7 +304,7 @@ walk_switch {old} last {front = front} {front'} {max} {had} {has} {q} {ends} num
     } in
     walk_whole numbered short (record { ends = ends; part = come.found.reached }) refl (walk_begun last numbered come leaves (one_switch old.game numbered q switches front front' max had has false short few adds))
 
--- It is none: it is the one to go on behind.
+-- It is none: it is the one to go on after.
 pub one_turn : {old now : Searching} {s l : History} (last : Option ℕ) {result : Result Bool Over} (front : List (ℕ × ℕ)) {max : ℕ} (had : List (List (ℕ × ℕ))) {q : ℕ × ℕ} {ends : Bool} → IsGame old.game → HasCome old now s l (stand_of last) result (q ∷ []) ends → length had ≤ max → ¬ IsSwitchAt old.game.rules q.1 → (let place : AbstractPlace = record { state = s.state; last = last } in AtTurn old now place l.state front front max max had had [] [] [] q)
 one_turn {old} {now} {s} {l} last front {max} had {q} {ends} lawful come few plain =
     let all : All (λ (r : ℕ × ℕ). ¬ IsSwitchAt old.game.rules r.1) (q ∷ []) = All-push (λ (r : ℕ × ℕ). ¬ IsSwitchAt old.game.rules r.1) [] q (All-nil (λ (r : ℕ × ℕ). ¬ IsSwitchAt old.game.rules r.1)) plain in
@@ -322,12 +317,12 @@ one_turn {old} {now} {s} {l} last front {max} had {q} {ends} lawful come few pla
     let lists = lists_all old.game (q ∷ []) front max had had [] [] (q ∷ []) (IsPermutation-refl (q ∷ [])) all (lists_none old.game (q ∷ []) front max had [] few) in
     walk_turn lawful come.asked.kept (ap (λ (h : History). h.state) come.asked.given_back) refl refl (record { ends = ends; part = come.found.reached }) all (walk_begun last lawful.numbered come leaves lists) (IsPermutation-refl (q ∷ []))
 
--- What was found behind it is all.
-pub turn_done : {old now new : Searching} {place : AbstractPlace} {s' : AbstractState} {front front' : List (ℕ × ℕ)} {max max' : ℕ} {had has now_has : List (List (ℕ × ℕ))} {first now_first done : List (ℕ × ℕ)} {q : ℕ × ℕ} (turn : AtTurn old now place s' front front' max max' had has first done [] q) → length front < most_pairs → (ended : Bool) → Behind now.game s' q (λ later. IsWalked now new (place_behind later q.1) (front' ++ q ∷ []) max' has now_has now_first ended) → IsWalked old new place front max had now_has now_first ended
-turn_done turn short true behind = turn_ended turn short refl behind
-turn_done turn short false behind = walk_whole turn.lawful.numbered short (turn_whole turn) refl (turn_on turn refl behind)
+-- What was found after it is all.
+pub turn_done : {old now new : Searching} {place : AbstractPlace} {s' : AbstractState} {front front' : List (ℕ × ℕ)} {max max' : ℕ} {had has now_has : List (List (ℕ × ℕ))} {first now_first done : List (ℕ × ℕ)} {q : ℕ × ℕ} (turn : AtTurn old now place s' front front' max max' had has first done [] q) → length front < most_pairs → (ended : Bool) → Beyond now.game s' q (λ later. IsWalked now new (place_beyond later q.1) (front' ++ q ∷ []) max' has now_has now_first ended) → IsWalked old new place front max had now_has now_first ended
+turn_done turn short true beyond = turn_ended turn short refl beyond
+turn_done turn short false beyond = walk_whole turn.lawful.numbered short (turn_whole turn) refl (turn_on turn refl beyond)
 
--- ---- behind a modifier
+-- ---- after a modifier
 
 -- There is no room in the front for one more.
 pub too_many : (old : Searching) (later : AbstractState) (p left max : ℕ) {D W : Type 0} → IsGame old.game → IsModifierAt old.game.rules p → left ≡ 0 → ¬ W → IsGivenUp old (question_of max) later (after p) left D W
@@ -341,11 +336,11 @@ too_many old later p left max lawful modifies none wide =
     }
 
 -- What holds where the program stands holds wherever the modifier leads.
-pub made : (Is : List (ℕ × ℕ) → AbstractState → ℕ → Type 0) (game game' : AbstractGame) → IsNumbered game.rules → (s here : AbstractState) (q : ℕ × ℕ) (p : ℕ) (front front' : List (ℕ × ℕ)) → game' ≡ game → p ≡ q.1 → front' ≡ front → Applies game' q.1 (at_vertex s q.0) here → Is front' here p → Behind game s q (λ later. Is front later q.1)
+pub made : (Is : List (ℕ × ℕ) → AbstractState → ℕ → Type 0) (game game' : AbstractGame) → IsNumbered game.rules → (s here : AbstractState) (q : ℕ × ℕ) (p : ℕ) (front front' : List (ℕ × ℕ)) → game' ≡ game → p ≡ q.1 → front' ≡ front → Applies game' q.1 (at_vertex s q.0) here → Is front' here p → Beyond game s q (λ later. Is front later q.1)
 made Is game game' numbered s here q p front front' same same_position pushed applied holds later applied' =
     let here' : Applies game q.1 (at_vertex s q.0) here = subst (λ (g : AbstractGame). Applies g q.1 (at_vertex s q.0) here) same applied in
     subst (λ (x : AbstractState). Is front x q.1) (Applies_one game numbered q.1 here' applied') (subst (λ (n : ℕ). Is front here n) same_position (subst (λ (ps : List (ℕ × ℕ)). Is ps here p) pushed holds))
 
-pub made_given_up : (old : Searching) (max : ℕ) (game' : AbstractGame) → IsNumbered old.game.rules → (s here : AbstractState) (q : ℕ × ℕ) (p : ℕ) (front front' : List (ℕ × ℕ)) {D W : Type 0} → game' ≡ old.game → p ≡ q.1 → front' ≡ front → Applies game' q.1 (at_vertex s q.0) here → IsGivenUp old (question_of max) here (after p) (most_pairs - length front') D W → Behind old.game s q (λ later. IsGivenUp old (question_of max) later (after q.1) (most_pairs - length front) D W)
+pub made_given_up : (old : Searching) (max : ℕ) (game' : AbstractGame) → IsNumbered old.game.rules → (s here : AbstractState) (q : ℕ × ℕ) (p : ℕ) (front front' : List (ℕ × ℕ)) {D W : Type 0} → game' ≡ old.game → p ≡ q.1 → front' ≡ front → Applies game' q.1 (at_vertex s q.0) here → IsGivenUp old (question_of max) here (after p) (most_pairs - length front') D W → Beyond old.game s q (λ later. IsGivenUp old (question_of max) later (after q.1) (most_pairs - length front) D W)
 made_given_up old max game' numbered s here q p front front' {D} {W} same same_position pushed applied given =
     made (λ ps t n. IsGivenUp old (question_of max) t (after n) (most_pairs - length ps) D W) old.game game' numbered s here q p front front' same same_position pushed applied given

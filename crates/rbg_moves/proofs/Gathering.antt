@@ -4,7 +4,7 @@ use Rattle.std.proofs.lemmas.List.{append-nil, map-append, length-map, get_or-ma
 use Rattle.std.proofs.lemmas.List.Kept.{AllPairs-cons}
 use Rattle.rbg_base.specs.Move.{IsMoveLength}
 use Rattle.rbg_search.proofs.Counts.{all_pairs_append, all_pairs_head, all_pairs_tail}
-use Rattle.rbg_moves.specs.internal.Gathering.{Gathers, IsBehind}
+use Rattle.rbg_moves.specs.internal.Gathering.{Gathers, IsBeyond}
 
 true_not_false : true ≡ false → ⊥
 true_not_false e = cc
@@ -135,29 +135,29 @@ gathers_both P Q front max old middle new none first cut one second apart = reco
   };
 }
 
-put_behind : (front : List (ℕ × ℕ)) (q : ℕ × ℕ) (found : List (List (ℕ × ℕ))) → map (λ ps. (front ++ q ∷ []) ++ ps) found ≡ map (λ ps. front ++ ps) (map (λ ps. q ∷ ps) found)
-put_behind front q [] = refl
-put_behind front q (ps ∷ found) = λ i. append_assoc front (q ∷ []) ps i ∷ put_behind front q found i
+put_after : (front : List (ℕ × ℕ)) (q : ℕ × ℕ) (found : List (List (ℕ × ℕ))) → map (λ ps. (front ++ q ∷ []) ++ ps) found ≡ map (λ ps. front ++ ps) (map (λ ps. q ∷ ps) found)
+put_after front q [] = refl
+put_after front q (ps ∷ found) = λ i. append_assoc front (q ∷ []) ps i ∷ put_after front q found i
 
 same_rest : (q : ℕ × ℕ) (ps qs : List (ℕ × ℕ)) → q ∷ ps ≡ q ∷ qs → ps ≡ qs
 same_rest q ps qs same = cc
 
--- What is gathered behind a pair.
-pub gathers_behind : (Q : List (ℕ × ℕ) → Type 0) (front : List (ℕ × ℕ)) (q : ℕ × ℕ) (max : ℕ) (old new : List (List (ℕ × ℕ))) (first : List (ℕ × ℕ)) (cut : Bool) → Gathers Q (front ++ q ∷ []) max old new first cut → Gathers (IsBehind q Q) front max old new first cut
-gathers_behind Q front q max old new first cut behind = record {
-  found = map (λ ps. q ∷ ps) behind.found;
-  grown = behind.grown ∙ ap (λ (xs : List (List (ℕ × ℕ))). old ++ xs) (put_behind front q behind.found);
+-- What is gathered after a pair.
+pub gathers_after : (Q : List (ℕ × ℕ) → Type 0) (front : List (ℕ × ℕ)) (q : ℕ × ℕ) (max : ℕ) (old new : List (List (ℕ × ℕ))) (first : List (ℕ × ℕ)) (cut : Bool) → Gathers Q (front ++ q ∷ []) max old new first cut → Gathers (IsBeyond q Q) front max old new first cut
+gathers_after Q front q max old new first cut beyond = record {
+  found = map (λ ps. q ∷ ps) beyond.found;
+  grown = beyond.grown ∙ ap (λ (xs : List (List (ℕ × ℕ))). old ++ xs) (put_after front q beyond.found);
   wanted =
-      All-map (IsBehind q Q) (λ ps. q ∷ ps) behind.found
-      (All-weaker Q (λ ps. IsBehind q Q (q ∷ ps)) (λ ps h. record { rest = ps; is = refl; wanted = h }) behind.found behind.wanted);
-  different = different_map (λ ps. q ∷ ps) (same_rest q) behind.found behind.different;
-  few = behind.few;
-  whole = λ e ps h. subst (Contains (map (λ ps. q ∷ ps) behind.found)) (sym h.is) (contains_map (λ ps. q ∷ ps) behind.found h.rest (behind.whole e h.rest h.wanted));
-  full = behind.full;
-  more = λ e. let other = behind.more e in record {
+      All-map (IsBeyond q Q) (λ ps. q ∷ ps) beyond.found
+      (All-weaker Q (λ ps. IsBeyond q Q (q ∷ ps)) (λ ps h. record { rest = ps; is = refl; wanted = h }) beyond.found beyond.wanted);
+  different = different_map (λ ps. q ∷ ps) (same_rest q) beyond.found beyond.different;
+  few = beyond.few;
+  whole = λ e ps h. subst (Contains (map (λ ps. q ∷ ps) beyond.found)) (sym h.is) (contains_map (λ ps. q ∷ ps) beyond.found h.rest (beyond.whole e h.rest h.wanted));
+  full = beyond.full;
+  more = λ e. let other = beyond.more e in record {
     pairs = q ∷ other.pairs;
     wanted = record { rest = other.pairs; is = refl; wanted = other.wanted };
-    missing = λ there. other.missing (contains_map_back (λ ps. q ∷ ps) (same_rest q) behind.found other.pairs there);
+    missing = λ there. other.missing (contains_map_back (λ ps. q ∷ ps) (same_rest q) beyond.found other.pairs there);
     told = λ none. other.told none ∙ append_assoc front (q ∷ []) other.pairs;
     sized = other.sized;
   };

@@ -5,6 +5,7 @@ pub mod Order
 pub mod Listing
 pub mod Outcome
 pub mod Further
+pub mod Lines
 pub mod Following
 pub mod Forcing
 pub mod Copies

@@ -8,9 +8,9 @@ use Rattle.rbg_pairs.specs.Flat.{IsNext, IsFlatPart}
 use Rattle.rbg_pairs.proofs.Meetings.{met_once}
 use Rattle.rbg_search.proofs.Orders.{still_differ}
 use Rattle.rbg_search.proofs.Turns.{turned, turn_under, turn_at, turn_front}
-use Rattle.rbg_moves.specs.internal.Gathering.{Gathers, IsBehind, IsLegalBy, IsSwitchAmong, IsSwitchOr, ListsSwitches}
+use Rattle.rbg_moves.specs.internal.Gathering.{Gathers, IsBeyond, IsLegalBy, IsSwitchAmong, IsSwitchOr, ListsSwitches}
 use Rattle.rbg_moves.proofs.Gathering.{gathers_none, gathers_any, gathers_one, gathers_full, gathers_both, gathers_as, gathers_more}
-use Rattle.rbg_moves.specs.internal.Stepping.{at_vertex, place_behind}
+use Rattle.rbg_moves.specs.internal.Stepping.{at_vertex, place_beyond}
 use Rattle.rbg_search.proofs.Openings.{next_applies}
 use Rattle.rbg_moves.proofs.Steps.{Onward, ended, going, legal_cut, legal_end, legal_on, legal_some}
 
@@ -35,7 +35,7 @@ alone game numbered place (v, p) qs (to, legal) switches =
 -- A switch that comes next is a move.
 switch_legal : (game : AbstractGame) → IsNumbered game.rules → (place : AbstractPlace) (q : ℕ × ℕ) → IsNext game place.state (stand_of place.last) q.0 q.1 → IsSwitchAt game.rules q.1 → IsLegal game place (q ∷ [])
 switch_legal game numbered place (v, p) next switches =
-    (place_behind next.later p, legal_end game numbered place v p next.later next switches (next_applies game numbered place.state (stand_of place.last) v p next))
+    (place_beyond next.later p, legal_end game numbered place v p next.later next switches (next_applies game numbered place.state (stand_of place.last) v p next))
 
 -- One more switch.
 with_switch : (game : AbstractGame) → IsNumbered game.rules → (place : AbstractPlace) (pairs : List (ℕ × ℕ)) (ends : Bool) → IsFlatPart game place.state (stand_of place.last) pairs ends → (done : List (ℕ × ℕ)) (q : ℕ × ℕ) → Contains pairs q → IsSwitchAt game.rules q.1 → (ps : List (ℕ × ℕ)) → (IsLegalBy game place (IsSwitchAmong game.rules done) ps ⊎ (ps ≡ q ∷ [])) ↔ IsLegalBy game place (IsSwitchAmong game.rules (done ++ q ∷ [])) ps
@@ -169,7 +169,7 @@ switches_cut game place pairs ends part front max old now first so_far = gathers
 first_there : (game : AbstractGame) → IsNumbered game.rules → (place : AbstractPlace) (pairs : List (ℕ × ℕ)) (ends : Bool) → Part game place pairs ends → (q : ℕ × ℕ) (qs : List (ℕ × ℕ)) → IsLegal game place (q ∷ qs) → Contains pairs q
 first_there game numbered place pairs ends part (v, p) qs (to, legal) = (part.next v p).1 (legal_cut game numbered place v p qs to legal).next
 
--- After the switches come the moves behind the other pairs.
+-- After the switches come the moves after the other pairs.
 pub others_begin : (game : AbstractGame) → IsNumbered game.rules → (place : AbstractPlace) (pairs : List (ℕ × ℕ)) (ends : Bool) → Part game place pairs ends → (done front : List (ℕ × ℕ)) (max : ℕ) (old now : List (List (ℕ × ℕ))) (first : List (ℕ × ℕ)) → All (λ (q : ℕ × ℕ). IsSwitchAt game.rules q.1) done → ListsSwitches game pairs pairs front max old now first false → Gathers (IsLegalBy game place (IsSwitchOr game.rules done)) front max old now first false
 others_begin game numbered place pairs ends part done front max old now first switching so_far =
     gathers_as (IsLegalBy game place (IsSwitchAmong game.rules pairs)) (IsLegalBy game place (IsSwitchOr game.rules done)) front max old now first false
@@ -184,27 +184,27 @@ others_begin game numbered place pairs ends part done front max old now first sw
     from [] h = absurd h.begins
     from (q ∷ qs) h = record { legal = h.legal; begins = (switches_at q h.begins, first_there game numbered place pairs ends part q qs h.legal) }
 
--- What is legal behind a pair that is no switch is what is legal behind its modifier.
-behind_legal : (game : AbstractGame) → IsNumbered game.rules → (place : AbstractPlace) (q : ℕ × ℕ) (later : AbstractState) → ¬ IsSwitchAt game.rules q.1 → Applies game q.1 (at_vertex place.state q.0) later → (qs : List (ℕ × ℕ)) → IsLegal game place (q ∷ qs) → IsLegal game (place_behind later q.1) qs
-behind_legal game numbered place (v, p) later plain applied qs (to, legal) =
+-- What is legal after a pair that is no switch is what is legal after its modifier.
+after_legal : (game : AbstractGame) → IsNumbered game.rules → (place : AbstractPlace) (q : ℕ × ℕ) (later : AbstractState) → ¬ IsSwitchAt game.rules q.1 → Applies game q.1 (at_vertex place.state q.0) later → (qs : List (ℕ × ℕ)) → IsLegal game place (q ∷ qs) → IsLegal game (place_beyond later q.1) qs
+after_legal game numbered place (v, p) later plain applied qs (to, legal) =
     let cut = legal_cut game numbered place v p qs to legal in
     by_onward cut.later (Applies_one game numbered p cut.applies applied) cut.onward
   where
-    by_onward : (here : AbstractState) → here ≡ later → Onward game here p qs to → IsLegal game (place_behind later p) qs
+    by_onward : (here : AbstractState) → here ≡ later → Onward game here p qs to → IsLegal game (place_beyond later p) qs
     by_onward here same (ended switches _ _) = absurd (plain switches)
-    by_onward here same (going _ legal) = (to, subst (λ (s : AbstractState). Legal game (place_behind s p) qs to) same legal)
+    by_onward here same (going _ legal) = (to, subst (λ (s : AbstractState). Legal game (place_beyond s p) qs to) same legal)
 
-pub others_more : (game : AbstractGame) → IsNumbered game.rules → (place : AbstractPlace) (done front : List (ℕ × ℕ)) (max : ℕ) (old now new : List (List (ℕ × ℕ))) (none first : List (ℕ × ℕ)) (cut : Bool) (q : ℕ × ℕ) (later : AbstractState) → IsNext game place.state (stand_of place.last) q.0 q.1 → ¬ Contains done q → ¬ IsSwitchAt game.rules q.1 → Applies game q.1 (at_vertex place.state q.0) later → Gathers (IsLegalBy game place (IsSwitchOr game.rules done)) front max old now none false → Gathers (IsBehind q (IsLegal game (place_behind later q.1))) front max now new first cut → Gathers (IsLegalBy game place (IsSwitchOr game.rules (done ++ q ∷ []))) front max old new first cut
-others_more game numbered place done front max old now new none first cut q later next fresh plain applied so_far behind =
-    gathers_as (λ ps. IsLegalBy game place (IsSwitchOr game.rules done) ps ⊎ IsBehind q (IsLegal game (place_behind later q.1)) ps) (IsLegalBy game place (IsSwitchOr game.rules (done ++ q ∷ []))) front max old new first cut
+pub others_more : (game : AbstractGame) → IsNumbered game.rules → (place : AbstractPlace) (done front : List (ℕ × ℕ)) (max : ℕ) (old now new : List (List (ℕ × ℕ))) (none first : List (ℕ × ℕ)) (cut : Bool) (q : ℕ × ℕ) (later : AbstractState) → IsNext game place.state (stand_of place.last) q.0 q.1 → ¬ Contains done q → ¬ IsSwitchAt game.rules q.1 → Applies game q.1 (at_vertex place.state q.0) later → Gathers (IsLegalBy game place (IsSwitchOr game.rules done)) front max old now none false → Gathers (IsBeyond q (IsLegal game (place_beyond later q.1))) front max now new first cut → Gathers (IsLegalBy game place (IsSwitchOr game.rules (done ++ q ∷ []))) front max old new first cut
+others_more game numbered place done front max old now new none first cut q later next fresh plain applied so_far beyond =
+    gathers_as (λ ps. IsLegalBy game place (IsSwitchOr game.rules done) ps ⊎ IsBeyond q (IsLegal game (place_beyond later q.1)) ps) (IsLegalBy game place (IsSwitchOr game.rules (done ++ q ∷ []))) front max old new first cut
     (λ ps. (to ps, from ps))
-    (gathers_both (IsLegalBy game place (IsSwitchOr game.rules done)) (IsBehind q (IsLegal game (place_behind later q.1))) front max old now new none first cut so_far behind apart)
+    (gathers_both (IsLegalBy game place (IsSwitchOr game.rules done)) (IsBeyond q (IsLegal game (place_beyond later q.1))) front max old now new none first cut so_far beyond apart)
   where
     wider : (x : ℕ × ℕ) → IsSwitchOr game.rules done x → IsSwitchOr game.rules (done ++ q ∷ []) x
     wider x (inl switches) = inl switches
     wider x (inr there) = inr (Contains-append_left done (q ∷ []) x there)
 
-    to : (ps : List (ℕ × ℕ)) → IsLegalBy game place (IsSwitchOr game.rules done) ps ⊎ IsBehind q (IsLegal game (place_behind later q.1)) ps → IsLegalBy game place (IsSwitchOr game.rules (done ++ q ∷ [])) ps
+    to : (ps : List (ℕ × ℕ)) → IsLegalBy game place (IsSwitchOr game.rules done) ps ⊎ IsBeyond q (IsLegal game (place_beyond later q.1)) ps → IsLegalBy game place (IsSwitchOr game.rules (done ++ q ∷ [])) ps
     to ps (inl h) = legal_as game place (IsSwitchOr game.rules done) (IsSwitchOr game.rules (done ++ q ∷ [])) wider ps h
     to ps (inr h) =
         let (end, legal) = h.wanted in
@@ -214,7 +214,7 @@ others_more game numbered place done front max old now new none first cut q late
         } in
         subst (IsLegalBy game place (IsSwitchOr game.rules (done ++ q ∷ []))) (sym h.is) one
 
-    from : (ps : List (ℕ × ℕ)) → IsLegalBy game place (IsSwitchOr game.rules (done ++ q ∷ [])) ps → IsLegalBy game place (IsSwitchOr game.rules done) ps ⊎ IsBehind q (IsLegal game (place_behind later q.1)) ps
+    from : (ps : List (ℕ × ℕ)) → IsLegalBy game place (IsSwitchOr game.rules (done ++ q ∷ [])) ps → IsLegalBy game place (IsSwitchOr game.rules done) ps ⊎ IsBeyond q (IsLegal game (place_beyond later q.1)) ps
     from [] h = absurd h.begins
     from (x ∷ xs) h = elim h.begins [
       | inl switches ↦ inl (record { legal = h.legal; begins = inl switches })
@@ -223,13 +223,13 @@ others_more game numbered place done front max old now new none first cut q late
         | inr same ↦ inr (record {
           rest = xs;
           is = ap (λ (y : ℕ × ℕ). y ∷ xs) (sym same);
-          wanted = behind_legal game numbered place q later plain applied xs (subst (λ (y : ℕ × ℕ). IsLegal game place (y ∷ xs)) (sym same) h.legal);
+          wanted = after_legal game numbered place q later plain applied xs (subst (λ (y : ℕ × ℕ). IsLegal game place (y ∷ xs)) (sym same) h.legal);
         })
       ]
     ]
 
-    apart : (ps : List (ℕ × ℕ)) → IsLegalBy game place (IsSwitchOr game.rules done) ps → IsBehind q (IsLegal game (place_behind later q.1)) ps → ⊥
-    apart ps h behind = elim (subst (IsLegalBy game place (IsSwitchOr game.rules done)) behind.is h).begins [
+    apart : (ps : List (ℕ × ℕ)) → IsLegalBy game place (IsSwitchOr game.rules done) ps → IsBeyond q (IsLegal game (place_beyond later q.1)) ps → ⊥
+    apart ps h beyond = elim (subst (IsLegalBy game place (IsSwitchOr game.rules done)) beyond.is h).begins [
       | inl switches ↦ plain switches
       | inr there ↦ fresh there
     ]

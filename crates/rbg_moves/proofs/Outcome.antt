@@ -14,7 +14,7 @@ use Rattle.rbg_moves.proofs.Forcing.{fits_uncut}
 use Rattle.rbg_moves.proofs.Gathering.{none_wanted}
 use Rattle.rbg_moves.proofs.Order.{still_different}
 
--- What was gathered behind no pair and into an empty list is what was found.
+-- What was gathered after no pair and into an empty list is what was found.
 all_found : (game : AbstractGame) (place : AbstractPlace) (max : ℕ) (moves : List (List (ℕ × ℕ))) (first : List (ℕ × ℕ)) (cut : Bool) (all : Gathers (IsLegal game place) [] max [] moves first cut) → moves ≡ all.found
 all_found game place max moves first cut all = all.grown ∙ map-id all.found
 

@@ -5,11 +5,11 @@ use Rattle.rbg_rules.proofs.MoveLemmas.{Applies_one}
 use Rattle.rbg_rules.proofs.PlaceLemmas.{RunPairs_join}
 use Rattle.rbg_rules.proofs.LocalityLemmas.{locality_law}
 use Rattle.rbg_pairs.proofs.Common.{IsNext, IsPositionOf}
-use Rattle.rbg_moves.specs.internal.Stepping.{at_vertex, place_behind, IsStep, IsValidAt, IsTried, IsMadeFrom, made, goes_on}
+use Rattle.rbg_moves.specs.internal.Stepping.{at_vertex, place_beyond, IsStep, IsValidAt, IsTried, IsMadeFrom, made, goes_on}
 use Rattle.rbg_search.specs.Passing.{GoesOn, trying}
 use Rattle.rbg_pairs.proofs.Starts.{action_position}
 use Rattle.rbg_pairs.proofs.Closures.{quiet_place}
-use Rattle.rbg_search.proofs.Behinds.{run_stays}
+use Rattle.rbg_search.proofs.Afters.{run_stays}
 use Rattle.rbg_search.proofs.Openings.{CutRun, all_right, cut_next, cut_run, next_applies, next_here, quiet_pairs, quiet_switches}
 
 -- A switch is a modifier.
@@ -46,7 +46,7 @@ next_runs game numbered s f v p next later applied =
     RunPairs_join (quiet_pairs game next.before s (at_vertex s v) next.no_modifier here) (one_pair game numbered p (at_vertex s v) later next.modifies applied)
 
 -- A switch that comes next is a legal move.
-pub legal_end : (game : AbstractGame) → IsNumbered game.rules → (place : AbstractPlace) (v p : ℕ) (later : AbstractState) → IsNext game place.state (stand_of place.last) v p → IsSwitchAt game.rules p → Applies game p (at_vertex place.state v) later → Legal game place ((v, p) ∷ []) (place_behind later p)
+pub legal_end : (game : AbstractGame) → IsNumbered game.rules → (place : AbstractPlace) (v p : ℕ) (later : AbstractState) → IsNext game place.state (stand_of place.last) v p → IsSwitchAt game.rules p → Applies game p (at_vertex place.state v) later → Legal game place ((v, p) ∷ []) (place_beyond later p)
 legal_end game numbered place v p later next switches applied = record {
   before = next.before;
   last = p;
@@ -57,8 +57,8 @@ legal_end game numbered place v p later next switches applied = record {
   stands = refl;
 }
 
--- What is legal behind another modifier that comes next, is legal with its pair in front.
-pub legal_on : (game : AbstractGame) → IsNumbered game.rules → (place : AbstractPlace) (v p : ℕ) (later : AbstractState) (qs : List (ℕ × ℕ)) (to : AbstractPlace) → IsNext game place.state (stand_of place.last) v p → ¬ IsSwitchAt game.rules p → Applies game p (at_vertex place.state v) later → Legal game (place_behind later p) qs to → Legal game place ((v, p) ∷ qs) to
+-- What is legal after another modifier that comes next, is legal with its pair in front.
+pub legal_on : (game : AbstractGame) → IsNumbered game.rules → (place : AbstractPlace) (v p : ℕ) (later : AbstractState) (qs : List (ℕ × ℕ)) (to : AbstractPlace) → IsNext game place.state (stand_of place.last) v p → ¬ IsSwitchAt game.rules p → Applies game p (at_vertex place.state v) later → Legal game (place_beyond later p) qs to → Legal game place ((v, p) ∷ qs) to
 legal_on game numbered place v p later qs to next plain applied legal =
     let joined : (next.before ++ p ∷ legal.before) ++ legal.last ∷ [] ≡ next.before ++ (p ∷ (legal.before ++ legal.last ∷ [])) = append_assoc next.before (p ∷ legal.before) (legal.last ∷ []) in
     let joined' : (next.before ++ p ∷ []) ++ (legal.before ++ legal.last ∷ []) ≡ next.before ++ (p ∷ (legal.before ++ legal.last ∷ [])) = append_assoc next.before (p ∷ []) (legal.before ++ legal.last ∷ []) in
@@ -73,10 +73,10 @@ legal_on game numbered place v p later qs to next plain applied legal =
       stands = legal.stands;
     }
 
--- Where a list ends: with the element that stands in it, or behind that.
+-- Where a list ends: with the element that stands in it, or after that.
 data EndOf (u : List ℕ) (p : ℕ) (w before : List ℕ) (last : ℕ) : Type 0 where
   here : w ≡ [] → before ≡ u → last ≡ p → EndOf u p w before last
-  behind : (m : List ℕ) → w ≡ m ++ last ∷ [] → before ≡ u ++ p ∷ m → EndOf u p w before last
+  beyond : (m : List ℕ) → w ≡ m ++ last ∷ [] → before ≡ u ++ p ∷ m → EndOf u p w before last
 
 not_empty : (u : List ℕ) (p : ℕ) (w : List ℕ) → [] ≡ u ++ p ∷ w → ⊥
 not_empty [] p w e = cc
@@ -84,7 +84,7 @@ not_empty (a ∷ u) p w e = cc
 
 end_of : (u : List ℕ) (p : ℕ) (w before : List ℕ) (last : ℕ) → before ++ last ∷ [] ≡ u ++ p ∷ w → EndOf u p w before last
 end_of [] p w [] last e = here (cc) refl (cc)
-end_of [] p w (b ∷ before) last e = behind before (cc) (cc)
+end_of [] p w (b ∷ before) last e = beyond before (cc) (cc)
 end_of (a ∷ u) p w [] last e = let tails : [] ≡ u ++ p ∷ w = cc in absurd (not_empty u p w tails)
 end_of (a ∷ u) p w (b ∷ before) last e =
     let tails : before ++ last ∷ [] ≡ u ++ p ∷ w = cc in
@@ -93,12 +93,12 @@ end_of (a ∷ u) p w (b ∷ before) last e =
   where
     further : b ≡ a → EndOf u p w before last → EndOf (a ∷ u) p w (b ∷ before) last
     further heads (here empty same end) = here empty (cc) end
-    further heads (behind m end same) = behind m end (cc)
+    further heads (beyond m end same) = beyond m end (cc)
 
--- What stands behind the first pair of a legal list: nothing, where the pair is of the switch; else what is legal there.
+-- What stands after the first pair of a legal list: nothing, where the pair is of the switch; else what is legal there.
 pub data Onward (game : AbstractGame) (later : AbstractState) (p : ℕ) (qs : List (ℕ × ℕ)) (to : AbstractPlace) : Type 0 where
-  ended : IsSwitchAt game.rules p → qs ≡ [] → to ≡ place_behind later p → Onward game later p qs to
-  going : ¬ IsSwitchAt game.rules p → Legal game (place_behind later p) qs to → Onward game later p qs to
+  ended : IsSwitchAt game.rules p → qs ≡ [] → to ≡ place_beyond later p → Onward game later p qs to
+  going : ¬ IsSwitchAt game.rules p → Legal game (place_beyond later p) qs to → Onward game later p qs to
 
 -- The first pair of a legal list comes next.
 pub record CutLegal (game : AbstractGame) (place : AbstractPlace) (v p : ℕ) (qs : List (ℕ × ℕ)) (to : AbstractPlace) : Type 0 where
@@ -127,16 +127,16 @@ legal_cut game numbered place v p qs to legal =
     by_end cut follows (here empty same end) =
         let run = no_pairs (subst (λ (m : List ℕ). RunPairs game m cut.later to.state qs) empty cut.onward) in
         ended (subst (λ (q : ℕ). IsSwitchAt game.rules q) end legal.switches) run.0 (same_place run.1 (legal.stands ∙ ap Some end))
-    by_end cut follows (behind m end same) =
+    by_end cut follows (beyond m end same) =
         let none : HasNoSwitch game.rules (cut.before ++ p ∷ m) = subst (λ (w : List ℕ). HasNoSwitch game.rules w) same legal.none_before in
-        let none_behind : HasNoSwitch game.rules (p ∷ m) = all_right (λ (q : ℕ). ¬ IsSwitchAt game.rules q) cut.before (p ∷ m) none in
-        going (All-head (λ (q : ℕ). ¬ IsSwitchAt game.rules q) p m none_behind) (record {
+        let none_beyond : HasNoSwitch game.rules (p ∷ m) = all_right (λ (q : ℕ). ¬ IsSwitchAt game.rules q) cut.before (p ∷ m) none in
+        going (All-head (λ (q : ℕ). ¬ IsSwitchAt game.rules q) p m none_beyond) (record {
           before = m;
           last = legal.last;
           follows = subst (λ (w : List ℕ). Follows game.rules (after p) w) end follows;
           runs = subst (λ (w : List ℕ). RunPairs game w cut.later to.state qs) end cut.onward;
           switches = legal.switches;
-          none_before = All-tail (λ (q : ℕ). ¬ IsSwitchAt game.rules q) p m none_behind;
+          none_before = All-tail (λ (q : ℕ). ¬ IsSwitchAt game.rules q) p m none_beyond;
           stands = legal.stands;
         })
 
@@ -152,8 +152,8 @@ legal_some game numbered place to legal = switch_pairs game numbered legal.befor
 pub valid_next : (game : AbstractGame) → IsNumbered game.rules → (s : AbstractState) (f : Start) (v p : ℕ) → v < length game.board.first → IsNext game s f v p → IsValidAt game s v p
 valid_next game numbered s f v p there next = record { there = there; modifies = next.modifies; later = next.later; applies = next_applies game numbered s f v p next }
 
--- The place behind a modifier is one of the game.
-pub place_after : (game : AbstractGame) → IsNumbered game.rules → (later : AbstractState) (p : ℕ) → IsModifierAt game.rules p → IsStateOf game later → IsPlaceOf game (place_behind later p)
+-- The place after a modifier is one of the game.
+pub place_after : (game : AbstractGame) → IsNumbered game.rules → (later : AbstractState) (p : ℕ) → IsModifierAt game.rules p → IsStateOf game later → IsPlaceOf game (place_beyond later p)
 place_after game numbered later p modifier fits =
     let position = modifier_position game numbered p modifier in
     record { state = fits; last = (position.from_one, position.there) }
@@ -164,7 +164,7 @@ next_there game lawful s f v p fits next =
     let here = run_stays game lawful next.runs fits in
     subst (λ (n : ℕ). v < n) here.vertices (subst (λ (n : ℕ). n < length next.here.pieces) next.vertex here.vertex)
 
--- Only what the step leads to is behind it.
+-- Only what the step leads to is after it.
 step_one : (game : AbstractGame) → IsNumbered game.rules → (place : AbstractPlace) (v p : ℕ) (qs : List (ℕ × ℕ)) (to : AbstractPlace) (later : AbstractState) → Applies game p (at_vertex place.state v) later → CutLegal game place v p qs to → Onward game later p qs to
 step_one game numbered place v p qs to later applied cut =
     subst (λ (u : AbstractState). Onward game u p qs to) (Applies_one game numbered p cut.applies applied) cut.onward
@@ -173,11 +173,11 @@ step_one game numbered place v p qs to later applied cut =
 pub none_at : (game : AbstractGame) → IsNumbered game.rules → (place : AbstractPlace) (v p : ℕ) (qs : List (ℕ × ℕ)) → ¬ IsNext game place.state (stand_of place.last) v p → (to : AbstractPlace) → ¬ Legal game place ((v, p) ∷ qs) to
 none_at game numbered place v p qs other to legal = other (legal_cut game numbered place v p qs to legal).next
 
--- Behind a modifier that is no switch the rest decides.
-pub step_legal : (game : AbstractGame) → IsNumbered game.rules → (place : AbstractPlace) (v p : ℕ) (qs : List (ℕ × ℕ)) (to : AbstractPlace) (later : AbstractState) → IsStep game place.state (stand_of place.last) v p later → ¬ IsSwitchAt game.rules p → Legal game (place_behind later p) qs to → Legal game place ((v, p) ∷ qs) to
+-- After a modifier that is no switch the rest decides.
+pub step_legal : (game : AbstractGame) → IsNumbered game.rules → (place : AbstractPlace) (v p : ℕ) (qs : List (ℕ × ℕ)) (to : AbstractPlace) (later : AbstractState) → IsStep game place.state (stand_of place.last) v p later → ¬ IsSwitchAt game.rules p → Legal game (place_beyond later p) qs to → Legal game place ((v, p) ∷ qs) to
 step_legal game numbered place v p qs to later taken plain legal = legal_on game numbered place v p later qs to taken.next plain taken.applies legal
 
-pub step_none : (game : AbstractGame) → IsNumbered game.rules → (place : AbstractPlace) (v p : ℕ) (qs : List (ℕ × ℕ)) (later : AbstractState) → IsStep game place.state (stand_of place.last) v p later → ¬ IsSwitchAt game.rules p → ((to : AbstractPlace) → ¬ Legal game (place_behind later p) qs to) → (to : AbstractPlace) → ¬ Legal game place ((v, p) ∷ qs) to
+pub step_none : (game : AbstractGame) → IsNumbered game.rules → (place : AbstractPlace) (v p : ℕ) (qs : List (ℕ × ℕ)) (later : AbstractState) → IsStep game place.state (stand_of place.last) v p later → ¬ IsSwitchAt game.rules p → ((to : AbstractPlace) → ¬ Legal game (place_beyond later p) qs to) → (to : AbstractPlace) → ¬ Legal game place ((v, p) ∷ qs) to
 step_none game numbered place v p qs later taken plain none to legal =
     by_onward (step_one game numbered place v p qs to later taken.applies (legal_cut game numbered place v p qs to legal))
   where
@@ -186,7 +186,7 @@ step_none game numbered place v p qs later taken plain none to legal =
     by_onward (going _ legal) = none to legal
 
 -- A switch ends the list.
-pub step_ends : (game : AbstractGame) → IsNumbered game.rules → (place : AbstractPlace) (v p : ℕ) (later : AbstractState) → IsStep game place.state (stand_of place.last) v p later → IsSwitchAt game.rules p → Legal game place ((v, p) ∷ []) (place_behind later p)
+pub step_ends : (game : AbstractGame) → IsNumbered game.rules → (place : AbstractPlace) (v p : ℕ) (later : AbstractState) → IsStep game place.state (stand_of place.last) v p later → IsSwitchAt game.rules p → Legal game place ((v, p) ∷ []) (place_beyond later p)
 step_ends game numbered place v p later taken switches = legal_end game numbered place v p later taken.next switches taken.applies
 
 pub none_after : (game : AbstractGame) → IsNumbered game.rules → (place : AbstractPlace) (v p : ℕ) (qs : List (ℕ × ℕ)) → IsSwitchAt game.rules p → ¬ (qs ≡ []) → (to : AbstractPlace) → ¬ Legal game place ((v, p) ∷ qs) to
@@ -204,19 +204,19 @@ step_goes_on game s f v p qs later taken plain = record { next = taken.next; app
 pub made_next : (game : AbstractGame) → IsNumbered game.rules → (place : AbstractPlace) (v p : ℕ) (qs : List (ℕ × ℕ)) (to : AbstractPlace) → IsMadeFrom game place ((v, p) ∷ qs) to → IsNext game place.state (stand_of place.last) v p
 made_next game numbered place v p qs to (goes_on legal) = (legal_cut game numbered place v p qs to legal).next
 
-pub made_on : (game : AbstractGame) → IsNumbered game.rules → (place : AbstractPlace) (v p : ℕ) (qs : List (ℕ × ℕ)) (to : AbstractPlace) (later : AbstractState) → Applies game p (at_vertex place.state v) later → IsMadeFrom game place ((v, p) ∷ qs) to → IsMadeFrom game (place_behind later p) qs to
+pub made_on : (game : AbstractGame) → IsNumbered game.rules → (place : AbstractPlace) (v p : ℕ) (qs : List (ℕ × ℕ)) (to : AbstractPlace) (later : AbstractState) → Applies game p (at_vertex place.state v) later → IsMadeFrom game place ((v, p) ∷ qs) to → IsMadeFrom game (place_beyond later p) qs to
 made_on game numbered place v p qs to later applied (goes_on legal) =
     by_onward (step_one game numbered place v p qs to later applied (legal_cut game numbered place v p qs to legal))
   where
-    by_onward : Onward game later p qs to → IsMadeFrom game (place_behind later p) qs to
-    by_onward (ended _ empty same) = subst (λ (rs : List (ℕ × ℕ)). IsMadeFrom game (place_behind later p) rs to) (sym empty) (subst (λ (u : AbstractPlace). IsMadeFrom game (place_behind later p) [] u) (sym same) made)
+    by_onward : Onward game later p qs to → IsMadeFrom game (place_beyond later p) qs to
+    by_onward (ended _ empty same) = subst (λ (rs : List (ℕ × ℕ)). IsMadeFrom game (place_beyond later p) rs to) (sym empty) (subst (λ (u : AbstractPlace). IsMadeFrom game (place_beyond later p) [] u) (sym same) made)
     by_onward (going _ legal) = goes_on legal
 
 pub made_end : (game : AbstractGame) → IsNumbered game.rules → (place to : AbstractPlace) → IsMadeFrom game place [] to → to ≡ place
 made_end game numbered place to made = refl
 made_end game numbered place to (goes_on legal) = absurd (legal_some game numbered place to legal)
 
--- What becomes of the pairs behind the first one becomes of all.
-pub tried_on : (game : AbstractGame) → IsNumbered game.rules → (place : AbstractPlace) (v p : ℕ) (qs : List (ℕ × ℕ)) (later new : AbstractState) → IsStep game place.state (stand_of place.last) v p later → ¬ IsSwitchAt game.rules p → (end : Option ℕ) → IsTried game (place_behind later p) qs new end → IsTried game place ((v, p) ∷ qs) new end
-tried_on game numbered place v p qs later new taken plain (Some last) legal = step_legal game numbered place v p qs (place_behind new last) later taken plain legal
+-- What becomes of the pairs after the first one becomes of all.
+pub tried_on : (game : AbstractGame) → IsNumbered game.rules → (place : AbstractPlace) (v p : ℕ) (qs : List (ℕ × ℕ)) (later new : AbstractState) → IsStep game place.state (stand_of place.last) v p later → ¬ IsSwitchAt game.rules p → (end : Option ℕ) → IsTried game (place_beyond later p) qs new end → IsTried game place ((v, p) ∷ qs) new end
+tried_on game numbered place v p qs later new taken plain (Some last) legal = step_legal game numbered place v p qs (place_beyond new last) later taken plain legal
 tried_on game numbered place v p qs later new taken plain None none = step_none game numbered place v p qs later taken plain none

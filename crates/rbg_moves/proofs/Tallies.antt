@@ -2,15 +2,15 @@
 use Rattle.std.proofs.Common.{◌≡◌, ℕ, ◌+◌, ◌-◌, ◌^◌, min, true, ap, ◌∙◌, subst}
 use Rattle.rbg_rules.specs.Meaning.{AbstractGame, AbstractState, Start, after, AbstractPlace, stand_of, Question}
 use Rattle.rbg_search.proofs.Common.{CountsOpenings, CountsAllForced, GoesOn, Searching, Tally, CountsPairs}
-use Rattle.rbg_search.proofs.Takings.{behind_part, takes_then, takes_part_of}
+use Rattle.rbg_search.proofs.Takings.{after_part, takes_then, takes_part_of}
 use Rattle.rbg_moves.specs.Tallying.{IsTallied}
 
--- What a question counts so far, and then behind a modifier.
+-- What a question counts so far, and then after a modifier.
 pub more_takes : (game game' : AbstractGame) (question question' : Question) (s later : AbstractState) (f : Start) (v p a b c t u w : ℕ) → game' ≡ game → GoesOn game question s f v p question' later → CountsPairs game question s f a b t u (Unit {0}) → CountsPairs game' question' later (after p) b c u w (Unit {0}) → CountsPairs game question s f a c t w (Unit {0})
-more_takes game game' question question' s later f v p a b c t u w same on so_far behind =
+more_takes game game' question question' s later f v p a b c t u w same on so_far beyond =
     takes_then game question s f a b c t u w (Unit {0}) so_far
-    (takes_part_of game question s f question' later (after p) b c u w (Unit {0}) (behind_part game question question' s later f v p on)
-    (subst (λ (x : AbstractGame). CountsPairs x question' later (after p) b c u w (Unit {0})) same behind))
+    (takes_part_of game question s f question' later (after p) b c u w (Unit {0}) (after_part game question question' s later f v p on)
+    (subst (λ (x : AbstractGame). CountsPairs x question' later (after p) b c u w (Unit {0})) same beyond))
 
 pub takes_in : (game game' : AbstractGame) (question : Question) (s : AbstractState) (f : Start) (a b t u : ℕ) → game' ≡ game → CountsPairs game' question s f a b t u (Unit {0}) → CountsPairs game question s f a b t u (Unit {0})
 takes_in game game' question s f a b t u same counts = subst (λ (x : AbstractGame). CountsPairs x question s f a b t u (Unit {0})) same counts

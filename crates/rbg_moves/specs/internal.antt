@@ -3,3 +3,4 @@ pub mod Asking
 pub mod Gathering
 pub mod Stepping
 pub mod Fronts
+pub mod Lines

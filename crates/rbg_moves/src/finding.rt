@@ -20,7 +20,7 @@ use std::mem::replace;
 /// Some legal move; none where play is finished.
 ///
 /// Where a switch comes next, the first of these, by vertex and then by position, ends the move. Elsewhere the first
-/// modifier behind which there is a move is taken.
+/// modifier after which there is a move is taken.
 pub fn find_move<S: Steps>(
     alloc: Global,
     game: &Game,

@@ -4,6 +4,7 @@
 mod asking;
 mod finding;
 pub mod laws;
+mod line;
 mod list;
 mod making;
 mod place;

@@ -77,7 +77,7 @@ pub(crate) fn list_sorted<S: Steps>(
 }
 
 /// The legal moves, at most `max` of them, in the order in which they are found: first those of one switch, then those
-/// behind each other modifier, both by vertex and then by position. They stand in a list that `Workspace::keep_moves`
+/// after each other modifier, both by vertex and then by position. They stand in a list that `Workspace::keep_moves`
 /// takes back. The question is asked as by `walk_from`.
 pub(crate) fn gather_moves<S: Steps>(
     alloc: Global,

@@ -3,7 +3,7 @@ ghost use Rattle.std.specs.Prelude.{◌≡◌, IfOk, IfSome};
 ghost use Rattle.rbg_rules.specs.Meaning.{IsPlaceOf, try_move};
 ghost use Rattle.rbg_moves.specs.Answers.{TriesMove};
 ghost use Rattle.rbg_moves.specs.Tallying.{Tallies};
-ghost use Rattle.rbg_moves.specs.internal.Stepping.{place_behind, IsFollowed};
+ghost use Rattle.rbg_moves.specs.internal.Stepping.{place_beyond, IsFollowed};
 
 use crate::asking::{budget_is_kept, is_switch, rules_of, search_in};
 use crate::place::Place;
@@ -77,7 +77,7 @@ fn follow<S: Steps>(
     ensures followed { IsFollowed search.old search.new
         (record { state = state.old.state; last = after }) pairs.now state.new.state result }
     ensures in_game { IfOk result (λ end. IfSome end (λ last.
-        IsPlaceOf search.old.game (place_behind state.new.state last))) }
+        IsPlaceOf search.old.game (place_beyond state.new.state last))) }
     ensures kept { search.new ≡ record search.old { opened = search.new.opened; taken = search.new.taken } }
 {
     let game = search.game();

@@ -1,14 +1,15 @@
 //! The walk over the modifiers of moves, by which some move is found, or all are listed.
-ghost use Rattle.std.specs.Prelude.{◌≡◌, ◌-◌, ◌<◌, ◌≤◌, ◌∷◌, [], ◌++◌, length, All, IfOk, Err, false};
+ghost use Rattle.std.specs.Prelude.{◌≡◌, ◌-◌, ◌<◌, ◌≤◌, ◌∷◌, [], ◌++◌, length, All, IfOk, Err, Some, false};
 ghost use Rattle.rbg_base.specs.Move.{most_pairs};
 ghost use Rattle.rbg_rules.specs.Meaning.{IsGame, stand_of, IsPlaceOf, IsStateOf, after};
 ghost use Rattle.rbg_pairs.specs.Start.{IsPositionOf};
 ghost use Rattle.rbg_state.specs.History.{IsAfter};
 ghost use Rattle.rbg_moves.specs.internal.Asking.{question_of, IsGivenUp};
 ghost use Rattle.rbg_moves.specs.internal.Gathering.{AddsMove, IsWalked, ListsSwitches, LeavesOthers};
-ghost use Rattle.rbg_moves.specs.internal.Stepping.{place_behind, Behind, IsValidAt};
+ghost use Rattle.rbg_moves.specs.internal.Stepping.{place_beyond, Beyond, IsValidAt};
 
-use crate::asking::{is_switch, origin_after};
+use crate::asking::origin_after;
+use crate::line::follow_line;
 use crate::stepping::apply_at;
 use rbg_auto::Steps;
 use rbg_base::{MAX_PAIRS, MoveList, Pair, Position};
@@ -27,7 +28,7 @@ pub(crate) struct Found {
 }
 
 impl Found {
-    /// Takes the switches out of these modifiers, by vertex and then by position, and adds the move of each behind the
+    /// Takes the switches out of these modifiers, by vertex and then by position, and adds the move of each after the
     /// front. Tells whether there is one more than there is room for: its switch is then the last pair of the front.
     fn add_switches(
         &mut self,
@@ -75,8 +76,8 @@ impl Found {
     }
 }
 
-/// Finds the moves that go on from here, and adds each of them behind the front: first those of one switch, then those
-/// behind each other modifier, both by vertex and then by position. Ends with the first one for which there is no room,
+/// Finds the moves that go on from here, and adds each of them after the front: first those of one switch, then those
+/// after each other modifier, both by vertex and then by position. Ends with the first one for which there is no room,
 /// and tells whether there is one: then its pairs are left in the front, and the semi-state where its modifiers but the
 /// last led.
 #[cycle(walk)]
@@ -106,18 +107,6 @@ pub(crate) fn walk<S: Steps>(
 {
     let game = search.game();
     let origin = origin_after(after);
-    // one modifier alone needs no list
-    if let Some(position) = search.only_modifier(state, origin) {
-        let vertex = state.vertex();
-        search.reach_only(state, origin, position)?;
-        let pair = Pair { vertex, position };
-        if is_switch(game, position) {
-            let full = found.add(front, pair)?;
-            return Ok(full);
-        }
-        let early = walk_behind(search, state, front, found, pair)?;
-        return Ok(early);
-    }
     let mut pairs = search.take_list();
     search.reach_flat(state, origin, &mut pairs)?;
     if found.add_switches(game, &mut pairs, front)? {
@@ -125,7 +114,7 @@ pub(crate) fn walk<S: Steps>(
         return Ok(true);
     }
     while let Some(pair) = pairs.take_least() {
-        let ended = walk_behind(search, state, front, found, pair)?;
+        let ended = walk_after(search, state, front, found, pair)?;
         if ended {
             search.keep_list(pairs);
             return Ok(true);
@@ -135,10 +124,10 @@ pub(crate) fn walk<S: Steps>(
     Ok(false)
 }
 
-/// Finds the moves behind a modifier that comes next, as `walk` does. Where the walk doesn't end early, the modifier is taken
+/// Finds the moves after a modifier that comes next, as `walk` does. Where the walk doesn't end early, the modifier is taken
 /// back.
 #[cycle(walk)]
-fn walk_behind<S: Steps>(
+fn walk_after<S: Steps>(
     search: &mut Search<'_, S>,
     state: &mut SemiState,
     front: &mut Vec<Pair>,
@@ -157,10 +146,10 @@ fn walk_behind<S: Steps>(
     ensures after { IsAfter state.old state.new }
     ensures front { IfOk result (λ ended. ended ≡ false → front.new.items ≡ front.old.items) }
     ensures max { found.new.max ≡ found.old.max }
-    ensures walked { IfOk result (λ ended. Behind search.old.game state.old.state pair (λ later.
-        IsWalked search.old search.new (place_behind later pair.1) (front.old.items ++ pair ∷ [])
+    ensures walked { IfOk result (λ ended. Beyond search.old.game state.old.state pair (λ later.
+        IsWalked search.old search.new (place_beyond later pair.1) (front.old.items ++ pair ∷ [])
         found.old.max found.old.moves found.new.moves front.new.items ended)) }
-    ensures given_up { Behind search.old.game state.old.state pair (λ later.
+    ensures given_up { Beyond search.old.game state.old.state pair (λ later.
         IsGivenUp search.old (question_of found.old.max) later (after pair.1)
         (most_pairs - length (front.old.items ++ pair ∷ []))
         (result ≡ Err Over.Deep) (result ≡ Err Over.Wide)) }
@@ -172,10 +161,56 @@ fn walk_behind<S: Steps>(
     let mark = state.mark();
     apply_at(game, state, pair);
     front.push(pair)?;
-    if walk(search, state, front, found, Some(pair.position))? {
+    if walk_on(search, state, front, found, pair.position)? {
         return Ok(true);
     }
     front.pop();
+    state.undo_to(mark);
+    Ok(false)
+}
+
+/// Finds the moves after a modifier that was applied, as `walk` does: it goes along the straight line first that begins
+/// there. Where the walk doesn't end early, the line is taken back.
+#[cycle(walk)]
+fn walk_on<S: Steps>(
+    search: &mut Search<'_, S>,
+    state: &mut SemiState,
+    front: &mut Vec<Pair>,
+    found: &mut Found,
+    after: Position,
+) -> Result<bool, Over>
+    requires place { IsPlaceOf search.old.game (place_beyond state.old.state after) }
+    requires short { length front.old.items < most_pairs }
+    requires few { length found.old.moves ≤ found.old.max }
+    ensures search { search.new ≡ record search.old { opened = search.new.opened; taken = search.new.taken } }
+    ensures state { IfOk result (λ ended. ended ≡ false
+        → (state.new ≡ record state.old { room = state.new.room })) }
+    ensures room { IfOk result (λ ended. ended ≡ false → state.old.room ≤ state.new.room) }
+    ensures after { IsAfter state.old state.new }
+    ensures front { IfOk result (λ ended. ended ≡ false → front.new.items ≡ front.old.items) }
+    ensures max { found.new.max ≡ found.old.max }
+    ensures walked { IfOk result (IsWalked search.old search.new (place_beyond state.old.state after)
+        front.old.items found.old.max found.old.moves found.new.moves front.new.items) }
+    ensures given_up { IsGivenUp search.old (question_of found.old.max)
+        state.old.state (stand_of (Some after)) (most_pairs - length front.old.items)
+        (result ≡ Err Over.Deep) (result ≡ Err Over.Wide) }
+{
+    let mark = state.mark();
+    let before = front.len();
+    let end = follow_line(search, state, front, after)?;
+    if let Some(position) = end.switch {
+        let vertex = state.vertex();
+        if found.add(front, Pair { vertex, position })? {
+            return Ok(true);
+        }
+        front.truncate(before);
+        state.undo_to(mark);
+        return Ok(false);
+    }
+    if walk(search, state, front, found, Some(end.last))? {
+        return Ok(true);
+    }
+    front.truncate(before);
     state.undo_to(mark);
     Ok(false)
 }

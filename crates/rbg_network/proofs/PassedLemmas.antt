@@ -120,11 +120,11 @@ joins begun (suc n ∷ xs) ys = elim (cases_lt begun most_passed) [
 -- What is passed on of the bytes up to an index stands before the others, from the place where it ends. So the byte at the
 -- index is still there.
 pub byte_at : (before old buffer : List ℕ) (kept index : ℕ) → kept ≡ length before → kept ≤ index → buffer ≡ before ++ drop kept old → slice_index buffer index ≡ slice_index old index
-byte_at before old buffer kept index long behind is =
+byte_at before old buffer kept index long after is =
     ap (λ bytes. get_or bytes index 0) is
-    ∙ (get_or-append_right before (drop kept old) kept index 0 (sym long) behind
+    ∙ (get_or-append_right before (drop kept old) kept index 0 (sym long) after
     ∙ (get_or-drop kept old (index - kept) 0
-    ∙ ap (λ i. get_or old i 0) (omega (arith, behind))))
+    ∙ ap (λ i. get_or old i 0) (omega (arith, after))))
 
 -- One byte more is passed on, or isn't.
 pub passed_more : (begun now byte index : ℕ) (old bytes : List ℕ) → index < length old → byte ≡ slice_index old index → now ≡ begun_after begun (take index old) → passed now (byte ∷ []) ≡ bytes → passed begun (take (index + 1) old) ≡ passed begun (take index old) ++ bytes

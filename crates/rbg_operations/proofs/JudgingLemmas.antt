@@ -7,8 +7,8 @@ use Rattle.rbg_record.specs.declared.checked.Checked.{Checked}
 use Rattle.rbg_record.specs.declared.checked.Checked.TheVariants.{Good, Bad}
 use Rattle.rbg_record.specs.declared.error.RecordError.{RecordError}
 use Rattle.rbg_record.specs.declared.error.RecordError.TheVariants.{Form, Over, Memory}
-use Rattle.rbg_record.specs.declared.fault.Fault.{Fault}
-use Rattle.rbg_record.specs.declared.fault.Fault.TheVariants as faults
+use Rattle.rbg_record.specs.declared.fault.LineFault.{LineFault}
+use Rattle.rbg_record.specs.declared.fault.LineFault.TheVariants as faults
 use Rattle.rbg_rules.specs.Meaning.{AbstractGame}
 use Rattle.rbg_operations.specs.Tasks.{FileCommand}
 use Rattle.rbg_operations.specs.Tasks.FileCommand.{Replay, Migrate, Moves}
@@ -42,7 +42,7 @@ checked_answer game told (Err (Over line)) text status is says description =
 checked_answer game told (Err Memory) text status is says description = absurd says
 
 -- the line of a fault is the answer where the moves of a record lead nowhere
-pub misfit_answer : (game : AbstractGame) (told : List ℕ) (fault : Fault) (line : ℕ) (text : List ℕ) (status : Status) → IsJudged game told (told_at fault line) → SaysChecked (told_at fault line) text status → (description : List ℕ) → IsGamesAnswer game description told Moves text status
+pub misfit_answer : (game : AbstractGame) (told : List ℕ) (fault : LineFault) (line : ℕ) (text : List ℕ) (status : Status) → IsJudged game told (told_at fault line) → SaysChecked (told_at fault line) text status → (description : List ℕ) → IsGamesAnswer game description told Moves text status
 misfit_answer game told faults.Form line text status is says description =
     games_answer_is game description told Moves text (form_line line) status BadInput says.0 says.1 (no_moves (form_line line) (not_of_form line is))
 misfit_answer game told faults.Bad line text status is says description =

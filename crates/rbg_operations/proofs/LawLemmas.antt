@@ -114,10 +114,10 @@ right_or_over judge game numbered told _ right (over line is) = (line, refl)
 moves_apart : Known → (game : AbstractGame) → IsNumbered game.rules → (description told text other : List ℕ) (status ended : Status) → IsGamesAnswer game description told Moves text status → IsGamesAnswer game description told Moves other ended → AreOne text other status ended ⊎ NamesOver text other
 moves_apart known game numbered description told _ _ _ _ (goes_on text is) (goes_on other was) = inl (refl, λ bad. absurd (good_is_not_bad bad))
 moves_apart known game numbered description told _ _ _ _ (goes_on text is) (no_moves other fault) =
-    let names = right_or_over known.judge game numbered told other ((known.lines game told).1 is.behind.right) fault in
+    let names = right_or_over known.judge game numbered told other ((known.lines game told).1 is.after.right) fault in
     inr (names.0, inr names.1)
 moves_apart known game numbered description told _ _ _ _ (no_moves text fault) (goes_on other is) =
-    let names = right_or_over known.judge game numbered told text ((known.lines game told).1 is.behind.right) fault in
+    let names = right_or_over known.judge game numbered told text ((known.lines game told).1 is.after.right) fault in
     inr (names.0, inl names.1)
 moves_apart known game numbered description told _ _ _ _ (no_moves text fault) (no_moves other fault') =
     replays_apart known.judge game numbered told text other BadInput BadInput (tells_fault game told text fault) (tells_fault game told other fault')

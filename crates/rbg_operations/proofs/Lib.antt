@@ -1,5 +1,4 @@
 -- Lemmas, by topic.
-mod Following
 mod ListingLemmas
 pub mod AnswerLemmas
 mod JudgingLemmas

@@ -1,5 +1,6 @@
 -- Lemmas on what is listed.
-use Rattle.std.proofs.Common.{◌≡◌, ◌⊎◌, ℕ, Bool, true, false, List, [], inl, inr, ap, refl, subst, arith, Contains, Result, Ok, Err, OnOk, length}
+use Rattle.std.proofs.Common.{◌≡◌, ◌≢◌, ◌⊎◌, ℕ, Bool, true, false, List, [], ◌∷◌, inl, inr, ap, refl, sym, ◌∙◌, subst, arith, Contains, Result, Ok, Err, OnOk, length, ◌==◌}
+use Rattle.std.proofs.lemmas.Bool.{eqb-true, true≢false}
 use Rattle.rbg_moves.specs.Listing.{IsListed}
 use Rattle.rbg_moves.specs.declared.list.Listed.{Listed}
 use Rattle.rbg_rules.specs.Meaning.{AbstractPlace, Finished, AbstractGame}
@@ -33,3 +34,15 @@ none_legal game place moves true listed none =
 none_legal game place moves false listed none = record {
   no_move = λ pairs to legal. nothing_in pairs (subst (λ list. Contains list pairs) none (listed.whole refl pairs (to, legal)));
 }
+
+-- nothing is left, or something
+pub nothing_left : {X : Type 0} (rest : List X) (answer : Bool) → answer ≡ (length rest == 0) → answer ≡ true → rest ≡ []
+nothing_left [] answer is holds = refl
+nothing_left (x ∷ rest) answer is holds =
+    let none : length (x ∷ rest) ≡ 0 = eqb-true (length (x ∷ rest)) 0 (sym is ∙ holds) in
+    absurd (omega (arith, none))
+
+pub something_left : {X : Type 0} (rest : List X) (answer : Bool) → answer ≡ (length rest == 0) → answer ≡ false → rest ≢ []
+something_left rest answer is fails = λ none.
+    let holds : (length rest == 0) ≡ true = ap (λ left. length left == 0) none in
+    true≢false (sym holds ∙ (sym is ∙ fails))

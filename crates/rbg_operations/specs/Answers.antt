@@ -6,7 +6,7 @@ use Rattle.rbg_console.specs.declared.status.Status.{Status}
 use Rattle.rbg_console.specs.declared.status.Status.TheVariants.{Success, Refused, BadInput}
 use Rattle.rbg_game.specs.Loading.{Loads, IsRefused, IsMemory}
 use Rattle.rbg_game.specs.declared.error.LoadError.{LoadError}
-use Rattle.rbg_operations.specs.Behind.{IsMovesAfter}
+use Rattle.rbg_operations.specs.After.{IsMovesAfter}
 use Rattle.rbg_record.specs.Judged.{IsBadLine, IsFormFault, IsHeavyLine}
 use Rattle.rbg_record.specs.Migration.{IsMigrated, IsPlainFault}
 use Rattle.rbg_record.specs.Right.{IsRightRecord}

@@ -1,5 +1,5 @@
 pub mod ListingAnswers
-pub mod Behind
+pub mod After
 pub mod Lines
 pub mod Openings
 pub mod ListingRuns

@@ -2,8 +2,8 @@
 //! a file or a record, from the bytes of files to the bytes that are printed.
 #![tactic(auto)]
 
+mod after;
 mod answer;
-mod behind;
 mod check;
 pub mod laws;
 mod lines;
@@ -22,7 +22,7 @@ mod replay;
 mod run;
 mod texts;
 
-pub use behind::{Misfit, moves_behind};
+pub use after::moves_beyond;
 pub use check::run_check;
 pub use lines::answer_form;
 pub use migrate::run_migrate;

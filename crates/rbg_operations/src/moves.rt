@@ -7,12 +7,12 @@ ghost use Rattle.rbg_operations.specs.Tasks.{on_record};
 ghost use Rattle.rbg_operations.specs.Tasks.FileCommand.{Moves};
 ghost use Rattle.rbg_operations.specs.internal.Parts.{IsFilesAnswer, SaysChecked};
 
-use crate::behind::{Misfit, moves_behind};
+use crate::after::moves_beyond;
 use crate::lines::{answer_bad, answer_form, answer_over};
 use crate::opening::{Opened, open_files, played_game};
 use rbg_console::{Files, Status};
 use rbg_game::Game;
-use rbg_record::Fault;
+use rbg_record::{LineFault, Misfit};
 use rbg_referee::{Answer, write_answer};
 use std::alloc::{AllocError, Global};
 use std::io::Write;
@@ -57,7 +57,7 @@ fn go_on(alloc: Global, game: Game, told: &[u8]) -> Result<Answer, AllocError>
         IsGamesAnswer game description told.now Moves answer.text.items answer.status) }
 {
     let played = played_game(alloc, game)?;
-    match moves_behind(alloc, &played, told) {
+    match moves_beyond(alloc, &played, told) {
         Ok(text) => Ok(Answer {
             text,
             status: Status::Success,
@@ -72,9 +72,9 @@ fn answer_misfit(alloc: Global, misfit: Misfit) -> Result<Answer, AllocError>
         SaysChecked (told_at misfit.fault misfit.line) answer.text.items answer.status) }
 {
     match misfit.fault {
-        Fault::Form => answer_form(alloc, misfit.line),
-        Fault::Bad => answer_bad(alloc, misfit.line),
-        Fault::Over => answer_over(alloc, misfit.line),
-        Fault::Memory => Err(AllocError),
+        LineFault::Form => answer_form(alloc, misfit.line),
+        LineFault::Bad => answer_bad(alloc, misfit.line),
+        LineFault::Over => answer_over(alloc, misfit.line),
+        LineFault::Memory => Err(AllocError),
     }
 }

@@ -2,7 +2,7 @@
 ghost use Rattle.std.specs.Prelude.{◌≡◌, ◌++◌, ℕ, List, codes, length, take, IfOk, OnOk};
 ghost use Rattle.rbg_rules.specs.Meaning.{IsPlaceOf};
 ghost use Rattle.rbg_moves.specs.Listing.{IsListed};
-ghost use Rattle.rbg_operations.specs.Behind.{GoesOnAt};
+ghost use Rattle.rbg_operations.specs.After.{GoesOnAt};
 ghost use Rattle.rbg_operations.specs.Lines.{numbers_text};
 ghost use Rattle.rbg_operations.specs.Openings.{most_listed};
 

@@ -6,7 +6,7 @@ use Rattle.rbg_rules.proofs.PositionLemmas.{one_stands}
 use Rattle.rbg_rules.proofs.PlaceLemmas.{quiet_acts, same_state, RunPairs_join, Runs-RunPairs}
 use Rattle.rbg_rules.proofs.LocalityLemmas.{locality_law}
 use Rattle.rbg_flat.specs.Candidates.{MayEnd}
-use Rattle.rbg_pairs.proofs.Common.{IsNext, at_vertex, Leads, IsReached, first, then, IsFound, EndsFlat, RunsBehind}
+use Rattle.rbg_pairs.proofs.Common.{IsNext, at_vertex, Leads, IsReached, first, then, IsFound, EndsFlat, RunsAfter}
 
 -- An action that stands where no modifier does is none.
 pub quiet_action : (game : AbstractGame) (p : ℕ) {s t : AbstractState} (applied : Applies game p s t) → ¬ IsModifierAt game.rules p → is_modifier applied.action ≡ false
@@ -32,7 +32,7 @@ quiet_place game numbered p applied quiet other =
     true_not_false e = cc
 
 module _ (game : AbstractGame) (numbered : IsNumbered game.rules) where
-  -- From behind a quiet action one reaches nothing new.
+  -- From after a quiet action one reaches nothing new.
   onward : (s : AbstractState) (f : Start) (v q u : ℕ) → IsReached game s f v q → Leads game s v q u → (w p : ℕ) → IsReached game (at_vertex s u) (after q) w p → IsReached game s f w p
   onward s f v q u here leads w p (first same follows) = then here (subst (λ (x : ℕ). Leads game s v q x) (sym same) leads) follows
   onward s f v q u here leads w p (then {v = x} {q = r} so_far moves follows) = then (onward s f v q u here leads x r so_far) (record { quiet = moves.quiet; applies = moves.applies }) follows
@@ -128,17 +128,17 @@ module _ (game : AbstractGame) (numbered : IsNumbered game.rules) where
         ends = (locality_law game.rules numbered f words.before end.position []).1.1 (words.follows, end.leads.ends);
       }
 
-  -- A word runs where a word may end with no modifier more, or where one runs behind a modifier that comes next.
-  onward_behind : (s : AbstractState) (f : Start) (q u : ℕ) → Follows game.rules f (q ∷ []) → Leads game s s.vertex q u → RunsBehind game (at_vertex s u) (after q) → RunsBehind game s f
-  onward_behind s f q u follows leads behind =
-      let here = onward s f s.vertex q u (first refl follows) leads behind.vertex behind.position behind.found.reached in
-      record { vertex = behind.vertex; position = behind.position; found = record { later = behind.found.later; reached = here; modifies = behind.found.modifies; applies = behind.found.applies }; runs = behind.runs }
+  -- A word runs where a word may end with no modifier more, or where one runs after a modifier that comes next.
+  onward_after : (s : AbstractState) (f : Start) (q u : ℕ) → Follows game.rules f (q ∷ []) → Leads game s s.vertex q u → RunsAfter game (at_vertex s u) (after q) → RunsAfter game s f
+  onward_after s f q u follows leads beyond =
+      let here = onward s f s.vertex q u (first refl follows) leads beyond.vertex beyond.position beyond.found.reached in
+      record { vertex = beyond.vertex; position = beyond.position; found = record { later = beyond.found.later; reached = here; modifies = beyond.found.modifies; applies = beyond.found.applies }; runs = beyond.runs }
 
   either_way : {A B C D : Type 0} → (A → C) → (B → D) → A ⊎ B → C ⊎ D
   either_way f g (inl x) = inl (f x)
   either_way f g (inr y) = inr (g y)
 
-  word_runs : {s t : AbstractState} {w : List ℕ} {ps : List (ℕ × ℕ)} (f : Start) → RunPairs game w s t ps → Ends game.rules f w → EndsFlat game s f ⊎ RunsBehind game s f
+  word_runs : {s t : AbstractState} {w : List ℕ} {ps : List (ℕ × ℕ)} (f : Start) → RunPairs game w s t ps → Ends game.rules f w → EndsFlat game s f ⊎ RunsAfter game s f
   word_runs f stay ends = inl (inl ends)
   word_runs f (modify {p = p} {w = m} {s = s} {middle = middle} {t = t} {ps = ps} applied modifies run) ends =
       let cut = (locality_law game.rules numbered f [] p m).1.0 ends in
@@ -156,9 +156,9 @@ module _ (game : AbstractGame) (numbered : IsNumbered game.rules) where
       let more = word_runs (after q) run cut.1 in
       either_way
       (λ end. onward_end s f q middle.vertex cut.0 leads (subst (λ (t : AbstractState). EndsFlat game t (after q)) moved end))
-      (λ behind. onward_behind s f q middle.vertex cut.0 leads (subst (λ (t : AbstractState). RunsBehind game t (after q)) moved behind)) more
+      (λ beyond. onward_after s f q middle.vertex cut.0 leads (subst (λ (t : AbstractState). RunsAfter game t (after q)) moved beyond)) more
 
-  pub some_word_runs : (s : AbstractState) (f : Start) → SomeWordRuns game s f → EndsFlat game s f ⊎ RunsBehind game s f
+  pub some_word_runs : (s : AbstractState) (f : Start) → SomeWordRuns game s f → EndsFlat game s f ⊎ RunsAfter game s f
   some_word_runs s f some = word_runs f some.runs some.ends
 
   pub end_runs : (s : AbstractState) (f : Start) → EndsFlat game s f → SomeWordRuns game s f
@@ -167,15 +167,15 @@ module _ (game : AbstractGame) (numbered : IsNumbered game.rules) where
       let pairs = Runs-RunPairs may.runs in
       record { word = may.before; end = may.here; pairs = pairs.0; ends = may.ends; runs = pairs.1 }
 
-  pub behind_runs : (s : AbstractState) (f : Start) → RunsBehind game s f → SomeWordRuns game s f
-  behind_runs s f behind =
-      let words = by_words s f behind.vertex behind.position behind.found.reached in
+  pub after_runs : (s : AbstractState) (f : Start) → RunsAfter game s f → SomeWordRuns game s f
+  after_runs s f beyond =
+      let words = by_words s f beyond.vertex beyond.position beyond.found.reached in
       let first_part = Runs-RunPairs words.runs in
-      let modifier = Runs-RunPairs (step behind.found.applies rest) in
+      let modifier = Runs-RunPairs (step beyond.found.applies rest) in
       record {
-        word = words.before ++ behind.position ∷ behind.runs.word;
-        end = behind.runs.end;
-        pairs = first_part.0 ++ (modifier.0 ++ behind.runs.pairs);
-        ends = (locality_law game.rules numbered f words.before behind.position behind.runs.word).1.1 (words.follows, behind.runs.ends);
-        runs = RunPairs_join first_part.1 (RunPairs_join modifier.1 behind.runs.runs);
+        word = words.before ++ beyond.position ∷ beyond.runs.word;
+        end = beyond.runs.end;
+        pairs = first_part.0 ++ (modifier.0 ++ beyond.runs.pairs);
+        ends = (locality_law game.rules numbered f words.before beyond.position beyond.runs.word).1.1 (words.follows, beyond.runs.ends);
+        runs = RunPairs_join first_part.1 (RunPairs_join modifier.1 beyond.runs.runs);
       }

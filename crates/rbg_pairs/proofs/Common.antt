@@ -1,5 +1,5 @@
 -- The definitions of this crate that most proofs cite, passed on from one place. Declares nothing.
-pub use Rattle.rbg_pairs.specs.Closure.{EndsFlat, IsFound, IsReached, Leads, LeadsToEnd, RunsBehind, at_vertex, first, then}
+pub use Rattle.rbg_pairs.specs.Closure.{EndsFlat, IsFound, IsReached, Leads, LeadsToEnd, RunsAfter, at_vertex, first, then}
 pub use Rattle.rbg_pairs.specs.Flat.{IsBefore, IsFlatPart, IsNext}
 pub use Rattle.rbg_pairs.specs.Meeting.{AreMarked, HasMark, MeetsAll, Met}
 pub use Rattle.rbg_pairs.specs.Met.{IsMetPart}

@@ -92,7 +92,7 @@ goes_on rules (after i) m p (level, u, z, word) =
     let here = word_own word.expression (u ++ i ∷ ((m ++ p ∷ []) ++ z)) word.is_word i (Among_right i u (i ∷ ((m ++ p ∷ []) ++ z)) (inl refl)) in
     record { level = level; expression = word.expression; is_level = word.is_level; stands = here; action = a; own = own }
 
--- Behind a position that comes next patterns nest no deeper.
+-- After a position that comes next patterns nest no deeper.
 pub nests_onward : (rules : Expression) → IsNumbered rules → (n : ℕ) (f : Start) → NestsFrom rules n f → (m : List ℕ) (p : ℕ) → Follows rules f (m ++ p ∷ []) → NestsFrom rules n (after p)
 nests_onward rules numbered n f nests m p follows = record { within = within }
   where

@@ -41,8 +41,8 @@ pub record ReachedEnd (game : AbstractGame) (s : AbstractState) (f : Start) : Ty
 abbrev pub EndsFlat : AbstractGame → AbstractState → Start → Type 0
 EndsFlat game s f = Ends game.rules f [] ⊎ ReachedEnd game s f
 
--- Behind a modifier that may come next some word runs.
-pub record RunsBehind (game : AbstractGame) (s : AbstractState) (f : Start) : Type 0 where
+-- After a modifier that may come next some word runs.
+pub record RunsAfter (game : AbstractGame) (s : AbstractState) (f : Start) : Type 0 where
   pub vertex : ℕ
   pub position : ℕ
   pub found : IsFound game s f vertex position

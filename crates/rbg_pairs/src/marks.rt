@@ -4,7 +4,7 @@ ghost use Rattle.rbg_pairs.specs.Meeting.{HasMark, MeetsAll, AreMarked, is_marke
 
 use rbg_base::{Pair, Position, Vertex};
 
-/// Meets the pairs of a vertex and each of these positions: those that weren't met stand in the room behind the pairs
+/// Meets the pairs of a vertex and each of these positions: those that weren't met stand in the room after the pairs
 /// that were. Returns how many were met then.
 #[inline(always)]
 pub(crate) fn meet_each(

@@ -21,7 +21,7 @@ pub(crate) struct Queue {
     rows: usize,
     /// Whether each pair was met, a bit for each: the first 64 vertices at each position, then the next 64.
     words: Vec<u64>,
-    /// The pairs, and behind them room for more.
+    /// The pairs, and after them room for more.
     room: Vec<Pair>,
     /// How many pairs were met.
     met: usize,
@@ -155,7 +155,7 @@ impl Queue {
     }
 }
 
-/// Makes room for so many pairs more behind those that were met. Where hardly any would be left beside them, it makes
+/// Makes room for so many pairs more after those that were met. Where hardly any would be left beside them, it makes
 /// more.
 #[inline(always)]
 fn make_room(room: &mut Vec<Pair>, met: usize, more: usize) -> Result<(), Memory>

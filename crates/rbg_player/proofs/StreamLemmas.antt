@@ -77,7 +77,7 @@ fails_here player old start inbox fed piece stage middle item error ready same i
     record {
       before = has.taken;
       item = item;
-      behind = drop 1 inbox.items;
+      beyond = drop 1 inbox.items;
       parts = sym fed_is.0 ∙ (has.parts ∙ ap (λ items. has.taken ++ items) (first_and_others inbox.items item first));
       middle = stage;
       said = has.said;

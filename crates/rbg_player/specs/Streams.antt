@@ -66,8 +66,8 @@ pub record HearsPiece
 pub record FailsIn (start : Stage) (items : List Item) (error : PlayerError) : Type 0 where
   pub before : List Item
   pub item : Item
-  pub behind : List Item
-  pub parts : items ≡ before ++ item ∷ behind
+  pub beyond : List Item
+  pub parts : items ≡ before ++ item ∷ beyond
   pub middle : Stage
   pub said : List AbstractMessage
   pub heard : HearsAll start before middle said

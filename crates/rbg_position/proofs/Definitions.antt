@@ -1,7 +1,7 @@
 -- Where a section of a board is defined, `#board` stands in the text.
 use Rattle.rbg_base.proofs.Common.{◌≡◌, ℕ, zero, suc, ◌+◌, ◌||◌, ◌⊎◌, inl, inr, Bool, true, false, cond, List, [], ◌∷◌, ◌++◌, length, take, slice_get, Option, Some, None, Result, Ok, Err, codes, refl, ap, ◌∙◌, arith, list_any, position_or_len, bytes_eq, false≢true, none-some, same_Some, bytes_eq-Decides}
 use Rattle.rbg_grammar.proofs.Common.{same_kind, sections_of, HasSection}
-use Rattle.rbg_macro.proofs.Common.{Definitions, Defined, A_Section, A_Macro, Part, behind_equals, behind_name, defined, defined_as, definitions, definitions_of, expect, is_hash_token, part_of, parts, section_named, with_defined, with_section, ExpandsAll, none, one_more, HasSections, Macro, body_of, SectionTokens, ◌>>=◌}
+use Rattle.rbg_macro.proofs.Common.{Definitions, Defined, A_Section, A_Macro, Part, after_equals, beyond_name, defined, defined_as, definitions, definitions_of, expect, is_hash_token, part_of, parts, section_named, with_defined, with_section, ExpandsAll, none, one_more, HasSections, Macro, body_of, SectionTokens, ◌>>=◌}
 use Rattle.rbg_macro.specs.declared.error.MacroError.{MacroError}
 use Rattle.rbg_macro.specs.declared.error.MacroError.TheVariants.{BadDefinition, Twice}
 use Rattle.rbg_macro.specs.declared.source.SectionKind.{SectionKind}
@@ -22,9 +22,9 @@ found_there : (sections : List SectionTokens) (section : SectionTokens) (rest : 
 found_there [] section rest is = let one : 0 ≡ length (section ∷ rest) = ap length is in absurd (omega (arith, one))
 found_there (s ∷ sections) section rest is = or_here (same_kind s.kind Board) (has_board sections) s section (sections_of Board sections) rest (found_there sections section rest) is
 
-or_more : (test before behind : Bool) → (behind ≡ true → before ≡ true) → (test || behind) ≡ true → (test || before) ≡ true
-or_more true before behind further is = refl
-or_more false before behind further is = further is
+or_more : (test before after : Bool) → (after ≡ true → before ≡ true) → (test || after) ≡ true → (test || before) ≡ true
+or_more true before after further is = refl
+or_more false before after further is = further is
 
 -- expansion keeps the kinds of sections
 board_before : (macros : List Macro) (ss ts : List SectionTokens) (n : ℕ) → ExpandsAll macros ss ts n → has_board ts ≡ true → has_board ss ≡ true
@@ -72,9 +72,9 @@ no_macro false name e (Ok f) is = false≢true is
 no_macro false name e (Err f) is = false≢true is
 
 section_there : (earlier : List Macro) (p : Part) (t : Lexeme) (ts : List Lexeme) (kind : Option SectionKind) → section_named t.text ≡ kind → defines_board (defined_as earlier p t ts kind) ≡ true → t.text ≡ codes "board"
-section_there earlier p t ts (Some kind) named is = named_board t.text kind named (section_kind kind p.at (behind_equals p.end ts) is)
+section_there earlier p t ts (Some kind) named is = named_board t.text kind named (section_kind kind p.at (after_equals p.end ts) is)
 section_there earlier p t ts None named is =
-    absurd (no_macro (list_any (λ (m : Macro). bytes_eq t.text m.name) earlier) t.text (Twice t.at) (behind_name p.end ts) is)
+    absurd (no_macro (list_any (λ (m : Macro). bytes_eq t.text m.name) earlier) t.text (Twice t.at) (beyond_name p.end ts) is)
 
 name_there : (earlier : List Macro) (p : Part) (t : Lexeme) (ts : List Lexeme) (test : Bool)
     → defines_board (◌>>=◌ {A = Lexeme × List Lexeme} (cond test (Ok (t, ts)) (Err (BadDefinition t.at))) (λ found. defined_as earlier p found.0 found.1 (section_named found.0.text))) ≡ true → t.text ≡ codes "board"

@@ -77,18 +77,18 @@ pub none_written : (game : AbstractGame) (pieces : List ℕ) (ts : List Lexeme) 
 none_written game pieces ts old = record { text = sym (append-nil old); vertex_is = refl; inside_is = refl; last_is = refl }
 
 -- how many name pieces, with one token more
-abbrev pub Counts : (is_piece : Bool) → (before behind : ℕ) → Type 0
-Counts is_piece before behind = ((is_piece ≡ true) × (behind ≡ before + 1)) ⊎ ((is_piece ≡ false) × (behind ≡ before))
+abbrev pub Counts : (is_piece : Bool) → (before after : ℕ) → Type 0
+Counts is_piece before after = ((is_piece ≡ true) × (after ≡ before + 1)) ⊎ ((is_piece ≡ false) × (after ≡ before))
 
-pub counts_within : (is_piece : Bool) (before behind i : ℕ) → Counts is_piece before behind → before ≤ i → behind ≤ i + 1
-counts_within is_piece before behind i (inl (is, one)) within = omega (arith, one, within)
-counts_within is_piece before behind i (inr (is, none)) within = omega (arith, none, within)
+pub counts_within : (is_piece : Bool) (before after i : ℕ) → Counts is_piece before after → before ≤ i → after ≤ i + 1
+counts_within is_piece before after i (inl (is, one)) within = omega (arith, one, within)
+counts_within is_piece before after i (inr (is, none)) within = omega (arith, none, within)
 
-counted : (is_piece named : Bool) (before behind vertex next : ℕ) → is_piece ≡ named → before ≡ vertex → next ≡ vertex + cond named 1 0 → Counts is_piece before behind → behind ≡ next
-counted is_piece named before behind vertex next same here more (inl (is, one)) =
+counted : (is_piece named : Bool) (before after vertex next : ℕ) → is_piece ≡ named → before ≡ vertex → next ≡ vertex + cond named 1 0 → Counts is_piece before after → after ≡ next
+counted is_piece named before after vertex next same here more (inl (is, one)) =
     let step : next ≡ vertex + 1 = more ∙ ap (λ (test : Bool). vertex + cond test 1 0) (sym same ∙ is) in
     omega (arith, one, here, step)
-counted is_piece named before behind vertex next same here more (inr (is, none)) =
+counted is_piece named before after vertex next same here more (inr (is, none)) =
     let step : next ≡ vertex + 0 = more ∙ ap (λ (test : Bool). vertex + cond test 1 0) (sym same ∙ is) in
     omega (arith, none, here, step)
 

@@ -3,7 +3,7 @@ use Rattle.std.specs.Prelude.{◌≡◌, ℕ, List, None}
 use Rattle.rbg_rules.specs.Meaning.{AbstractGame, start_of, AbstractPlace}
 use Rattle.rbg_moves.specs.Settling.{Settles}
 use Rattle.rbg_game.specs.Loading.{Loads}
-use Rattle.rbg_view.specs.Telling.{Told, IsTelling}
+use Rattle.rbg_record.specs.Reaching.{IsPlaceAfter}
 use Rattle.rbg_position.specs.Same.{game_with}
 use Rattle.rbg_position.specs.Boards.{IsRewritten}
 use Rattle.rbg_position.specs.Sections.{IsSectionOf}
@@ -42,6 +42,6 @@ pub record IsDescription (text : List ℕ) (game : AbstractGame) (place : Abstra
 
 -- The bytes are those of a right record of the game, and the new text is the description of the place to which it leads.
 pub record IsPosition (text : List ℕ) (game : AbstractGame) (bytes new : List ℕ) : Type 0 where
-  pub told : Told
-  pub tells : IsTelling game bytes told
-  pub describes : IsDescription text game told.place new
+  pub place : AbstractPlace
+  pub after : IsPlaceAfter game bytes place
+  pub describes : IsDescription text game place new

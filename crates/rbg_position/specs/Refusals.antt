@@ -4,9 +4,9 @@ use Rattle.rbg_rules.specs.Meaning.{AbstractGame, AbstractPlace}
 use Rattle.rbg_moves.specs.Settling.{Settles, MeetsHeavy, IsEndless}
 use Rattle.rbg_game.specs.Loading.{Loads, IsMemory, IsRefused as IsRefusedText}
 use Rattle.rbg_game.specs.declared.error.LoadError.{LoadError}
-use Rattle.rbg_view.specs.Pages.{IsRefused}
-use Rattle.rbg_view.specs.Telling.{Told, IsTelling}
-use Rattle.rbg_view.specs.declared.error.PageError.{PageError}
+use Rattle.rbg_record.specs.declared.fault.Misfit.{Misfit}
+use Rattle.rbg_record.specs.Judged.{IsMisfit}
+use Rattle.rbg_record.specs.Reaching.{IsPlaceAfter}
 use Rattle.rbg_position.specs.Positions.{first_place, game_at, IsTextAt}
 use Rattle.rbg_position.specs.declared.error.PositionError.{PositionError}
 use Rattle.rbg_position.specs.declared.error.PositionError.TheVariants.{Record, Value, Turn, Keeper, Unsettled, Refused, Memory}
@@ -57,7 +57,7 @@ pub data IsUndescribed (text : List ℕ) (game : AbstractGame) (place : Abstract
 
 -- Why there is no description of the place to which a record leads: the record isn't right, or the place has none.
 pub data IsNoPosition (text : List ℕ) (game : AbstractGame) (bytes : List ℕ) : PositionError → Type 0 where
-  wrong : {error : PageError} → IsRefused game bytes error → IsNoPosition text game bytes (Record error)
-  undescribed : {told : Told} {error : PositionError} →
-      IsTelling game bytes told →
-      IsUndescribed text game told.place error → IsNoPosition text game bytes error
+  wrong : {misfit : Misfit} → IsMisfit game bytes misfit → IsNoPosition text game bytes (Record misfit)
+  undescribed : {place : AbstractPlace} {error : PositionError} →
+      IsPlaceAfter game bytes place →
+      IsUndescribed text game place error → IsNoPosition text game bytes error

@@ -17,7 +17,7 @@ use crate::same_game::is_game_with;
 use rbg_game::{Game, LoadError, load};
 use rbg_macro::Tokens;
 use rbg_moves::{Place, PlayedGame};
-use rbg_view::follow_record;
+use rbg_record::place_after;
 use std::alloc::Global;
 
 /// The description of the place to which a record of the game of a text leads: the text with the board as it stands
@@ -35,8 +35,8 @@ pub fn position(
     ensures described { IfOk result (λ new. IsPosition text.now game.now bytes.now new.items) }
     ensures refused { IfErr result (IsNoPosition text.now game.now bytes.now) }
 {
-    let followed = follow_record(alloc, game, bytes)?;
-    let new = describe(alloc, text, tokens, game, followed.last_place())?;
+    let place = place_after(game, bytes)?;
+    let new = describe(alloc, text, tokens, game, &place)?;
     Ok(new)
 }
 

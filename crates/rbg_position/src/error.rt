@@ -3,16 +3,16 @@ ghost use Rattle.std.specs.Prelude.{◌≡◌};
 ghost use Rattle.rbg_position.specs.declared.error.PositionError.TheVariants.{Memory as OutOfMemory, Record};
 
 use rbg_base::{Memory, Player, Variable};
-use rbg_view::PageError;
+use rbg_record::Misfit;
 use thiserror::Error;
 
 /// Why there is no description of the place to which a record leads.
 #[derive(Clone, Copy, Debug, PartialEq, Eq, Error)]
 pub enum PositionError {
     /// The record isn't right.
-    #[error("the record isn't right: {error}")]
+    #[error("the record isn't right: {misfit}")]
     Record {
-        error: PageError,
+        misfit: Misfit,
     },
     /// A variable holds another number there than where the description begins.
     #[error("variable {variable} holds {there} after the record's moves, and {here} at the beginning")]
@@ -41,11 +41,11 @@ pub enum PositionError {
     Memory,
 }
 
-impl From<PageError> for PositionError {
-    ghost from_gives = { λ error new. new ≡ Record error };
+impl From<Misfit> for PositionError {
+    ghost from_gives = { λ misfit new. new ≡ Record misfit };
 
-    fn from(error: PageError) -> PositionError {
-        PositionError::Record { error }
+    fn from(misfit: Misfit) -> PositionError {
+        PositionError::Record { misfit }
     }
 }
 

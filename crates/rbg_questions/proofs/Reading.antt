@@ -68,8 +68,8 @@ unfolding question_text
 spells_random text seed count h = record { has = (h.seeded, h.counted); is = h.is }
 
 -- what stands after the same word
-pub behind_word : (text word rest more : List ℕ) → text ≡ word ++ rest → text ≡ word ++ more → rest ≡ more
-behind_word text word rest more h k = same_end word rest more (sym h ∙ k)
+pub after_word : (text word rest more : List ℕ) → text ≡ word ++ rest → text ≡ word ++ more → rest ≡ more
+after_word text word rest more h k = same_end word rest more (sym h ∙ k)
 
 -- what the reader of pairs leaves out
 pub pairs_not_read : (text : List ℕ) (answer : Result (List (ℕ × ℕ)) WireError) (pairs : List (ℕ × ℕ)) → ((ps : List (ℕ × ℕ)) → SpellsPairs text ps → length ps ≤ 200 → answer ≡ Ok ps) → None ≡ result_ok answer → ArePairs pairs → length pairs ≤ 200 → text ≡ pairs_text pairs → ⊥
@@ -89,8 +89,8 @@ after_chance line fields seed count cut is =
     same_end (codes "random ") fields (decimal seed ++ 32 ∷ decimal count)
     (sym cut ∙ (is ∙ (append_assoc (codes "random " ++ decimal seed) (codes " ") (decimal count) ∙ append_assoc (codes "random ") (decimal seed) (codes " " ++ decimal count))))
 
-pub chance_spelled : (line fields before behind : List ℕ) (seed count : ℕ) → line ≡ codes "random " ++ fields → fields ≡ before ++ 32 ∷ behind → before ≡ decimal seed → behind ≡ decimal count → IsSeed seed → IsCount count → SpellsChance line seed count
-chance_spelled line fields before behind seed count cut parts is_seed is_count seeded counted =
+pub chance_spelled : (line fields before after : List ℕ) (seed count : ℕ) → line ≡ codes "random " ++ fields → fields ≡ before ++ 32 ∷ after → before ≡ decimal seed → after ≡ decimal count → IsSeed seed → IsCount count → SpellsChance line seed count
+chance_spelled line fields before after seed count cut parts is_seed is_count seeded counted =
     let whole : fields ≡ decimal seed ++ 32 ∷ decimal count = parts ∙ (λ i. is_seed i ++ 32 ∷ is_count i) in
     record {
       seeded = seeded;
@@ -108,6 +108,6 @@ no_chance_space line fields cut lacks seed count h =
     no_fields fields (decimal count) seed lacks (after_chance line fields seed count cut h.is)
 
 -- the two fields are those of the question
-pub chance_parts : (line fields before behind : List ℕ) → line ≡ codes "random " ++ fields → fields ≡ before ++ 32 ∷ behind → LacksByte 32 before → (seed count : ℕ) → SpellsChance line seed count → (before ≡ decimal seed) × (behind ≡ decimal count)
-chance_parts line fields before behind cut parts lacks seed count h =
-    cut_fields fields before behind parts lacks seed (decimal count) h.seeded (after_chance line fields seed count cut h.is)
+pub chance_parts : (line fields before after : List ℕ) → line ≡ codes "random " ++ fields → fields ≡ before ++ 32 ∷ after → LacksByte 32 before → (seed count : ℕ) → SpellsChance line seed count → (before ≡ decimal seed) × (after ≡ decimal count)
+chance_parts line fields before after cut parts lacks seed count h =
+    cut_fields fields before after parts lacks seed (decimal count) h.seeded (after_chance line fields seed count cut h.is)

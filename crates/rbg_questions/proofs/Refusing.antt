@@ -12,7 +12,7 @@ use Rattle.rbg_questions.specs.declared.error.CountError.TheVariants as errors
 use Rattle.rbg_questions.specs.declared.extent.Extent.{Extent}
 use Rattle.rbg_questions.specs.declared.extent.Extent.TheVariants.{Ends}
 use Rattle.rbg_questions.specs.Refusals.{IsAsked, IsNotCounted, IsNotCountedFrom}
-use Rattle.rbg_questions.specs.Refusals.Meets.{here, behind}
+use Rattle.rbg_questions.specs.Refusals.Meets.{here, after}
 use Rattle.rbg_questions.specs.Refusals.AsksTooMuch.{keeper, player}
 use Rattle.rbg_questions.specs.internal.CountRefusing.{error_of_over}
 
@@ -32,11 +32,11 @@ unsettled_refused T game moves extent place unsettled.Endless asked hard stuck =
 unsettled_refused T game moves extent place unsettled.Memory asked hard stuck = tt
 
 -- what is wrong after a first move is wrong after the keeper's moves and that one
-pub behind_first : (game : AbstractGame) (moves : ℕ) (extent : Extent) (place to next : AbstractPlace) (pairs : List (ℕ × ℕ)) (error : CountError) → Settles game place to → Legal game to pairs next → IsNotCounted game moves extent next error → IsNotCounted game (suc moves) extent place error
-behind_first game moves extent place to next pairs (errors.Unsettled unsettled.Heavy) settles legal wrong = behind settles legal wrong
-behind_first game moves extent place to next pairs (errors.Unsettled unsettled.Endless) settles legal wrong = behind settles legal wrong
-behind_first game moves extent place to next pairs (errors.Unsettled unsettled.Memory) settles legal wrong = tt
-behind_first game moves extent place to next pairs errors.TooMany settles legal wrong = behind settles legal wrong
+pub beyond_first : (game : AbstractGame) (moves : ℕ) (extent : Extent) (place to next : AbstractPlace) (pairs : List (ℕ × ℕ)) (error : CountError) → Settles game place to → Legal game to pairs next → IsNotCounted game moves extent next error → IsNotCounted game (suc moves) extent place error
+beyond_first game moves extent place to next pairs (errors.Unsettled unsettled.Heavy) settles legal wrong = after settles legal wrong
+beyond_first game moves extent place to next pairs (errors.Unsettled unsettled.Endless) settles legal wrong = after settles legal wrong
+beyond_first game moves extent place to next pairs (errors.Unsettled unsettled.Memory) settles legal wrong = tt
+beyond_first game moves extent place to next pairs errors.TooMany settles legal wrong = after settles legal wrong
 
 -- where there is a move to count
 pub refused_next : (game : AbstractGame) (moves : ℕ) (extent : Extent) (place : AbstractPlace) (error : CountError) → 0 < moves → IsNotCounted game (suc (moves - 1)) extent place error → IsNotCounted game moves extent place error

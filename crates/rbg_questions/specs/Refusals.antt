@@ -28,7 +28,7 @@ pub data Meets (Wrong : (moves : ℕ) → AbstractPlace → Type 0) (game : Abst
       IsAsked moves extent →
       Wrong moves place →
       Meets Wrong game extent moves place
-  behind :
+  after :
       {moves : ℕ} {place to next : AbstractPlace} {pairs : List (ℕ × ℕ)} →
       Settles game place to →
       Legal game to pairs next →

@@ -125,8 +125,8 @@ fn count_after(
     for index in 0..firsts.len() {
         let pairs = firsts.get(index);
         lead(game, place, pairs, &mut to)?;
-        let behind = count_from(game, &mut to, further, extent, workspace)?;
-        counts = counts.join(behind).ok_or(CountError::TooMany)?;
+        let after = count_from(game, &mut to, further, extent, workspace)?;
+        counts = counts.join(after).ok_or(CountError::TooMany)?;
     }
     workspace.keep(to);
     Ok(counts)

@@ -4,9 +4,10 @@ use Rattle.rbg_rules.specs.Meaning.{AbstractGame, AbstractPlace}
 use Rattle.rbg_record.specs.declared.heading.Start.{Start}
 use Rattle.rbg_record.specs.declared.heading.Version.{Version}
 use Rattle.rbg_record.specs.declared.heading.Version.TheVariants.{One, Two}
-use Rattle.rbg_record.specs.Heading.{version_text, SpellsStart}
+use Rattle.rbg_record.specs.Heading.{version_text, SpellsPlayers, SpellsStart}
+use Rattle.rbg_record.proofs.Apart.{headings_apart, one_start}
 use Rattle.rbg_match.proofs.Common.{IsWithinLimits, start_place, latest_moment}
-use Rattle.rbg_record.proofs.Common.{turn_config, version_next, players_next, start_next, entry_next, Leads}
+use Rattle.rbg_record.proofs.Common.{turn_config, Reached, version_next, players_next, start_next, entry_next, Leads}
 use Rattle.rbg_record.specs.Lines as lines
 
 pub begun_one : (game : AbstractGame) (text : List ℕ) (version : Version) (place : AbstractPlace) → text ≡ version_text version → version ≡ One → place ≡ start_place game → Leads game version_next text (entry_next (record { version = One; turn_ms = 1; last = 0; place = place }))
@@ -21,3 +22,13 @@ pub begun_start : (game : AbstractGame) (text : List ℕ) (start : Start) (place
 begun_start game text start place spells lawful counted is =
     subst (λ (begun : AbstractPlace). Leads game start_next text (entry_next (record { version = Two; turn_ms = start.turn_ms; last = start.now; place = begun }))) (sym is)
     (lines.start spells lawful counted)
+
+pub same_players : (game : AbstractGame) (text : List ℕ) (names : List (List ℕ)) → SpellsPlayers text names → names ≡ game.players → Leads game players_next text start_next
+same_players game text names spells same = lines.players (subst (λ (those : List (List ℕ)). SpellsPlayers text those) same spells)
+
+pub other_players : (game : AbstractGame) (text : List ℕ) (names : List (List ℕ)) → SpellsPlayers text names → (names ≡ game.players → ⊥) → (to : Reached) → Leads game players_next text to → ⊥
+other_players game text names spells other to (lines.players spells') = other (headings_apart.players text names game.players spells spells')
+
+pub unlawful_start : (game : AbstractGame) (text : List ℕ) (start : Start) → SpellsStart text start → (IsWithinLimits (turn_config start.turn_ms) × (start.now ≤ latest_moment) → ⊥) → (to : Reached) → Leads game start_next text to → ⊥
+unlawful_start game text start spells unlawful to (lines.start {start = other} spells' lawful counted) =
+    unlawful (subst (λ (one : Start). IsWithinLimits (turn_config one.turn_ms) × (one.now ≤ latest_moment)) (one_start text other start spells' spells) (lawful, counted))

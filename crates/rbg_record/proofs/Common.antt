@@ -1,20 +1,21 @@
 -- The definitions of this crate that most proofs cite, passed on from one place. Declares nothing.
 pub use Rattle.rbg_record.specs.ByLine.{IsReachedIn, Refuses, RefusesEntry, reached_of}
-pub use Rattle.rbg_record.specs.Judged.{BeginsWith, FitsUnasked, GoesOn, HasFormFault, IsBadLine, IsFormFault, IsGoodByLines, IsHeavyLine, IsJudged, IsLineOf}
+pub use Rattle.rbg_record.specs.Judged.{FitsUnasked, IsBadLine, IsFormFault, IsGoodByLines, IsHeavyLine, IsJudged, IsLineOf, IsMisfit}
 pub use Rattle.rbg_record.specs.Laws.{GoodByLines, IsUndecided, MatchesAreRight, OneJudgement, OnePlainFault, OneRecord}
-pub use Rattle.rbg_record.specs.Lines.{EntryLeads, HasForm, IsMomentFor, LeadTo, Leads, Reached, SpellsIn, Standing, entry_next, nothing_next, play_at, players_next, start_next, unwritten_moment, version_next, with_moment}
-pub use Rattle.rbg_record.specs.Migration.{HasPlainForm, IsMigrated, IsPlainFault, IsPlainSoFar, PlainPart, among_moves, before_version, behind_end, migrated}
+pub use Rattle.rbg_record.specs.Lines.{EntryLeads, HasForm, IsMomentFor, LeadTo, Leads, Reached, MatchSoFar, entry_next, next_of, nothing_next, play_at, players_next, start_next, version_next}
+pub use Rattle.rbg_record.specs.Migration.{HasPlainForm, IsMigrated, IsPlainFault, IsPlainSoFar, PlainPart, among_moves, before_version, beyond_end, migrated}
 pub use Rattle.rbg_record.specs.OfMatch.{WritesRecord, plain_move, plain_record_of, record_of}
-pub use Rattle.rbg_record.specs.Reaching.{place_in}
+pub use Rattle.rbg_record.specs.Reaching.{IsPlaceAfter, place_in}
 pub use Rattle.rbg_record.specs.Records.{AbstractRecord, HasSpelling, PlainMove, PlainRecord, Spells, TimedRecord, made_entry, plain, plain_entries, plain_entry, texts_of, timed, timed_entries}
 pub use Rattle.rbg_record.specs.Right.{FitsPlace, IsRight, IsRightPlain, IsRightRecord, IsRightTimed, made_at, told_play, turn_config}
 pub use Rattle.rbg_record.specs.declared.checked.Checked.{Checked}
 pub use Rattle.rbg_record.specs.declared.checked.Checked.TheVariants.{Bad, Good}
 pub use Rattle.rbg_record.specs.declared.error.RecordError.{RecordError}
 pub use Rattle.rbg_record.specs.declared.error.RecordError.TheVariants.{Form, Memory, Over}
-pub use Rattle.rbg_record.specs.declared.fault.Fault.{Fault}
+pub use Rattle.rbg_record.specs.declared.fault.LineFault.{LineFault}
+pub use Rattle.rbg_record.specs.declared.fault.Misfit.{Misfit}
 pub use Rattle.rbg_record.specs.internal.Faults.{told_at}
-pub use Rattle.rbg_record.specs.internal.Migrating.{IsMigratedSoFar, IsTold, Migrates, TellsAll, head_texts, part_behind, timed_texts}
+pub use Rattle.rbg_record.specs.internal.Following.{EndsAt, IsAt, ends_at}
+pub use Rattle.rbg_record.specs.internal.Migrating.{AreMigrated, IsPlainNext, IsPlainRefusal, IsTold, Migrates, MigratesLine, TellsAll, head_texts, part_of, timed_texts}
 pub use Rattle.rbg_record.specs.internal.Reading.{EndsSo, SomeIsLegal}
-pub use Rattle.rbg_record.specs.internal.SoFar.{IsCutSoFar, IsReadSoFar}
 pub use Rattle.rbg_record.specs.internal.Written.{entries_bytes, made_text, told_text}

@@ -1,6 +1,6 @@
 -- Of a record only one answer is true.
-use Rattle.rbg_base.proofs.Common.{◌≡◌, ℕ, ◌+◌, List, [], ◌∷◌, ◌++◌, length, Result, Ok, Err, refl, sym, ap, ◌∙◌, subst, append_assoc, append-nil, IfOk, ◌↔◌, flat_map-append}
-use Rattle.rbg_wire.proofs.Common.{LacksByte, line_feed, line_of, lines_of}
+use Rattle.rbg_base.proofs.Common.{◌≡◌, ℕ, ◌+◌, List, [], ◌∷◌, ◌++◌, length, Result, Ok, Err, refl, sym, ap, ◌∙◌, subst, IfOk, ◌↔◌}
+use Rattle.rbg_wire.proofs.Common.{LacksByte, line_feed}
 use Rattle.rbg_rules.specs.Meaning.{IsNumbered, AbstractGame, AbstractPlace, Legal}
 use Rattle.rbg_rules.proofs.PlaceLemmas.{one_place_law}
 use Rattle.rbg_record.specs.declared.entry.Entry.{Entry}
@@ -9,8 +9,10 @@ use Rattle.rbg_record.specs.declared.entry.Timed.{Timed}
 use Rattle.rbg_record.specs.declared.heading.Version.{Version}
 use Rattle.rbg_record.specs.declared.heading.Version.TheVariants.{One, Two}
 use Rattle.rbg_record.specs.Heading.{version_text}
+use Rattle.rbg_record.proofs.LineCommon.{BeginsWith, SpellsIn, unwritten_moment}
 use Rattle.rbg_record.proofs.Apart.{entries_apart, headings_apart, one_start}
-use Rattle.rbg_record.proofs.Common.{Checked, Good, Bad, RecordError, Form, Over, Memory, IsRightRecord, Standing, Reached, version_next, nothing_next, entry_next, unwritten_moment, HasForm, SpellsIn, EntryLeads, Leads, LeadTo, BeginsWith, IsGoodByLines, IsFormFault, IsBadLine, IsJudged, OneJudgement, GoodByLines}
+use Rattle.rbg_record.proofs.Stopping.{last_line}
+use Rattle.rbg_record.proofs.Common.{Checked, Good, Bad, RecordError, Form, Over, Memory, IsRightRecord, MatchSoFar, Reached, version_next, nothing_next, entry_next, HasForm, EntryLeads, Leads, LeadTo, IsGoodByLines, IsFormFault, IsBadLine, IsJudged, OneJudgement, GoodByLines}
 use Rattle.rbg_match.specs.History.{start_place}
 use Rattle.rbg_record.specs.Lines as lines
 use Rattle.rbg_record.proofs.Leading.{all_first, all_last, right_is_good}
@@ -26,21 +28,21 @@ one_told One text a b one other =
 one_told Two text a b one other = entries_apart.timed text a b one other
 
 -- what an entry leads to
-abbrev Behind : AbstractGame → Standing → ℕ → Entry → Reached → Type 0
-Behind game standing at (Move player pairs) to = (next : AbstractPlace) × Legal game standing.place pairs next × (to ≡ entry_next (record standing { last = at; place = next }))
-Behind game standing at (Ends outcome) to = to ≡ nothing_next
+abbrev After : AbstractGame → MatchSoFar → ℕ → Entry → Reached → Type 0
+After game standing at (Move player pairs) to = (next : AbstractPlace) × Legal game standing.place pairs next × (to ≡ entry_next (record standing { last = at; place = next }))
+After game standing at (Ends outcome) to = to ≡ nothing_next
 
-behind : (game : AbstractGame) (standing : Standing) (told : Timed) (to : Reached) → EntryLeads game standing told to → Behind game standing told.at told.entry to
-behind game standing told to (lines.move {to = next} mover moment counted legal) = (next, legal, refl)
-behind game standing told to (lines.end fits counted) = refl
+after : (game : AbstractGame) (standing : MatchSoFar) (told : Timed) (to : Reached) → EntryLeads game standing told to → After game standing told.at told.entry to
+after game standing told to (lines.move {to = next} mover moment counted legal) = (next, legal, refl)
+after game standing told to (lines.end fits counted) = refl
 
-one_behind : (game : AbstractGame) → IsNumbered game.rules → (standing : Standing) (at : ℕ) (entry : Entry) (to to' : Reached) → Behind game standing at entry to → Behind game standing at entry to' → to ≡ to'
-one_behind game numbered standing at (Move player pairs) to to' one other =
+one_beyond : (game : AbstractGame) → IsNumbered game.rules → (standing : MatchSoFar) (at : ℕ) (entry : Entry) (to to' : Reached) → After game standing at entry to → After game standing at entry to' → to ≡ to'
+one_beyond game numbered standing at (Move player pairs) to to' one other =
     let same = one_place_law game numbered standing.place pairs one.0 other.0 one.1 other.1 in
     one.2 ∙ (ap (λ (next : AbstractPlace). entry_next (record standing { last = at; place = next })) same ∙ sym other.2)
-one_behind game numbered standing at (Ends outcome) to to' one other = one ∙ sym other
+one_beyond game numbered standing at (Ends outcome) to to' one other = one ∙ sym other
 
-no_versions : (text : List ℕ) → text ≡ version_text One → text ≡ version_text Two → ⊥
+pub no_versions : (text : List ℕ) → text ≡ version_text One → text ≡ version_text Two → ⊥
 no_versions text one two = let same : One ≡ Two = headings_apart.versions One Two (sym one ∙ two) in cc
 
 one_lead : (game : AbstractGame) → IsNumbered game.rules → (from : Reached) (text : List ℕ) (to to' : Reached) → Leads game from text to → Leads game from text to' → to ≡ to'
@@ -54,7 +56,7 @@ one_lead game numbered from text to to' (lines.start {start = start} spells lawf
     ap (λ begun. entry_next (record { version = Two; turn_ms = begun.turn_ms; last = begun.now; place = start_place game })) same
 one_lead game numbered from text to to' (lines.entry {standing = standing} {told = told} spells leads) (lines.entry {told = told'} spells' leads') =
     let same = one_told standing.version text told told' spells spells' in
-    one_behind game numbered standing told.at told.entry to to' (behind game standing told to leads) (subst (λ (entry : Timed). Behind game standing entry.at entry.entry to') (sym same) (behind game standing told' to' leads'))
+    one_beyond game numbered standing told.at told.entry to to' (after game standing told to leads) (subst (λ (entry : Timed). After game standing entry.at entry.entry to') (sym same) (after game standing told' to' leads'))
 
 formed : (game : AbstractGame) (from : Reached) (text : List ℕ) (to : Reached) → Leads game from text to → HasForm from text
 formed game from text to (lines.version_1 is) = (One, is)
@@ -87,12 +89,6 @@ one_stop : (game : AbstractGame) → IsNumbered game.rules → (bytes : List ℕ
 one_stop game numbered bytes m n end end' one other =
     let same = one_end (reading game numbered) version_next one.texts other.texts one.rest other.rest bytes one.to other.to end end' one.begins.whole other.begins.whole one.begins.parts other.begins.parts one.chain other.chain one.stops other.stops in
     (one.number ∙ (same.0 ∙ sym other.number), same.1)
-
--- the last of some lines, as the first one of what follows the others
-pub last_line : (texts : List (List ℕ)) (text rest : List ℕ) → lines_of (texts ++ text ∷ []) ++ rest ≡ lines_of texts ++ (text ++ line_feed ∷ rest)
-last_line texts text rest =
-    ap (λ bytes. bytes ++ rest) (flat_map-append line_of texts (text ∷ []) ∙ ap (λ bytes. lines_of texts ++ bytes) (append-nil (line_of text)))
-    ∙ (append_assoc (lines_of texts) (line_of text) rest ∙ ap (λ bytes. lines_of texts ++ bytes) (append_assoc text (line_feed ∷ []) rest))
 
 stops_good : (game : AbstractGame) (bytes : List ℕ) (judged : IsGoodByLines game bytes) → StopsAfter game bytes (length judged.texts) good
 stops_good game bytes judged = record {

@@ -7,7 +7,8 @@ use Rattle.rbg_record.specs.declared.entry.Entry.TheVariants.{End}
 use Rattle.rbg_match.specs.declared.config.Config.{Config}
 use Rattle.rbg_match.specs.declared.made.Made.{Made}
 use Rattle.rbg_match.proofs.Common.{FitsOutcome, AbstractPlay}
-use Rattle.rbg_record.proofs.Common.{told_play, turn_config, FitsPlace, unwritten_moment}
+use Rattle.rbg_record.specs.Entries.{unwritten_moment}
+use Rattle.rbg_record.proofs.Common.{told_play, turn_config, FitsPlace}
 
 -- without the moments
 pub fits_place : (game : AbstractGame) (config : Config) (play : AbstractPlay) (last at : ℕ) (outcome : Option Outcome) → FitsOutcome game config play last at outcome → FitsPlace game play.place outcome

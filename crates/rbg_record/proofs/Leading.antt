@@ -13,7 +13,8 @@ use Rattle.rbg_match.specs.declared.config.Config.{Config}
 use Rattle.rbg_match.specs.declared.made.Made.{Made}
 use Rattle.rbg_match.proofs.Common.{LeadsTo, MadeInTurn, IsInTurn, start_place, latest_moment}
 use Rattle.rbg_match.specs.History as history
-use Rattle.rbg_record.proofs.Common.{PlainMove, PlainRecord, TimedRecord, AbstractRecord, plain, timed, plain_entry, made_entry, plain_entries, timed_entries, texts_of, HasSpelling, turn_config, told_play, made_at, IsRight, IsRightPlain, IsRightTimed, IsRightRecord, entry_next, nothing_next, unwritten_moment, LeadTo, IsGoodByLines}
+use Rattle.rbg_record.specs.Entries.{unwritten_moment}
+use Rattle.rbg_record.proofs.Common.{PlainMove, PlainRecord, TimedRecord, AbstractRecord, plain, timed, plain_entry, made_entry, plain_entries, timed_entries, texts_of, HasSpelling, turn_config, told_play, made_at, IsRight, IsRightPlain, IsRightTimed, IsRightRecord, entry_next, nothing_next, LeadTo, IsGoodByLines}
 use Rattle.rbg_record.specs.Lines as lines
 use Rattle.rbg_record.proofs.Telling.{zero_or_not}
 use Rattle.rbg_record.proofs.Fitting.{fits_unwritten, fits_same, fits_later}

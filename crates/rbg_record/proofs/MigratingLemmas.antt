@@ -1,32 +1,85 @@
 -- Version 2 of a record of version 1, line by line.
-use Rattle.rbg_base.proofs.Common.{◌≡◌, ℕ, ◌+◌, List, [], ◌∷◌, ◌++◌, map, Option, refl, sym, ap, ◌∙◌, subst, arith, append-nil, append_assoc, All, Result, Err, ◌↔◌, flat_map-append, map-append, All-nil, All-cons, All-head, All-tail, All-push}
-use Rattle.rbg_wire.proofs.Common.{LacksByte, line_feed, line_of, lines_of}
+use Rattle.rbg_base.proofs.Common.{◌≡◌, ℕ, List, [], ◌∷◌, ◌++◌, map, Option, refl, sym, ap, ◌∙◌, subst, arith, append-nil, append_assoc, All, Result, Ok, Err, IfErr, IfOk, ◌↔◌, flat_map-append, map-append, All-nil, All-cons, All-head, All-tail, All-push}
+use Rattle.rbg_wire.proofs.Common.{line_of, lines_of}
 use Rattle.rbg_wire.specs.declared.outcome.Outcome.{Outcome}
 use Rattle.rbg_rules.specs.Meaning.{AbstractGame, AbstractPlace}
 use Rattle.rbg_record.specs.declared.entry.Entry.{Entry}
 use Rattle.rbg_record.specs.declared.entry.Entry.TheVariants.{Move, End}
 use Rattle.rbg_record.specs.declared.entry.Timed.{Timed}
+use Rattle.rbg_record.specs.declared.form_error.FormError.{FormError}
+use Rattle.rbg_record.specs.declared.heading.Start.{Start}
 use Rattle.rbg_record.specs.declared.heading.Version.{Version}
 use Rattle.rbg_record.specs.declared.heading.Version.TheVariants.{One, Two}
-use Rattle.rbg_record.proofs.LineCommon.{entry_text, timed_text, EntryHasSpelling, TimedHasSpelling, SpellsEntry, version_text, players_text, start_text, HaveNames, IsFirstLine}
+use Rattle.rbg_record.specs.declared.line.Content.{Content}
+use Rattle.rbg_record.specs.declared.line.Content.TheVariants as contents
+use Rattle.rbg_record.specs.declared.line.RecordLine.{RecordLine}
+use Rattle.rbg_record.specs.declared.next.Next.{Next}
+use Rattle.rbg_record.specs.declared.next.Next.TheVariants as nexts
+use Rattle.rbg_record.proofs.Stopping.{IsReadSoFar, goes_on_so, not_formed, read_as, read_stops}
+use Rattle.rbg_record.proofs.LineCommon.{entry_text, timed_text, EntryHasSpelling, TimedHasSpelling, SpellsEntry, version_text, players_text, start_text, HaveNames, HasForm, Left, Misreads, Says, TakesLine, next_after}
 use Rattle.rbg_match.specs.declared.made.Made.{Made}
 use Rattle.rbg_match.specs.History.{LeadsTo, MadeInTurn}
 use Rattle.rbg_match.specs.History as history
-use Rattle.rbg_record.proofs.Common.{RecordError, Form, PlainMove, PlainRecord, plain, timed, plain_entry, made_entry, texts_of, made_at, turn_config, told_play, IsRight, IsRightPlain, IsRightTimed, with_moment, unwritten_moment, PlainPart, before_version, among_moves, behind_end, HasPlainForm, IsPlainSoFar, IsPlainFault, IsMigrated, migrated, Migrates, IsMigratedSoFar, TellsAll, IsTold, part_behind, head_texts, timed_texts}
+use Rattle.rbg_record.specs.Entries.{unwritten_moment, with_moment}
+use Rattle.rbg_record.proofs.Common.{RecordError, Form, PlainMove, PlainRecord, plain, timed, plain_entry, made_entry, texts_of, made_at, turn_config, told_play, IsRight, IsRightPlain, IsRightTimed, PlainPart, before_version, among_moves, beyond_end, HasPlainForm, IsPlainSoFar, IsPlainFault, IsMigrated, migrated, AreMigrated, IsPlainNext, IsPlainRefusal, Migrates, MigratesLine, TellsAll, IsTold, head_texts, part_of, timed_texts}
+use Rattle.rbg_record.specs.declared.error.RecordError.TheVariants as error
 use Rattle.rbg_record.specs.Migration as migration
 use Rattle.rbg_record.specs.internal.Migrating as migrating
+use Rattle.rbg_record.specs.internal.Migrating.{RefusesPlain, RefusesVersion}
 use Rattle.rbg_record.proofs.Fitting.{fits_place, fits_unwritten}
 use Rattle.rbg_record.proofs.Leading.{unwritten_counted, all_first, all_last}
-use Rattle.rbg_record.proofs.SoFarLemmas.{cut_none, cut_more, line_fault, end_fault}
+use Rattle.rbg_record.proofs.Deciding.{no_versions}
 use Rattle.rbg_record.proofs.Telling.{in_turn_more}
 
 -- one line
-pub version_told : (game : AbstractGame) (text : List ℕ) (version : Version) (old new : List ℕ) → text ≡ version_text version → version ≡ One → new ≡ old ++ lines_of (head_texts game) → Migrates game before_version text among_moves old new
-version_told game text version old new is one told = migrating.version (subst (λ (which : Version). text ≡ version_text which) one is) told
+entry_told : (game : AbstractGame) (text : List ℕ) (at : ℕ) (entry : Entry) (old new : List ℕ) → SpellsEntry text entry → new ≡ old ++ line_of (timed_text (with_moment entry)) → Migrates game among_moves text (part_of (next_after (nexts.Entry One) entry)) old new
+entry_told game text at (Move player pairs) old new spells told = migrating.move spells told
+entry_told game text at (End outcome) old new spells told = migrating.end spells told
 
-pub entry_told : (game : AbstractGame) (text : List ℕ) (entry : Entry) (part : PlainPart) (old new : List ℕ) → SpellsEntry text entry → new ≡ old ++ line_of (timed_text (with_moment entry)) → part ≡ part_behind entry → Migrates game among_moves text part old new
-entry_told game text (Move player pairs) part old new spells told is = subst (λ (to : PlainPart). Migrates game among_moves text to old new) (sym is) (migrating.move spells told)
-entry_told game text (End outcome) part old new spells told is = subst (λ (to : PlainPart). Migrates game among_moves text to old new) (sym is) (migrating.end spells told)
+plain_still : (entry : Entry) → IsPlainNext (next_after (nexts.Entry One) entry)
+plain_still (Move player pairs) = tt
+plain_still (End outcome) = tt
+
+pub version_migrates : (game : AbstractGame) (next : Next) (text : List ℕ) (version : Version) (old new : List ℕ) → version ≡ One → Says next text (contents.Version version) → new ≡ old ++ lines_of (head_texts game) → MigratesLine game next text (nexts.Entry One) old new
+version_migrates game nexts.Version text version old new one is told =
+    record { migrates = migrating.version (subst (λ (which : Version). text ≡ version_text which) one is) told; plain = tt }
+version_migrates game _ text version old new one is told = absurd is
+
+pub entry_migrates : (game : AbstractGame) (next : Next) (text : List ℕ) (told : Timed) (to : Next) (old new : List ℕ) → IsPlainNext next → Says next text (contents.Entry told) → new ≡ old ++ line_of (timed_text told) → to ≡ next_after next told.entry → MigratesLine game next text to old new
+entry_migrates game (nexts.Entry One) text told to old new is_plain says written is =
+    let same : told ≡ with_moment told.entry = λ i. record { at = says.1 i; entry = told.entry } in
+    subst (λ (next : Next). MigratesLine game (nexts.Entry One) text next old new) (sym is) (record {
+      migrates = entry_told game text told.at told.entry old new says.0 (written ∙ ap (λ (one : Timed). old ++ line_of (timed_text one)) same);
+      plain = plain_still told.entry;
+    })
+entry_migrates game (nexts.Entry Two) text told to old new is_plain says written is = absurd is_plain
+entry_migrates game _ text told to old new is_plain says written is = absurd says
+
+-- a line of version 2 has no form of version 1
+pub not_plain_version : (next : Next) (text : List ℕ) (version : Version) → version ≡ Two → Says next text (contents.Version version) → HasPlainForm (part_of next) text → ⊥
+not_plain_version nexts.Version text version two is one = no_versions text one (subst (λ (which : Version). text ≡ version_text which) two is)
+not_plain_version _ text version two is one = absurd is
+
+-- what comes of a line with a version
+pub version_line : (game : AbstractGame) (next : Next) (text : List ℕ) (version : Version) (old new : List ℕ) (result : Result Next RecordError) → Says next text (contents.Version version) → IfOk result (λ to. (text : List ℕ) → text ≡ version_text version → MigratesLine game nexts.Version text to old new) → IfOk result (λ to. MigratesLine game next text to old new)
+version_line game nexts.Version text version old new (Ok to) says migrates = migrates text says
+version_line game _ text version old new (Ok to) says migrates = absurd says
+version_line game next text version old new (Err refusal) says migrates = tt
+
+pub version_refused : (line : RecordLine) (version : Version) (result : Result Next RecordError) → line.content ≡ contents.Version version → IfErr result (RefusesVersion version line.number) → IfErr result (RefusesPlain line)
+version_refused line version (Ok to) is refused = tt
+version_refused line version (Err (error.Form number)) is refused =
+    (refused.0, λ next is_plain says. not_plain_version next line.text.now version refused.1 (subst (λ (content : Content). Says next line.text.now content) is says))
+version_refused line version (Err (error.Over number)) is refused = refused
+version_refused line version (Err error.Memory) is refused = tt
+
+pub no_players : (next : Next) (text : List ℕ) (names : _) → IsPlainNext next → Says next text (contents.Players names) → ⊥
+no_players nexts.Players text names is_plain says = is_plain
+no_players _ text names is_plain says = says
+
+pub no_start : (next : Next) (text : List ℕ) (start : Start) → IsPlainNext next → Says next text (contents.Start start) → ⊥
+no_start nexts.Start text start is_plain says = is_plain
+no_start _ text start is_plain says = says
 
 -- lines with one more
 lines_push : (texts : List (List ℕ)) (text : List ℕ) → lines_of (texts ++ text ∷ []) ≡ lines_of texts ++ line_of text
@@ -70,31 +123,42 @@ formed_more game texts text from to old new tells so_far (migrating.version is t
 formed_more game texts text from to old new tells so_far (migrating.move spells told) = migration.moved so_far spells
 formed_more game texts text from to old new tells so_far (migrating.end spells told) = migration.ended so_far spells
 
--- no line yet
-pub migrated_none : (game : AbstractGame) (bytes out : List ℕ) → out ≡ [] → IsMigratedSoFar game bytes before_version bytes 1 out
-migrated_none game bytes out none = record {
-  texts = [];
-  cut = cut_none bytes;
-  so_far = migration.none;
-  told = (refl, none);
-}
-
 -- one more line
-pub migrated_more : (game : AbstractGame) (bytes : List ℕ) (from to : PlainPart) (rest text later : List ℕ) (line : ℕ) (old new : List ℕ) → IsMigratedSoFar game bytes from rest line old → IsFirstLine rest text later → Migrates game from text to old new → IsMigratedSoFar game bytes to later (line + 1) new
-migrated_more game bytes from to rest text later line old new so_far first migrates = record {
-  texts = so_far.texts ++ text ∷ [];
-  cut = cut_more bytes so_far.texts text rest later line so_far.cut first;
-  so_far = formed_more game so_far.texts text from to old new so_far.told so_far.so_far migrates;
-  told = told_more game so_far.texts text from to old new so_far.told migrates;
+pub migrate_one : (game : AbstractGame) (texts : List (List ℕ)) (text : List ℕ) (from to : Next) (old new : List ℕ) → MigratesLine game from text to old new → AreMigrated game texts (from, old) → AreMigrated game (texts ++ text ∷ []) (to, new)
+migrate_one game texts text from to old new line so_far = record {
+  plain = line.plain;
+  lead = formed_more game texts text (part_of from) (part_of to) old new so_far.told so_far.lead line.migrates;
+  told = told_more game texts text (part_of from) (part_of to) old new so_far.told line.migrates;
 }
 
--- a line that is not of the form
-pub migrated_fault : (game : AbstractGame) (bytes : List ℕ) (part : PlainPart) (rest text later : List ℕ) (line : ℕ) (out : List ℕ) → IsMigratedSoFar game bytes part rest line out → IsFirstLine rest text later → (HasPlainForm part text → ⊥) → IsPlainFault bytes line
-migrated_fault game bytes part rest text later line out so_far first wrong = line_fault IsPlainSoFar behind_end HasPlainForm part so_far.cut so_far.so_far text later first wrong
+-- what has the form of version 1 has the form that the reader wants
+over_so : (next : Next) → IsPlainNext next → part_of next ≡ beyond_end → next ≡ nexts.Nothing
+over_so nexts.Version is_plain over = absurd (let apart : before_version ≡ beyond_end = over in cc)
+over_so nexts.Nothing is_plain over = refl
+over_so _ is_plain over = absurd (let apart : among_moves ≡ beyond_end = over in cc)
 
--- no line is left, but the record has not ended, or some bytes are left
-pub migrated_short : (game : AbstractGame) (bytes : List ℕ) (part : PlainPart) (rest : List ℕ) (line : ℕ) (out : List ℕ) → IsMigratedSoFar game bytes part rest line out → LacksByte line_feed rest → (part ≡ behind_end → rest ≡ [] → ⊥) → IsPlainFault bytes line
-migrated_short game bytes part rest line out so_far lacks going = end_fault IsPlainSoFar behind_end HasPlainForm part so_far.cut so_far.so_far lacks going
+formed_so : (next : Next) → IsPlainNext next → (text : List ℕ) → HasPlainForm (part_of next) text → HasForm next text
+formed_so nexts.Version is_plain text is = (One, is)
+formed_so (nexts.Entry One) is_plain text form = (with_moment form.0, (form.1, refl))
+formed_so nexts.Nothing is_plain text form = form
+formed_so _ is_plain text form = absurd is_plain
+
+module _ {game : AbstractGame} {bytes : List ℕ} {next : Next} {out : List ℕ} {left : Left} (so_far : IsReadSoFar (AreMigrated game) bytes (next, out) left) where
+  plain_so_far : IsReadSoFar IsPlainSoFar bytes (part_of next) left
+  plain_so_far = read_as (part_of next) so_far (λ texts migrated. migrated.lead)
+
+  -- what is left is not of the form
+  pub migrating_stops : (error : FormError) (refusal : RecordError) → refusal ≡ Form error.line → Misreads next left error → IsPlainRefusal bytes refusal
+  migrating_stops error refusal is reads =
+      subst (IsPlainRefusal bytes) (sym is)
+      (read_stops plain_so_far reads.number (λ goes_on. reads.stops (goes_on_so left.rest (over_so next so_far.leads.plain) (formed_so next so_far.leads.plain) goes_on)))
+
+  -- a line that is not of the form
+  pub migrating_refused : {new : Left} (line : RecordLine) (refusal : RecordError) → TakesLine next left new line → RefusesPlain line refusal → IsPlainRefusal bytes refusal
+  migrating_refused {new} line (Form number) takes refused =
+      read_stops plain_so_far (refused.0 ∙ takes.number) (not_formed _ _ left.rest line.text.now new.rest takes.first (refused.1 next so_far.leads.plain takes.says))
+  migrating_refused line (error.Over number) takes refused = refused
+  migrating_refused line error.Memory takes refused = tt
 
 -- What was migrated is right exactly where the old record is.
 
@@ -149,9 +213,9 @@ moved_spelled (move ∷ moves) all =
 small_moment : (outcome : Option Outcome) → EntryHasSpelling (End outcome) → TimedHasSpelling (with_moment (End outcome))
 small_moment outcome has = let counted = unwritten_counted outcome in (omega arith, has)
 
-pub migrated_whole : (game : AbstractGame) (bytes : List ℕ) (part : PlainPart) (rest : List ℕ) (line : ℕ) (out : List ℕ) → HaveNames game.players → IsMigratedSoFar game bytes part rest line out → part ≡ behind_end → rest ≡ [] → IsMigrated game bytes out
-migrated_whole game bytes part rest line out named so_far over none =
-    let tells : TellsAll game so_far.texts out = subst (λ (to : PlainPart). IsTold game to so_far.texts out) over so_far.told in
+pub migrated_whole : (game : AbstractGame) (bytes : List ℕ) (next : Next) (out : List ℕ) (left : Left) → HaveNames game.players → IsReadSoFar (AreMigrated game) bytes (next, out) left → (next ≡ nexts.Nothing) × (left.rest ≡ []) → IsMigrated game bytes out
+migrated_whole game bytes next out left named so_far over =
+    let tells : TellsAll game so_far.texts out = subst (λ (to : Next). IsTold game (part_of to) so_far.texts out) over.0 so_far.leads.told in
     let record_told : PlainRecord = record { moves = tells.moves; outcome = tells.outcome } in
     let end : Timed = with_moment (End tells.outcome) in
     let plain_texts : so_far.texts ≡ texts_of (plain record_told) =
@@ -163,7 +227,7 @@ migrated_whole game bytes part rest line out named so_far over none =
       told = record_told;
       before = record {
         has = All-push EntryHasSpelling (map plain_entry tells.moves) (End tells.outcome) tells.has tells.ends;
-        is = so_far.cut.begins.parts ∙ ((λ i. lines_of (plain_texts i) ++ none i) ∙ append-nil (lines_of (texts_of (plain record_told))));
+        is = so_far.begins.parts ∙ ((λ i. lines_of (plain_texts i) ++ over.1 i) ∙ append-nil (lines_of (texts_of (plain record_told))));
       };
       after = record {
         has = (named, (omega arith, omega arith), All-push TimedHasSpelling (map made_entry (map (made_at 0) tells.moves)) end (moved_spelled tells.moves tells.has) (small_moment tells.outcome tells.ends));
@@ -173,5 +237,8 @@ migrated_whole game bytes part rest line out named so_far over none =
     }
 
 -- the line that an error names
-pub form_line : {A : Type 0} (bytes : List ℕ) (m n : ℕ) → ◌≡◌ {A = Result A RecordError} (Err (Form m)) (Err (Form n)) → IsPlainFault bytes m → IsPlainFault bytes n
-form_line bytes m n same fault = let numbers : m ≡ n = cc in subst (λ (line : ℕ). IsPlainFault bytes line) numbers fault
+pub form_line : {A : Type 0} (bytes : List ℕ) (result : Result A RecordError) (line : ℕ) → result ≡ Err (Form line) → IfErr result (IsPlainRefusal bytes) → IsPlainFault bytes line
+form_line bytes result line is refused = subst (λ (one : Result _ RecordError). IfErr one (IsPlainRefusal bytes)) is refused
+
+pub never_over : {A : Type 0} (bytes : List ℕ) (result : Result A RecordError) (line : ℕ) → result ≡ Err (error.Over line) → IfErr result (IsPlainRefusal bytes) → ⊥
+never_over bytes result line is refused = subst (λ (one : Result _ RecordError). IfErr one (IsPlainRefusal bytes)) is refused

@@ -1,10 +1,9 @@
 -- Bytes that are read line by line stop at one line, in one way.
 use Rattle.rbg_base.proofs.Common.{◌≡◌, ℕ, suc, List, [], ◌∷◌, ◌++◌, length, refl, sym, ap, ◌∙◌, subst, append_assoc, All, All-head, All-tail}
 use Rattle.rbg_wire.proofs.Common.{LacksByte, line_feed, line_of, lines_of}
-use Rattle.rbg_wire.proofs.ByteLemmas.{no_cut, same_cut}
-use Rattle.rbg_record.specs.NextLine.{IsFirstLine}
-use Rattle.rbg_record.specs.Judged.{GoesOn}
-use Rattle.rbg_record.specs.Judged as judged
+use Rattle.rbg_record.specs.NextLine.{GoesOn, IsFirstLine}
+use Rattle.rbg_record.specs.NextLine as cut
+use Rattle.rbg_record.proofs.Stopping.{no_line, one_first}
 
 -- these lines in turn lead from one state to the other
 pub data Chain {State : Type 0} (Leads : State → List ℕ → State → Type 0) : State → List (List ℕ) → State → Type 0 where
@@ -43,24 +42,6 @@ pub record IsReading {State : Type 0} (Leads : State → List ℕ → State → 
 pub line-more : (text rest more : List ℕ) → (line_of text ++ rest) ++ more ≡ text ++ line_feed ∷ (rest ++ more)
 line-more text rest more = ap (λ bytes. bytes ++ more) (append_assoc text (line_feed ∷ []) rest) ∙ append_assoc text (line_feed ∷ rest) more
 
-pub no_line : (text rest : List ℕ) → text ++ line_feed ∷ rest ≡ [] → ⊥
-no_line [] rest same = let apart : line_feed ∷ rest ≡ [] = same in cc
-no_line (byte ∷ text) rest same = let apart : byte ∷ (text ++ line_feed ∷ rest) ≡ [] = same in cc
-
--- there is one first line
-pub one_first : (bytes text text' rest rest' : List ℕ) → IsFirstLine bytes text rest → IsFirstLine bytes text' rest' → (text ≡ text') × (rest ≡ rest')
-one_first bytes text text' rest rest' first other = same_cut line_feed text text' rest rest' first.whole other.whole (sym first.parts ∙ other.parts)
-
--- what is left is not of the form: its first line isn't
-pub not_formed : (over : Type 0) (HasForm : List ℕ → Type 0) (rest text later : List ℕ) → IsFirstLine rest text later → (HasForm text → ⊥) → GoesOn over HasForm rest → ⊥
-not_formed over HasForm rest text later first wrong (judged.nothing_left ended none) = no_line text later (sym first.parts ∙ none)
-not_formed over HasForm rest text later first wrong (judged.one_more text' later' first' form) = wrong (subst HasForm (one_first rest text' text later' later first' first).0 form)
-
--- or it has no line, and it isn't over, or some bytes are left
-pub ends_early : (over : Type 0) (HasForm : List ℕ → Type 0) (rest : List ℕ) → LacksByte line_feed rest → (over → rest ≡ [] → ⊥) → GoesOn over HasForm rest → ⊥
-ends_early over HasForm rest lacks going (judged.nothing_left ended none) = going ended none
-ends_early over HasForm rest lacks going (judged.one_more text later first form) = no_cut line_feed text later (subst (LacksByte line_feed) first.parts lacks)
-
 -- the first of these lines
 pub first_of_lines : (bytes text : List ℕ) (texts : List (List ℕ)) (rest : List ℕ) → All (LacksByte line_feed) (text ∷ texts) → bytes ≡ lines_of (text ∷ texts) ++ rest → IsFirstLine bytes text (lines_of texts ++ rest)
 first_of_lines bytes text texts rest whole parts = record {
@@ -75,18 +56,18 @@ module _ {State : Type 0} {Leads : State → List ℕ → State → Type 0} {Has
   goes_on from to rest text later bad first leads stuck =
       let same = one_first rest text stuck.text later stuck.later first stuck.first in
       stuck.wrong to (subst (λ (line : List ℕ). Leads from line to) same.0 leads)
-  goes_on from to rest text later misread first leads stops = stops (judged.one_more text later first (reading.formed from text to leads))
+  goes_on from to rest text later misread first leads stops = stops (cut.one_more text later first (reading.formed from text to leads))
 
   -- nor in two ways
   one_way : (state : State) (rest : List ℕ) (end end' : End) → Stops Leads HasForm IsOver state rest end → Stops Leads HasForm IsOver state rest end' → end ≡ end'
   one_way state rest good good stops stops' = refl
   one_way state rest good bad (over, none) stuck = absurd (no_line stuck.text stuck.later (sym stuck.first.parts ∙ none))
-  one_way state rest good misread (over, none) stops' = absurd (stops' (judged.nothing_left over none))
+  one_way state rest good misread (over, none) stops' = absurd (stops' (cut.nothing_left over none))
   one_way state rest bad good stuck (over, none) = absurd (no_line stuck.text stuck.later (sym stuck.first.parts ∙ none))
   one_way state rest bad bad stops stops' = refl
-  one_way state rest bad misread stuck stops' = absurd (stops' (judged.one_more stuck.text stuck.later stuck.first stuck.form))
-  one_way state rest misread good stops (over, none) = absurd (stops (judged.nothing_left over none))
-  one_way state rest misread bad stops stuck = absurd (stops (judged.one_more stuck.text stuck.later stuck.first stuck.form))
+  one_way state rest bad misread stuck stops' = absurd (stops' (cut.one_more stuck.text stuck.later stuck.first stuck.form))
+  one_way state rest misread good stops (over, none) = absurd (stops (cut.nothing_left over none))
+  one_way state rest misread bad stops stuck = absurd (stops (cut.one_more stuck.text stuck.later stuck.first stuck.form))
   one_way state rest misread misread stops stops' = refl
 
   -- Reading stops after as many lines, in the same way.

@@ -12,7 +12,8 @@ use Rattle.rbg_wire.specs.Lines.{lines_of}
 use Rattle.rbg_match.specs.declared.made.Made.{Made}
 use Rattle.rbg_match.proofs.Common.{IsWithinLimits, LeadsTo, MadeInTurn, FitsOutcome, latest_moment}
 use Rattle.rbg_match.specs.History as history
-use Rattle.rbg_record.proofs.Common.{PlainMove, AbstractRecord, plain, timed, plain_entry, made_entry, texts_of, HasSpelling, turn_config, told_play, made_at, FitsPlace, IsRight, IsRightRecord, Standing, Reached, version_next, players_next, start_next, entry_next, nothing_next, SpellsIn, EntryLeads, Leads, LeadTo, play_at, IsGoodByLines}
+use Rattle.rbg_record.specs.Entries.{SpellsIn}
+use Rattle.rbg_record.proofs.Common.{PlainMove, AbstractRecord, plain, timed, plain_entry, made_entry, texts_of, HasSpelling, turn_config, told_play, made_at, FitsPlace, IsRight, IsRightRecord, MatchSoFar, Reached, version_next, players_next, start_next, entry_next, nothing_next, EntryLeads, Leads, LeadTo, play_at, IsGoodByLines}
 use Rattle.rbg_record.specs.Lines as lines
 use Rattle.rbg_record.proofs.Fitting.{fits_place, fits_same}
 
@@ -108,7 +109,7 @@ end_plain game texts text place outcome tells spells fits = record {
   right = record { place = place; leads = tells.leads; fits = fits };
 }
 
-end_timed : (game : AbstractGame) (texts : List (List ℕ)) (text : List ℕ) (standing : Standing) (at : ℕ) (outcome : Option Outcome) → TellsTimed game texts standing.turn_ms standing.last standing.place → SpellsTimed text (record { at = at; entry = End outcome }) → FitsOutcome game (turn_config standing.turn_ms) (play_at standing outcome) standing.last at outcome → at ≤ latest_moment → TellsRight game (texts ++ text ∷ [])
+end_timed : (game : AbstractGame) (texts : List (List ℕ)) (text : List ℕ) (standing : MatchSoFar) (at : ℕ) (outcome : Option Outcome) → TellsTimed game texts standing.turn_ms standing.last standing.place → SpellsTimed text (record { at = at; entry = End outcome }) → FitsOutcome game (turn_config standing.turn_ms) (play_at standing outcome) standing.last at outcome → at ≤ latest_moment → TellsRight game (texts ++ text ∷ [])
 end_timed game texts text standing at outcome tells spells fits counted = record {
   told = timed (record { players = game.players; start = tells.start; moves = tells.moves; moment = at; outcome = outcome });
   are =

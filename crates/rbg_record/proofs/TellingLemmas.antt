@@ -1,5 +1,5 @@
 -- A record is told line by line.
-use Rattle.rbg_base.proofs.Common.{◌≡◌, ℕ, ◌+◌, List, [], ◌∷◌, ◌++◌, Option, Some, None, Result, Err, refl, sym, ap, ◌∙◌, subst, arith, append-nil, append_assoc, IfSome, flat_map, flat_map-append, All-nil, All-cons, All-push}
+use Rattle.rbg_base.proofs.Common.{◌≡◌, ℕ, List, [], ◌∷◌, ◌++◌, Result, Err, sym, ap, ◌∙◌, subst, arith, append-nil, append_assoc, IfErr, flat_map, flat_map-append, All-nil, All-cons, All-push}
 use Rattle.rbg_base.proofs.CallerLemmas.{AllZip-push_one}
 use Rattle.rbg_wire.proofs.Common.{LacksByte, line_feed, line_of, lines_of}
 use Rattle.rbg_record.specs.declared.entry.Entry.{Entry}
@@ -8,10 +8,16 @@ use Rattle.rbg_record.specs.declared.entry.Timed.{Timed}
 use Rattle.rbg_record.specs.declared.heading.Start.{Start}
 use Rattle.rbg_record.specs.declared.heading.Version.{Version}
 use Rattle.rbg_record.specs.declared.heading.Version.TheVariants.{One, Two}
-use Rattle.rbg_record.proofs.LineCommon.{version_text, SpellsPlayers, SpellsStart, IsFirstLine}
+use Rattle.rbg_record.specs.declared.form_error.FormError.{FormError}
+use Rattle.rbg_record.specs.declared.line.Content.TheVariants as contents
+use Rattle.rbg_record.specs.declared.line.RecordLine.{RecordLine}
+use Rattle.rbg_record.specs.declared.next.Next.{Next}
+use Rattle.rbg_record.specs.declared.next.Next.TheVariants as nexts
+use Rattle.rbg_record.proofs.LineCommon.{EntryHasSpelling, Left, Misreads, Says, SpellsIn, SpellsPlayers, SpellsStart, TakesLine, next_after, version_text}
+use Rattle.rbg_record.specs.Reading as reading
+use Rattle.rbg_record.proofs.Apart.{one_start}
+use Rattle.rbg_record.proofs.Stopping.{IsReadSoFar, goes_on_so, not_formed, read_as, read_stops}
 use Rattle.rbg_match.specs.Config.{IsWithinLimits}
-use Rattle.rbg_record.specs.Lines.{SpellsIn}
-use Rattle.rbg_record.proofs.SoFarLemmas.{cut_none, cut_more, line_fault, end_fault}
 use Rattle.rbg_script.specs.declared.config.ScriptConfig.{ScriptConfig}
 use Rattle.rbg_script.specs.Config.{ConfigHasSpelling, config_text}
 use Rattle.rbg_script.specs.Scripts.{SpellsScript}
@@ -19,18 +25,16 @@ use Rattle.rbg_script.specs.Events.{AbstractEvent}
 use Rattle.rbg_script.proofs.Lacking.{written_read}
 use Rattle.rbg_script.proofs.LineLemmas.{whole_lines}
 use Rattle.rbg_record.specs.declared.script_error.ScriptingError.{ScriptingError}
-use Rattle.rbg_record.specs.declared.script_error.ScriptingError.TheVariants.{Form}
-use Rattle.rbg_record.specs.declared.part.Part.{Part}
-use Rattle.rbg_record.specs.declared.part.Part.TheVariants as parts
+use Rattle.rbg_record.specs.declared.script_error.ScriptingError.TheVariants.{Form, Memory}
 use Rattle.rbg_record.specs.Scripting.{HasForm, head_1, head_2, IsMove, IsNoRecord, IsScriptOfRecord, LeadThere, LeadsOn, config_at, events_in, turns_of}
 use Rattle.rbg_record.specs.Scripting as scripting
-use Rattle.rbg_record.specs.internal.Telling.{IsTold, IsToldSoFar, TellsEntries, TellsEvents, TellsNext, TellsWhole, part_behind}
+use Rattle.rbg_record.specs.internal.Telling.{AreTold, IsRefusal, IsTold, RefusesLine, TellsEntries, TellsEvents, TellsNext, TellsWhole}
 use Rattle.rbg_record.proofs.EventLines.{tells_nothing, tells_both}
 
 -- the first lines of a record of version 1
-pub version_1_told : (text old new : List ℕ) → text ≡ version_text One → new ≡ old ++ line_of (config_text (config_at 1 0)) → TellsNext parts.Version text (parts.Entry One) old new
+pub version_1_told : (text old new : List ℕ) → text ≡ version_text One → new ≡ old ++ line_of (config_text (config_at 1 0)) → TellsNext nexts.Version text (nexts.Entry One) old new
 version_1_told text old new is told = record {
-  leads = subst (λ (one : List ℕ). LeadsOn parts.Version one (parts.Entry One)) (sym is) scripting.version_1;
+  leads = subst (λ (one : List ℕ). LeadsOn nexts.Version one (nexts.Entry One)) (sym is) scripting.version_1;
   told = λ texts so_far. record {
     moves = [];
     are_moves = All-nil (λ (one : Timed). IsMove one.entry);
@@ -48,13 +52,13 @@ version_1_told text old new is told = record {
 }
 
 -- and of version 2
-pub version_2_told : (text old : List ℕ) → text ≡ version_text Two → TellsNext parts.Version text parts.Players old old
+pub version_2_told : (text old : List ℕ) → text ≡ version_text Two → TellsNext nexts.Version text nexts.Players old old
 version_2_told text old is = record {
-  leads = subst (λ (one : List ℕ). LeadsOn parts.Version one parts.Players) (sym is) scripting.version_2;
+  leads = subst (λ (one : List ℕ). LeadsOn nexts.Version one nexts.Players) (sym is) scripting.version_2;
   told = λ texts so_far. ((λ i. so_far.0 i ++ is i ∷ []), so_far.1);
 }
 
-pub players_told : (text : List ℕ) (names : List (List ℕ)) (old : List ℕ) → SpellsPlayers text names → TellsNext parts.Players text parts.Start old old
+pub players_told : (text : List ℕ) (names : List (List ℕ)) (old : List ℕ) → SpellsPlayers text names → TellsNext nexts.Players text nexts.Start old old
 players_told text names old spells = record {
   leads = scripting.players spells;
   told = λ texts so_far. record {
@@ -66,7 +70,7 @@ players_told text names old spells = record {
   };
 }
 
-pub start_told : (text : List ℕ) (start : Start) (old new : List ℕ) → SpellsStart text start → IsWithinLimits (turns_of start.turn_ms) → new ≡ old ++ line_of (config_text (config_at start.turn_ms start.now)) → TellsNext parts.Start text (parts.Entry Two) old new
+pub start_told : (text : List ℕ) (start : Start) (old new : List ℕ) → SpellsStart text start → IsWithinLimits (turns_of start.turn_ms) → new ≡ old ++ line_of (config_text (config_at start.turn_ms start.now)) → TellsNext nexts.Start text (nexts.Entry Two) old new
 start_told text start old new spells within told = record {
   leads = scripting.start spells within;
   told = λ texts so_far. record {
@@ -101,7 +105,7 @@ entries_more version entries texts text told old new tells spells events =
       events = subst (λ (all : List AbstractEvent). TellsEvents all (line_of (config_text tells.config)) new) same (tells_both (flat_map events_in entries) (events_in told) (line_of (config_text tells.config)) old new tells.events events);
     }
 
-entry_told_at : (version : Version) (text : List ℕ) (at : ℕ) (entry : Entry) (old new : List ℕ) → SpellsIn version text (record { at = at; entry = entry }) → TellsEvents (events_in (record { at = at; entry = entry })) old new → TellsNext (parts.Entry version) text (part_behind version entry) old new
+entry_told_at : (version : Version) (text : List ℕ) (at : ℕ) (entry : Entry) (old new : List ℕ) → SpellsIn version text (record { at = at; entry = entry }) → TellsEvents (events_in (record { at = at; entry = entry })) old new → TellsNext (nexts.Entry version) text (next_after (nexts.Entry version) entry) old new
 entry_told_at version text at (Move player pairs) old new spells events = record {
   leads = scripting.move (record { at = at; entry = Move player pairs }) spells tt;
   told = λ texts so_far. record {
@@ -122,35 +126,57 @@ entry_told_at version text at (End outcome) old new spells events = record {
   };
 }
 
-pub entry_told : (version : Version) (text : List ℕ) (told : Timed) (to : Part) (old new : List ℕ) → SpellsIn version text told → TellsEvents (events_in told) old new → to ≡ part_behind version told.entry → TellsNext (parts.Entry version) text to old new
-entry_told version text told to old new spells events is =
-    subst (λ (one : Part). TellsNext (parts.Entry version) text one old new) (sym is) (entry_told_at version text told.at told.entry old new spells events)
+-- what a line says tells what came next
+pub version_tells : (next : Next) (text : List ℕ) (version : Version) (to : Next) (old new : List ℕ) → Says next text (contents.Version version) → ((text : List ℕ) → text ≡ version_text version → TellsNext nexts.Version text to old new) → TellsNext next text to old new
+version_tells nexts.Version text version to old new says tells = tells text says
+version_tells _ text version to old new says tells = absurd says
 
--- no line yet
-pub told_none : (bytes out : List ℕ) → out ≡ [] → IsToldSoFar bytes parts.Version bytes 1 out
-told_none bytes out none = record {
-  texts = [];
-  cut = cut_none bytes;
-  leads = scripting.none;
-  told = (refl, none);
-}
+pub players_tell : (next : Next) (text : List ℕ) (names : _) (old : List ℕ) → Says next text (contents.Players names) → TellsNext next text nexts.Start old old
+players_tell nexts.Players text names old says = players_told text _ old says
+players_tell _ text names old says = absurd says
+
+pub start_tells : (next : Next) (text : List ℕ) (start : Start) (old new : List ℕ) → Says next text (contents.Start start) → IsWithinLimits (turns_of start.turn_ms) → new ≡ old ++ line_of (config_text (config_at start.turn_ms start.now)) → TellsNext next text (nexts.Entry Two) old new
+start_tells nexts.Start text start old new says within told = start_told text start old new says within told
+start_tells _ text start old new says within told = absurd says
+
+-- a start whose turn is not within the limits has no form
+pub no_start : (next : Next) (text : List ℕ) (start : Start) → Says next text (contents.Start start) → (IsWithinLimits (turns_of start.turn_ms) → ⊥) → HasForm next text → ⊥
+no_start nexts.Start text start says beyond form = beyond (subst (λ (one : Start). IsWithinLimits (turns_of one.turn_ms)) (one_start text form.0 start form.1 says) form.2)
+no_start _ text start says beyond form = absurd says
+
+pub entry_spelled : (next : Next) (text : List ℕ) (told : Timed) → Says next text (contents.Entry told) → EntryHasSpelling told.entry
+entry_spelled (nexts.Entry One) text told says = says.0.has
+entry_spelled (nexts.Entry Two) text told says = says.has.1
+entry_spelled _ text told says = absurd says
+
+pub entry_tells : (next : Next) (text : List ℕ) (told : Timed) (to : Next) (old new : List ℕ) → Says next text (contents.Entry told) → TellsEvents (events_in told) old new → to ≡ next_after next told.entry → TellsNext next text to old new
+entry_tells (nexts.Entry version) text told to old new says events is =
+    subst (λ (one : Next). TellsNext (nexts.Entry version) text one old new) (sym is) (entry_told_at version text told.at told.entry old new says events)
+entry_tells _ text told to old new says events is = absurd says
 
 -- one line more
-pub told_more : (bytes : List ℕ) (from to : Part) (rest text later : List ℕ) (line : ℕ) (old new : List ℕ) → IsToldSoFar bytes from rest line old → IsFirstLine rest text later → TellsNext from text to old new → IsToldSoFar bytes to later (line + 1) new
-told_more bytes from to rest text later line old new so_far first next = record {
-  texts = so_far.texts ++ text ∷ [];
-  cut = cut_more bytes so_far.texts text rest later line so_far.cut first;
-  leads = scripting.more so_far.leads next.leads;
-  told = next.told so_far.texts so_far.told;
-}
+pub tell_one : (texts : List (List ℕ)) (text : List ℕ) (from to : Next) (old new : List ℕ) → TellsNext from text to old new → AreTold texts (from, old) → AreTold (texts ++ text ∷ []) (to, new)
+tell_one texts text from to old new next told = (scripting.more told.0 next.leads, next.told texts told.1)
 
--- a line that is not of the form
-pub told_fault : (bytes : List ℕ) (part : Part) (rest text later : List ℕ) (line : ℕ) (out : List ℕ) → IsToldSoFar bytes part rest line out → IsFirstLine rest text later → (HasForm part text → ⊥) → IsNoRecord bytes line
-told_fault bytes part rest text later line out so_far first wrong = line_fault LeadThere parts.Nothing HasForm part so_far.cut so_far.leads text later first wrong
+-- what is of the form of a record that is made a script
+formed_so : (next : Next) (text : List ℕ) → HasForm next text → reading.HasForm next text
+formed_so nexts.Start text form = (form.0, form.1)
+formed_so _ text form = form
 
--- no line is left, but the record has not ended, or some bytes are left
-pub told_short : (bytes : List ℕ) (part : Part) (rest : List ℕ) (line : ℕ) (out : List ℕ) → IsToldSoFar bytes part rest line out → LacksByte line_feed rest → (part ≡ parts.Nothing → rest ≡ [] → ⊥) → IsNoRecord bytes line
-told_short bytes part rest line out so_far lacks going = end_fault LeadThere parts.Nothing HasForm part so_far.cut so_far.leads lacks going
+module _ {bytes : List ℕ} {next : Next} {out : List ℕ} {left : Left} (so_far : IsReadSoFar AreTold bytes (next, out) left) where
+  led : IsReadSoFar LeadThere bytes next left
+  led = read_as next so_far (λ texts told. told.0)
+
+  -- what is left is not of the form
+  pub telling_stops : (error : FormError) (refusal : ScriptingError) → refusal ≡ Form error.line → Misreads next left error → IsRefusal bytes refusal
+  telling_stops error refusal is reads =
+      subst (IsRefusal bytes) (sym is)
+      (read_stops led reads.number (λ goes_on. reads.stops (goes_on_so left.rest (λ over. over) (formed_so next) goes_on)))
+
+  -- a line that is not of the form
+  pub telling_refused : {new : Left} (line : RecordLine) (refusal : ScriptingError) → TakesLine next left new line → RefusesLine next line refusal → IsRefusal bytes refusal
+  telling_refused {new} line (Form number) takes refused = read_stops led (refused.0 ∙ takes.number) (not_formed _ _ left.rest line.text.now new.rest takes.first refused.1)
+  telling_refused line Memory takes refused = tt
 
 -- all lines
 script_is : (config : ScriptConfig) (has : ConfigHasSpelling config) (events : List AbstractEvent) (out : List ℕ) → TellsEvents events (line_of (config_text config)) out → SpellsScript out (record { config = config; events = events })
@@ -178,16 +204,11 @@ whole_told bytes texts out is tells = record {
   script = script_is tells.tells.config tells.tells.has _ out tells.tells.events;
 }
 
-pub told_whole : (bytes : List ℕ) (part : Part) (rest : List ℕ) (line : ℕ) (out : List ℕ) → IsToldSoFar bytes part rest line out → part ≡ parts.Nothing → rest ≡ [] → IsScriptOfRecord bytes out
-told_whole bytes part rest line out so_far over none =
-    let tells : TellsWhole so_far.texts out = subst (λ (one : Part). IsTold one so_far.texts out) over so_far.told in
-    whole_told bytes so_far.texts out (so_far.cut.begins.parts ∙ ap (λ (left : List ℕ). lines_of so_far.texts ++ left) none ∙ append-nil (lines_of so_far.texts)) tells
-
--- what comes after the players
-pub players_so : (part : Part) (result : Option Part) (text out : List ℕ) → part ≡ parts.Players → IfSome result (λ next. (old : List ℕ) → TellsNext parts.Players text next old old) → IfSome result (λ next. TellsNext part text next out out)
-players_so part (Some next) text out is tells = subst (λ (one : Part). TellsNext one text next out out) (sym is) (tells out)
-players_so part None text out is tells = tt
+pub told_whole : (bytes : List ℕ) (next : Next) (out : List ℕ) (left : Left) → IsReadSoFar AreTold bytes (next, out) left → (next ≡ nexts.Nothing) × (left.rest ≡ []) → IsScriptOfRecord bytes out
+told_whole bytes next out left so_far over =
+    let tells : TellsWhole so_far.texts out = subst (λ (one : Next). IsTold one so_far.texts out) over.0 so_far.leads.1 in
+    whole_told bytes so_far.texts out (so_far.begins.parts ∙ ap (λ (rest : List ℕ). lines_of so_far.texts ++ rest) over.1 ∙ append-nil (lines_of so_far.texts)) tells
 
 -- the line that an error names
-pub form_line : {T : Type 0} (bytes : List ℕ) (number line : ℕ) → ◌≡◌ {A = Result T ScriptingError} (Err (Form number)) (Err (Form line)) → IsNoRecord bytes number → IsNoRecord bytes line
-form_line bytes number line same none = subst (IsNoRecord bytes) (let is : number ≡ line = cc in is) none
+pub form_line : {T : Type 0} (bytes : List ℕ) (result : Result T ScriptingError) (line : ℕ) → result ≡ Err (Form line) → IfErr result (IsRefusal bytes) → IsNoRecord bytes line
+form_line bytes result line is refused = subst (λ (one : Result _ ScriptingError). IfErr one (IsRefusal bytes)) is refused

@@ -3,12 +3,15 @@ use Rattle.std.specs.Prelude.{◌≡◌, ℕ, ◌≤◌, List, Result, IfOk, IfE
 use Rattle.rbg_rules.specs.Meaning.{AbstractGame, IsPlaceOf}
 use Rattle.rbg_match.specs.Limits.{latest_moment}
 use Rattle.rbg_record.specs.declared.entry.Timed.{Timed}
-use Rattle.rbg_record.specs.declared.fault.Fault.{Fault}
-use Rattle.rbg_record.specs.declared.fault.Fault.TheVariants.{Form, Bad, Over, Memory}
+use Rattle.rbg_record.specs.declared.line.RecordLine.{RecordLine}
+use Rattle.rbg_record.specs.Entries.{SpellsIn}
+use Rattle.rbg_record.specs.declared.fault.LineFault.{LineFault}
+use Rattle.rbg_record.specs.declared.fault.LineFault.TheVariants.{Form, Bad, Over, Memory}
+use Rattle.rbg_record.specs.declared.fault.Misfit.{Misfit}
 use Rattle.rbg_record.specs.declared.reached.Reached.{Reached as CodeReached}
 use Rattle.rbg_record.specs.declared.reached.Reached.TheVariants as code
 use Rattle.rbg_record.specs.Judged.{FitsUnasked, AsksHeavy}
-use Rattle.rbg_record.specs.Lines.{Standing, Reached, version_next, players_next, start_next, entry_next, nothing_next, HasForm, SpellsIn, EntryLeads, Leads}
+use Rattle.rbg_record.specs.Lines.{MatchSoFar, Reached, version_next, players_next, start_next, entry_next, nothing_next, HasForm, EntryLeads, Leads}
 
 -- what the code's value says that the lines so far lead to
 abbrev pub reached_of : CodeReached → Reached
@@ -24,13 +27,13 @@ IsReachedIn game (entry_next standing) = IsPlaceOf game standing.place
 IsReachedIn game _ = Unit {0}
 
 -- all that an entry tells without a question is right, but its question is above the limits
-pub record IsHeavyEntry (game : AbstractGame) (standing : Standing) (told : Timed) : Type 0 where
+pub record IsHeavyEntry (game : AbstractGame) (standing : MatchSoFar) (told : Timed) : Type 0 where
   pub counted : told.at ≤ latest_moment
   pub fits : FitsUnasked game standing told.at told.entry
   pub asks : AsksHeavy game standing told.entry
 
 -- why an entry doesn't lead on
-abbrev pub RefusesEntry : AbstractGame → Standing → Timed → Fault → Type 0
+abbrev pub RefusesEntry : AbstractGame → MatchSoFar → Timed → LineFault → Type 0
 RefusesEntry game standing told Form = ⊥
 RefusesEntry game standing told Bad = (to : Reached) → ¬ EntryLeads game standing told to
 RefusesEntry game standing told Over = IsHeavyEntry game standing told
@@ -38,22 +41,30 @@ RefusesEntry game standing told Memory = Unit {0}
 
 -- the text is that of an entry whose question is above the limits
 pub record IsHeavyText (game : AbstractGame) (reached : Reached) (text : List ℕ) : Type 0 where
-  pub standing : Standing
+  pub standing : MatchSoFar
   pub here : reached ≡ entry_next standing
   pub told : Timed
   pub form : SpellsIn standing.version text told
   pub heavy : IsHeavyEntry game standing told
 
 -- why a line with this text doesn't lead on
-abbrev pub Refuses : AbstractGame → Reached → (text : List ℕ) → Fault → Type 0
+abbrev pub Refuses : AbstractGame → Reached → (text : List ℕ) → LineFault → Type 0
 Refuses game reached text Form = ¬ HasForm reached text
 Refuses game reached text Bad = HasForm reached text × ((to : Reached) → ¬ Leads game reached text to)
 Refuses game reached text Over = IsHeavyText game reached text
 Refuses game reached text Memory = Unit {0}
 
--- what a call tells that reads one line: what the line leads to, at a place of the game, or why it doesn't lead on
-pub record ReadsLine (game : AbstractGame) (reached : Reached) (text : List ℕ) (result : Result CodeReached Fault) :
+-- what a call says that judges a line with this text: what it leads to, at a place of the game, or why it doesn't lead on
+pub record ReadsLine (game : AbstractGame) (reached : Reached) (text : List ℕ) (result : Result CodeReached LineFault) :
     Type 0 where
   pub leads : IfOk result (λ to. Leads game reached text (reached_of to))
   pub in_game : IfOk result (λ to. IsReachedIn game (reached_of to))
   pub refused : IfErr result (Refuses game reached text)
+
+-- the same of a line that was read, whose number is the misfit's
+pub record JudgesLine (game : AbstractGame) (reached : Reached) (line : RecordLine) (result : Result CodeReached Misfit) :
+    Type 0 where
+  pub leads : IfOk result (λ to. Leads game reached line.text.now (reached_of to))
+  pub in_game : IfOk result (λ to. IsReachedIn game (reached_of to))
+  pub refused : IfErr result (λ misfit.
+      (misfit.line ≡ line.number) × Refuses game reached line.text.now misfit.fault)

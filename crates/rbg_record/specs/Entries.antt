@@ -1,11 +1,14 @@
 -- The entries of a record: its moves, and how it ends. Each has one spelling.
-use Rattle.std.specs.Prelude.{ℕ, ◌<◌, ◌≤◌, ◌^◌, List, [], ◌++◌, length, Option, Some, None, codes, decimal}
+use Rattle.std.specs.Prelude.{◌≡◌, ℕ, ◌<◌, ◌≤◌, ◌^◌, List, [], ◌++◌, length, Option, Some, None, codes, decimal}
 use Rattle.rbg_base.specs.Move.{most_pairs}
+use Rattle.rbg_wire.specs.declared.outcome.Outcome.TheVariants.{Time}
 use Rattle.rbg_wire.specs.Messages.{ArePairs, pairs_text, OutcomeHasSpelling, outcome_text}
 use Rattle.rbg_wire.specs.Reads.{IsSpelling}
 use Rattle.rbg_record.specs.declared.entry.Entry.{Entry}
 use Rattle.rbg_record.specs.declared.entry.Entry.TheVariants.{Move, End}
 use Rattle.rbg_record.specs.declared.entry.Timed.{Timed}
+use Rattle.rbg_record.specs.declared.heading.Version.{Version}
+use Rattle.rbg_record.specs.declared.heading.Version.TheVariants.{One, Two}
 
 -- A move is its player and its pairs. The end is the outcome, or `-` where the match is still in play.
 unfoldable pub entry_text : Entry → List ℕ
@@ -38,3 +41,18 @@ SpellsEntry = IsSpelling EntryHasSpelling entry_text
 -- the text is that of this entry with its moment
 abbrev pub SpellsTimed : List ℕ → Timed → Type 0
 SpellsTimed = IsSpelling TimedHasSpelling timed_text
+
+-- The moment that version 1 leaves out. All that happens does so at moment 0, but a time that is over ends at moment 1:
+-- there a turn lasts for one millisecond.
+abbrev pub unwritten_moment : Entry → ℕ
+unwritten_moment (End (Some (Time player))) = 1
+unwritten_moment _ = 0
+
+-- the entry with that moment
+abbrev pub with_moment : Entry → Timed
+with_moment entry = record { at = unwritten_moment entry; entry = entry }
+
+-- the text is that of this entry in a record of that version
+abbrev pub SpellsIn : Version → List ℕ → Timed → Type 0
+SpellsIn One text timed = SpellsEntry text timed.entry × (timed.at ≡ unwritten_moment timed.entry)
+SpellsIn Two text timed = SpellsTimed text timed

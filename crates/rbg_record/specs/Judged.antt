@@ -1,7 +1,6 @@
 -- What is told of a record: that it is right, or the first line that is not, and what is wrong with it.
-use Rattle.std.specs.Prelude.{◌≡◌, ◌≢◌, ℕ, ◌+◌, ◌≤◌, List, [], ◌∷◌, ◌++◌, length, All, Some, None, Result, Ok, Err}
+use Rattle.std.specs.Prelude.{◌≡◌, ◌≢◌, ℕ, ◌+◌, ◌≤◌, List, [], ◌∷◌, ◌++◌, length, Some, None, Result, Ok, Err}
 use Rattle.rbg_wire.specs.declared.outcome.Outcome.TheVariants.{Finished, Time, Refusals, Gone, Heavy}
-use Rattle.rbg_wire.specs.Bytes.{LacksByte}
 use Rattle.rbg_rules.specs.Meaning.{IsHeavyToFind, IsHeavyToTry, AbstractGame}
 use Rattle.rbg_match.specs.History.{IsInTurn}
 use Rattle.rbg_match.specs.Limits.{latest_moment}
@@ -9,15 +8,14 @@ use Rattle.rbg_match.specs.PlayingOn.{seats_of}
 use Rattle.rbg_record.specs.declared.entry.Entry.{Entry}
 use Rattle.rbg_record.specs.declared.entry.Entry.TheVariants.{Move, End}
 use Rattle.rbg_record.specs.declared.entry.Timed.{Timed}
-use Rattle.rbg_record.specs.NextLine.{IsFirstLine}
-use Rattle.rbg_wire.specs.Lines.{line_feed, lines_of}
+use Rattle.rbg_record.specs.Entries.{SpellsIn}
+use Rattle.rbg_record.specs.NextLine.{BeginsWith, HasFormFault}
 use Rattle.rbg_record.specs.Lines.{
-  Standing,
+  MatchSoFar,
   Reached,
   entry_next,
   nothing_next,
   HasForm,
-  SpellsIn,
   IsMomentFor,
   Leads,
   LeadTo,
@@ -27,41 +25,14 @@ use Rattle.rbg_record.specs.declared.checked.Checked.{Checked}
 use Rattle.rbg_record.specs.declared.checked.Checked.TheVariants.{Good, Bad}
 use Rattle.rbg_record.specs.declared.error.RecordError.{RecordError}
 use Rattle.rbg_record.specs.declared.error.RecordError.TheVariants.{Form, Over, Memory}
-
--- The bytes begin with lines of these texts, and the rest follows them.
-pub record BeginsWith (bytes : List ℕ) (texts : List (List ℕ)) (rest : List ℕ) : Type 0 where
-  pub whole : All (LacksByte line_feed) texts
-  pub parts : bytes ≡ lines_of texts ++ rest
-
--- The rest of a record is of the form so far: the record is over and nothing is left, or the next line has a form that
--- it may have.
-pub data GoesOn (over : Type 0) (HasForm : List ℕ → Type 0) (rest : List ℕ) : Type 0 where
-  nothing_left :
-      over →
-      rest ≡ [] →
-      GoesOn over HasForm rest
-  one_more : (text later : List ℕ) →
-      IsFirstLine rest text later →
-      HasForm text →
-      GoesOn over HasForm rest
+use Rattle.rbg_record.specs.declared.fault.Misfit.{Misfit}
+use Rattle.rbg_record.specs.internal.Faults.{told_at}
 
 -- Each line is right after those before it, and the record has ended with the last of them.
 pub record IsGoodByLines (game : AbstractGame) (bytes : List ℕ) : Type 0 where
   pub texts : List (List ℕ)
   pub begins : BeginsWith bytes texts []
   pub leads : LeadTo game texts nothing_next
-
--- The lines before this one lead to a part of the record, and what follows them is not of the form that it may have
--- there. Lines are numbered from 1. The line is missing where the record ends too early.
-pub record HasFormFault {Part : Type 0} (LeadThere : List (List ℕ) → Part → Type 0) (over : Part)
-    (HasForm : Part → List ℕ → Type 0) (bytes : List ℕ) (line : ℕ) : Type 0 where
-  pub texts : List (List ℕ)
-  pub rest : List ℕ
-  pub begins : BeginsWith bytes texts rest
-  pub number : line ≡ length texts + 1
-  pub part : Part
-  pub leads : LeadThere texts part
-  pub stops : ¬ GoesOn (part ≡ over) (HasForm part) rest
 
 -- The lines before this one are right, but what follows them is not of the form: it is the first fault of the record.
 abbrev pub IsFormFault : AbstractGame → (bytes : List ℕ) → (line : ℕ) → Type 0
@@ -84,7 +55,7 @@ pub record IsBadLine (game : AbstractGame) (bytes : List ℕ) (line : ℕ) : Typ
   pub wrong : (to : Reached) → ¬ Leads game reached text to
 
 -- A player is to move, and the moment is one of its turn.
-abbrev pub IsOnTurn : Standing → (at : ℕ) → Type 0
+abbrev pub IsOnTurn : MatchSoFar → (at : ℕ) → Type 0
 IsOnTurn standing at =
     (standing.place.state.player ≢ 0) × IsInTurn (turn_config standing.turn_ms) standing.last at
 
@@ -95,7 +66,7 @@ IsOnTurn standing at =
 --   Time: the player is the mover and not the keeper, and at that moment its turn is due.
 --   Refusals, Gone: the same as for None, and the player that is named is one of the game.
 --   Heavy: the moment is one of the turn.
-abbrev pub FitsUnasked : AbstractGame → Standing → (at : ℕ) → Entry → Type 0
+abbrev pub FitsUnasked : AbstractGame → MatchSoFar → (at : ℕ) → Entry → Type 0
 FitsUnasked game standing at (Move player pairs) =
     (player ≡ standing.place.state.player) × IsMomentFor standing player at
 FitsUnasked game standing at (End None) = IsOnTurn standing at
@@ -110,7 +81,7 @@ FitsUnasked game standing at (End (Some Heavy)) = IsInTurn (turn_config standing
 
 -- The question of an entry is above the limits: whether the move is legal, or whether there is a legal move. `E4` asks
 -- none.
-abbrev pub AsksHeavy : AbstractGame → Standing → Entry → Type 0
+abbrev pub AsksHeavy : AbstractGame → MatchSoFar → Entry → Type 0
 AsksHeavy game standing (Move player pairs) = IsHeavyToTry game standing.place pairs
 AsksHeavy game standing (End (Some Heavy)) = ⊥
 AsksHeavy game standing (End _) = IsHeavyToFind game standing.place
@@ -121,7 +92,7 @@ pub record IsHeavyLine (game : AbstractGame) (bytes : List ℕ) (line : ℕ) : T
   pub texts : List (List ℕ)
   pub text : List ℕ
   pub here : IsLineOf bytes line texts text
-  pub standing : Standing
+  pub standing : MatchSoFar
   pub leads : LeadTo game texts (entry_next standing)
   pub told : Timed
   pub form : SpellsIn standing.version text told
@@ -136,3 +107,8 @@ IsJudged game bytes (Ok (Bad line)) = IsBadLine game bytes line
 IsJudged game bytes (Err (Form line)) = IsFormFault game bytes line
 IsJudged game bytes (Err (Over line)) = IsHeavyLine game bytes line
 IsJudged game bytes (Err Memory) = Unit {0}
+
+-- The line is the first one that is not right, not of the form, or asks a question above the limits, as the fault says.
+-- Where memory ran out nothing is said.
+abbrev pub IsMisfit : AbstractGame → List ℕ → Misfit → Type 0
+IsMisfit game bytes misfit = IsJudged game bytes (told_at misfit.fault misfit.line)

@@ -1,8 +1,9 @@
 -- The lines of a record.
 pub mod Entries
 pub mod Heading
-pub mod LineLaws
 pub mod NextLine
+pub mod Reading
+pub mod LineLaws
 -- What a record is, which records are right, and what is told of one that isn't. Each file builds on those above it.
 pub mod Records
 pub mod Right

@@ -1,42 +1,27 @@
 -- The lines of a record in turn: of which form each may be, and what those so far lead to.
-use Rattle.std.specs.Prelude.{◌≡◌, ◌≢◌, ℕ, ◌≤◌, List, [], ◌∷◌, ◌++◌, Option, Some}
+use Rattle.std.specs.Prelude.{◌≡◌, ◌≢◌, ℕ, ◌≤◌, List, [], ◌∷◌, ◌++◌, Option}
 use Rattle.rbg_wire.specs.declared.outcome.Outcome.{Outcome}
-use Rattle.rbg_wire.specs.declared.outcome.Outcome.TheVariants.{Time}
 use Rattle.rbg_rules.specs.Meaning.{AbstractGame, AbstractPlace, Legal}
 use Rattle.rbg_match.specs.Config.{IsWithinLimits}
 use Rattle.rbg_match.specs.History.{start_place, IsInTurn, FitsOutcome}
 use Rattle.rbg_match.specs.Limits.{latest_moment}
 use Rattle.rbg_match.specs.Play.{AbstractPlay}
-use Rattle.rbg_record.specs.declared.entry.Entry.{Entry}
 use Rattle.rbg_record.specs.declared.entry.Entry.TheVariants.{Move, End}
 use Rattle.rbg_record.specs.declared.entry.Timed.{Timed}
 use Rattle.rbg_record.specs.declared.heading.Start.{Start}
-use Rattle.rbg_record.specs.declared.heading.Version.{Version}
 use Rattle.rbg_record.specs.declared.heading.Version.TheVariants.{One, Two}
-use Rattle.rbg_record.specs.Entries.{SpellsEntry, SpellsTimed}
+use Rattle.rbg_record.specs.declared.next.Next.{Next}
+use Rattle.rbg_record.specs.declared.next.Next.TheVariants as nexts
+use Rattle.rbg_record.specs.Entries.{SpellsIn}
 use Rattle.rbg_record.specs.Heading.{version_text, SpellsPlayers, SpellsStart}
-use Rattle.rbg_record.specs.declared.reached.Standing.{Standing as CodeStanding}
+use Rattle.rbg_record.specs.Reading as reading
+use Rattle.rbg_record.specs.declared.reached.MatchSoFar.{MatchSoFar as CodeMatchSoFar}
 use Rattle.rbg_record.specs.Right.{told_play, turn_config}
-
--- The moment that version 1 leaves out. All that happens does so at moment 0, but a time that is over ends at moment 1:
--- there a turn lasts for one millisecond.
-abbrev pub unwritten_moment : Entry → ℕ
-unwritten_moment (End (Some (Time player))) = 1
-unwritten_moment _ = 0
-
--- the entry with that moment
-abbrev pub with_moment : Entry → Timed
-with_moment entry = record { at = unwritten_moment entry; entry = entry }
-
--- the text is that of this entry in a record of that version
-abbrev pub SpellsIn : Version → List ℕ → Timed → Type 0
-SpellsIn One text timed = SpellsEntry text timed.entry × (timed.at ≡ unwritten_moment timed.entry)
-SpellsIn Two text timed = SpellsTimed text timed
 
 -- Where the moves so far lead: the version of the record, the time for a turn, the moment of the last move (or of the
 -- beginning), and the place.
-abbrev pub Standing : Type 0
-Standing = CodeStanding
+abbrev pub MatchSoFar : Type 0
+MatchSoFar = CodeMatchSoFar
 
 -- What the lines so far lead to: what comes next is the version, the players, the start, or a move or the end; or
 -- nothing comes after the end.
@@ -44,31 +29,35 @@ pub data Reached : Type 0 where
   version_next : Reached
   players_next : Reached
   start_next : Reached
-  entry_next : Standing → Reached
+  entry_next : MatchSoFar → Reached
   nothing_next : Reached
+
+-- what comes next there
+abbrev pub next_of : Reached → Next
+next_of version_next = nexts.Version
+next_of players_next = nexts.Players
+next_of start_next = nexts.Start
+next_of (entry_next standing) = nexts.Entry standing.version
+next_of nothing_next = nexts.Nothing
 
 -- the text is of the form that a line may have there
 abbrev pub HasForm : Reached → List ℕ → Type 0
-HasForm version_next text = (version : Version) × (text ≡ version_text version)
-HasForm players_next text = (names : List (List ℕ)) × SpellsPlayers text names
-HasForm start_next text = (start : Start) × SpellsStart text start
-HasForm (entry_next standing) text = (timed : Timed) × SpellsIn standing.version text timed
-HasForm nothing_next text = ⊥
+HasForm reached text = reading.HasForm (next_of reached) text
 
 -- A move of this player may have that moment: the keeper moves when its turn begins, and a player before its turn is
 -- due.
-pub record IsMomentFor (standing : Standing) (player at : ℕ) : Type 0 where
+pub record IsMomentFor (standing : MatchSoFar) (player at : ℕ) : Type 0 where
   pub by_keeper : player ≡ 0 → at ≡ standing.last
   pub by_player : player ≢ 0 → IsInTurn (turn_config standing.turn_ms) standing.last at
 
 -- the state of play there, if this is how the match ended
-abbrev pub play_at : Standing → Option Outcome → AbstractPlay
+abbrev pub play_at : MatchSoFar → Option Outcome → AbstractPlay
 play_at standing outcome = told_play [] outcome standing.place standing.last
 
 -- An entry is right where the moves so far lead, and leads on.
 --   move: it is one of the mover, at a moment of its turn that is counted, and it is legal.
 --   end: the outcome fits the place and the moments, and the moment is one that is counted.
-pub data EntryLeads (game : AbstractGame) (standing : Standing) : Timed → Reached → Type 0 where
+pub data EntryLeads (game : AbstractGame) (standing : MatchSoFar) : Timed → Reached → Type 0 where
   move : {at player : ℕ} {pairs : List (ℕ × ℕ)} {to : AbstractPlace} →
       player ≡ standing.place.state.player →
       IsMomentFor standing player at →
@@ -109,7 +98,7 @@ pub data Leads (game : AbstractGame) : Reached → (text : List ℕ) → Reached
         last = start.now;
         place = start_place game;
       }))
-  entry : {standing : Standing} {text : List ℕ} {told : Timed} {to : Reached} →
+  entry : {standing : MatchSoFar} {text : List ℕ} {told : Timed} {to : Reached} →
       SpellsIn standing.version text told →
       EntryLeads game standing told to →
       Leads game (entry_next standing) text to

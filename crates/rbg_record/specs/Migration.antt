@@ -5,12 +5,11 @@ use Rattle.rbg_rules.specs.Meaning.{AbstractGame}
 use Rattle.rbg_record.specs.declared.entry.Entry.{Entry}
 use Rattle.rbg_record.specs.declared.entry.Entry.TheVariants.{Move, End}
 use Rattle.rbg_record.specs.declared.heading.Version.TheVariants.{One}
-use Rattle.rbg_record.specs.Entries.{SpellsEntry}
+use Rattle.rbg_record.specs.Entries.{SpellsEntry, unwritten_moment}
 use Rattle.rbg_record.specs.Heading.{version_text}
 use Rattle.rbg_record.specs.Records.{PlainRecord, TimedRecord, plain, timed, Spells}
 use Rattle.rbg_record.specs.Right.{made_at, IsRight}
-use Rattle.rbg_record.specs.Lines.{unwritten_moment}
-use Rattle.rbg_record.specs.Judged.{HasFormFault}
+use Rattle.rbg_record.specs.NextLine.{HasFormFault}
 
 -- Version 2 of a record of version 1: with the game's players, a turn of one millisecond, and the beginning and all
 -- that happens at moment 0, but for a time that is over, which ends at moment 1.
@@ -35,13 +34,13 @@ pub record IsMigrated (game : AbstractGame) (old new : List ℕ) : Type 0 where
 pub data PlainPart : Type 0 where
   before_version : PlainPart
   among_moves : PlainPart
-  behind_end : PlainPart
+  beyond_end : PlainPart
 
 -- the text is of the form that a line of version 1 may have there
 abbrev pub HasPlainForm : PlainPart → List ℕ → Type 0
 HasPlainForm before_version text = text ≡ version_text One
 HasPlainForm among_moves text = (entry : Entry) × SpellsEntry text entry
-HasPlainForm behind_end text = ⊥
+HasPlainForm beyond_end text = ⊥
 
 -- The first lines of a record have these texts, which are of the form of version 1, and lead there.
 pub data IsPlainSoFar : (texts : List (List ℕ)) → PlainPart → Type 0 where
@@ -56,8 +55,8 @@ pub data IsPlainSoFar : (texts : List (List ℕ)) → PlainPart → Type 0 where
   ended : {texts : List (List ℕ)} {text : List ℕ} {outcome : Option Outcome} →
       IsPlainSoFar texts among_moves →
       SpellsEntry text (End outcome) →
-      IsPlainSoFar (texts ++ text ∷ []) behind_end
+      IsPlainSoFar (texts ++ text ∷ []) beyond_end
 
 -- The lines before this one are of the form of version 1, but what follows them is not.
 abbrev pub IsPlainFault : (bytes : List ℕ) → (line : ℕ) → Type 0
-IsPlainFault bytes line = HasFormFault IsPlainSoFar behind_end HasPlainForm bytes line
+IsPlainFault bytes line = HasFormFault IsPlainSoFar beyond_end HasPlainForm bytes line

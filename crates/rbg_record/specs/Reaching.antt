@@ -1,6 +1,9 @@
 -- The place that play has reached in a record.
-use Rattle.rbg_rules.specs.Meaning.{AbstractPlace}
-use Rattle.rbg_record.specs.Lines.{Reached, version_next, players_next, start_next, entry_next, nothing_next}
+use Rattle.std.specs.Prelude.{◌≡◌, ℕ, List, [], ◌∷◌, ◌++◌}
+use Rattle.rbg_rules.specs.Meaning.{AbstractGame, AbstractPlace}
+use Rattle.rbg_record.specs.NextLine.{BeginsWith}
+use Rattle.rbg_record.specs.Lines.{MatchSoFar, Reached, version_next, players_next, start_next, entry_next, nothing_next, LeadTo}
+use Rattle.rbg_record.specs.Right.{IsRightRecord}
 
 -- the place to which a line leads, or else the one before it
 abbrev pub place_in : Reached → AbstractPlace → AbstractPlace
@@ -9,3 +12,14 @@ place_in players_next before = before
 place_in start_next before = before
 place_in (entry_next standing) before = standing.place
 place_in nothing_next before = before
+
+-- The bytes are those of a right record, and its moves lead to this place: all its lines but the last one, which tells
+-- how the match ended, lead there.
+pub record IsPlaceAfter (game : AbstractGame) (bytes : List ℕ) (place : AbstractPlace) : Type 0 where
+  pub right : IsRightRecord game bytes
+  pub texts : List (List ℕ)
+  pub last : List ℕ
+  pub begins : BeginsWith bytes (texts ++ last ∷ []) []
+  pub standing : MatchSoFar
+  pub leads : LeadTo game texts (entry_next standing)
+  pub here : standing.place ≡ place

@@ -11,16 +11,17 @@ use Rattle.rbg_record.specs.declared.entry.Timed.{Timed}
 use Rattle.rbg_record.specs.declared.heading.Start.{Start}
 use Rattle.rbg_record.specs.declared.heading.Version.{Version}
 use Rattle.rbg_record.specs.declared.heading.Version.TheVariants.{One, Two}
+use Rattle.rbg_record.specs.declared.next.Next.{Next}
+use Rattle.rbg_record.specs.declared.next.Next.TheVariants as nexts
+use Rattle.rbg_record.specs.Entries.{SpellsIn}
 use Rattle.rbg_record.specs.Heading.{version_text, SpellsPlayers, SpellsStart}
+use Rattle.rbg_record.specs.NextLine.{HasFormFault}
+use Rattle.rbg_record.specs.Reading as reading
 use Rattle.rbg_match.specs.declared.config.Config.{Config}
 use Rattle.rbg_match.specs.Config.{IsWithinLimits}
-use Rattle.rbg_record.specs.Judged.{HasFormFault}
-use Rattle.rbg_record.specs.Lines.{SpellsIn}
 use Rattle.rbg_script.specs.declared.config.ScriptConfig.{ScriptConfig}
 use Rattle.rbg_script.specs.Events.{AbstractEvent, piece_event, end_event, tick_event}
 use Rattle.rbg_script.specs.Scripts.{SpellsScript}
-use Rattle.rbg_record.specs.declared.part.Part.{Part}
-use Rattle.rbg_record.specs.declared.part.Part.TheVariants as parts
 
 -- A player says its move at the move's moment. The keeper moves by itself.
 abbrev pub move_events : (at player : ℕ) → (pairs : List (ℕ × ℕ)) → List AbstractEvent
@@ -88,41 +89,38 @@ pub record IsScriptOfRecord (bytes new : List ℕ) : Type 0 where
   })
 
 -- The text is of the form that a line may have there. A start is one whose turn is within the limits.
-abbrev pub HasForm : Part → (text : List ℕ) → Type 0
-HasForm parts.Version text = (version : Version) × (text ≡ version_text version)
-HasForm parts.Players text = (names : List (List ℕ)) × SpellsPlayers text names
-HasForm parts.Start text = (start : Start) × SpellsStart text start × IsWithinLimits (turns_of start.turn_ms)
-HasForm (parts.Entry version) text = (told : Timed) × SpellsIn version text told
-HasForm parts.Nothing text = ⊥
+abbrev pub HasForm : Next → (text : List ℕ) → Type 0
+HasForm nexts.Start text = (start : Start) × SpellsStart text start × IsWithinLimits (turns_of start.turn_ms)
+HasForm next text = reading.HasForm next text
 
 -- A line of this text that has the form leads from one part of a record to another one.
-pub data LeadsOn : Part → (text : List ℕ) → Part → Type 0 where
-  version_1 : LeadsOn parts.Version (version_text One) (parts.Entry One)
-  version_2 : LeadsOn parts.Version (version_text Two) parts.Players
+pub data LeadsOn : Next → (text : List ℕ) → Next → Type 0 where
+  version_1 : LeadsOn nexts.Version (version_text One) (nexts.Entry One)
+  version_2 : LeadsOn nexts.Version (version_text Two) nexts.Players
   players : {text : List ℕ} {names : List (List ℕ)} →
       SpellsPlayers text names →
-      LeadsOn parts.Players text parts.Start
+      LeadsOn nexts.Players text nexts.Start
   start : {text : List ℕ} {start : Start} →
       SpellsStart text start →
       IsWithinLimits (turns_of start.turn_ms) →
-      LeadsOn parts.Start text (parts.Entry Two)
+      LeadsOn nexts.Start text (nexts.Entry Two)
   move : {version : Version} {text : List ℕ} (told : Timed) →
       SpellsIn version text told →
       IsMove told.entry →
-      LeadsOn (parts.Entry version) text (parts.Entry version)
+      LeadsOn (nexts.Entry version) text (nexts.Entry version)
   end : {version : Version} {text : List ℕ} (at : ℕ) (outcome : Option Outcome) →
       SpellsIn version text (record { at = at; entry = End outcome }) →
-      LeadsOn (parts.Entry version) text parts.Nothing
+      LeadsOn (nexts.Entry version) text nexts.Nothing
 
 -- Lines of these texts lead there from the beginning of a record.
-pub data LeadThere : (texts : List (List ℕ)) → Part → Type 0 where
+pub data LeadThere : (texts : List (List ℕ)) → Next → Type 0 where
   none :
-      LeadThere [] parts.Version
-  more : {texts : List (List ℕ)} {text : List ℕ} {from to : Part} →
+      LeadThere [] nexts.Version
+  more : {texts : List (List ℕ)} {text : List ℕ} {from to : Next} →
       LeadThere texts from →
       LeadsOn from text to →
       LeadThere (texts ++ text ∷ []) to
 
 -- The lines before this one are of the form, but what follows them is not.
 abbrev pub IsNoRecord : (bytes : List ℕ) → (line : ℕ) → Type 0
-IsNoRecord bytes line = HasFormFault LeadThere parts.Nothing HasForm bytes line
+IsNoRecord bytes line = HasFormFault LeadThere nexts.Nothing HasForm bytes line

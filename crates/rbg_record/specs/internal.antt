@@ -2,7 +2,7 @@
 pub mod Faults
 pub mod Reading
 pub mod Written
-pub mod SoFar
+pub mod Following
 pub mod Migrating
 -- Definitions that only this crate's proofs use.
 pub mod Telling

@@ -18,7 +18,7 @@ ghost use Rattle.rbg_wire.specs.Words.{words_left};
 ghost use Rattle.rbg_record.specs.internal.Faults.{IsOverOrMemory};
 ghost use Rattle.rbg_record.specs.internal.Reading.{SomeIsLegal};
 
-use crate::fault::Fault;
+use crate::fault::LineFault;
 use rbg_moves::{Move, Place, PlayedGame};
 use rbg_rules::Game;
 use rbg_wire::{Scores, Words};
@@ -49,11 +49,11 @@ pub(crate) fn are_scores(game: &PlayedGame, place: &Place, scores: &Scores) -> b
 }
 
 /// Whether play is finished at a place.
-pub(crate) fn is_finished(game: &PlayedGame, place: &Place) -> Result<bool, Fault>
+pub(crate) fn is_finished(game: &PlayedGame, place: &Place) -> Result<bool, LineFault>
     requires { IsPlaceOf game.now place.now }
     ensures finished { IfOk result (λ finished. finished ≡ true → Finished game.now place.now) }
     ensures going { IfOk result (λ finished. finished ≡ false → SomeIsLegal game.now place.now) }
-    ensures heavy { result ≡ Err Fault.Over → IsHeavyToFind game.now place.now }
+    ensures heavy { result ≡ Err LineFault.Over → IsHeavyToFind game.now place.now }
     ensures other { IfErr result IsOverOrMemory }
 {
     let mut workspace = game.workspace();
@@ -67,13 +67,13 @@ pub(crate) fn try_move(
     game: &PlayedGame,
     place: &Place,
     pairs: &Move,
-) -> Result<Option<Place>, Fault>
+) -> Result<Option<Place>, LineFault>
     requires { IsPlaceOf game.now place.now }
     ensures legal { IfOk result (λ after. IfSome after (Legal game.now place.now pairs.now)) }
     ensures in_game { IfOk result (λ after. IfSome after (IsPlaceOf game.now)) }
     ensures illegal { IfOk result (λ after.
         IfNone after ((to : AbstractPlace) → ¬ Legal game.now place.now pairs.now to)) }
-    ensures heavy { result ≡ Err Fault.Over → IsHeavyToTry game.now place.now pairs.now }
+    ensures heavy { result ≡ Err LineFault.Over → IsHeavyToTry game.now place.now pairs.now }
     ensures other { IfErr result IsOverOrMemory }
 {
     let mut workspace = game.workspace();

@@ -1,12 +1,12 @@
 //! Whether a record is right.
-ghost use Rattle.std.specs.Prelude.{◌≡◌, ◌↔◌, ℕ, IfOk, Err, Ok};
-ghost use Rattle.rbg_record.specs.Judged.{IsBadLine, IsFormFault, IsHeavyLine, IsJudged};
+ghost use Rattle.std.specs.Prelude.{◌≡◌, ◌↔◌, ℕ, IfErr, IfOk, Err, Ok};
+ghost use Rattle.rbg_record.specs.Judged.{IsBadLine, IsFormFault, IsGoodByLines, IsHeavyLine, IsJudged, IsMisfit};
 ghost use Rattle.rbg_record.specs.Right.{IsRightRecord};
 
-use crate::cutting::next_line;
 use crate::reached::Reached;
-use crate::reading::read_line;
-use crate::{Checked, RecordError};
+use crate::reader::RecordReader;
+use crate::reading::judge_line;
+use crate::{Checked, Misfit, RecordError};
 use rbg_moves::PlayedGame;
 
 /// Tells whether a record is right, of either version.
@@ -24,28 +24,27 @@ pub fn check_record(game: &PlayedGame, bytes: &[u8]) -> Result<Checked, RecordEr
         → IsHeavyLine game.now bytes.now line }
 {
     game.is_accepted();
-    judge_lines(game, bytes)
+    judge_record(game, bytes)
+}
+
+fn judge_record(game: &PlayedGame, bytes: &[u8]) -> Result<Checked, RecordError>
+    ensures { IsJudged game.now bytes.now result }
+{
+    match judge_lines(game, bytes) {
+        Ok(()) => Ok(Checked::Good),
+        Err(misfit) => misfit.checked(),
+    }
 }
 
 /// Judges the lines of a record in turn.
-fn judge_lines(game: &PlayedGame, bytes: &[u8]) -> Result<Checked, RecordError>
-    ensures { IsJudged game.now bytes.now result }
+fn judge_lines(game: &PlayedGame, bytes: &[u8]) -> Result<(), Misfit>
+    ensures good { IfOk result (λ _. IsGoodByLines game.now bytes.now) }
+    ensures misfit { IfErr result (IsMisfit game.now bytes.now) }
 {
+    let mut reader = RecordReader::new(bytes);
     let mut reached = Reached::Version;
-    let mut rest = bytes;
-    let mut line = 1;
-    while let Some((text, later)) = next_line(rest) {
-        match read_line(game, reached, text) {
-            Ok(to) => reached = to,
-            Err(fault) => return fault.at(line),
-        }
-        rest = later;
-        line += 1;
+    while let Some(line) = reader.read(reached.next())? {
+        reached = judge_line(game, &reached, &line)?;
     }
-    let over = reached.is_over();
-    if over && rest.is_empty() {
-        Ok(Checked::Good)
-    } else {
-        Err(RecordError::Form { line })
-    }
+    Ok(())
 }

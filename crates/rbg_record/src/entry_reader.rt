@@ -1,10 +1,11 @@
 //! The calls that read an entry. They allocate nothing.
-ghost use Rattle.std.specs.Prelude.{ℕ, List, IfSome, IfNone};
+ghost use Rattle.std.specs.Prelude.{◌≡◌, ℕ, List, IfSome, IfNone};
 ghost use Rattle.rbg_wire.specs.Reads.{ReadsOnly};
-ghost use Rattle.rbg_record.specs.Entries.{SpellsEntry, SpellsTimed};
+ghost use Rattle.rbg_record.specs.declared.entry.Timed.{Timed as AnyTimed};
+ghost use Rattle.rbg_record.specs.Entries.{SpellsEntry, SpellsIn, SpellsTimed, unwritten_moment};
 
-use crate::{Entry, Timed};
-use rbg_wire::{cut_number, read_outcome, read_pairs};
+use crate::{Entry, Timed, Version};
+use rbg_wire::{Outcome, cut_number, read_outcome, read_pairs};
 
 /// The entry of which the whole text is the spelling.
 ///
@@ -43,4 +44,33 @@ fn move_in(line: &[u8]) -> Option<Entry>
     let (player, pairs) = cut_number(line)?;
     let pairs = read_pairs(pairs).ok()?;
     Some(Entry::Move { player, pairs })
+}
+
+/// The entry of a line in a record of that version. In version 1 it has the moment that is not written.
+pub(crate) fn read_in(version: Version, text: &[u8]) -> Option<Timed>
+    ensures found { IfSome result (SpellsIn version text.now) }
+    ensures none { IfNone result ((told : AnyTimed) → ¬ SpellsIn version text.now told) }
+{
+    match version {
+        Version::One => {
+            let entry = read_entry(text)?;
+            Some(Timed {
+                at: unwritten(&entry),
+                entry,
+            })
+        }
+        Version::Two => read_timed(text),
+    }
+}
+
+/// The moment of an entry that is written without one.
+fn unwritten(entry: &Entry) -> u64
+    ensures { result ≡ unwritten_moment entry.now }
+{
+    match entry {
+        Entry::End {
+            outcome: Some(Outcome::Time { .. }),
+        } => 1,
+        _ => 0,
+    }
 }

@@ -1,5 +1,9 @@
 //! Why it can't be told whether a record is right.
+ghost use Rattle.std.specs.Prelude.{◌≡◌};
+ghost use Rattle.rbg_record.specs.declared.error.RecordError.TheVariants.{Form as NotOfForm, Memory as OutOfMemory};
 
+use crate::FormError;
+use rbg_base::Memory;
 use thiserror::Error;
 
 /// Why it can't be told whether a record is right. Lines are numbered from 1.
@@ -14,4 +18,20 @@ pub enum RecordError {
     /// A request for memory failed.
     #[error("out of memory")]
     Memory,
+}
+
+impl From<FormError> for RecordError {
+    ghost from_gives = { λ fault error. error ≡ NotOfForm fault.line };
+
+    fn from(fault: FormError) -> RecordError {
+        RecordError::Form { line: fault.line }
+    }
+}
+
+impl From<Memory> for RecordError {
+    ghost from_gives = { λ _ error. error ≡ OutOfMemory };
+
+    fn from(_memory: Memory) -> RecordError {
+        RecordError::Memory
+    }
 }

@@ -36,12 +36,19 @@ pub fn read_players(line: &[u8]) -> Option<Words<'_>>
         → SpellsPlayers line.now names
         → IsSomeAnd result (λ found. words_left found ≡ names) }
 {
+    let names = names_in(line)?;
+    Some(Words::of(names))
+}
+
+/// The text of the names of the players, with a space between two, if the whole text is the spelling of players.
+pub(crate) fn names_in(line: &[u8]) -> Option<&[u8]>
+    ensures found { IfSome result (λ names. SpellsPlayers line.now (words_of names.now)) }
+    ensures only { (names : List (List ℕ))
+        → SpellsPlayers line.now names
+        → IsSomeAnd result (λ found. words_of found.now ≡ names) }
+{
     let text = after_text(b"players ", line)?;
-    if are_names(text) {
-        Some(Words::of(text))
-    } else {
-        None
-    }
+    if are_names(text) { Some(text) } else { None }
 }
 
 // Whether the words between the spaces are names.

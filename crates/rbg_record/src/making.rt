@@ -1,16 +1,19 @@
 //! Making a script of a record, line by line.
-ghost use Rattle.std.specs.Prelude.{◌≡◌, ◌↔◌, ℕ, List, IfOk, IfSome, IfNone, IsTrue, Err};
-ghost use Rattle.rbg_record.specs.Scripting.{HasForm, IsNoRecord, IsScriptOfRecord};
-ghost use Rattle.rbg_record.specs.internal.Telling.{TellsNext, part_behind};
+ghost use Rattle.std.specs.Prelude.{◌≡◌, ◌↔◌, ◌++◌, ℕ, List, IfErr, IfOk, OnOk, IsTrue, Err};
+ghost use Rattle.rbg_record.specs.Heading.{version_text};
+ghost use Rattle.rbg_record.specs.Reading.{Says};
+ghost use Rattle.rbg_match.specs.Config.{IsWithinLimits};
+ghost use Rattle.rbg_script.specs.Config.{config_text};
+ghost use Rattle.rbg_wire.specs.Lines.{line_of};
+ghost use Rattle.rbg_record.specs.Scripting.{IsNoRecord, IsScriptOfRecord, config_at, turns_of};
+ghost use Rattle.rbg_record.specs.internal.Telling.{IsRefusal, RefusesLine, TellsNext};
 
 use crate::ScriptingError;
-use crate::cutting::next_line;
 use crate::entries::write_entry;
-use crate::entry::{Entry, Timed};
-use crate::heading::Version;
-use crate::heading_reader::{read_players, read_start, read_version};
-use crate::part::Part;
-use crate::reading::read_in;
+use crate::heading::{Start, Version};
+use crate::line::{Content, RecordLine};
+use crate::next::Next;
+use crate::reader::RecordReader;
 use rbg_base::Memory;
 use rbg_match::Config;
 use rbg_script::{ScriptConfig, write_config};
@@ -27,135 +30,84 @@ pub fn script_of_record(alloc: Global, bytes: &[u8]) -> Result<Vec<u8>, Scriptin
     ensures made { IfOk result (λ script. IsScriptOfRecord bytes.now script.items) }
     ensures form { (line : ℕ) → result ≡ Err (ScriptingError.Form line) → IsNoRecord bytes.now line }
 {
+    write_lines(alloc, bytes)
+}
+
+fn write_lines(alloc: Global, bytes: &[u8]) -> Result<Vec<u8>, ScriptingError>
+    ensures made { IfOk result (λ script. IsScriptOfRecord bytes.now script.items) }
+    ensures refused { IfErr result (IsRefusal bytes.now) }
+{
     let mut out = Vec::new(alloc);
-    let mut part = Part::Version;
-    let mut rest = bytes;
-    let mut line = 1;
-    while let Some((text, later)) = next_line(rest) {
-        let Ok(to) = tell_line(alloc, part, text, &mut out) else {
-            return Err(ScriptingError::Memory);
-        };
-        match to {
-            Some(to) => part = to,
-            None => return Err(ScriptingError::Form(line)),
-        }
-        rest = later;
-        line += 1;
+    let mut reader = RecordReader::new(bytes);
+    let mut next = Next::Version;
+    while let Some(line) = reader.read(next)? {
+        next = write_line(alloc, next, &line, &mut out)?;
     }
-    if is_over(part) && rest.is_empty() {
-        Ok(out)
-    } else {
-        Err(ScriptingError::Form(line))
-    }
+    Ok(out)
 }
 
-fn is_over(part: Part) -> bool
-    ensures { IsTrue result ↔ (part ≡ Part.Nothing) }
-{
-    matches!(part, Part::Nothing)
-}
-
-/// Appends what a line is in the script, and returns what comes next. None if the line isn't of the form.
-fn tell_line(
+/// Appends what a line is in the script, and returns what comes next.
+fn write_line(
     alloc: Global,
-    part: Part,
-    text: &[u8],
+    next: Next,
+    line: &RecordLine<'_>,
     out: &mut Vec<u8>,
-) -> Result<Option<Part>, Memory>
-    ensures leads { IfOk result (λ to. IfSome to (λ next.
-        TellsNext part text.now next out.old.items out.new.items)) }
-    ensures none { IfOk result (λ to. IfNone to (¬ HasForm part text.now)) }
+) -> Result<Next, ScriptingError>
+    requires { Says next line.now.text.now line.now.content }
+    ensures leads { IfOk result (λ to.
+        TellsNext next line.now.text.now to out.old.items out.new.items) }
+    ensures refused { IfErr result (RefusesLine next line.now) }
 {
-    match part {
-        Part::Version => begin(text, out),
-        Part::Players => Ok(players(text)),
-        Part::Start => start(text, out),
-        Part::Entry(version) => go_on(alloc, version, text, out),
-        Part::Nothing => Ok(None),
-    }
-}
-
-/// Appends the config of version 1, if the text is that version's.
-fn begin(text: &[u8], out: &mut Vec<u8>) -> Result<Option<Part>, Memory>
-    ensures leads { IfOk result (λ to. IfSome to (λ next.
-        TellsNext Part.Version text.now next out.old.items out.new.items)) }
-    ensures none { IfOk result (λ to. IfNone to (¬ HasForm Part.Version text.now)) }
-{
-    match read_version(text) {
-        Some(Version::One) => {
-            let config = ScriptConfig {
-                turn_ms: 1,
-                refusals: 0,
-                now: 0,
-            };
-            write_config(config, out)?;
-            Ok(Some(Part::Entry(Version::One)))
+    match &line.content {
+        Content::Version(version) => Ok(begin(*version, out)?),
+        Content::Players(_) => Ok(Next::Start),
+        Content::Start(start) => {
+            if !is_within_limits(*start) {
+                return Err(ScriptingError::Form(line.number));
+            }
+            write_start(*start, out)?;
+            Ok(Next::Entry(Version::Two))
         }
-        Some(Version::Two) => Ok(Some(Part::Players)),
-        None => Ok(None),
+        Content::Entry(told) => {
+            write_entry(alloc, told, out)?;
+            Ok(next.after(&told.entry))
+        }
     }
 }
 
-/// What comes after the players, if the text is theirs.
-fn players(text: &[u8]) -> Option<Part>
-    ensures leads { IfSome result (λ next. (out : List ℕ) → TellsNext Part.Players text.now next out out) }
-    ensures none { IfNone result (¬ HasForm Part.Players text.now) }
+/// Appends the config of version 1. That of version 2 comes with the start.
+fn begin(version: Version, out: &mut Vec<u8>) -> Result<Next, Memory>
+    ensures { IfOk result (λ to. (text : List ℕ) → text ≡ version_text version
+        → TellsNext Next.Version text to out.old.items out.new.items) }
 {
-    match read_players(text) {
-        Some(_) => Some(Part::Start),
-        None => None,
+    match version {
+        Version::One => {
+            write_start(Start { turn_ms: 1, now: 0 }, out)?;
+            Ok(Next::Entry(Version::One))
+        }
+        Version::Two => Ok(Next::Players),
     }
 }
 
-/// Appends the config, if the text is that of a start within the limits.
-fn start(text: &[u8], out: &mut Vec<u8>) -> Result<Option<Part>, Memory>
-    ensures leads { IfOk result (λ to. IfSome to (λ next.
-        TellsNext Part.Start text.now next out.old.items out.new.items)) }
-    ensures none { IfOk result (λ to. IfNone to (¬ HasForm Part.Start text.now)) }
+/// Whether the time for a turn is within its limits.
+fn is_within_limits(start: Start) -> bool
+    ensures { IsTrue result ↔ IsWithinLimits (turns_of start.turn_ms) }
 {
-    let Some(start) = read_start(text) else {
-        return Ok(None);
-    };
     let config = Config {
         turn_ms: start.turn_ms,
         refusals: 0,
     };
-    if !config.is_within_limits() {
-        return Ok(None);
-    }
+    config.is_within_limits()
+}
+
+/// Appends the config of a match that began so. No refusal is allowed.
+fn write_start(start: Start, out: &mut Vec<u8>) -> Result<(), Memory>
+    ensures { OnOk result (out.new.items ≡ out.old.items ++ line_of (config_text (config_at start.turn_ms start.now))) }
+{
     let config = ScriptConfig {
         turn_ms: start.turn_ms,
         refusals: 0,
         now: start.now,
     };
-    write_config(config, out)?;
-    Ok(Some(Part::Entry(Version::Two)))
-}
-
-/// Appends the events of a move or of the end, if the text is that of one.
-fn go_on(
-    alloc: Global,
-    version: Version,
-    text: &[u8],
-    out: &mut Vec<u8>,
-) -> Result<Option<Part>, Memory>
-    ensures leads { IfOk result (λ to. IfSome to (λ next.
-        TellsNext (Part.Entry version) text.now next out.old.items out.new.items)) }
-    ensures none { IfOk result (λ to. IfNone to (¬ HasForm (Part.Entry version) text.now)) }
-{
-    let Some(told) = read_in(version, text) else {
-        return Ok(None);
-    };
-    write_entry(alloc, &told, out)?;
-    Ok(Some(behind(version, &told)))
-}
-
-/// What comes after an entry.
-fn behind(version: Version, told: &Timed) -> Part
-    ensures { result ≡ part_behind version told.now.entry }
-{
-    match &told.entry {
-        Entry::Move { .. } => Part::Entry(version),
-        Entry::End { .. } => Part::Nothing,
-    }
+    write_config(config, out)
 }

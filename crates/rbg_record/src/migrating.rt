@@ -1,37 +1,25 @@
 //! Making version 2 of a record of version 1.
-ghost use Rattle.std.specs.Prelude.{◌≡◌, ◌++◌, ◌↔◌, ℕ, Err, IfOk, IfSome, IfNone, OnOk, IsTrue};
+ghost use Rattle.std.specs.Prelude.{◌≡◌, ◌++◌, ◌↔◌, ℕ, List, Err, IfErr, IfOk, OnOk};
 ghost use Rattle.rbg_record.specs.Entries.{timed_text};
+ghost use Rattle.rbg_record.specs.Heading.{version_text};
+ghost use Rattle.rbg_record.specs.Reading.{Says};
 ghost use Rattle.rbg_wire.specs.Lines.{line_of, lines_of};
-ghost use Rattle.rbg_rules.specs.Meaning.{AbstractGame};
-ghost use Rattle.rbg_record.specs.Lines.{with_moment};
-ghost use Rattle.rbg_record.specs.Migration.{HasPlainForm, IsMigrated, IsPlainFault, behind_end};
+ghost use Rattle.rbg_record.specs.Migration.{IsMigrated, IsPlainFault};
 ghost use Rattle.rbg_record.specs.Right.{IsRightRecord};
-ghost use Rattle.rbg_record.specs.internal.Migrating.{Migrates, head_texts, part_behind, part_of};
+ghost use Rattle.rbg_record.specs.internal.Migrating.{IsPlainNext, IsPlainRefusal, MigratesLine, RefusesPlain, RefusesVersion, head_texts};
 
 use crate::RecordError;
-use crate::cutting::next_line;
-use crate::entry::Entry;
-use crate::entry_reader::read_entry;
+use crate::entry::{Entry, Timed};
 use crate::entry_writer::{write_end_line, write_move_line};
 use crate::heading::{Start, Version};
-use crate::heading_reader::read_version;
 use crate::heading_writer::{write_start, write_version};
-use crate::moments::unwritten;
+use crate::line::{Content, RecordLine};
+use crate::next::Next;
 use crate::players::write_players;
+use crate::reader::RecordReader;
 use rbg_base::Memory;
 use rbg_rules::Game;
 use std::alloc::Global;
-
-/// Where one is in a record of version 1.
-#[derive(Clone, Copy)]
-enum Part {
-    /// The version comes next.
-    Version,
-    /// A move or the end comes next.
-    Moves,
-    /// Nothing comes next: the end was read.
-    Nothing,
-}
 
 /// Makes version 2 of a record of version 1. A turn lasts for one millisecond, the match begins at moment 0, and all
 /// happens at moment 0 but for a time that is over, which ends at moment 1.
@@ -44,67 +32,59 @@ pub fn migrate(alloc: Global, game: &Game, bytes: &[u8]) -> Result<Vec<u8>, Reco
     ensures form { (line : ℕ) → result ≡ Err (RecordError.Form line) → IsPlainFault bytes.now line }
     ensures never_over { (line : ℕ) → ¬ (result ≡ Err (RecordError.Over line)) }
 {
+    migrate_lines(alloc, game, bytes)
+}
+
+fn migrate_lines(alloc: Global, game: &Game, bytes: &[u8]) -> Result<Vec<u8>, RecordError>
+    ensures migrated { IfOk result (λ new. IsMigrated game.now bytes.now new.items) }
+    ensures refused { IfErr result (IsPlainRefusal bytes.now) }
+{
     game.is_accepted();
     let mut out = Vec::new(alloc);
-    let mut part = Part::Version;
-    let mut rest = bytes;
-    let mut line = 1;
-    while let Some((text, later)) = next_line(rest) {
-        let Ok(to) = migrate_line(game, part, text, &mut out) else {
-            return Err(RecordError::Memory);
-        };
-        match to {
-            Some(to) => part = to,
-            None => return Err(RecordError::Form { line }),
-        }
-        rest = later;
-        line += 1;
+    let mut reader = RecordReader::new(bytes);
+    let mut next = Next::Version;
+    while let Some(line) = reader.read(next)? {
+        next = migrate_line(game, next, &line, &mut out)?;
     }
-    if is_over(part) && rest.is_empty() {
-        Ok(out)
-    } else {
-        Err(RecordError::Form { line })
-    }
+    Ok(out)
 }
 
-fn is_over(part: Part) -> bool
-    ensures { IsTrue result ↔ (part_of part ≡ behind_end) }
-{
-    matches!(part, Part::Nothing)
-}
-
-/// Appends what a line is in version 2, and returns where it leads. None if the line isn't of the form.
+/// Appends what a line is in version 2, and returns what comes next. Only version 1 is migrated.
 fn migrate_line(
     game: &Game,
-    part: Part,
-    text: &[u8],
+    next: Next,
+    line: &RecordLine<'_>,
     out: &mut Vec<u8>,
-) -> Result<Option<Part>, Memory>
-    ensures leads { IfOk result (λ to. IfSome to (λ next.
-        Migrates game.now (part_of part) text.now (part_of next) out.old.items out.new.items)) }
-    ensures none { IfOk result (λ to. IfNone to (¬ HasPlainForm (part_of part) text.now)) }
+) -> Result<Next, RecordError>
+    requires plain { IsPlainNext next }
+    requires says { Says next line.now.text.now line.now.content }
+    ensures migrates { IfOk result (λ to.
+        MigratesLine game.now next line.now.text.now to out.old.items out.new.items) }
+    ensures refused { IfErr result (RefusesPlain line.now) }
 {
-    match part {
-        Part::Version => begin(game, text, out),
-        Part::Moves => go_on(text, out),
-        Part::Nothing => Ok(None),
+    match &line.content {
+        Content::Version(version) => begin(game, *version, line.number, out),
+        Content::Entry(told) => {
+            write_entry(told, out)?;
+            Ok(next.after(&told.entry))
+        }
+        Content::Players(_) => Err(RecordError::Form { line: line.number }),
+        Content::Start(_) => Err(RecordError::Form { line: line.number }),
     }
 }
 
-/// Appends the first lines, if the text is that of version 1.
-fn begin(game: &Game, text: &[u8], out: &mut Vec<u8>) -> Result<Option<Part>, Memory>
-    ensures leads { IfOk result (λ to. IfSome to (λ next.
-        Migrates game.now (part_of Part.Version) text.now (part_of next) out.old.items
-        out.new.items)) }
-    ensures none { IfOk result (λ to. IfNone to (¬ HasPlainForm (part_of Part.Version) text.now)) }
+/// Appends the first lines, if this line has version 1.
+fn begin(game: &Game, version: Version, line: usize, out: &mut Vec<u8>) -> Result<Next, RecordError>
+    ensures migrates { IfOk result (λ to. (text : List ℕ) → text ≡ version_text version
+        → MigratesLine game.now Next.Version text to out.old.items out.new.items) }
+    ensures refused { IfErr result (RefusesVersion version line) }
 {
-    match read_version(text) {
-        Some(Version::One) => {
+    match version {
+        Version::One => {
             write_head(game, out)?;
-            Ok(Some(Part::Moves))
+            Ok(Next::Entry(Version::One))
         }
-        Some(Version::Two) => Ok(None),
-        None => Ok(None),
+        Version::Two => Err(RecordError::Form { line }),
     }
 }
 
@@ -117,33 +97,12 @@ fn write_head(game: &Game, out: &mut Vec<u8>) -> Result<(), Memory>
     write_start(Start { turn_ms: 1, now: 0 }, out)
 }
 
-/// Appends a move or the end with its moment, if the text is that of one.
-fn go_on(text: &[u8], out: &mut Vec<u8>) -> Result<Option<Part>, Memory>
-    ensures leads { IfOk result (λ to. IfSome to (λ next. (game : AbstractGame) →
-        Migrates game (part_of Part.Moves) text.now (part_of next) out.old.items out.new.items)) }
-    ensures none { IfOk result (λ to. IfNone to (¬ HasPlainForm (part_of Part.Moves) text.now)) }
+/// Appends a move or the end with its moment.
+fn write_entry(told: &Timed, out: &mut Vec<u8>) -> Result<(), Memory>
+    ensures { OnOk result (out.new.items ≡ out.old.items ++ line_of (timed_text told.now)) }
 {
-    let Some(entry) = read_entry(text) else {
-        return Ok(None);
-    };
-    let next = write_entry(&entry, out)?;
-    Ok(Some(next))
-}
-
-/// Appends a move or the end with its moment, and returns where it leads.
-fn write_entry(entry: &Entry, out: &mut Vec<u8>) -> Result<Part, Memory>
-    ensures written { OnOk result
-        (out.new.items ≡ out.old.items ++ line_of (timed_text (with_moment entry.now))) }
-    ensures leads { IfOk result (λ next. part_of next ≡ part_behind entry.now) }
-{
-    match entry {
-        Entry::Move { player, pairs } => {
-            write_move_line(Some(0), *player, pairs, out)?;
-            Ok(Part::Moves)
-        }
-        Entry::End { outcome } => {
-            write_end_line(Some(unwritten(entry)), *outcome, out)?;
-            Ok(Part::Nothing)
-        }
+    match &told.entry {
+        Entry::Move { player, pairs } => write_move_line(Some(told.at), *player, pairs, out),
+        Entry::End { outcome } => write_end_line(Some(told.at), *outcome, out),
     }
 }

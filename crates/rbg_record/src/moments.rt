@@ -4,28 +4,16 @@ ghost use Rattle.rbg_match.specs.Config.{IsWithinLimits};
 ghost use Rattle.rbg_match.specs.History.{IsInTurn};
 ghost use Rattle.rbg_match.specs.Limits.{latest_moment};
 ghost use Rattle.rbg_record.specs.declared.entry.Entry.TheVariants.{End as EndEntry};
-ghost use Rattle.rbg_record.specs.Lines.{IsMomentFor, unwritten_moment};
+ghost use Rattle.rbg_record.specs.Lines.{IsMomentFor};
 ghost use Rattle.rbg_record.specs.Judged.{FitsUnasked, IsOnTurn};
 ghost use Rattle.rbg_record.specs.Right.{turn_config};
 
 use crate::entry::{Entry, Timed};
 use crate::heading::Start;
-use crate::reached::Standing;
+use crate::reached::MatchSoFar;
 use rbg_match::{Config, LATEST_MOMENT};
 use rbg_moves::PlayedGame;
 use rbg_wire::Outcome;
-
-/// The moment of an entry that is written without one.
-pub(crate) fn unwritten(entry: &Entry) -> u64
-    ensures { result ≡ unwritten_moment entry.now }
-{
-    match entry {
-        Entry::End {
-            outcome: Some(Outcome::Time { .. }),
-        } => 1,
-        _ => 0,
-    }
-}
 
 /// Whether the time for a turn is within its limits, and the moment of the beginning is one that is counted.
 pub(crate) fn is_lawful(start: Start) -> bool
@@ -39,7 +27,7 @@ pub(crate) fn is_lawful(start: Start) -> bool
     config.is_within_limits() && start.now <= LATEST_MOMENT
 }
 
-impl Standing {
+impl MatchSoFar {
     /// The current player; 0 is the keeper.
     fn mover(&self) -> u64
         ensures { result ≡ self.now.place.state.player }

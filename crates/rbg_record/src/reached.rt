@@ -1,16 +1,17 @@
 //! What the lines of a record so far lead to.
-ghost use Rattle.std.specs.Prelude.{◌≡◌, ◌↔◌, IfOk, IsTrue};
-ghost use Rattle.rbg_record.specs.Lines.{nothing_next};
+ghost use Rattle.std.specs.Prelude.{◌≡◌, IfOk};
+ghost use Rattle.rbg_record.specs.Lines.{next_of};
 ghost use Rattle.rbg_record.specs.ByLine.{reached_of};
 ghost use Rattle.rbg_record.specs.Reaching.{place_in};
 
 use crate::heading::Version;
+use crate::next::Next;
 use rbg_base::Memory;
 use rbg_moves::Place;
 
 /// Where the moves so far lead.
 #[derive(Drop)]
-pub struct Standing {
+pub struct MatchSoFar {
     /// The version of the record.
     pub version: Version,
     /// The time for a turn, in milliseconds: 1 in version 1.
@@ -30,17 +31,23 @@ pub enum Reached {
     /// The start comes next.
     Start,
     /// A move or the end comes next.
-    Entry(Standing),
+    Entry(MatchSoFar),
     /// Nothing comes next: the end was read.
     Nothing,
 }
 
 impl Reached {
-    /// Whether the end was read.
-    pub fn is_over(&self) -> bool
-        ensures { IsTrue result ↔ (reached_of self.now ≡ nothing_next) }
+    /// What comes next.
+    pub fn next(&self) -> Next
+        ensures { result ≡ next_of (reached_of self.now) }
     {
-        matches!(self, Reached::Nothing)
+        match self {
+            Reached::Version => Next::Version,
+            Reached::Players => Next::Players,
+            Reached::Start => Next::Start,
+            Reached::Entry(standing) => Next::Entry(standing.version),
+            Reached::Nothing => Next::Nothing,
+        }
     }
 
     /// A copy of the place to which the last line leads, or else the one before it.

@@ -1,83 +1,103 @@
-//! The lines of a record in turn: each is read, and then judged after those before it.
-ghost use Rattle.std.specs.Prelude.{◌≡◌, ◌↔◌, ◌≤◌, Some, IfErr, IfOk, IfSome, IfNone, IsTrue};
+//! The lines of a record in turn, judged: each was read by its form, and is judged after those before it.
+ghost use Rattle.std.specs.Prelude.{◌≡◌, ◌↔◌, ◌≤◌, ℕ, List, Some, IfErr, IfOk, IsTrue};
 ghost use Rattle.rbg_rules.specs.Meaning.{IsPlaceOf};
-ghost use Rattle.rbg_record.specs.declared.entry.Timed.{Timed as AnyTimed};
 ghost use Rattle.rbg_record.specs.declared.entry.Entry.TheVariants.{End as EndEntry, Move as MoveEntry};
+ghost use Rattle.rbg_record.specs.declared.line.Content.TheVariants.{Entry as EntryContent};
+ghost use Rattle.rbg_record.specs.Heading.{SpellsPlayers, SpellsStart, version_text};
+ghost use Rattle.rbg_record.specs.Reading.{Says};
+ghost use Rattle.rbg_wire.specs.Words.{words_of};
 ghost use Rattle.rbg_wire.specs.declared.outcome.Outcome.TheVariants.{Heavy};
 ghost use Rattle.rbg_match.specs.Limits.{latest_moment};
 ghost use Rattle.rbg_record.specs.Judged.{FitsUnasked};
-ghost use Rattle.rbg_record.specs.Lines.{EntryLeads, SpellsIn, version_next, players_next, start_next, entry_next};
-ghost use Rattle.rbg_record.specs.ByLine.{IsReachedIn, ReadsLine, RefusesEntry, reached_of};
+ghost use Rattle.rbg_record.specs.Lines.{EntryLeads, next_of, version_next, players_next, start_next};
+ghost use Rattle.rbg_record.specs.ByLine.{IsReachedIn, JudgesLine, ReadsLine, RefusesEntry, reached_of};
 ghost use Rattle.rbg_record.specs.internal.Reading.{EndsSo};
 
 use crate::asking::{are_players, are_scores, is_finished, try_move};
 use crate::entry::{Entry, Timed};
-use crate::entry_reader::{read_entry, read_timed};
-use crate::fault::Fault;
-use crate::heading::Version;
-use crate::heading_reader::{read_players, read_start, read_version};
-use crate::moments::{is_lawful, unwritten};
-use crate::reached::{Reached, Standing};
+use crate::fault::{LineFault, Misfit};
+use crate::heading::{Start, Version};
+use crate::line::{Content, RecordLine};
+use crate::moments::is_lawful;
+use crate::reached::{MatchSoFar, Reached};
 use rbg_match::LATEST_MOMENT;
 use rbg_moves::{Move, Place, PlayedGame};
-use rbg_wire::Outcome;
+use rbg_wire::{Outcome, Words};
 
-/// What a line leads to after the lines so far, of which the first is read after `Reached::Version`. Whoever reads a
+/// What a line leads to after the lines so far, of which the first is judged after `Reached::Version`. Whoever judges a
 /// record line by line by this call takes the same ones as `check_record`.
-pub fn read_line(game: &PlayedGame, reached: Reached, text: &[u8]) -> Result<Reached, Fault>
-    requires { IsReachedIn game.now (reached_of reached) }
-    ensures { ReadsLine game.now (reached_of reached) text.now result }
+pub fn judge_line(
+    game: &PlayedGame,
+    reached: &Reached,
+    line: &RecordLine<'_>,
+) -> Result<Reached, Misfit>
+    requires in_game { IsReachedIn game.now (reached_of reached.now) }
+    requires says { Says (next_of (reached_of reached.now)) line.now.text.now line.now.content }
+    ensures { JudgesLine game.now (reached_of reached.now) line.now result }
 {
-    match reached {
-        Reached::Version => begin(game, text),
-        Reached::Players => compare_players(game, text),
-        Reached::Start => start(game, text),
-        Reached::Entry(standing) => go_on(game, standing, text),
-        Reached::Nothing => Err(Fault::Form),
+    match judge_content(game, reached, line) {
+        Ok(to) => Ok(to),
+        Err(fault) => Err(Misfit {
+            line: line.number,
+            fault,
+        }),
     }
 }
 
-/// Reads the version.
-fn begin(game: &PlayedGame, text: &[u8]) -> Result<Reached, Fault>
-    ensures { ReadsLine game.now version_next text.now result }
+fn judge_content(
+    game: &PlayedGame,
+    reached: &Reached,
+    line: &RecordLine<'_>,
+) -> Result<Reached, LineFault>
+    requires in_game { IsReachedIn game.now (reached_of reached.now) }
+    requires says { Says (next_of (reached_of reached.now)) line.now.text.now line.now.content }
+    ensures { ReadsLine game.now (reached_of reached.now) line.now.text.now result }
 {
-    match read_version(text) {
-        None => Err(Fault::Form),
-        Some(Version::One) => Ok(Reached::Entry(Standing {
+    match &line.content {
+        Content::Version(version) => begin(game, *version),
+        Content::Players(names) => compare_players(game, names),
+        Content::Start(start) => start_at(game, *start),
+        Content::Entry(told) => go_on(game, reached, told),
+    }
+}
+
+/// What the version leads to.
+fn begin(game: &PlayedGame, version: Version) -> Result<Reached, LineFault>
+    ensures { (text : List ℕ) → text ≡ version_text version
+        → ReadsLine game.now version_next text result }
+{
+    match version {
+        Version::One => Ok(Reached::Entry(MatchSoFar {
             version: Version::One,
             turn_ms: 1,
             last: 0,
             place: game.start()?,
         })),
-        Some(Version::Two) => Ok(Reached::Players),
+        Version::Two => Ok(Reached::Players),
     }
 }
 
-/// Reads the players, and compares them with those of the game.
-fn compare_players(game: &PlayedGame, text: &[u8]) -> Result<Reached, Fault>
-    ensures { ReadsLine game.now players_next text.now result }
+/// What the players lead to, if they are those of the game.
+fn compare_players(game: &PlayedGame, names: &[u8]) -> Result<Reached, LineFault>
+    ensures { (text : List ℕ) → SpellsPlayers text (words_of names.now)
+        → ReadsLine game.now players_next text result }
 {
-    let Some(names) = read_players(text) else {
-        return Err(Fault::Form);
-    };
-    if are_players(game.as_game(), names) {
+    if are_players(game.as_game(), Words::of(names)) {
         Ok(Reached::Start)
     } else {
-        Err(Fault::Bad)
+        Err(LineFault::Bad)
     }
 }
 
-/// Reads the start.
-fn start(game: &PlayedGame, text: &[u8]) -> Result<Reached, Fault>
-    ensures { ReadsLine game.now start_next text.now result }
+/// What the start leads to, if it is within the limits.
+fn start_at(game: &PlayedGame, start: Start) -> Result<Reached, LineFault>
+    ensures { (text : List ℕ) → SpellsStart text start
+        → ReadsLine game.now start_next text result }
 {
-    let Some(start) = read_start(text) else {
-        return Err(Fault::Form);
-    };
     if !is_lawful(start) {
-        return Err(Fault::Bad);
+        return Err(LineFault::Bad);
     }
-    Ok(Reached::Entry(Standing {
+    Ok(Reached::Entry(MatchSoFar {
         version: Version::Two,
         turn_ms: start.turn_ms,
         last: start.now,
@@ -85,71 +105,55 @@ fn start(game: &PlayedGame, text: &[u8]) -> Result<Reached, Fault>
     }))
 }
 
-/// Reads a move or the end.
-fn go_on(game: &PlayedGame, standing: Standing, text: &[u8]) -> Result<Reached, Fault>
-    requires { IsPlaceOf game.now standing.place }
-    ensures { ReadsLine game.now (entry_next standing) text.now result }
+/// What a move or the end leads to.
+fn go_on(game: &PlayedGame, reached: &Reached, told: &Timed) -> Result<Reached, LineFault>
+    requires { IsReachedIn game.now (reached_of reached.now) }
+    ensures { (text : List ℕ) → Says (next_of (reached_of reached.now)) text (EntryContent told.now)
+        → ReadsLine game.now (reached_of reached.now) text result }
 {
-    let Some(told) = read_in(standing.version, text) else {
-        return Err(Fault::Form);
+    let Reached::Entry(standing) = reached else {
+        return Err(LineFault::Form);
     };
-    judge(game, standing, &told)
-}
-
-/// The entry of a line in a record of that version. In version 1 it has the moment that is not written.
-pub fn read_in(version: Version, text: &[u8]) -> Option<Timed>
-    ensures found { IfSome result (SpellsIn version text.now) }
-    ensures none { IfNone result ((told : AnyTimed) → ¬ SpellsIn version text.now told) }
-{
-    match version {
-        Version::One => {
-            let entry = read_entry(text)?;
-            Some(Timed {
-                at: unwritten(&entry),
-                entry,
-            })
-        }
-        Version::Two => read_timed(text),
-    }
+    judge(game, standing, told)
 }
 
 /// What an entry leads to. What needs no question is looked at first.
-fn judge(game: &PlayedGame, standing: Standing, told: &Timed) -> Result<Reached, Fault>
-    requires { IsPlaceOf game.now standing.place }
+fn judge(game: &PlayedGame, standing: &MatchSoFar, told: &Timed) -> Result<Reached, LineFault>
+    requires { IsPlaceOf game.now standing.now.place }
     ensures leads { IfOk result (λ to.
-        EntryLeads game.now standing told.now (reached_of to)) }
+        EntryLeads game.now standing.now told.now (reached_of to)) }
     ensures in_game { IfOk result (λ to. IsReachedIn game.now (reached_of to)) }
-    ensures refused { IfErr result (RefusesEntry game.now standing told.now) }
+    ensures refused { IfErr result (RefusesEntry game.now standing.now told.now) }
 {
     if LATEST_MOMENT < told.at || !standing.fits(game, told) {
-        return Err(Fault::Bad);
+        return Err(LineFault::Bad);
     }
     match &told.entry {
         Entry::Move { player, pairs } => make_move(game, standing, told.at, *player, pairs),
-        Entry::End { outcome } => end(game, &standing, told.at, *outcome),
+        Entry::End { outcome } => end(game, standing, told.at, *outcome),
     }
 }
 
 /// What a move leads to, if it is legal.
 fn make_move(
     game: &PlayedGame,
-    standing: Standing,
+    standing: &MatchSoFar,
     at: u64,
     player: u64,
     pairs: &Move,
-) -> Result<Reached, Fault>
-    requires place { IsPlaceOf game.now standing.place }
+) -> Result<Reached, LineFault>
+    requires place { IsPlaceOf game.now standing.now.place }
     requires counted { at ≤ latest_moment }
-    requires fits { FitsUnasked game.now standing at (MoveEntry player pairs.now) }
-    ensures leads { IfOk result (λ to. EntryLeads game.now standing
+    requires fits { FitsUnasked game.now standing.now at (MoveEntry player pairs.now) }
+    ensures leads { IfOk result (λ to. EntryLeads game.now standing.now
         (record { at = at; entry = MoveEntry player pairs.now }) (reached_of to)) }
     ensures in_game { IfOk result (λ to. IsReachedIn game.now (reached_of to)) }
-    ensures refused { IfErr result (RefusesEntry game.now standing
+    ensures refused { IfErr result (RefusesEntry game.now standing.now
         (record { at = at; entry = MoveEntry player pairs.now })) }
 {
     match try_move(game, &standing.place, pairs)? {
-        None => Err(Fault::Bad),
-        Some(place) => Ok(Reached::Entry(Standing {
+        None => Err(LineFault::Bad),
+        Some(place) => Ok(Reached::Entry(MatchSoFar {
             version: standing.version,
             turn_ms: standing.turn_ms,
             last: at,
@@ -161,10 +165,10 @@ fn make_move(
 /// Nothing comes next, if the match could end so.
 fn end(
     game: &PlayedGame,
-    standing: &Standing,
+    standing: &MatchSoFar,
     at: u64,
     outcome: Option<Outcome>,
-) -> Result<Reached, Fault>
+) -> Result<Reached, LineFault>
     requires place { IsPlaceOf game.now standing.now.place }
     requires counted { at ≤ latest_moment }
     requires fits { FitsUnasked game.now standing.now at (EndEntry outcome) }
@@ -181,7 +185,7 @@ fn end(
     if ends_so(game, &standing.place, finished, &outcome) {
         Ok(Reached::Nothing)
     } else {
-        Err(Fault::Bad)
+        Err(LineFault::Bad)
     }
 }
 

@@ -26,11 +26,11 @@ either_some : (test : Bool) (a b : List ℕ) → LacksByte 0 a → LacksByte 0 b
 either_some true a b h k = h
 either_some false a b h k = k
 
-onto_some : (k n : ℕ) (behind : List ℕ) → LacksByte 0 behind → LacksByte 0 (digits_onto k 10 false n behind)
-onto_some zero n behind lacks = lacks
-onto_some (suc k) n behind lacks =
-    let more : LacksByte 0 (digit_glyph false (n % 10) ∷ behind) = lacks-cons (digit_glyph false (n % 10)) behind (glyph_some (nat_lt (n % 10) 10) (n % 10)) lacks in
-    either_some (n / 10 == 0) (digit_glyph false (n % 10) ∷ behind) (digits_onto k 10 false (n / 10) (digit_glyph false (n % 10) ∷ behind)) more (onto_some k (n / 10) (digit_glyph false (n % 10) ∷ behind) more)
+onto_some : (k n : ℕ) (beyond : List ℕ) → LacksByte 0 beyond → LacksByte 0 (digits_onto k 10 false n beyond)
+onto_some zero n beyond lacks = lacks
+onto_some (suc k) n beyond lacks =
+    let more : LacksByte 0 (digit_glyph false (n % 10) ∷ beyond) = lacks-cons (digit_glyph false (n % 10)) beyond (glyph_some (nat_lt (n % 10) 10) (n % 10)) lacks in
+    either_some (n / 10 == 0) (digit_glyph false (n % 10) ∷ beyond) (digits_onto k 10 false (n / 10) (digit_glyph false (n % 10) ∷ beyond)) more (onto_some k (n / 10) (digit_glyph false (n % 10) ∷ beyond) more)
 
 decimal_some : (n : ℕ) → LacksByte 0 (decimal n)
 unfolding digits

@@ -144,9 +144,9 @@ no_rest_in (one ∷ whole) (message ∷ messages) rest h k lacks same =
     let left : with_zero one ++ flat_map with_zero whole ≡ one ++ 0 ∷ flat_map with_zero whole = append_assoc one (0 ∷ []) (flat_map with_zero whole) in
     let right : (with_zero message ++ flat_map with_zero messages) ++ rest ≡ message ++ 0 ∷ (flat_map with_zero messages ++ rest) =
     append_assoc (with_zero message) (flat_map with_zero messages) rest ∙ append_assoc message (0 ∷ []) (flat_map with_zero messages ++ rest) in
-    let behind = same_cut 0 one message (flat_map with_zero whole) (flat_map with_zero messages ++ rest)
+    let beyond = same_cut 0 one message (flat_map with_zero whole) (flat_map with_zero messages ++ rest)
     (All-head (LacksByte 0) one whole h) (All-head (LacksByte 0) message messages k) (sym left ∙ (same ∙ right)) in
-    no_rest_in whole messages rest (All-tail (LacksByte 0) one whole h) (All-tail (LacksByte 0) message messages k) lacks behind.1
+    no_rest_in whole messages rest (All-tail (LacksByte 0) one whole h) (All-tail (LacksByte 0) message messages k) lacks beyond.1
 
 rest_none : (bytes : List ℕ) (messages : List (List ℕ)) → AreWhole bytes → (are : AreMessages bytes messages) → are.rest ≡ []
 rest_none bytes messages whole are = no_rest_in whole.messages messages are.rest whole.whole are.whole are.lacks (sym whole.parts ∙ are.parts)

@@ -3,14 +3,14 @@ use Rattle.std.proofs.Common.{[], ◌∷◌}
 use Rattle.rbg_rules.specs.Meaning.{AbstractState}
 use Rattle.rbg_rules.specs.ExampleGames.{state_of}
 
--- before an off on one square, and behind one of w
+-- before an off on one square, and after one of w
 abbrev pub start : AbstractState
 start = state_of 1 (0 ∷ []) 0
 
 abbrev pub with_piece : AbstractState
 with_piece = state_of 1 (1 ∷ []) 0
 
--- on the first of two squares, on the second, there behind an off of w, and behind a switch after it
+-- on the first of two squares, on the second, there after an off of w, and after a switch after it
 abbrev pub at_first : AbstractState
 at_first = state_of 1 (0 ∷ 0 ∷ []) 0
 

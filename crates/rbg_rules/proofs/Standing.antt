@@ -90,7 +90,7 @@ of_word test x none w word p h = let (a, own) = word_own x w word p h in none_su
 
 -- .. and with a word and then a list
 pub of_both : (test : ℕ → Bool) (x : Expression) (u w : List ℕ) → has_such (λ q a. test q) x ≡ false → list_any test w ≡ false → Word x u → (p : ℕ) → Among p (u ++ w) → test p ≡ false
-of_both test x u w none none_behind word p h = elim (Among_cases p u w h) [
+of_both test x u w none none_beyond word p h = elim (Among_cases p u w h) [
   | inl left ↦ of_word test x none u word p left
-  | inr right ↦ of_list test w none_behind p right
+  | inr right ↦ of_list test w none_beyond p right
 ]

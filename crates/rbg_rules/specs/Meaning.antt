@@ -6,7 +6,7 @@ pub use Rattle.rbg_rules.specs.Words.{Ends, Follows, Repeats, Start, Word, WordO
 pub use Rattle.rbg_rules.specs.Moves.{AbstractPlace, Finished, IsLegal, Legal, RunPairs, modify, pass, stand_of, stay}
 pub use Rattle.rbg_rules.specs.Expression.{AbstractAction, AbstractArithmetic, Expression, act, assignment, choice, choice_of, comparison, difference, fail, negated, negative, number, off, on, piece_count, positive, product, quotient, sequence, sequence_of, shift, skip, star, sum, switch, variable}
 pub use Rattle.rbg_rules.specs.Games.{HasNamesOf, HasNoEmptySum, HasNoEmptySumInside, InsideNestsWithin, IsActionOf, IsGame, IsWithinLimits, NestsWithin}
-pub use Rattle.rbg_rules.specs.Questions.{AnswersBehind, Forced, GoesTo, HasForced, HasOpenings, IsDeep, IsForcedDeep, IsForcedTo, IsMove, IsProperPrefix, IsWide, Item, Opening, Question, RunsOn, SomeWordRuns, at, behind, find_move, items_of, list_moves, modifier_at, pattern, pattern_at, reach, try_move}
+pub use Rattle.rbg_rules.specs.Questions.{AnswersAfter, Forced, GoesTo, HasForced, HasOpenings, IsDeep, IsForcedDeep, IsForcedTo, IsMove, IsProperPrefix, IsWide, Item, Opening, Question, RunsOn, SomeWordRuns, at, beyond, find_move, items_of, list_moves, modifier_at, pattern, pattern_at, reach, try_move}
 pub use Rattle.rbg_rules.specs.Actions.{Acts, ActsIn, Applies, Run, Runs, rest, step}
 pub use Rattle.rbg_rules.specs.Places.{IsLastOf, IsPlaceOf}
 pub use Rattle.rbg_rules.specs.Translation.{Change, act_of, action_at, action_of, arithmetic_of, changed, expression_of, operated, operation_of, pattern_of, rules_of, shows_pattern}

@@ -50,16 +50,16 @@ pub record SomeWordRuns (game : AbstractGame) (s : AbstractState) (f : Start) : 
   pub runs : RunPairs game word s end pairs
 
 -- After the modifiers ps, and without one more, there is an answer: a switch, or for a pattern the end of a word.
-abbrev pub AnswersBehind : AbstractGame → Question → AbstractState → Start → List (ℕ × ℕ) → Type 0
-AnswersBehind game find_move s f ps =
+abbrev pub AnswersAfter : AbstractGame → Question → AbstractState → Start → List (ℕ × ℕ) → Type 0
+AnswersAfter game find_move s f ps =
     (m : List ℕ) × (t : AbstractState) × (q : ℕ) ×
     RunsOn game s f m t ps ×
     Follows game.rules f (m ++ q ∷ []) ×
     IsSwitchAt game.rules q
-AnswersBehind game pattern s f ps = (m : List ℕ) × (t : AbstractState) × RunsOn game s f m t ps × Ends game.rules f m
-AnswersBehind game (try_move qs) s f ps = ⊥
-AnswersBehind game list_moves s f ps = ⊥
-AnswersBehind game reach s f ps = ⊥
+AnswersAfter game pattern s f ps = (m : List ℕ) × (t : AbstractState) × RunsOn game s f m t ps × Ends game.rules f m
+AnswersAfter game (try_move qs) s f ps = ⊥
+AnswersAfter game list_moves s f ps = ⊥
+AnswersAfter game reach s f ps = ⊥
 
 -- ps is the first part of the list, but not all of it.
 abbrev pub IsProperPrefix : List (ℕ × ℕ) → List (ℕ × ℕ) → Type 0
@@ -71,8 +71,8 @@ abbrev pub GoesTo : AbstractGame → Question → AbstractState → Start → Li
 GoesTo game (try_move qs) s f ps = IsProperPrefix ps qs
 GoesTo game reach s f ps = ps ≡ []
 GoesTo game list_moves s f ps = Unit {0}
-GoesTo game find_move s f ps = (qs : List (ℕ × ℕ)) → IsProperPrefix qs ps → ¬ AnswersBehind game find_move s f qs
-GoesTo game pattern s f ps = (qs : List (ℕ × ℕ)) → IsProperPrefix qs ps → ¬ AnswersBehind game pattern s f qs
+GoesTo game find_move s f ps = (qs : List (ℕ × ℕ)) → IsProperPrefix qs ps → ¬ AnswersAfter game find_move s f qs
+GoesTo game pattern s f ps = (qs : List (ℕ × ℕ)) → IsProperPrefix qs ps → ¬ AnswersAfter game pattern s f qs
 
 -- A list of items by which the question opens a semi-state. Either the modifiers of a run; or those, then a pattern
 -- that follows the run, asked at the vertex where it ended, then an opening of that pattern's own question.
@@ -82,7 +82,7 @@ pub data Opening (game : AbstractGame) : Question → AbstractState → Start �
       RunsOn game s f m t ps →
       GoesTo game question s f ps →
       Opening game question s f (items_of ps)
-  behind :
+  beyond :
       {question : Question} {s : AbstractState} {f : Start} {m : List ℕ} {t : AbstractState} {ps : List (ℕ × ℕ)} {p : ℕ}
       {more : List Item} →
       RunsOn game s f m t ps →
@@ -138,7 +138,7 @@ pub data Forced (game : AbstractGame) (cut : Bool) : Question → AbstractState 
       GoesTo game question s f ps →
       IsForcedTo game cut question s f ps →
       Forced game cut question s f (items_of ps)
-  behind :
+  beyond :
       {question : Question} {s : AbstractState} {f : Start} {m : List ℕ} {t : AbstractState} {ps : List (ℕ × ℕ)} {p : ℕ}
       {more : List Item} →
       RunsOn game s f m t ps →

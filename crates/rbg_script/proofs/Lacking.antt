@@ -31,7 +31,7 @@ space_lacks_feed = known (codes " ") refl
 number_lacks : (n : ℕ) → n < 2 ^ 64 → LacksByte 10 (decimal n)
 number_lacks n small = lacks_byte-decimal 10 n (omega arith) small
 
--- a word, and two fields with a space behind each
+-- a word, and two fields with a space after each
 fields_lack : (word a b rest : List ℕ) → LacksByte 10 word → LacksByte 10 a → LacksByte 10 b → LacksByte 10 rest → LacksByte 10 (word ++ a ++ codes " " ++ b ++ codes " " ++ rest)
 fields_lack word a b rest h k m n =
     both_lack (word ++ a ++ codes " " ++ b ++ codes " ") rest

@@ -46,7 +46,7 @@ last_of : (line : List ℕ) → (line ≡ [] → ⊥) → last_line line ≡ lin
 last_of [] some = absurd (some refl)
 last_of (byte ∷ bytes) some = refl
 
--- the lines of a text, from those behind its first line
+-- the lines of a text, from those after its first line
 pub onward : (text line rest : List ℕ) (more : List (List ℕ)) → BeginsWith text line rest → (text ≡ [] → ⊥) → HasLines rest more → HasLines text (line ∷ more)
 onward text line rest more (ended lacks is) some h = record {
   whole = line ∷ h.whole;

@@ -12,7 +12,7 @@ mark_lacks : LacksByte 10 mark
 mark_lacks =
     All-cons (λ b. b ≢ 10) 37 (37 ∷ []) (λ e. absurd (omega arith)) (All-cons (λ b. b ≢ 10) 37 [] (λ e. absurd (omega arith)) (All-nil (λ b. b ≢ 10)))
 
--- the mark and its line feed, behind a description
+-- the mark and its line feed, after a description
 marked_shape : (description script : List ℕ) → description ++ line_of mark ++ script ≡ description ++ (mark ++ 10 ∷ script)
 marked_shape description script = append_assoc description (line_of mark) script
 
@@ -41,7 +41,7 @@ one_mark (x ∷ xs) (y ∷ ys) s t h u k v same =
     let others = one_mark xs ys s t (All-tail (LacksByte 10) x xs h) (All-tail (λ line. line ≢ mark) x xs u) (All-tail (LacksByte 10) y ys k) (All-tail (λ line. line ≢ mark) y ys v) cut.1 in
     (λ i. cut.0 i ∷ others.0 i, others.1)
 
--- what an input is behind its description's lines
+-- what an input is after its description's lines
 with_feed : (input description script : List ℕ) (lines : List (List ℕ)) → description ≡ lines_of lines → input ≡ description ++ line_of mark ++ script → input ≡ lines_of lines ++ (mark ++ 10 ∷ script)
 with_feed input description script lines described is = is ∙ (marked_shape description script ∙ ap (λ d. d ++ (mark ++ 10 ∷ script)) described)
 

@@ -7,29 +7,29 @@ use Rattle.rbg_script.specs.declared.config.ScriptConfig.{ScriptConfig}
 use Rattle.rbg_script.specs.Config.{AreWithinLimits, SpellsConfig, config_text}
 use Rattle.rbg_script.specs.Events.{HasFields, SpellsEvent, by_end, by_tick, end_event, tick_event, fields_text, end_text, tick_text}
 
--- a word, two fields with a space behind each, and more
+-- a word, two fields with a space after each, and more
 two_fields : (word a b rest : List ℕ) → word ++ a ++ codes " " ++ b ++ codes " " ++ rest ≡ word ++ (a ++ 32 ∷ (b ++ 32 ∷ rest))
 two_fields word a b rest =
     append_assoc (word ++ a ++ codes " " ++ b) (codes " ") rest
     ∙ (append_assoc (word ++ a ++ codes " ") b (32 ∷ rest)
     ∙ (append_assoc (word ++ a) (codes " ") (b ++ 32 ∷ rest) ∙ append_assoc word a (32 ∷ (b ++ 32 ∷ rest))))
 
--- what is left behind a first field, of a text of numbers
-pub behind_first : (fields rest more : List ℕ) (m n : ℕ) → BeginsWithNumber fields m rest → n < 2 ^ 64 → fields ≡ decimal n ++ 32 ∷ more → rest ≡ more
-behind_first fields rest more m n first second other = (same_fields fields rest more m n first.small second first.parts other).1
+-- what is left after a first field, of a text of numbers
+pub beyond_first : (fields rest more : List ℕ) (m n : ℕ) → BeginsWithNumber fields m rest → n < 2 ^ 64 → fields ≡ decimal n ++ 32 ∷ more → rest ≡ more
+beyond_first fields rest more m n first second other = (same_fields fields rest more m n first.small second first.parts other).1
 
 -- The fields of a line with a seat and a moment.
 pub fields_shape : (word : List ℕ) (seat at : ℕ) (rest : List ℕ) → fields_text word seat at rest ≡ word ++ (decimal seat ++ 32 ∷ (decimal at ++ 32 ∷ rest))
 unfolding fields_text
 fields_shape word seat at rest = two_fields word (decimal seat) (decimal at) rest
 
-pub behind_word : (text word fields : List ℕ) (seat at : ℕ) (rest : List ℕ) → text ≡ word ++ fields → HasFields text word seat at rest → fields ≡ decimal seat ++ 32 ∷ (decimal at ++ 32 ∷ rest)
-behind_word text word fields seat at rest is h = same_end word fields (decimal seat ++ 32 ∷ (decimal at ++ 32 ∷ rest)) (sym is ∙ (h.is ∙ fields_shape word seat at rest))
+pub after_word : (text word fields : List ℕ) (seat at : ℕ) (rest : List ℕ) → text ≡ word ++ fields → HasFields text word seat at rest → fields ≡ decimal seat ++ 32 ∷ (decimal at ++ 32 ∷ rest)
+after_word text word fields seat at rest is h = same_end word fields (decimal seat ++ 32 ∷ (decimal at ++ 32 ∷ rest)) (sym is ∙ (h.is ∙ fields_shape word seat at rest))
 
-pub has_fields : (text word fields behind : List ℕ) (seat at : ℕ) (rest : List ℕ) → text ≡ word ++ fields → BeginsWithNumber fields seat behind → BeginsWithNumber behind at rest → HasFields text word seat at rest
-has_fields text word fields behind seat at rest is first second = record {
+pub has_fields : (text word fields after : List ℕ) (seat at : ℕ) (rest : List ℕ) → text ≡ word ++ fields → BeginsWithNumber fields seat after → BeginsWithNumber after at rest → HasFields text word seat at rest
+has_fields text word fields after seat at rest is first second = record {
   numbers = (first.small, second.small);
-  is = is ∙ (ap (λ f. word ++ f) (with_rest fields behind _ seat first second.parts) ∙ sym (fields_shape word seat at rest));
+  is = is ∙ (ap (λ f. word ++ f) (with_rest fields after _ seat first second.parts) ∙ sym (fields_shape word seat at rest));
 }
 
 pub one_fields : (text word : List ℕ) (s t a b : ℕ) (x y : List ℕ) → HasFields text word s a x → HasFields text word t b y → (s ≡ t) × (a ≡ b) × (x ≡ y)
@@ -62,10 +62,10 @@ turn_small turn refusals h = omega (arith, h.turn)
 pub refusals_small : (turn refusals : ℕ) → AreWithinLimits turn refusals → refusals < 2 ^ 64
 refusals_small turn refusals h = omega (arith, h.few)
 
-pub spells_config : (text fields behind last : List ℕ) (turn refusals now : ℕ) → AreWithinLimits turn refusals → now < 2 ^ 64 → text ≡ codes "config " ++ fields → BeginsWithNumber fields turn behind → BeginsWithNumber behind refusals last → last ≡ decimal now → SpellsConfig text (record { turn_ms = turn; refusals = refusals; now = now })
-spells_config text fields behind last turn refusals now within small is first second third =
+pub spells_config : (text fields after last : List ℕ) (turn refusals now : ℕ) → AreWithinLimits turn refusals → now < 2 ^ 64 → text ≡ codes "config " ++ fields → BeginsWithNumber fields turn after → BeginsWithNumber after refusals last → last ≡ decimal now → SpellsConfig text (record { turn_ms = turn; refusals = refusals; now = now })
+spells_config text fields after last turn refusals now within small is first second third =
     let config : ScriptConfig = record { turn_ms = turn; refusals = refusals; now = now } in
-    let parts = with_rest fields behind _ turn first (with_rest behind last (decimal now) refusals second third) in
+    let parts = with_rest fields after _ turn first (with_rest after last (decimal now) refusals second third) in
     record { has = (within, small); is = is ∙ (ap (λ f. codes "config " ++ f) parts ∙ sym (config_shape config)) }
 
 -- The end of a stream, and a moment, in a text.
@@ -83,10 +83,10 @@ pub spells_tick : (text field : List ℕ) (at : ℕ) → at < 2 ^ 64 → text �
 spells_tick text field at small is more = by_tick at small (is ∙ (ap (λ f. codes "t " ++ f) more ∙ sym (tick_shape at)))
 
 -- the three numbers of a config's text
-pub config_last : (text fields behind last : List ℕ) (turn refusals : ℕ) (config : ScriptConfig) → text ≡ codes "config " ++ fields → BeginsWithNumber fields turn behind → BeginsWithNumber behind refusals last → SpellsConfig text config → (turn ≡ config.turn_ms) × (refusals ≡ config.refusals) × (last ≡ decimal config.now)
-config_last text fields behind last turn refusals config is first second h =
-    let one = same_fields fields behind (decimal config.refusals ++ 32 ∷ decimal config.now) turn config.turn_ms first.small (turn_small config.turn_ms config.refusals h.has.0) first.parts (config_fields text fields config is h) in
-    let two = same_fields behind last (decimal config.now) refusals config.refusals second.small (refusals_small config.turn_ms config.refusals h.has.0) second.parts one.1 in
+pub config_last : (text fields after last : List ℕ) (turn refusals : ℕ) (config : ScriptConfig) → text ≡ codes "config " ++ fields → BeginsWithNumber fields turn after → BeginsWithNumber after refusals last → SpellsConfig text config → (turn ≡ config.turn_ms) × (refusals ≡ config.refusals) × (last ≡ decimal config.now)
+config_last text fields after last turn refusals config is first second h =
+    let one = same_fields fields after (decimal config.refusals ++ 32 ∷ decimal config.now) turn config.turn_ms first.small (turn_small config.turn_ms config.refusals h.has.0) first.parts (config_fields text fields config is h) in
+    let two = same_fields after last (decimal config.now) refusals config.refusals second.small (refusals_small config.turn_ms config.refusals h.has.0) second.parts one.1 in
     (one.0, two.0, two.1)
 
 pub other_limits : (turn refusals t r : ℕ) → turn ≡ t → refusals ≡ r → AreWithinLimits t r → AreWithinLimits turn refusals

@@ -33,11 +33,11 @@ as_many (line ∷ lines) [] h = absurd h
 as_many (line ∷ lines) (event ∷ events) h = let more = as_many lines events h.1 in omega (arith, more)
 
 -- a line among lines of events is one
-event_there : (before : List (List ℕ)) (line : List ℕ) (behind : List (List ℕ)) (events : List AbstractEvent) → AllZip SpellsEvent (before ++ line ∷ behind) events → IsNoEvent line → ⊥
-event_there [] line behind [] h none = h
-event_there [] line behind (event ∷ events) h none = none event h.0
-event_there (first ∷ before) line behind [] h none = h
-event_there (first ∷ before) line behind (event ∷ events) h none = event_there before line behind events h.1 none
+event_there : (before : List (List ℕ)) (line : List ℕ) (after : List (List ℕ)) (events : List AbstractEvent) → AllZip SpellsEvent (before ++ line ∷ after) events → IsNoEvent line → ⊥
+event_there [] line after [] h none = h
+event_there [] line after (event ∷ events) h none = none event h.0
+event_there (first ∷ before) line after [] h none = h
+event_there (first ∷ before) line after (event ∷ events) h none = event_there before line after events h.1 none
 
 -- the first line that spells no event stands at one place
 same_place : (a b : List (List ℕ)) (x y : List ℕ) (c d : List (List ℕ)) (p q : List AbstractEvent) → AllZip SpellsEvent a p → AllZip SpellsEvent b q → IsNoEvent x → IsNoEvent y → a ++ x ∷ c ≡ b ++ y ∷ d → length a ≡ length b
@@ -157,11 +157,11 @@ bad_config (byte ∷ bytes) first rest begins none =
     })
 
 pub bad_event : (text first rest : List ℕ) (config : ScriptConfig) (error : ScriptError) → BeginsWith text first rest → SpellsConfig first config → IsEventReason rest error → IsReason text error
-bad_event text first rest config _ begins h (bad_line line before behind events has spelled none) =
+bad_event text first rest config _ begins h (bad_line line before after events has spelled none) =
     misfit (length before + 2) (record {
-      lines = first ∷ (before ++ line ∷ behind);
-      has = onward text first rest (before ++ line ∷ behind) begins (λ empty. config_some first config h (empty_line text first rest begins empty)) has;
-      misfit = no_event first line before behind config events h spelled none;
+      lines = first ∷ (before ++ line ∷ after);
+      has = onward text first rest (before ++ line ∷ after) begins (λ empty. config_some first config h (empty_line text first rest begins empty)) has;
+      misfit = no_event first line before after config events h spelled none;
     })
 bad_event text first rest config _ begins h out_of_memory = no_memory
 

@@ -37,11 +37,11 @@ IsNoEvent line = (event : AbstractEvent) → SpellsEvent line event → ⊥
 pub data IsMisfit : List (List ℕ) → ℕ → Type 0 where
   no_line : IsMisfit [] 1
   no_config : (line : List ℕ) (others : List (List ℕ)) → IsNoConfig line → IsMisfit (line ∷ others) 1
-  no_event : (first line : List ℕ) (before behind : List (List ℕ)) (config : ScriptConfig) (events : List AbstractEvent)
+  no_event : (first line : List ℕ) (before after : List (List ℕ)) (config : ScriptConfig) (events : List AbstractEvent)
       → SpellsConfig first config
       → AllZip SpellsEvent before events
       → IsNoEvent line
-      → IsMisfit (first ∷ (before ++ line ∷ behind)) (length before + 2)
+      → IsMisfit (first ∷ (before ++ line ∷ after)) (length before + 2)
 
 -- a text with such a line
 pub record HasMisfit (text : List ℕ) (number : ℕ) : Type 0 where

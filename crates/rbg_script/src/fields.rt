@@ -21,7 +21,7 @@ pub(crate) fn fields_in<'a>(word: &[u8], line: &'a [u8]) -> Option<Fields<'a>>
         → ⊥) }
 {
     let fields = after_text(word, line)?;
-    let (seat, behind) = cut_number(fields)?;
-    let (at, rest) = cut_number(behind)?;
+    let (seat, after) = cut_number(fields)?;
+    let (at, rest) = cut_number(after)?;
     Some(Fields { seat, at, rest })
 }

@@ -14,7 +14,7 @@ pub struct TwoTexts<'a> {
     pub script: &'a [u8],
 }
 
-/// What stands before the first line that is exactly `%%`, and what stands behind it. The line may end the input.
+/// What stands before the first line that is exactly `%%`, and what stands after it. The line may end the input.
 ///
 /// Returns None if there is no such line.
 pub fn cut_at_mark(input: &[u8]) -> Option<TwoTexts<'_>>

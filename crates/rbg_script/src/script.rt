@@ -76,7 +76,7 @@ fn take_line(alloc: Global, line: &[u8], events: &mut Vec<ScriptEvent>) -> Resul
     Ok(true)
 }
 
-// The first line of a text, and what is behind it.
+// The first line of a text, and what is after it.
 fn first_line(text: &[u8]) -> (&[u8], &[u8])
     ensures { BeginsWith text.now result.0.now result.1.now }
 {

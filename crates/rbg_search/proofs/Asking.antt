@@ -6,12 +6,12 @@ use Rattle.rbg_rules.proofs.MoveLemmas.{pattern_law}
 use Rattle.rbg_state.specs.History.{History, states_of, capacity_of, IsAfter}
 use Rattle.rbg_state.proofs.Histories.{no_shorter}
 use Rattle.rbg_pairs.proofs.Common.{IsFlatPart, at_vertex, IsReached, IsPositionOf, IsTrialAt, NestsFrom}
-use Rattle.rbg_search.specs.internal.Behind.{IsReady, RunsBehindPair, SomeRunsBehind}
+use Rattle.rbg_search.specs.internal.Beyond.{IsReady, RunsAfterPair, SomeRunsAfter}
 use Rattle.rbg_state.specs.declared.state.trials.Trial.TheVariants.{Invalid, LeadsTo}
 use Rattle.rbg_pairs.proofs.Closures.{by_words}
 use Rattle.rbg_pairs.proofs.Starts.{action_position}
 use Rattle.rbg_pairs.proofs.Nesting.{nests_inside}
-use Rattle.rbg_search.proofs.Behinds.{runs_at_end, runs_behind, only_behind}
+use Rattle.rbg_search.proofs.Afters.{runs_at_end, runs_after, only_after}
 
 true_not_false : true ≡ false → ⊥
 true_not_false e = cc
@@ -78,19 +78,19 @@ mark_within h k l mark is comes kept =
     let shorter = no_shorter h l (after_room h k l comes kept) in
     omega (arith, is, shorter)
 
--- Behind one pair some word runs exactly where one runs from where it leads.
-pub runs_one : (game : AbstractGame) (s t : AbstractState) (limit v p : ℕ) (runs : Bool) → IsReady game s limit (v, p) → ((u : AbstractState) → Applies game p (at_vertex s v) u → u ≡ t) → IsTrue runs ↔ SomeWordRuns game t (after p) → IsTrue runs ↔ RunsBehindPair game s v p
+-- After one pair some word runs exactly where one runs from where it leads.
+pub runs_one : (game : AbstractGame) (s t : AbstractState) (limit v p : ℕ) (runs : Bool) → IsReady game s limit (v, p) → ((u : AbstractState) → Applies game p (at_vertex s v) u → u ≡ t) → IsTrue runs ↔ SomeWordRuns game t (after p) → IsTrue runs ↔ RunsAfterPair game s v p
 runs_one game s t limit v p runs is only decides = (
   (λ yes. record { later = t; applies = subst (λ (u : AbstractState). Applies game p (at_vertex s v) u) (only is.later is.applies) is.applies; runs = decides.0 yes }),
-  (λ behind. decides.1 (subst (λ (u : AbstractState). SomeWordRuns game u (after p)) (only behind.later behind.applies) behind.runs)),
+  (λ beyond. decides.1 (subst (λ (u : AbstractState). SomeWordRuns game u (after p)) (only beyond.later beyond.applies) beyond.runs)),
 )
 
--- Some word runs: in the flat part, or behind its modifiers.
+-- Some word runs: in the flat part, or after its modifiers.
 pub runs_here : (game : AbstractGame) → IsNumbered game.rules → (s : AbstractState) (f : Start) (found : List (ℕ × ℕ)) (ends : Bool) → IsFlatPart game s f found ends → ends ≡ true → IsTrue true ↔ SomeWordRuns game s f
 runs_here game numbered s f found ends part is = ((λ _. runs_at_end game numbered s f found ends part is), (λ _. refl))
 
-pub runs_there : (game : AbstractGame) → IsNumbered game.rules → (s : AbstractState) (f : Start) (found : List (ℕ × ℕ)) (ends runs : Bool) → IsFlatPart game s f found ends → ends ≡ false → IsTrue runs ↔ SomeRunsBehind game s found → IsTrue runs ↔ SomeWordRuns game s f
+pub runs_there : (game : AbstractGame) → IsNumbered game.rules → (s : AbstractState) (f : Start) (found : List (ℕ × ℕ)) (ends runs : Bool) → IsFlatPart game s f found ends → ends ≡ false → IsTrue runs ↔ SomeRunsAfter game s found → IsTrue runs ↔ SomeWordRuns game s f
 runs_there game numbered s f found ends runs part not_here decides = (
-  (λ yes. runs_behind game numbered s f found ends part (decides.0 yes)),
-  (λ some. decides.1 (only_behind game numbered s f found ends part not_here some)),
+  (λ yes. runs_after game numbered s f found ends part (decides.0 yes)),
+  (λ some. decides.1 (only_after game numbered s f found ends part not_here some)),
 )

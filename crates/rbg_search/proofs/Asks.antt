@@ -2,14 +2,14 @@
 use Rattle.std.proofs.Common.{◌≡◌, ℕ, ◌<◌, ◌≤◌, List, Bool, false, refl, sym, subst, arith, Result, Ok, Err, IsOk, IsErrAnd}
 use Rattle.rbg_rules.specs.Meaning.{AbstractState, Start, Question, reach, pattern}
 use Rattle.rbg_state.specs.History.{History}
-use Rattle.rbg_search.proofs.Common.{IsAnswered, CountsForced, Searching, CountsTaken, StandsInPattern, IsCounted, IsAsked, HasFound, IsAskedBehind, Over, Deep, Wide, Memory}
+use Rattle.rbg_search.proofs.Common.{IsAnswered, CountsForced, Searching, CountsTaken, StandsInPattern, IsCounted, IsAsked, HasFound, IsAskedAfter, Over, Deep, Wide, Memory}
 use Rattle.rbg_search.proofs.Counted.{memory_not_deep, memory_not_wide, counted_as, ok_not_err}
 use Rattle.rbg_search.proofs.Asking.{room_twice}
-use Rattle.rbg_search.proofs.CountedSteps.{given_up, not_memory, deep_is, asks_reached, behind_step, counted_there}
+use Rattle.rbg_search.proofs.CountedSteps.{given_up, not_memory, deep_is, asks_reached, after_step, counted_there}
 use Rattle.rbg_search.proofs.Forcing.{all_counted, none_deep}
 use Rattle.rbg_search.proofs.Kept.{kept_twice}
 use Rattle.rbg_search.proofs.Takings.{takes_as, takes_part_of, any_part, not_ok, is_answer, held_on, ok_held}
-use Rattle.rbg_search.proofs.TakingSteps.{behind_takes}
+use Rattle.rbg_search.proofs.TakingSteps.{after_takes}
 
 module _ {X Y : Type 0} {h k : Searching} {s l : History} {question : Question} {here : AbstractState} {f : Start} {left : ℕ} {callee : Result X Over} (is : IsAsked h k s l question here f left callee) where
   -- It was given up, and so is the one for which it was asked.
@@ -52,16 +52,16 @@ asked_there {h = h} {k = k} {t = t} {f = f} {n = n} {r = r} is s' l' here n' sam
   taken = subst (λ (u : AbstractState). CountsTaken h.game pattern u f h.opened k.opened h.taken k.taken (IsOk r) (¬ (r ≡ Err Memory))) (sym same) is.taken;
 }
 
--- The question goes on behind the modifiers that were found.
-pub asked_behind : {X : Type 0} {h k k' : Searching} {s l l' : History} {f : Start} {nested left : ℕ} {pairs : List (ℕ × ℕ)} {ends : Bool} {first : Result Bool Over} {r : Result X Over} → IsAsked h k s l reach s.state f h.modifiers first → first ≡ Ok ends → HasFound h k s l f nested pairs ends → StandsInPattern h.game.rules f → ends ≡ false → IsAskedBehind k k' l l' pairs left r → IsAsked h k' s l' pattern s.state f left r
-asked_behind {h = h} {k = k} {k' = k'} {s = s} {l = l} {l' = l'} {f = f} {left = left} {pairs = pairs} {ends = ends} {first = first} {r = r} is was found inside not_here behind = record {
-  kept = kept_twice h k k' is.kept behind.stays.kept;
-  given_back = room_twice s l l' is.given_back behind.stays.given_back;
-  room = omega (arith, is.room, behind.stays.room);
-  counts = behind_step h k s l f pairs pairs ends k'.opened left _ _ is.kept is.given_back refl found.lawful inside found.reaches.reached not_here is.counts.counted behind.counts;
+-- The question goes on after the modifiers that were found.
+pub asked_after : {X : Type 0} {h k k' : Searching} {s l l' : History} {f : Start} {nested left : ℕ} {pairs : List (ℕ × ℕ)} {ends : Bool} {first : Result Bool Over} {r : Result X Over} → IsAsked h k s l reach s.state f h.modifiers first → first ≡ Ok ends → HasFound h k s l f nested pairs ends → StandsInPattern h.game.rules f → ends ≡ false → IsAskedAfter k k' l l' pairs left r → IsAsked h k' s l' pattern s.state f left r
+asked_after {h = h} {k = k} {k' = k'} {s = s} {l = l} {l' = l'} {f = f} {left = left} {pairs = pairs} {ends = ends} {first = first} {r = r} is was found inside not_here beyond = record {
+  kept = kept_twice h k k' is.kept beyond.stays.kept;
+  given_back = room_twice s l l' is.given_back beyond.stays.given_back;
+  room = omega (arith, is.room, beyond.stays.room);
+  counts = after_step h k s l f pairs pairs ends k'.opened left _ _ is.kept is.given_back refl found.lawful inside found.reaches.reached not_here is.counts.counted beyond.counts;
   taken =
-      behind_takes h k s l f pairs pairs ends k'.opened k'.taken (IsOk r) is.kept is.given_back refl found.lawful inside found.reaches.reached not_here
-      (takes_as h.game reach s.state f h.opened k.opened h.taken k.taken (IsOk first) (Unit {0}) is.taken (λ _. is_answer first ends was) (λ _. ok_held first ends was)) behind.taken;
+      after_takes h k s l f pairs pairs ends k'.opened k'.taken (IsOk r) is.kept is.given_back refl found.lawful inside found.reaches.reached not_here
+      (takes_as h.game reach s.state f h.opened k.opened h.taken k.taken (IsOk first) (Unit {0}) is.taken (λ _. is_answer first ends was) (λ _. ok_held first ends was)) beyond.taken;
 }
 
 -- No opening was taken up, or there was no room for changes, so the question isn't asked.

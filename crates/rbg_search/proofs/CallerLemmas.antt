@@ -1,7 +1,7 @@
 -- For a search that goes on by `reach` from modifier to modifier: what its question counts, and when it goes too far.
 use Rattle.rbg_base.proofs.Common.{◌≡◌, ◌≢◌, ℕ, suc, ◌+◌, ◌<◌, List, [], ◌∷◌, ◌++◌, length, get_or, take, Option, Some, None, refl, sym, ap, ◌∙◌, subst, arith, All, AllPairs, Contains, All-contains, All-take}
 use Rattle.std.proofs.lemmas.List.{length-take-le, get_or-take, take_more}
-use Rattle.rbg_rules.specs.Meaning.{Expression, switch, IsNumbered, IsModifierAt, IsSwitchAt, Start, after, AbstractGame, AbstractState, stand_of, IsLastOf, HasNoEmptySum, Question, try_move, find_move, list_moves, reach, pattern, Item, modifier_at, items_of, GoesTo, AnswersBehind, Opening, IsDeep, IsWide, IsStart}
+use Rattle.rbg_rules.specs.Meaning.{Expression, switch, IsNumbered, IsModifierAt, IsSwitchAt, Start, after, AbstractGame, AbstractState, stand_of, IsLastOf, HasNoEmptySum, Question, try_move, find_move, list_moves, reach, pattern, Item, modifier_at, items_of, GoesTo, AnswersAfter, Opening, IsDeep, IsWide, IsStart}
 use Rattle.rbg_rules.proofs.PlaceLemmas.{RunPairs-Runs}
 use Rattle.rbg_rules.proofs.TableLemmas.{numbered_action}
 use Rattle.rbg_rules.proofs.TrimLemmas.{empty_opening_law}
@@ -18,7 +18,7 @@ pub place_start : (rules : Expression) → IsNumbered rules → (last : Option �
 place_start rules numbered None is = (rules, refl)
 place_start rules numbered (Some i) is = numbered_action rules numbered i is.0 is.1
 
--- One stands somewhere behind a modifier.
+-- One stands somewhere after a modifier.
 pub modifier_start : (rules : Expression) (p : ℕ) → IsModifierAt rules p → IsStart rules (after p)
 modifier_start rules p is = (is.action, is.stands)
 
@@ -54,7 +54,7 @@ fresh xs k x different under is (i, within, there) =
 
 module _ (game : AbstractGame) (numbered : IsNumbered game.rules) where
   -- Where no switch comes next there is no answer yet: `find_move` passes by `finding`.
-  pub no_switch_found : {s : AbstractState} {f : Start} {pairs : List (ℕ × ℕ)} {ends : _} → IsFlatPart game s f pairs ends → All (λ q. ¬ IsSwitchAt game.rules q.1) pairs → ¬ AnswersBehind game find_move s f []
+  pub no_switch_found : {s : AbstractState} {f : Start} {pairs : List (ℕ × ℕ)} {ends : _} → IsFlatPart game s f pairs ends → All (λ q. ¬ IsSwitchAt game.rules q.1) pairs → ¬ AnswersAfter game find_move s f []
   no_switch_found {s} {f} {pairs} part none (m, t, q, on, follows, switches) =
       let next : IsNext game s f t.vertex q = record {
         before = m;
@@ -70,12 +70,12 @@ module _ (game : AbstractGame) (numbered : IsNumbered game.rules) where
       All-contains (λ x. ¬ IsSwitchAt game.rules x.1) pairs (t.vertex, q) none ((part.next t.vertex q).1 next) switches
 
   -- Where no word may end there is no answer yet: `pattern` passes by `asking`.
-  pub no_end_found : {s : AbstractState} {f : Start} → ¬ MayEnd game s f → ¬ AnswersBehind game pattern s f []
+  pub no_end_found : {s : AbstractState} {f : Start} → ¬ MayEnd game s f → ¬ AnswersAfter game pattern s f []
   no_end_found no_end (m, t, on, ends) = no_end (record { before = m; here = t; no_modifier = none_left game numbered on.runs; runs = RunPairs-Runs on.runs; ends = ends })
 
-  -- An opening behind the modifier is one with the modifier in front.
-  pub lifted_behind : {question question' : Question} {s later : AbstractState} {f : Start} {v p : ℕ} → GoesOn game question s f v p question' later → (o : List Item) → Opening game question' later (after p) o → Opening game question s f (modifier_at v p ∷ o)
-  lifted_behind {question} {question'} {s} {later} {f} {v} {p} on o opening = lifted game numbered s later f v p on.next on.applies on.plain question question' on.passes o opening
+  -- An opening after the modifier is one with the modifier in front.
+  pub lifted_after : {question question' : Question} {s later : AbstractState} {f : Start} {v p : ℕ} → GoesOn game question s f v p question' later → (o : List Item) → Opening game question' later (after p) o → Opening game question s f (modifier_at v p ∷ o)
+  lifted_after {question} {question'} {s} {later} {f} {v} {p} on o opening = lifted game numbered s later f v p on.next on.applies on.plain question question' on.passes o opening
 
   -- What `reach` counts is counted before any modifier is done.
   pub counts_begin : {question : Question} {s : AbstractState} {f : Start} {a b : ℕ} → GoesTo game question s f [] → CountsOpenings game reach s f a b → CountsUpTo game question s f [] a b
@@ -87,7 +87,7 @@ module _ (game : AbstractGame) (numbered : IsNumbered game.rules) where
       subst (λ (x : ℕ). CountsUpTo game question s f (done ++ (v, p) ∷ []) a x) (sym more.sum)
       (more_joined game numbered s later f v p on.next on.applies on.plain question question' on.passes done a b more.added counts once more.openings)
 
-  -- A modifier behind which nothing is counted is done.
+  -- A modifier after which nothing is counted is done.
   pub counts_weaker : {question : Question} {s : AbstractState} {f : Start} {done : List (ℕ × ℕ)} {a b : ℕ} → CountsUpTo game question s f done a b → (more : List (ℕ × ℕ)) → CountsUpTo game question s f (done ++ more) a b
   counts_weaker {done = done} counts more = weaker counts (done ++ more) (begins_more done more)
 
@@ -107,7 +107,7 @@ module _ (game : AbstractGame) (numbered : IsNumbered game.rules) where
 
   -- ---- more openings than are allowed
 
-  -- .. among those of `reach`, and among those behind a modifier.
+  -- .. among those of `reach`, and among those after a modifier.
   pub over_begin : {question : Question} {s : AbstractState} {f : Start} {a most : ℕ} → GoesTo game question s f [] → IsOverBudget game reach s f a most → IsOverBudget game question s f a most
   over_begin {question} {s} {f} {a} goes over =
       over_such (begin_joined game question s f a over.added goes over.openings) _ over.more
@@ -145,7 +145,7 @@ module _ (game : AbstractGame) (numbered : IsNumbered game.rules) where
   row_none {question} {s} {f} none start other = record { row = []; later = []; opened = empty_opening_law game none f start question other s; count = refl }
 
   pub row_more : {question question' : Question} {s later : AbstractState} {f : Start} {v p n : ℕ} → GoesOn game question s f v p question' later → HasRow game question' later (after p) n → HasRow game question s f (suc n)
-  row_more {v = v} {p = p} on has = record { row = (v, p) ∷ has.row; later = has.later; opened = lifted_behind on (items_of has.row ++ has.later) has.opened; count = row_count has.row has.count }
+  row_more {v = v} {p = p} on has = record { row = (v, p) ∷ has.row; later = has.later; opened = lifted_after on (items_of has.row ++ has.later) has.opened; count = row_count has.row has.count }
     where
       row_count : (row : List (ℕ × ℕ)) {n : ℕ} → length row ≡ n → length ((v, p) ∷ row) ≡ suc n
       row_count row e = omega (arith, e)
@@ -154,18 +154,18 @@ module _ (game : AbstractGame) (numbered : IsNumbered game.rules) where
   pub row_one : {question question' : Question} {s later : AbstractState} {f : Start} {v p : ℕ} → HasNoEmptySum game.rules → GoesOn game question s f v p question' later → question' ≢ try_move [] → HasRow game question s f 1
   row_one {p = p} none on other = row_more on (row_none none (modifier_start game.rules p on.next.modifies) other)
 
-  pub deep_behind : {question question' : Question} {s later : AbstractState} {f : Start} {v p most : ℕ} → GoesOn game question s f v p question' later → IsDeep game question' later (after p) most → IsDeep game question s f most
-  deep_behind {v = v} {p = p} on deep = record {
+  pub deep_after : {question question' : Question} {s later : AbstractState} {f : Start} {v p most : ℕ} → GoesOn game question s f v p question' later → IsDeep game question' later (after p) most → IsDeep game question s f most
+  deep_after {v = v} {p = p} on deep = record {
     before = modifier_at v p ∷ deep.before;
     row = deep.row;
     later = deep.later;
-    opened = lifted_behind on (deep.before ++ items_of deep.row ++ deep.later) deep.opened;
+    opened = lifted_after on (deep.before ++ items_of deep.row ++ deep.later) deep.opened;
     count = deep.count;
   }
 
   pub deep_more : {question question' : Question} {s later : AbstractState} {f : Start} {v p left most : ℕ} → GoesOn game question s f v p question' later → IsTooDeep game question' later (after p) left most → IsTooDeep game question s f (suc left) most
   deep_more on (from_here has) = from_here (row_more on has)
-  deep_more on (somewhere deep) = somewhere (deep_behind on deep)
+  deep_more on (somewhere deep) = somewhere (deep_after on deep)
 
   pub too_deep : {question : Question} {s : AbstractState} {f : Start} {most : ℕ} → IsTooDeep game question s f most most → IsDeep game question s f most
   too_deep (from_here has) = record { before = []; row = has.row; later = has.later; opened = has.opened; count = has.count }

@@ -2,11 +2,11 @@
 use Rattle.rbg_base.proofs.Common.{◌≡◌, ◌≢◌, ℕ, suc, ◌+◌, ◌<◌, ◌≤◌, List, [], ◌∷◌, ◌++◌, length, get_or, take, Bool, false, true, refl, sym, ◌∙◌, subst, arith, All, Contains, Result, Ok, Err, All-weaker, All-contains_itself}
 use Rattle.rbg_rules.specs.Meaning.{IsNumbered, IsPatternAt, inside, Start, beginning, after, AbstractGame, AbstractState, Applies, IsGame, Question, try_move, reach, pattern, Item, Opening, IsStart}
 use Rattle.rbg_state.specs.History.{History}
-use Rattle.rbg_search.proofs.Common.{Searching, CountsOpenings, IsOverBudget, GoesOn, CountsUpTo, somewhere, StandsInPattern, CountsAsked, GoesBehind, IsCounted, Over, Deep, Wide, Memory}
+use Rattle.rbg_search.proofs.Common.{Searching, CountsOpenings, IsOverBudget, GoesOn, CountsUpTo, somewhere, StandsInPattern, CountsAsked, GoesAfter, IsCounted, Over, Deep, Wide, Memory}
 use Rattle.rbg_pairs.proofs.Common.{IsNext, IsFlatPart, at_vertex, IsReached}
 use Rattle.rbg_search.proofs.Patterns.{inside_onward, inside_start}
 use Rattle.rbg_search.proofs.CallerLemmas.{pattern_begins, counts_begin, counts_taken, counts_end, over_taken, deep_more, too_deep}
-use Rattle.rbg_search.proofs.Countings.{empty_opens, asked_more, asked_end, over_asked, deep_asked, goes_behind, one_too_deep}
+use Rattle.rbg_search.proofs.Countings.{empty_opens, asked_more, asked_end, over_asked, deep_asked, goes_after, one_too_deep}
 
 -- ---- which error it is
 
@@ -76,9 +76,9 @@ module _ (game : AbstractGame) where
 
   -- ---- a pattern's question
 
-  -- What is found where no word may end goes behind.
-  pub found_behind : IsGame game → (s : AbstractState) (f : Start) (pairs : List (ℕ × ℕ)) (ends : Bool) → StandsInPattern game.rules f → IsFlatPart game s f pairs ends → ends ≡ false → GoesBehind game s f pairs
-  found_behind lawful s f pairs ends in_one part not_here = record {
+  -- What is found where no word may end goes after.
+  pub found_after : IsGame game → (s : AbstractState) (f : Start) (pairs : List (ℕ × ℕ)) (ends : Bool) → StandsInPattern game.rules f → IsFlatPart game s f pairs ends → ends ≡ false → GoesAfter game s f pairs
+  found_after lawful s f pairs ends in_one part not_here = record {
     lawful = lawful;
     inside = in_one;
     no_end = λ end. true_not_false (sym (part.may_end.1 end) ∙ not_here);
@@ -89,40 +89,40 @@ module _ (game : AbstractGame) where
       true_not_false : true ≡ false → ⊥
       true_not_false e = cc
 
-  -- Behind each of them one stands in the pattern too.
+  -- After each of them one stands in the pattern too.
   pub found_inside : IsNumbered game.rules → (s : AbstractState) (f : Start) (pairs : List (ℕ × ℕ)) (ends : Bool) → StandsInPattern game.rules f → IsFlatPart game s f pairs ends → All (λ q. StandsInPattern game.rules (after q.1)) pairs
   found_inside numbered s f pairs ends in_one part =
       All-weaker (Contains pairs) (λ q. StandsInPattern game.rules (after q.1))
       (λ q h. let next : IsNext game s f q.0 q.1 = (part.next q.0 q.1).0 h in inside_onward game.rules numbered f in_one next.before q.1 next.follows)
       pairs (All-contains_itself pairs)
 
-  -- ---- behind the modifiers of a flat part
+  -- ---- after the modifiers of a flat part
 
-  pub behind_begin : IsNumbered game.rules → (s : AbstractState) (f : Start) (a b : ℕ) → CountsOpenings game reach s f a b → CountsUpTo game pattern s f [] a b
-  behind_begin numbered s f a b counts = counts_begin game numbered (pattern_begins game s f) counts
+  pub after_begin : IsNumbered game.rules → (s : AbstractState) (f : Start) (a b : ℕ) → CountsOpenings game reach s f a b → CountsUpTo game pattern s f [] a b
+  after_begin numbered s f a b counts = counts_begin game numbered (pattern_begins game s f) counts
 
-  pub behind_only : IsNumbered game.rules → (s : AbstractState) (f : Start) (done : List (ℕ × ℕ)) (a b left openings modifiers : ℕ) (D W : Type 0) → CountsUpTo game pattern s f done a b → ¬ D → ¬ W → IsCounted game pattern s f a b left openings modifiers D W
-  behind_only numbered s f done a b left openings modifiers D W counts deep wide = counted_only pattern s f a b left openings modifiers D W (counts_end game numbered counts) deep wide
+  pub after_only : IsNumbered game.rules → (s : AbstractState) (f : Start) (done : List (ℕ × ℕ)) (a b left openings modifiers : ℕ) (D W : Type 0) → CountsUpTo game pattern s f done a b → ¬ D → ¬ W → IsCounted game pattern s f a b left openings modifiers D W
+  after_only numbered s f done a b left openings modifiers D W counts deep wide = counted_only pattern s f a b left openings modifiers D W (counts_end game numbered counts) deep wide
 
-  module _ (s later : AbstractState) (f : Start) (pairs : List (ℕ × ℕ)) (goes : GoesBehind game s f pairs) (k v p : ℕ) (under : k < length pairs) (there : get_or pairs k (v, p) ≡ (v, p)) (applies : Applies game p (at_vertex s v) later) where
+  module _ (s later : AbstractState) (f : Start) (pairs : List (ℕ × ℕ)) (goes : GoesAfter game s f pairs) (k v p : ℕ) (under : k < length pairs) (there : get_or pairs k (v, p) ≡ (v, p)) (applies : Applies game p (at_vertex s v) later) where
     on : GoesOn game pattern s f v p pattern later
-    on = goes_behind game s later f pairs goes v p (k, under, there) applies
+    on = goes_after game s later f pairs goes v p (k, under, there) applies
 
     -- One more of them is done.
-    pub behind_more : (a b c : ℕ) → CountsUpTo game pattern s f (take k pairs) a b → CountsOpenings game pattern later (after p) b c → CountsUpTo game pattern s f (take (k + 1) pairs) a c
-    behind_more a b c counts more = counts_taken game goes.lawful.numbered pairs k counts goes.different under there on more
+    pub after_more : (a b c : ℕ) → CountsUpTo game pattern s f (take k pairs) a b → CountsOpenings game pattern later (after p) b c → CountsUpTo game pattern s f (take (k + 1) pairs) a c
+    after_more a b c counts more = counts_taken game goes.lawful.numbered pairs k counts goes.different under there on more
 
-    -- The question was given up behind it.
-    pub behind_counted : (a b c left openings modifiers : ℕ) (D W : Type 0) → CountsUpTo game pattern s f (take k pairs) a b → IsCounted game pattern later (after p) b c left openings modifiers D W → IsCounted game pattern s f a c (suc left) openings modifiers D W
-    behind_counted a b c left openings modifiers D W counts more = record {
-      counted = counts_end game goes.lawful.numbered (behind_more a b c counts more.counted);
+    -- The question was given up after it.
+    pub beyond_counted : (a b c left openings modifiers : ℕ) (D W : Type 0) → CountsUpTo game pattern s f (take k pairs) a b → IsCounted game pattern later (after p) b c left openings modifiers D W → IsCounted game pattern s f a c (suc left) openings modifiers D W
+    beyond_counted a b c left openings modifiers D W counts more = record {
+      counted = counts_end game goes.lawful.numbered (after_more a b c counts more.counted);
       deep = λ d. deep_more game goes.lawful.numbered on (more.deep d);
       wide = λ w. over_taken game goes.lawful.numbered pairs k counts goes.different under there on (more.wide w);
     }
 
     -- It is given up before it, since one more is too many.
-    pub behind_deep : (done : List (ℕ × ℕ)) (a b left openings modifiers : ℕ) (D W : Type 0) → left ≤ 1 → CountsUpTo game pattern s f done a b → ¬ W → IsCounted game pattern s f a b left openings modifiers D W
-    behind_deep done a b left openings modifiers D W at_most counts wide = record {
+    pub after_deep : (done : List (ℕ × ℕ)) (a b left openings modifiers : ℕ) (D W : Type 0) → left ≤ 1 → CountsUpTo game pattern s f done a b → ¬ W → IsCounted game pattern s f a b left openings modifiers D W
+    after_deep done a b left openings modifiers D W at_most counts wide = record {
       counted = counts_end game goes.lawful.numbered counts;
       deep = λ d. one_too_deep game goes.lawful s later f (inside_start game.rules f goes.inside) v p on left modifiers at_most;
       wide = λ w. absurd (wide w);

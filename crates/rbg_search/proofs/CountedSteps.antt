@@ -3,13 +3,13 @@ use Rattle.rbg_base.proofs.Common.{◌≡◌, ◌≢◌, ℕ, suc, ◌+◌, ◌-
 use Rattle.rbg_rules.specs.Meaning.{IsPatternAt, inside, Start, beginning, after, AbstractGame, AbstractState, Applies, IsGame, Question, reach, pattern, IsDeep}
 use Rattle.rbg_state.specs.History.{History}
 use Rattle.rbg_pairs.proofs.Common.{IsFlatPart, at_vertex, IsReached}
-use Rattle.rbg_search.proofs.Common.{Searching, CountsOpenings, IsOverBudget, CountsUpTo, IsTooDeep, from_here, somewhere, IsBegun, StandsInPattern, CountsAsked, GoesBehind, IsCounted, Over, Memory}
+use Rattle.rbg_search.proofs.Common.{Searching, CountsOpenings, IsOverBudget, CountsUpTo, IsTooDeep, from_here, somewhere, IsBegun, StandsInPattern, CountsAsked, GoesAfter, IsCounted, Over, Memory}
 use Rattle.rbg_pairs.specs.declared.flat.Flat.{Flat}
 use Rattle.rbg_search.proofs.CallerLemmas.{pattern_begins}
 use Rattle.rbg_search.proofs.Openings.{reach_opens}
 use Rattle.rbg_search.proofs.Counts.{begin_joined, counts_such, over_such}
 use Rattle.rbg_search.proofs.Countings.{asked_more}
-use Rattle.rbg_search.proofs.Counted.{same_error, asked_counted, found_behind, found_inside, behind_more, behind_counted, behind_deep, search_before, onward_search}
+use Rattle.rbg_search.proofs.Counted.{same_error, asked_counted, found_after, found_inside, after_more, beyond_counted, after_deep, search_before, onward_search}
 
 -- ---- which error is handed on
 
@@ -74,13 +74,13 @@ asks_reached game s f a b left most openings D W counts = record {
     asks_wide : IsOverBudget game reach s f a openings → IsOverBudget game pattern s f a openings
     asks_wide over = over_such (begin_joined game pattern s f a over.added (pattern_begins game s f) over.openings) openings over.more
 
--- The search went on behind the modifiers that were found.
-pub behind_step : (h k : Searching) (s l : History) (f : Start) (pairs pairs' : List (ℕ × ℕ)) (ends : Bool) (b left : ℕ) (D W : Type 0) → k ≡ record h { opened = k.opened; taken = k.taken } → l ≡ record s { room = l.room } → pairs' ≡ pairs → IsGame h.game → StandsInPattern h.game.rules f → IsFlatPart h.game s.state f pairs ends → ends ≡ false → CountsOpenings h.game reach s.state f h.opened k.opened → ((e : Start) (a : ℕ) → GoesBehind k.game l.state e pairs' → CountsOpenings k.game reach l.state e a k.opened → IsCounted k.game pattern l.state e a b left k.openings k.modifiers D W) → IsCounted h.game pattern s.state f h.opened b left h.openings h.modifiers D W
-behind_step h k s l f pairs pairs' ends b left D W kept given same lawful in_one part not_here counts behind =
-    let goes : GoesBehind h.game s.state f pairs' = subst (λ (ps : List (ℕ × ℕ)). GoesBehind h.game s.state f ps) (sym same) (found_behind h.game lawful s.state f pairs ends in_one part not_here) in
+-- The search went on after the modifiers that were found.
+pub after_step : (h k : Searching) (s l : History) (f : Start) (pairs pairs' : List (ℕ × ℕ)) (ends : Bool) (b left : ℕ) (D W : Type 0) → k ≡ record h { opened = k.opened; taken = k.taken } → l ≡ record s { room = l.room } → pairs' ≡ pairs → IsGame h.game → StandsInPattern h.game.rules f → IsFlatPart h.game s.state f pairs ends → ends ≡ false → CountsOpenings h.game reach s.state f h.opened k.opened → ((e : Start) (a : ℕ) → GoesAfter k.game l.state e pairs' → CountsOpenings k.game reach l.state e a k.opened → IsCounted k.game pattern l.state e a b left k.openings k.modifiers D W) → IsCounted h.game pattern s.state f h.opened b left h.openings h.modifiers D W
+after_step h k s l f pairs pairs' ends b left D W kept given same lawful in_one part not_here counts beyond =
+    let goes : GoesAfter h.game s.state f pairs' = subst (λ (ps : List (ℕ × ℕ)). GoesAfter h.game s.state f ps) (sym same) (found_after h.game lawful s.state f pairs ends in_one part not_here) in
     search_before (λ y w. IsCounted y.game pattern w f h.opened b left y.openings y.modifiers D W) h k s l kept given
-    (behind f h.opened
-    (onward_search (λ y w. GoesBehind y.game w f pairs') h k s l kept given goes)
+    (beyond f h.opened
+    (onward_search (λ y w. GoesAfter y.game w f pairs') h k s l kept given goes)
     (onward_search (λ y w. CountsOpenings y.game reach w f h.opened k.opened) h k s l kept given counts))
 
 pub inside_pairs : (h k : Searching) (s l : History) (f : Start) (pairs pairs' : List (ℕ × ℕ)) (ends : Bool) → k ≡ record h { opened = k.opened; taken = k.taken } → l ≡ record s { room = l.room } → pairs' ≡ pairs → IsGame h.game → StandsInPattern h.game.rules f → IsFlatPart h.game s.state f pairs ends → All (λ q. StandsInPattern k.game.rules (after q.1)) pairs'
@@ -88,36 +88,36 @@ inside_pairs h k s l f pairs pairs' ends kept given same lawful in_one part =
     subst (λ (ps : List (ℕ × ℕ)). All (λ q. StandsInPattern k.game.rules (after q.1)) ps) (sym same)
     (onward_search (λ y w. All (λ q. StandsInPattern y.game.rules (after q.1)) pairs) h k s l kept given (found_inside h.game lawful.numbered s.state f pairs ends in_one part))
 
--- ---- behind the modifiers of a flat part
+-- ---- after the modifiers of a flat part
 
-pub record BehindStep (h : Searching) (s : AbstractState) (f : Start) (done : List (ℕ × ℕ)) (a b left : ℕ) (D W : Type 0) : Type 0 where
+pub record AfterStep (h : Searching) (s : AbstractState) (f : Start) (done : List (ℕ × ℕ)) (a b left : ℕ) (D W : Type 0) : Type 0 where
   pub counts : CountsUpTo h.game pattern s f done a b
   pub gave_up : IsCounted h.game pattern s f a b left h.openings h.modifiers D W
 
 less_one : (n : ℕ) → 0 < n → n ≡ suc (n - 1)
 less_one n some = omega (arith, some)
 
--- The question was asked behind one more of the pairs.
-pub one_behind : (h k : Searching) (s l : History) (f : Start) (pairs : List (ℕ × ℕ)) (i : ℕ) (d : ℕ × ℕ) (a b left : ℕ) (later : AbstractState) (D W : Type 0) → k ≡ record h { opened = k.opened; taken = k.taken } → l ≡ record s { room = l.room } → GoesBehind h.game s.state f pairs → i < length pairs → Applies h.game (get_or pairs i d).1 (at_vertex s.state (get_or pairs i d).0) later → 0 < left → CountsUpTo h.game pattern s.state f (take i pairs) a k.opened → ((t : AbstractState) (n : ℕ) → Applies k.game (get_or pairs i d).1 (at_vertex l.state (get_or pairs i d).0) t → left ≡ suc n → IsCounted k.game pattern t (after (get_or pairs i d).1) k.opened b n k.openings k.modifiers D W) → BehindStep h s.state f (take (i + 1) pairs) a b left D W
-one_behind h k s l f pairs i d a b left later D W kept given goes under applies some counts behind =
+-- The question was asked after one more of the pairs.
+pub one_beyond : (h k : Searching) (s l : History) (f : Start) (pairs : List (ℕ × ℕ)) (i : ℕ) (d : ℕ × ℕ) (a b left : ℕ) (later : AbstractState) (D W : Type 0) → k ≡ record h { opened = k.opened; taken = k.taken } → l ≡ record s { room = l.room } → GoesAfter h.game s.state f pairs → i < length pairs → Applies h.game (get_or pairs i d).1 (at_vertex s.state (get_or pairs i d).0) later → 0 < left → CountsUpTo h.game pattern s.state f (take i pairs) a k.opened → ((t : AbstractState) (n : ℕ) → Applies k.game (get_or pairs i d).1 (at_vertex l.state (get_or pairs i d).0) t → left ≡ suc n → IsCounted k.game pattern t (after (get_or pairs i d).1) k.opened b n k.openings k.modifiers D W) → AfterStep h s.state f (take (i + 1) pairs) a b left D W
+one_beyond h k s l f pairs i d a b left later D W kept given goes under applies some counts beyond =
     let x : ℕ × ℕ = get_or pairs i d in
     let there : get_or pairs i x ≡ x = get_or_default pairs i x d under in
     let applies' : Applies k.game x.1 (at_vertex l.state x.0) later = onward_search (λ y w. Applies y.game x.1 (at_vertex w x.0) later) h k s l kept given applies in
     let asked : IsCounted h.game pattern later (after x.1) k.opened b (left - 1) h.openings h.modifiers D W =
-    search_before (λ y w. IsCounted y.game pattern later (after x.1) k.opened b (left - 1) y.openings y.modifiers D W) h k s l kept given (behind later (left - 1) applies' (less_one left some)) in
-    let gave_up : IsCounted h.game pattern s.state f a b (suc (left - 1)) h.openings h.modifiers D W = behind_counted h.game s.state later f pairs goes i x.0 x.1 under there applies a k.opened b (left - 1) h.openings h.modifiers D W counts asked in
+    search_before (λ y w. IsCounted y.game pattern later (after x.1) k.opened b (left - 1) y.openings y.modifiers D W) h k s l kept given (beyond later (left - 1) applies' (less_one left some)) in
+    let gave_up : IsCounted h.game pattern s.state f a b (suc (left - 1)) h.openings h.modifiers D W = beyond_counted h.game s.state later f pairs goes i x.0 x.1 under there applies a k.opened b (left - 1) h.openings h.modifiers D W counts asked in
     record {
-      counts = behind_more h.game s.state later f pairs goes i x.0 x.1 under there applies a k.opened b counts asked.counted;
+      counts = after_more h.game s.state later f pairs goes i x.0 x.1 under there applies a k.opened b counts asked.counted;
       gave_up = subst (λ (n : ℕ). IsCounted h.game pattern s.state f a b n h.openings h.modifiers D W) (sym (less_one left some)) gave_up;
     }
 
 -- One more of the pairs would be too many.
-pub one_too_many : (h : Searching) (s : AbstractState) (f : Start) (pairs : List (ℕ × ℕ)) (i : ℕ) (d : ℕ × ℕ) (a b left : ℕ) (later : AbstractState) (D W : Type 0) → GoesBehind h.game s f pairs → i < length pairs → Applies h.game (get_or pairs i d).1 (at_vertex s (get_or pairs i d).0) later → left ≤ 1 → CountsUpTo h.game pattern s f (take i pairs) a b → ¬ W → IsCounted h.game pattern s f a b left h.openings h.modifiers D W
+pub one_too_many : (h : Searching) (s : AbstractState) (f : Start) (pairs : List (ℕ × ℕ)) (i : ℕ) (d : ℕ × ℕ) (a b left : ℕ) (later : AbstractState) (D W : Type 0) → GoesAfter h.game s f pairs → i < length pairs → Applies h.game (get_or pairs i d).1 (at_vertex s (get_or pairs i d).0) later → left ≤ 1 → CountsUpTo h.game pattern s f (take i pairs) a b → ¬ W → IsCounted h.game pattern s f a b left h.openings h.modifiers D W
 one_too_many h s f pairs i d a b left later D W goes under applies few counts wide =
     let x : ℕ × ℕ = get_or pairs i d in
-    behind_deep h.game s later f pairs goes i x.0 x.1 under (get_or_default pairs i x d under) applies (take i pairs) a b left h.openings h.modifiers D W few counts wide
+    after_deep h.game s later f pairs goes i x.0 x.1 under (get_or_default pairs i x d under) applies (take i pairs) a b left h.openings h.modifiers D W few counts wide
 
--- ---- the question behind one modifier, and that of one pattern
+-- ---- the question after one modifier, and that of one pattern
 
 pub counted_there : (h : Searching) (later t : AbstractState) (f : Start) (a b n n' : ℕ) (D W D' W' : Type 0) → later ≡ t → n ≡ n' → (D' → D) → (W' → W) → IsCounted h.game pattern t f a b n h.openings h.modifiers D W → IsCounted h.game pattern later f a b n' h.openings h.modifiers D' W'
 counted_there h later t f a b n n' D W D' W' same left deep wide counts =

@@ -4,7 +4,7 @@ use Rattle.std.proofs.lemmas.List.Kept.{AllPairs-cons}
 use Rattle.rbg_rules.specs.Meaning.{IsNumbered, IsPatternAt, inside, Start, beginning, after, AbstractGame, AbstractState, Applies, IsGame, Question, try_move, reach, pattern, Item, modifier_at, pattern_at, items_of, Opening, HasOpenings, IsDeep, IsStart}
 use Rattle.rbg_rules.proofs.TrimLemmas.{empty_opening_law}
 use Rattle.rbg_pairs.proofs.Common.{IsNext, at_vertex, IsReached}
-use Rattle.rbg_search.proofs.Common.{CountsOpenings, IsOverBudget, asking, GoesOn, IsTooDeep, from_here, StandsInPattern, BeginsAsked, CountsAsked, GoesBehind}
+use Rattle.rbg_search.proofs.Common.{CountsOpenings, IsOverBudget, asking, GoesOn, IsTooDeep, from_here, StandsInPattern, BeginsAsked, CountsAsked, GoesAfter}
 use Rattle.rbg_search.proofs.Openings.{in_pattern}
 use Rattle.rbg_search.proofs.Counts.{counts_such, joined, over_such, weaker}
 use Rattle.rbg_search.proofs.CallerLemmas.{no_end_found, row_none, row_one}
@@ -76,11 +76,11 @@ module _ (game : AbstractGame) where
     count = deep.count;
   }
 
-  -- ---- behind the modifiers of a flat part in a pattern
+  -- ---- after the modifiers of a flat part in a pattern
 
-  -- The question goes on behind each of them.
-  pub goes_behind : (s later : AbstractState) (f : Start) (pairs : List (ℕ × ℕ)) → GoesBehind game s f pairs → (v p : ℕ) → Contains pairs (v, p) → Applies game p (at_vertex s v) later → GoesOn game pattern s f v p pattern later
-  goes_behind s later f pairs goes v p there applies =
+  -- The question goes on after each of them.
+  pub goes_after : (s later : AbstractState) (f : Start) (pairs : List (ℕ × ℕ)) → GoesAfter game s f pairs → (v p : ℕ) → Contains pairs (v, p) → Applies game p (at_vertex s v) later → GoesOn game pattern s f v p pattern later
+  goes_after s later f pairs goes v p there applies =
       let next : IsNext game s f v p = All-contains (λ q. IsNext game s f q.0 q.1) pairs (v, p) goes.next there in
       let stays : StandsInPattern game.rules (after p) = inside_onward game.rules goes.lawful.numbered f goes.inside next.before p next.follows in
       record { next = next; applies = applies; plain = inside_plain game goes.lawful p stays; passes = asking (no_end_found game goes.lawful.numbered goes.no_end) }

@@ -1,8 +1,8 @@
--- Openings behind one modifier after another, counted together.
+-- Openings after one modifier after another, counted together.
 use Rattle.rbg_base.proofs.Common.{◌≡◌, ◌≢◌, ℕ, suc, ◌+◌, ◌<◌, List, [], ◌∷◌, ◌++◌, length, get_or, map, take, refl, sym, ap, subst, arith, All, AllPairs, Contains, All-append, All-weaker, All-map, All-tail, Contains-append_left, Contains-push}
 use Rattle.std.proofs.lemmas.List.{length-append, length-map, length-take, get_or-take}
 use Rattle.std.proofs.lemmas.List.Kept.{AllPairs-cons}
-use Rattle.rbg_rules.specs.Meaning.{IsNumbered, IsSwitchAt, Start, after, AbstractGame, AbstractState, Applies, Question, reach, Item, modifier_at, pattern_at, items_of, GoesTo, Opening, at, behind, HasOpenings}
+use Rattle.rbg_rules.specs.Meaning.{IsNumbered, IsSwitchAt, Start, after, AbstractGame, AbstractState, Applies, Question, reach, Item, modifier_at, pattern_at, items_of, GoesTo, Opening, at, beyond, HasOpenings}
 use Rattle.rbg_pairs.proofs.Common.{IsNext, at_vertex}
 use Rattle.rbg_search.proofs.Common.{CountsOpenings, IsOverBudget, Passes, BeginsAmong, CountsBeginning, CountsUpTo}
 use Rattle.rbg_search.proofs.Openings.{lifted, reach_opens}
@@ -37,12 +37,12 @@ Differ os = AllPairs (λ o o'. o ≢ o') os
 cons_differs : (x : Item) (o o' : List Item) → o ≢ o' → (x ∷ o) ≢ (x ∷ o')
 cons_differs x o o' differ e = differ cc
 
-pub differ_behind : (x : Item) (os : List (List Item)) → Differ os → Differ (map (λ o. x ∷ o) os)
-differ_behind x [] differ = differ
-differ_behind x (o ∷ os) differ =
+pub differ_after : (x : Item) (os : List (List Item)) → Differ os → Differ (map (λ o. x ∷ o) os)
+differ_after x [] differ = differ
+differ_after x (o ∷ os) differ =
     AllPairs-cons (λ o o'. o ≢ o') (x ∷ o) (map (λ o. x ∷ o) os)
     (All-map (λ o'. (x ∷ o) ≢ o') (λ o. x ∷ o) os (All-weaker (λ o'. o ≢ o') (λ o'. (x ∷ o) ≢ (x ∷ o')) (λ o' ne. cons_differs x o o' ne) os (all_pairs_head (λ o o'. o ≢ o') o os differ)))
-    (differ_behind x os (all_pairs_tail (λ o o'. o ≢ o') o os differ))
+    (differ_after x os (all_pairs_tail (λ o o'. o ≢ o') o os differ))
 
 pub begins_more : (done more : List (ℕ × ℕ)) (o : List Item) → BeginsAmong done o → BeginsAmong (done ++ more) o
 begins_more done more [] begins = tt
@@ -52,7 +52,7 @@ begins_more done more (pattern_at v p ∷ o) begins = tt
 -- An opening of `reach` begins with no modifier.
 pub reach_begins : (game : AbstractGame) (s : AbstractState) (f : Start) (done : List (ℕ × ℕ)) (o : List Item) → Opening game reach s f o → BeginsAmong done o
 reach_begins game s f done o (at on none) = subst (λ (qs : List (ℕ × ℕ)). BeginsAmong done (items_of qs)) (sym none) tt
-reach_begins game s f done o (behind {t = t} {p = p} {more = more} on none follows is opening) =
+reach_begins game s f done o (beyond {t = t} {p = p} {more = more} on none follows is opening) =
     subst (λ (qs : List (ℕ × ℕ)). BeginsAmong done (items_of qs ++ pattern_at t.vertex p ∷ more)) (sym none) tt
 
 -- Openings that are counted, and those of another question with an item in front.
@@ -62,7 +62,7 @@ module _ {game : AbstractGame} {question question' : Question} {s s' : AbstractS
       let front : List Item → List Item = λ o. x ∷ o in
       let new : List (List Item) = map front has.openings in record {
         openings = counts.openings ++ new;
-        different = all_pairs_append (λ o o'. o ≢ o') counts.openings new counts.different (differ_behind x has.openings has.different)
+        different = all_pairs_append (λ o o'. o ≢ o') counts.openings new counts.different (differ_after x has.openings has.different)
             (All-weaker (Begins done) (λ o. All (λ o'. o ≢ o') new)
             (λ o begins. All-map (λ o'. o ≢ o') front has.openings (λ k d within. λ e. once (get_or has.openings k d) (subst (Begins done) e begins)))
             counts.openings counts.begin);

@@ -2,13 +2,13 @@
 use Rattle.rbg_base.proofs.Common.{◌≡◌, ◌≢◌, ℕ, ◌+◌, ◌-◌, ◌<◌, ◌≤◌, List, [], ◌∷◌, ◌++◌, length, get_or, map, take, Bool, refl, sym, subst, inl, inr, arith, Contains, All-weaker, Contains-append_left, Contains-append_right, Contains-push_cases}
 use Rattle.std.proofs.lemmas.List.{length-append, length-map, take_more}
 use Rattle.rbg_base.proofs.CallerLemmas.{Contains-map}
-use Rattle.rbg_rules.specs.Meaning.{IsNumbered, IsSwitchAt, IsPatternAt, inside, Start, beginning, after, AbstractGame, AbstractState, Applies, Question, reach, pattern, Item, modifier_at, pattern_at, items_of, SomeWordRuns, GoesTo, IsForcedTo, Forced, at, behind, HasForced, IsForcedDeep}
+use Rattle.rbg_rules.specs.Meaning.{IsNumbered, IsSwitchAt, IsPatternAt, inside, Start, beginning, after, AbstractGame, AbstractState, Applies, Question, reach, pattern, Item, modifier_at, pattern_at, items_of, SomeWordRuns, GoesTo, IsForcedTo, Forced, at, beyond, HasForced, IsForcedDeep}
 use Rattle.rbg_rules.proofs.PlaceLemmas.{RunPairs-Runs}
 use Rattle.rbg_rules.proofs.MoveLemmas.{Applies_one}
 use Rattle.rbg_pairs.proofs.Common.{IsNext, IsFlatPart, at_vertex, IsReached}
-use Rattle.rbg_search.proofs.Common.{HasFewInRow, CountsForced, TakesBehind, AsksForced}
+use Rattle.rbg_search.proofs.Common.{HasFewInRow, CountsForced, TakesAfter, AsksForced}
 use Rattle.rbg_flat.proofs.Lists.{no_longer}
-use Rattle.rbg_pairs.proofs.Closures.{reached, ends_at, next_found, behind_runs}
+use Rattle.rbg_pairs.proofs.Closures.{reached, ends_at, next_found, after_runs}
 use Rattle.rbg_search.proofs.Openings.{cut_follows, goes_through, none_left}
 
 -- ---- what a list that holds all says of the count, and of rows
@@ -17,8 +17,8 @@ few_row : (most : ℕ) (row : List (ℕ × ℕ)) (later : List Item) (left : ℕ
 few_row most [] later left few some = absurd (omega (arith, some))
 few_row most (q ∷ []) later left few some = omega (arith, few.0)
 few_row most (q ∷ r ∷ rs) later left few some =
-    let behind_it = few_row most (r ∷ rs) later (left - 1) few.1 (omega arith) in
-    omega (arith, few.0, behind_it)
+    let after_it = few_row most (r ∷ rs) later (left - 1) few.1 (omega arith) in
+    omega (arith, few.0, after_it)
 
 few_deep : (most : ℕ) → 0 < most → (before : List Item) (row : List (ℕ × ℕ)) (later : List Item) (left : ℕ) → left ≤ most → length row ≡ most → ¬ HasFewInRow left most (before ++ items_of row ++ later)
 few_deep most some [] row later left under count few =
@@ -54,16 +54,16 @@ module _ (game : AbstractGame) (numbered : IsNumbered game.rules) where
   pub forced_here : (cut : Bool) (s : AbstractState) (f : Start) (o : List Item) → Forced game cut reach s f o → IsForcedHere game cut s f o
   forced_here cut s f o (at {ps = []} on none tt) = nothing
   forced_here cut s f o (at {ps = q ∷ qs} on none tt) = absurd (not_nothing q qs none)
-  forced_here cut s f o (behind {m = m} {t = t} {ps = []} {p = p} {more = more} on none tt follows is inner) =
+  forced_here cut s f o (beyond {m = m} {t = t} {ps = []} {p = p} {more = more} on none tt follows is inner) =
       let quiet = none_left game numbered on.runs in
       let runs = RunPairs-Runs on.runs in
       let here : t ≡ at_vertex s t.vertex = ends_at game numbered s t m quiet runs in
       asked (reached game numbered s t f m p quiet runs follows) is (subst (λ (u : AbstractState). Forced game cut pattern u (beginning (inside p)) more) here inner)
-  forced_here cut s f o (behind {ps = q ∷ qs} on none tt follows is inner) = absurd (not_nothing q qs none)
+  forced_here cut s f o (beyond {ps = q ∷ qs} on none tt follows is inner) = absurd (not_nothing q qs none)
 
 -- ---- the forced openings of a question, by their first modifier
 
--- What is forced with no modifier taken; or behind a modifier to which the question may go, what is forced where it
+-- What is forced with no modifier taken; or after a modifier to which the question may go, what is forced where it
 -- goes on as the second one.
 pub data IsForcedBy (game : AbstractGame) (cut : Bool) (question question' : Question) (s : AbstractState) (f : Start) : List Item → Type 0 where
   here : {o : List Item} → Forced game cut reach s f o → IsForcedBy game cut question question' s f o
@@ -74,7 +74,7 @@ pub data IsForcedBy (game : AbstractGame) (cut : Bool) (question question' : Que
       Forced game cut question' later (after p) o →
       IsForcedBy game cut question question' s f (modifier_at v p ∷ o)
 
--- Where the first question is forced behind a modifier, the second one goes and is forced there.
+-- Where the first question is forced after a modifier, the second one goes and is forced there.
 abbrev pub ForcesOn : AbstractGame → Bool → Question → Question → AbstractState → Start → Type 0
 ForcesOn game cut question question' s f =
     (v p : ℕ) (later : AbstractState) (ps : List (ℕ × ℕ)) →
@@ -89,12 +89,12 @@ module _ (game : AbstractGame) (numbered : IsNumbered game.rules) where
       let through = goes_through game numbered s f m t v p ps on in
       let there = onward v p through.cut.later ps through.next through.cut.applied through.plain goes forced in
       further through.cut.later through.next through.cut.applied through.plain ps goes (at through.on there.0 there.1)
-  forced_by cut question question' s f onward o (behind {ps = []} on goes forced follows is inner) = here (behind on refl tt follows is inner)
-  forced_by cut question question' s f onward o (behind {m = m} {t = t} {ps = (v, p) ∷ ps} {p = q} on goes forced follows is inner) =
+  forced_by cut question question' s f onward o (beyond {ps = []} on goes forced follows is inner) = here (beyond on refl tt follows is inner)
+  forced_by cut question question' s f onward o (beyond {m = m} {t = t} {ps = (v, p) ∷ ps} {p = q} on goes forced follows is inner) =
       let through = goes_through game numbered s f m t v p ps on in
       let there = onward v p through.cut.later ps through.next through.cut.applied through.plain goes forced in
       further through.cut.later through.next through.cut.applied through.plain ps goes
-      (behind through.on there.0 there.1 (cut_follows game numbered f through.cut (q ∷ []) follows) is inner)
+      (beyond through.on there.0 there.1 (cut_follows game numbered f through.cut (q ∷ []) follows) is inner)
 
   -- ---- while the patterns of a flat part are asked
 
@@ -170,9 +170,9 @@ module _ (game : AbstractGame) (numbered : IsNumbered game.rules) where
       short _ nothing = tt
       short _ (asked {v = v} {p = p} {o = o} reached is forced) = asks.few v p o (met v p reached is) is forced
 
-  -- ---- behind the modifiers that come next
+  -- ---- after the modifiers that come next
 
-  pub takes_none : (cut : Bool) (question : Question) (s : AbstractState) (a b left most : ℕ) → a ≤ b → TakesBehind game cut question s [] a b left most
+  pub takes_none : (cut : Bool) (question : Question) (s : AbstractState) (a b left most : ℕ) → a ≤ b → TakesAfter game cut question s [] a b left most
   takes_none cut question s a b left most grows = record {
     openings = [];
     all = λ v p later o there plain applies forced. absurd (nothing_in (v, p) there);
@@ -180,8 +180,8 @@ module _ (game : AbstractGame) (numbered : IsNumbered game.rules) where
     few = λ v p later o there plain applies forced. absurd (nothing_in (v, p) there);
   }
 
-  -- One more modifier was taken, and the question was asked behind it.
-  pub takes_more : (cut : Bool) (question : Question) (s : AbstractState) (done : List (ℕ × ℕ)) (v p : ℕ) (later : AbstractState) (a b c left most : ℕ) → Applies game p (at_vertex s v) later → 1 < left → TakesBehind game cut question s done a b left most → CountsForced game cut question later (after p) b c (left - 1) most → TakesBehind game cut question s (done ++ (v, p) ∷ []) a c left most
+  -- One more modifier was taken, and the question was asked after it.
+  pub takes_more : (cut : Bool) (question : Question) (s : AbstractState) (done : List (ℕ × ℕ)) (v p : ℕ) (later : AbstractState) (a b c left most : ℕ) → Applies game p (at_vertex s v) later → 1 < left → TakesAfter game cut question s done a b left most → CountsForced game cut question later (after p) b c (left - 1) most → TakesAfter game cut question s (done ++ (v, p) ∷ []) a c left most
   takes_more cut question s done v p later a b c left most applies more_left takes more = record {
     openings = takes.openings ++ map (λ o. modifier_at v p ∷ o) more.openings;
     all = λ w q later' o there plain applied forced. elim (Contains-push_cases done (v, p) (w, q) there) [
@@ -214,13 +214,13 @@ module _ (game : AbstractGame) (numbered : IsNumbered game.rules) where
           omega (arith, both, same, takes.fits, more.fits)
 
   -- The same where the modifiers that are done are the first ones of a list.
-  pub takes_on : (cut : Bool) (question : Question) (s : AbstractState) (xs : List (ℕ × ℕ)) (k : ℕ) (d : ℕ × ℕ) (later : AbstractState) (a b c left most : ℕ) → k < length xs → Applies game (get_or xs k d).1 (at_vertex s (get_or xs k d).0) later → 1 < left → TakesBehind game cut question s (take k xs) a b left most → CountsForced game cut question later (after (get_or xs k d).1) b c (left - 1) most → TakesBehind game cut question s (take (k + 1) xs) a c left most
+  pub takes_on : (cut : Bool) (question : Question) (s : AbstractState) (xs : List (ℕ × ℕ)) (k : ℕ) (d : ℕ × ℕ) (later : AbstractState) (a b c left most : ℕ) → k < length xs → Applies game (get_or xs k d).1 (at_vertex s (get_or xs k d).0) later → 1 < left → TakesAfter game cut question s (take k xs) a b left most → CountsForced game cut question later (after (get_or xs k d).1) b c (left - 1) most → TakesAfter game cut question s (take (k + 1) xs) a c left most
   takes_on cut question s xs k d later a b c left most under applies more_left takes more =
       let x : ℕ × ℕ = get_or xs k d in
-      subst (λ (done : List (ℕ × ℕ)). TakesBehind game cut question s done a c left most) (sym (take_more xs k d under))
+      subst (λ (done : List (ℕ × ℕ)). TakesAfter game cut question s done a c left most) (sym (take_more xs k d under))
       (takes_more cut question s (take k xs) x.0 x.1 later a b c left most applies more_left takes more)
 
-  -- ---- a question, from its flat part and what is behind it
+  -- ---- a question, from its flat part and what is after it
 
   -- Where nothing is forced but with no modifier, what `reach` takes is all.
   pub forced_at_once : (cut : Bool) (question : Question) (s : AbstractState) (f : Start) (a b c left most : ℕ) → ((o : List Item) → Forced game cut question s f o → Forced game cut reach s f o) → b ≤ c → CountsForced game cut reach s f a b left most → CountsForced game cut question s f a c left most
@@ -231,8 +231,8 @@ module _ (game : AbstractGame) (numbered : IsNumbered game.rules) where
     few = λ o forced. counts.few o (only o forced);
   }
 
-  pub forced_behind : (cut : Bool) (question question' : Question) (s : AbstractState) (f : Start) (pairs : List (ℕ × ℕ)) (a b c left most : ℕ) → ForcesOn game cut question question' s f → ((v p : ℕ) (ps : List (ℕ × ℕ)) → IsNext game s f v p → ¬ IsSwitchAt game.rules p → GoesTo game question s f ((v, p) ∷ ps) → Contains pairs (v, p)) → CountsForced game cut reach s f a b left most → TakesBehind game cut question' s pairs b c left most → CountsForced game cut question s f a c left most
-  forced_behind cut question question' s f pairs a b c left most onward among counts takes = record {
+  pub forced_after : (cut : Bool) (question question' : Question) (s : AbstractState) (f : Start) (pairs : List (ℕ × ℕ)) (a b c left most : ℕ) → ForcesOn game cut question question' s f → ((v p : ℕ) (ps : List (ℕ × ℕ)) → IsNext game s f v p → ¬ IsSwitchAt game.rules p → GoesTo game question s f ((v, p) ∷ ps) → Contains pairs (v, p)) → CountsForced game cut reach s f a b left most → TakesAfter game cut question' s pairs b c left most → CountsForced game cut question s f a c left most
+  forced_after cut question question' s f pairs a b c left most onward among counts takes = record {
     openings = counts.openings ++ takes.openings;
     all = λ o forced. there o (forced_by cut question question' s f onward o forced);
     fits = joined_fits;
@@ -255,36 +255,36 @@ module _ (game : AbstractGame) (numbered : IsNumbered game.rules) where
 
   -- ---- a pattern's question
 
-  -- Where some word runs, nothing is forced behind a modifier.
+  -- Where some word runs, nothing is forced after a modifier.
   pub answered_at_once : (cut : Bool) (s : AbstractState) (f : Start) → SomeWordRuns game s f → (o : List Item) → Forced game cut pattern s f o → Forced game cut reach s f o
   answered_at_once cut s f runs o (at on goes (inl none)) = at on none tt
   answered_at_once cut s f runs o (at on goes (inr never)) = absurd (never runs)
-  answered_at_once cut s f runs o (behind on goes (inl none) follows is inner) = behind on none tt follows is inner
-  answered_at_once cut s f runs o (behind on goes (inr never) follows is inner) = absurd (never runs)
+  answered_at_once cut s f runs o (beyond on goes (inl none) follows is inner) = beyond on none tt follows is inner
+  answered_at_once cut s f runs o (beyond on goes (inr never) follows is inner) = absurd (never runs)
 
-  no_word_behind : (s : AbstractState) (f : Start) (v p : ℕ) (later : AbstractState) → IsNext game s f v p → Applies game p (at_vertex s v) later → ¬ SomeWordRuns game s f → ¬ SomeWordRuns game later (after p)
-  no_word_behind s f v p later next applies never runs =
+  no_word_after : (s : AbstractState) (f : Start) (v p : ℕ) (later : AbstractState) → IsNext game s f v p → Applies game p (at_vertex s v) later → ¬ SomeWordRuns game s f → ¬ SomeWordRuns game later (after p)
+  no_word_after s f v p later next applies never runs =
       let is = next_found game numbered s f v p next in
-      never (behind_runs game numbered s f (record {
+      never (after_runs game numbered s f (record {
         vertex = v;
         position = p;
         found = record { later = later; reached = is.reached; modifies = is.modifies; applies = applies };
         runs = runs;
       }))
 
-  -- Where none runs, none runs behind a modifier, and there too all is forced.
+  -- Where none runs, none runs after a modifier, and there too all is forced.
   pub pattern_forces : (cut : Bool) (s : AbstractState) (f : Start) → ¬ SomeWordRuns game s f → ForcesOn game cut pattern pattern s f
   pattern_forces cut s f never = λ v p later ps next applies plain goes forced.
-      let none : ¬ SomeWordRuns game later (after p) = no_word_behind s f v p later next applies never in (
+      let none : ¬ SomeWordRuns game later (after p) = no_word_after s f v p later next applies never in (
         (λ qs prefix (m, t, on, ends). none (record { word = m; end = t; pairs = qs; ends = ends; runs = on.runs })),
         inr none,
       )
 
-  -- A pattern's question where its flat part answers, or some word runs behind it.
+  -- A pattern's question where its flat part answers, or some word runs after it.
   pub word_forced : (cut : Bool) (s : AbstractState) (f : Start) (a b c left most : ℕ) → SomeWordRuns game s f → b ≤ c → CountsForced game cut reach s f a b left most → CountsForced game cut pattern s f a c left most
   word_forced cut s f a b c left most runs grows counts = forced_at_once cut pattern s f a b c left most (answered_at_once cut s f runs) grows counts
 
   -- .. and where none runs.
-  pub no_word_forced : (cut : Bool) (s : AbstractState) (f : Start) (pairs : List (ℕ × ℕ)) (ends : Bool) (a b c left most : ℕ) → ¬ SomeWordRuns game s f → IsFlatPart game s f pairs ends → CountsForced game cut reach s f a b left most → TakesBehind game cut pattern s pairs b c left most → CountsForced game cut pattern s f a c left most
+  pub no_word_forced : (cut : Bool) (s : AbstractState) (f : Start) (pairs : List (ℕ × ℕ)) (ends : Bool) (a b c left most : ℕ) → ¬ SomeWordRuns game s f → IsFlatPart game s f pairs ends → CountsForced game cut reach s f a b left most → TakesAfter game cut pattern s pairs b c left most → CountsForced game cut pattern s f a c left most
   no_word_forced cut s f pairs ends a b c left most never part counts takes =
-      forced_behind cut pattern pattern s f pairs a b c left most (pattern_forces cut s f never) (λ v p ps next plain goes. (part.next v p).1 next) counts takes
+      forced_after cut pattern pattern s f pairs a b c left most (pattern_forces cut s f never) (λ v p ps next plain goes. (part.next v p).1 next) counts takes

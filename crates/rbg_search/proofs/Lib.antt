@@ -1,8 +1,9 @@
 -- Lemmas, by topic.
 pub mod Common
-pub mod Behinds
+pub mod Afters
 pub mod Asking
 pub mod Alone
+pub mod Lone
 pub mod Answering
 pub mod Openings
 pub mod Counts

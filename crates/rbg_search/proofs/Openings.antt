@@ -1,6 +1,6 @@
--- Openings behind a modifier, or in a pattern, as openings of the question in which those stand.
+-- Openings after a modifier, or in a pattern, as openings of the question in which those stand.
 use Rattle.rbg_base.proofs.Common.{◌≡◌, ℕ, List, [], ◌∷◌, ◌++◌, Bool, true, false, refl, sym, ap, ◌∙◌, subst, append_assoc, All, All-nil, All-cons, All-head, All-tail, All-append, All-weaker}
-use Rattle.rbg_rules.specs.Meaning.{switch, Expression, IsNumbered, IsModifierAt, IsSwitchAt, IsPatternAt, HasNoModifier, HasNoSwitch, is_modifier, inside, WordOf, Start, beginning, after, Follows, Ends, AbstractGame, AbstractState, rest, step, Applies, Run, RunPairs, stay, modify, pass, Question, find_move, reach, pattern, Item, modifier_at, pattern_at, RunsOn, GoesTo, AnswersBehind, IsProperPrefix, Opening, at, behind}
+use Rattle.rbg_rules.specs.Meaning.{switch, Expression, IsNumbered, IsModifierAt, IsSwitchAt, IsPatternAt, HasNoModifier, HasNoSwitch, is_modifier, inside, WordOf, Start, beginning, after, Follows, Ends, AbstractGame, AbstractState, rest, step, Applies, Run, RunPairs, stay, modify, pass, Question, find_move, reach, pattern, Item, modifier_at, pattern_at, RunsOn, GoesTo, AnswersAfter, IsProperPrefix, Opening, at, beyond}
 use Rattle.rbg_rules.proofs.PlaceLemmas.{RunPairs_join}
 use Rattle.rbg_rules.proofs.PositionLemmas.{one_stands}
 use Rattle.rbg_rules.proofs.MoveLemmas.{Applies_one}
@@ -103,7 +103,7 @@ module _ (game : AbstractGame) (numbered : IsNumbered game.rules) where
     applies = cut.applied;
   }
 
-  -- What follows the run follows what is behind that.
+  -- What follows the run follows what is after that.
   pub cut_follows : {w : List ℕ} {s t : AbstractState} (f : Start) {v p : ℕ} {ps : List (ℕ × ℕ)} (cut : CutRun game w s t v p ps) (more : List ℕ) → Follows game.rules f (w ++ more) → Follows game.rules (after p) (cut.rest_of ++ more)
   cut_follows {w} f {p = p} cut more follows =
       let whole : w ++ more ≡ cut.before ++ p ∷ (cut.rest_of ++ more) = ap (λ (x : List ℕ). x ++ more) cut.joined ∙ append_assoc cut.before (p ∷ cut.rest_of) more in
@@ -116,7 +116,7 @@ module _ (game : AbstractGame) (numbered : IsNumbered game.rules) where
   pub next_applies : (s : AbstractState) (f : Start) (v p : ℕ) (next : IsNext game s f v p) → Applies game p (at_vertex s v) next.later
   next_applies s f v p next = subst (λ (u : AbstractState). Applies game p u next.later) (next_here s f v p next) next.applies
 
-  -- A run behind the modifier is one from before it, with its pair.
+  -- A run after the modifier is one from before it, with its pair.
   pub lifted_run : (s later : AbstractState) (f : Start) (v p : ℕ) → IsNext game s f v p → Applies game p (at_vertex s v) later → ¬ IsSwitchAt game.rules p → (m : List ℕ) (t : AbstractState) (ps : List (ℕ × ℕ)) → RunsOn game later (after p) m t ps → (w : List ℕ) × RunsOn game s f (w ++ p ∷ m) t ((v, p) ∷ ps) × Follows game.rules f (w ++ p ∷ [])
   lifted_run s later f v p next applies plain m t ps on =
       let words = by_words game numbered s f v p (next_found game numbered s f v p next).reached in
@@ -132,7 +132,7 @@ module _ (game : AbstractGame) (numbered : IsNumbered game.rules) where
         words.follows,
       )
 
-  -- Behind its first modifier a run goes on.
+  -- After its first modifier a run goes on.
   pub record GoesThrough (s : AbstractState) (f : Start) (m : List ℕ) (t : AbstractState) (v p : ℕ) (ps : List (ℕ × ℕ)) : Type 0 where
     pub cut : CutRun game m s t v p ps
     pub next : IsNext game s f v p
@@ -145,60 +145,60 @@ module _ (game : AbstractGame) (numbered : IsNumbered game.rules) where
       let follows : Follows game.rules f (cut.before ++ p ∷ cut.rest_of) = subst (Follows game.rules f) cut.joined on.follows in
       let parts = (locality_law game.rules numbered f cut.before p cut.rest_of).0.0 follows in
       let no_switch : HasNoSwitch game.rules (cut.before ++ p ∷ cut.rest_of) = subst (HasNoSwitch game.rules) cut.joined on.no_switch in
-      let behind_it : HasNoSwitch game.rules (p ∷ cut.rest_of) = all_right (λ k. ¬ IsSwitchAt game.rules k) cut.before (p ∷ cut.rest_of) no_switch in
+      let after_it : HasNoSwitch game.rules (p ∷ cut.rest_of) = all_right (λ k. ¬ IsSwitchAt game.rules k) cut.before (p ∷ cut.rest_of) no_switch in
       record {
         cut = cut;
         next = cut_next cut parts.0;
-        plain = All-head (λ k. ¬ IsSwitchAt game.rules k) p cut.rest_of behind_it;
+        plain = All-head (λ k. ¬ IsSwitchAt game.rules k) p cut.rest_of after_it;
         on = record {
-          no_switch = All-tail (λ k. ¬ IsSwitchAt game.rules k) p cut.rest_of behind_it;
+          no_switch = All-tail (λ k. ¬ IsSwitchAt game.rules k) p cut.rest_of after_it;
           follows = parts.1;
           runs = cut.onward;
         };
       }
 
-  pub behind_runs_on : (s later t : AbstractState) (f : Start) (v p : ℕ) (m : List ℕ) (ps : List (ℕ × ℕ)) → Applies game p (at_vertex s v) later → RunsOn game s f m t ((v, p) ∷ ps) → (cut : CutRun game m s t v p ps) × RunsOn game later (after p) cut.rest_of t ps
-  behind_runs_on s later t f v p m ps applies on =
+  pub after_runs_on : (s later t : AbstractState) (f : Start) (v p : ℕ) (m : List ℕ) (ps : List (ℕ × ℕ)) → Applies game p (at_vertex s v) later → RunsOn game s f m t ((v, p) ∷ ps) → (cut : CutRun game m s t v p ps) × RunsOn game later (after p) cut.rest_of t ps
+  after_runs_on s later t f v p m ps applies on =
       let goes = goes_through s f m t v p ps on in
       (goes.cut, subst (λ (u : AbstractState). RunsOn game u (after p) goes.cut.rest_of t ps) (Applies_one game numbered p goes.cut.applied applies) goes.on)
 
-  -- An answer behind the modifier is one behind its pair.
-  find_behind : (s later : AbstractState) (f : Start) (v p : ℕ) (ps : List (ℕ × ℕ)) → Applies game p (at_vertex s v) later → AnswersBehind game find_move s f ((v, p) ∷ ps) → AnswersBehind game find_move later (after p) ps
-  find_behind s later f v p ps applies (m, t, q, on, follows, switches) =
-      let (cut, more) = behind_runs_on s later t f v p m ps applies on in
+  -- An answer after the modifier is one after its pair.
+  find_after : (s later : AbstractState) (f : Start) (v p : ℕ) (ps : List (ℕ × ℕ)) → Applies game p (at_vertex s v) later → AnswersAfter game find_move s f ((v, p) ∷ ps) → AnswersAfter game find_move later (after p) ps
+  find_after s later f v p ps applies (m, t, q, on, follows, switches) =
+      let (cut, more) = after_runs_on s later t f v p m ps applies on in
       (cut.rest_of, t, q, more, cut_follows f cut (q ∷ []) follows, switches)
 
-  ask_behind : (s later : AbstractState) (f : Start) (v p : ℕ) (ps : List (ℕ × ℕ)) → Applies game p (at_vertex s v) later → AnswersBehind game pattern s f ((v, p) ∷ ps) → AnswersBehind game pattern later (after p) ps
-  ask_behind s later f v p ps applies (m, t, on, ends) =
-      let (cut, more) = behind_runs_on s later t f v p m ps applies on in
+  ask_after : (s later : AbstractState) (f : Start) (v p : ℕ) (ps : List (ℕ × ℕ)) → Applies game p (at_vertex s v) later → AnswersAfter game pattern s f ((v, p) ∷ ps) → AnswersAfter game pattern later (after p) ps
+  ask_after s later f v p ps applies (m, t, on, ends) =
+      let (cut, more) = after_runs_on s later t f v p m ps applies on in
       let there : Ends game.rules f (cut.before ++ p ∷ cut.rest_of) = subst (Ends game.rules f) cut.joined ends in
       (cut.rest_of, t, more, ((locality_law game.rules numbered f cut.before p cut.rest_of).1.0 there).1)
 
-  -- The second question goes where the first one goes behind the modifier.
+  -- The second question goes where the first one goes after the modifier.
   not_before : (Answers Later : List (ℕ × ℕ) → Type 0) (v p : ℕ) (ps : List (ℕ × ℕ)) → ¬ Answers [] → ((qs : List (ℕ × ℕ)) → Answers ((v, p) ∷ qs) → Later qs) → ((qs : List (ℕ × ℕ)) → IsProperPrefix qs ps → ¬ Later qs) → (qs : List (ℕ × ℕ)) → IsProperPrefix qs ((v, p) ∷ ps) → ¬ Answers qs
   not_before Answers Later v p ps none onward goes [] prefix answers = none answers
   not_before Answers Later v p ps none onward goes (q ∷ qs) (more, some, e) answers =
       let (head, tail) = heads (v, p) q ps (qs ++ more) e in
       goes qs (more, some, tail) (onward qs (subst (λ (x : ℕ × ℕ). Answers (x ∷ qs)) (sym head) answers))
 
-  pub goes_behind : (s later : AbstractState) (f : Start) (v p : ℕ) → Applies game p (at_vertex s v) later → (question question' : Question) → Passes game s f v p question question' → (ps : List (ℕ × ℕ)) → GoesTo game question' later (after p) ps → GoesTo game question s f ((v, p) ∷ ps)
-  goes_behind s later f v p applies question question' trying ps (more, some, e) = (more, some, ap (λ (xs : List (ℕ × ℕ)). (v, p) ∷ xs) e)
-  goes_behind s later f v p applies question question' (finding none) ps goes =
-      not_before (AnswersBehind game find_move s f) (AnswersBehind game find_move later (after p)) v p ps none (λ qs. find_behind s later f v p qs applies) goes
-  goes_behind s later f v p applies question question' listing ps goes = tt
-  goes_behind s later f v p applies question question' (asking none) ps goes =
-      not_before (AnswersBehind game pattern s f) (AnswersBehind game pattern later (after p)) v p ps none (λ qs. ask_behind s later f v p qs applies) goes
+  pub goes_after : (s later : AbstractState) (f : Start) (v p : ℕ) → Applies game p (at_vertex s v) later → (question question' : Question) → Passes game s f v p question question' → (ps : List (ℕ × ℕ)) → GoesTo game question' later (after p) ps → GoesTo game question s f ((v, p) ∷ ps)
+  goes_after s later f v p applies question question' trying ps (more, some, e) = (more, some, ap (λ (xs : List (ℕ × ℕ)). (v, p) ∷ xs) e)
+  goes_after s later f v p applies question question' (finding none) ps goes =
+      not_before (AnswersAfter game find_move s f) (AnswersAfter game find_move later (after p)) v p ps none (λ qs. find_after s later f v p qs applies) goes
+  goes_after s later f v p applies question question' listing ps goes = tt
+  goes_after s later f v p applies question question' (asking none) ps goes =
+      not_before (AnswersAfter game pattern s f) (AnswersAfter game pattern later (after p)) v p ps none (λ qs. ask_after s later f v p qs applies) goes
 
-  -- An opening of the question behind the modifier is one of the question before it, with the modifier in front.
+  -- An opening of the question after the modifier is one of the question before it, with the modifier in front.
   pub lifted : (s later : AbstractState) (f : Start) (v p : ℕ) → IsNext game s f v p → Applies game p (at_vertex s v) later → ¬ IsSwitchAt game.rules p → (question question' : Question) → Passes game s f v p question question' → (o : List Item) → Opening game question' later (after p) o → Opening game question s f (modifier_at v p ∷ o)
   lifted s later f v p next applies plain question question' passes o (at {m = m} {t = t} {ps = ps} on goes) =
       let (w, run, _) = lifted_run s later f v p next applies plain m t ps on in
-      at run (goes_behind s later f v p applies question question' passes ps goes)
-  lifted s later f v p next applies plain question question' passes o (behind {m = m} {t = t} {ps = ps} {p = q} {more = more} on goes follows is opening) =
+      at run (goes_after s later f v p applies question question' passes ps goes)
+  lifted s later f v p next applies plain question question' passes o (beyond {m = m} {t = t} {ps = ps} {p = q} {more = more} on goes follows is opening) =
       let (w, run, reaches) = lifted_run s later f v p next applies plain m t ps on in
       let joined : w ++ p ∷ (m ++ q ∷ []) ≡ (w ++ p ∷ m) ++ q ∷ [] = sym (append_assoc w (p ∷ m) (q ∷ [])) in
       let there : Follows game.rules f ((w ++ p ∷ m) ++ q ∷ []) = subst (Follows game.rules f) joined ((locality_law game.rules numbered f w p (m ++ q ∷ [])).0.1 (reaches, follows)) in
-      behind run (goes_behind s later f v p applies question question' passes ps goes) there is opening
+      beyond run (goes_after s later f v p applies question question' passes ps goes) there is opening
 
   -- An opening of the question of a pattern that is reached is one of the question in which it is reached.
   pub in_pattern : (question : Question) (s : AbstractState) (f : Start) (v p : ℕ) → GoesTo game question s f [] → IsReached game s f v p → IsPatternAt game.rules p → (o : List Item) → Opening game pattern (at_vertex s v) (beginning (inside p)) o → Opening game question s f (pattern_at v p ∷ o)
@@ -209,9 +209,9 @@ module _ (game : AbstractGame) (numbered : IsNumbered game.rules) where
         follows = follows_less game.rules f words.before p words.follows;
         runs = quiet_pairs game words.before s (at_vertex s v) words.no_modifier words.runs;
       } in
-      behind {m = words.before} {t = at_vertex s v} {ps = []} on goes words.follows is opening
+      beyond {m = words.before} {t = at_vertex s v} {ps = []} on goes words.follows is opening
 
 -- An opening of `reach` is one of every question that goes as far as no modifier.
 pub reach_opens : (game : AbstractGame) (question : Question) (s : AbstractState) (f : Start) → GoesTo game question s f [] → (o : List Item) → Opening game reach s f o → Opening game question s f o
 reach_opens game question s f goes o (at on none) = at on (subst (GoesTo game question s f) (sym none) goes)
-reach_opens game question s f goes o (behind on none follows is opening) = behind on (subst (GoesTo game question s f) (sym none) goes) follows is opening
+reach_opens game question s f goes o (beyond on none follows is opening) = beyond on (subst (GoesTo game question s f) (sym none) goes) follows is opening

@@ -7,7 +7,7 @@ use Rattle.std.proofs.lemmas.List.Edits.{Swapped, swapped_from_swap, length-swap
 use Rattle.std.proofs.lemmas.List.Sorted.{IsPermutation-keeps, IsPermutation-sym, Contains-permutation, sorted_far, ranks_by}
 use Rattle.rbg_rules.specs.Meaning.{Start, AbstractGame, AbstractState, IsStateOf}
 use Rattle.rbg_pairs.proofs.Common.{IsBefore, IsFlatPart, IsPositionOf}
-use Rattle.rbg_search.specs.internal.Behind.{IsReady}
+use Rattle.rbg_search.specs.internal.Beyond.{IsReady}
 
 abbrev pub pair_cmp : ℕ × ℕ → ℕ × ℕ → Ordering
 pair_cmp x y = ordering_then (nat_cmp x.0 y.0) (nat_cmp x.1 y.1)

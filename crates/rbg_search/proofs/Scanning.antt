@@ -1,8 +1,8 @@
 -- What a scan tells of a pattern's question: its answer, and what it had to take up.
 use Rattle.std.proofs.Common.{◌≡◌, ◌≢◌, ℕ, ◌+◌, List, [], ◌∷◌, Bool, true, false, refl, arith, Contains, IsTrue, ◌↔◌}
 use Rattle.rbg_rules.specs.Meaning.{IsNumbered, Start, AbstractGame, AbstractState, try_move, reach, pattern, SomeWordRuns, Item}
-use Rattle.rbg_search.proofs.Common.{HasFewInRow, CountsForced, SomeRunsBehind, IsScanned}
-use Rattle.rbg_search.proofs.Behinds.{runs_at_end, only_behind}
+use Rattle.rbg_search.proofs.Common.{HasFewInRow, CountsForced, SomeRunsAfter, IsScanned}
+use Rattle.rbg_search.proofs.Afters.{runs_at_end, only_after}
 use Rattle.rbg_search.proofs.Forcing.{IsForcedHere, nothing, asked, forced_here, takes_none}
 use Rattle.rbg_search.proofs.ForcingSteps.{asked_forced}
 
@@ -13,12 +13,12 @@ module _ (game : AbstractGame) (numbered : IsNumbered game.rules) (s : AbstractS
   -- Some word runs exactly where one ends on the way.
   pub scanned_decides : (ends : Bool) → IsScanned game s f ends → IsTrue ends ↔ SomeWordRuns game s f
   scanned_decides true scanned = ((λ _. runs_at_end game numbered s f [] true scanned.part refl), (λ _. refl))
-  scanned_decides false scanned = ((λ e. absurd (false_not_true e)), (λ some. absurd (none (only_behind game numbered s f [] false scanned.part refl some))))
+  scanned_decides false scanned = ((λ e. absurd (false_not_true e)), (λ some. absurd (none (only_after game numbered s f [] false scanned.part refl some))))
     where
       false_not_true : false ≡ true → ⊥
       false_not_true e = cc
 
-      none : SomeRunsBehind game s [] → ⊥
+      none : SomeRunsAfter game s [] → ⊥
       none some = let (k, under, is) = some.there in omega (arith, under)
 
   -- The one opening is all that was forced.

@@ -62,7 +62,7 @@ module _ {game : AbstractGame} {s : AbstractState} {f : Start} where
     quiet_on : All (λ q. ¬ IsPatternAt game.rules q.1) (scanning.done ++ (v, p) ∷ [])
     quiet_on = All-push (λ q. ¬ IsPatternAt game.rules q.1) scanning.done (v, p) scanning.quiet plain
 
-    -- The pair stands behind all that were tried, so it is none of them.
+    -- The pair stands after all that were tried, so it is none of them.
     once : AllPairs (λ a b. a ≢ b) (scanning.done ++ (v, p) ∷ [])
     once = all_pairs_push (λ a b. a ≢ b) scanning.done (v, p) scanning.different (λ k d under same. not_before (subst (λ (q : ℕ × ℕ). q.1 < p) same (scanning.before k d under)))
       where

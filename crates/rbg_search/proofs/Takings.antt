@@ -194,8 +194,8 @@ any_part game question s f many part = record {
 pub pattern_part : {A H : Type 0} (game : AbstractGame) (question : Question) (s : AbstractState) (f : Start) (v p : ℕ) → IsCandidate game s f v p → IsPatternAt game.rules p → (many : ℕ) → HasPart game pattern (at_vertex s v) (beginning (inside p)) A H many → HasPart game question s f A H many
 pattern_part game question s f v p may there many part = record { state = part.state; start = part.start; comes = by_pattern may there part.comes; has = part.has }
 
-pub behind_part : {A H : Type 0} (game : AbstractGame) (question question' : Question) (s later : AbstractState) (f : Start) (v p : ℕ) → GoesOn game question s f v p question' later → (many : ℕ) → HasPart game question' later (after p) A H many → HasPart game question s f A H many
-behind_part game question question' s later f v p on many part = record { state = part.state; start = part.start; comes = by_modifier on part.comes; has = part.has }
+pub after_part : {A H : Type 0} (game : AbstractGame) (question question' : Question) (s later : AbstractState) (f : Start) (v p : ℕ) → GoesOn game question s f v p question' later → (many : ℕ) → HasPart game question' later (after p) A H many → HasPart game question s f A H many
+after_part game question question' s later f v p on many part = record { state = part.state; start = part.start; comes = by_modifier on part.comes; has = part.has }
 
 pub own_part : {A H : Type 0} (game : AbstractGame) (question : Question) (s : AbstractState) (f : Start) (many : ℕ) → HasMet game s f A H many → HasPart game question s f A H many
 own_part game question s f many has = record { state = s; start = f; comes = begins; has = has }

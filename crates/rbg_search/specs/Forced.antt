@@ -2,7 +2,7 @@
 use Rattle.std.specs.Prelude.{ℕ, ◌+◌, ◌-◌, ◌<◌, ◌≤◌, List, [], ◌∷◌, length, Contains, Bool}
 use Rattle.rbg_rules.specs.Meaning.{IsSwitchAt, Start, after, AbstractGame, AbstractState, Applies, Question, Item, modifier_at, pattern_at, HasForced, Forced}
 
--- The list has fewer than `left` modifiers in a row at its beginning, and fewer than `most` behind each pattern. (Where
+-- The list has fewer than `left` modifiers in a row at its beginning, and fewer than `most` after each pattern. (Where
 -- `left` or `most` is 0 that is said of 1: no modifier is there.)
 abbrev pub HasFewInRow : (left most : ℕ) → List Item → Type 0
 HasFewInRow left most [] = Unit {0}
@@ -25,9 +25,9 @@ abbrev pub CountsAllForced : AbstractGame → Bool → Question → AbstractStat
 CountsAllForced game cut question s f old new =
     (many : ℕ) → HasForced game cut question s f many → old + many ≤ new
 
--- All was taken up that is forced behind the modifiers among these pairs, switches left out, where the question goes on
+-- All was taken up that is forced after the modifiers among these pairs, switches left out, where the question goes on
 -- as this one.
-pub record TakesBehind
+pub record TakesAfter
     (game : AbstractGame) (cut : Bool) (question : Question) (s : AbstractState) (pairs : List (ℕ × ℕ))
     (old new left most : ℕ)
     : Type 0

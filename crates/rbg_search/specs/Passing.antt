@@ -1,17 +1,17 @@
--- How a question goes on behind a modifier, and what it counts while the modifiers that come next are taken in turn.
+-- How a question goes on after a modifier, and what it counts while the modifiers that come next are taken in turn.
 use Rattle.std.specs.Prelude.{◌≡◌, ◌≢◌, ℕ, ◌+◌, List, [], ◌∷◌, ◌++◌, length, All, AllPairs, Contains}
-use Rattle.rbg_rules.specs.Meaning.{IsSwitchAt, Start, AbstractGame, AbstractState, Applies, Question, try_move, find_move, list_moves, pattern, Item, modifier_at, pattern_at, items_of, AnswersBehind, Opening, IsDeep}
+use Rattle.rbg_rules.specs.Meaning.{IsSwitchAt, Start, AbstractGame, AbstractState, Applies, Question, try_move, find_move, list_moves, pattern, Item, modifier_at, pattern_at, items_of, AnswersAfter, Opening, IsDeep}
 use Rattle.rbg_pairs.specs.Flat.{IsNext}
 
--- The question from s and f asks the second one behind the modifier p at vertex v: `try_move` follows its own pairs,
+-- The question from s and f asks the second one after the modifier p at vertex v: `try_move` follows its own pairs,
 -- and `find_move` and `pattern` go on where there is no answer before it.
 pub data Passes (game : AbstractGame) (s : AbstractState) (f : Start) (v p : ℕ) : Question → Question → Type 0 where
   trying : {qs : List (ℕ × ℕ)} → Passes game s f v p (try_move ((v, p) ∷ qs)) (try_move qs)
-  finding : ¬ AnswersBehind game find_move s f [] → Passes game s f v p find_move find_move
+  finding : ¬ AnswersAfter game find_move s f [] → Passes game s f v p find_move find_move
   listing : Passes game s f v p list_moves list_moves
-  asking : ¬ AnswersBehind game pattern s f [] → Passes game s f v p pattern pattern
+  asking : ¬ AnswersAfter game pattern s f [] → Passes game s f v p pattern pattern
 
--- The question goes on behind the modifier p at vertex v, which is no switch and leads to the semi-state `later`, by
+-- The question goes on after the modifier p at vertex v, which is no switch and leads to the semi-state `later`, by
 -- the second question.
 pub record GoesOn
     (game : AbstractGame) (question : Question) (s : AbstractState) (f : Start) (v p : ℕ)
@@ -42,7 +42,7 @@ pub record CountsBeginning
     pub begin : All (Begins done) openings
     pub sum : new ≡ old + length openings
 
--- .. none behind a modifier that isn't done.
+-- .. none after a modifier that isn't done.
 abbrev pub CountsUpTo :
     AbstractGame → Question → AbstractState → Start → (done : List (ℕ × ℕ)) → (old new : ℕ) → Type 0
 CountsUpTo game question s f done old new = CountsBeginning BeginsAmong game question s f done old new

@@ -6,7 +6,7 @@ use Rattle.rbg_flat.specs.Candidates.{IsCandidate}
 use Rattle.rbg_search.specs.Passing.{GoesOn}
 
 -- A question comes to the flat part from t and g: it begins with it, or a pattern does that may come next there or
--- further on, or the question goes on to it behind modifiers.
+-- further on, or the question goes on to it after modifiers.
 pub data ComesTo (game : AbstractGame) (t : AbstractState) (g : Start) : Question → AbstractState → Start → Type 0 where
   begins : {question : Question} → ComesTo game t g question t g
   by_pattern :

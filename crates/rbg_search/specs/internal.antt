@@ -1,7 +1,7 @@
 -- What only the proofs and the private contracts of this crate cite.
 pub mod Asked
 pub mod Begun
-pub mod Behind
+pub mod Beyond
 pub mod BySets
 pub mod Finding
 pub mod Fitting

@@ -18,6 +18,7 @@ mod tally;
 pub use buffers::Buffers;
 pub use over::Over;
 pub use rbg_base::Memory;
+pub use rbg_flat::Onward;
 pub use rbg_pairs::Origin;
 pub use search::{Budget, FlatPart, Search};
 pub use tally::Tally;

@@ -2,17 +2,18 @@
 ghost use Rattle.std.specs.Prelude.{◌≡◌, ℕ, ◌+◌, ◌-◌, ◌*◌, ◌^◌, ◌<◌, ◌≤◌, ◌↔◌, suc, length, Some, All, AllPairs, IfOk, IsOk, OnOk, IfSome, IsTrue, [], ◌∷◌, take, OnErr, IfErr, Err, Bool, max, min};
 ghost use Rattle.rbg_rules.specs.Meaning.{AbstractState, IsStateOf, IsModifierAt, IsPatternAt, inside, Start, beginning, after, Applies, SomeWordRuns, reach, pattern, IsGame, IsStart};
 ghost use Rattle.rbg_search.specs.Forced.{CountsForced};
+ghost use Rattle.rbg_flat.specs.Onward.{IsOnward};
 ghost use Rattle.rbg_flat.specs.Paths.{ArePathsOf};
 ghost use Rattle.rbg_search.specs.Taken.{CountsTaken, most_pairs_of};
-ghost use Rattle.rbg_search.specs.internal.Taking.{RanBehind};
+ghost use Rattle.rbg_search.specs.internal.Taking.{RanAfter};
 ghost use Rattle.rbg_search.specs.Answered.{IsAnswered, HasReached};
 ghost use Rattle.rbg_search.specs.internal.Asked.{StandsInPattern, IsCounted, IsAsked};
 ghost use Rattle.rbg_search.specs.internal.Finding.{HasFound};
-ghost use Rattle.rbg_search.specs.internal.Trying.{IsAskedBehind};
+ghost use Rattle.rbg_search.specs.internal.Trying.{IsAskedAfter};
 ghost use Rattle.rbg_pairs.specs.Flat.{IsBefore};
 ghost use Rattle.rbg_pairs.specs.Start.{start_of, IsPositionOf};
 ghost use Rattle.rbg_state.specs.History.{capacity_of, IsAfter};
-ghost use Rattle.rbg_search.specs.internal.Behind.{IsReady, RunsBehindPair, SomeRunsBehind};
+ghost use Rattle.rbg_search.specs.internal.Beyond.{IsReady, RunsAfterPair, SomeRunsAfter};
 ghost use Rattle.rbg_pairs.specs.Closure.{at_vertex};
 ghost use Rattle.rbg_pairs.specs.Nesting.{NestsFrom};
 ghost use Rattle.rbg_auto.specs.Steps.{AreAllThatFollow};
@@ -30,7 +31,7 @@ use crate::standing::stand;
 use crate::tally::Tally;
 use rbg_auto::{Expr, Steps};
 use rbg_base::{Pair, Position, Vertex};
-use rbg_flat::{Flat as SetFlat, Modifiers, Paths};
+use rbg_flat::{Flat as SetFlat, Modifiers, Onward, Paths};
 use rbg_pairs::{Flat, GameSteps, Origin};
 use rbg_rules::Game;
 use rbg_state::{SemiState, Trial};
@@ -279,6 +280,41 @@ impl<'a, S: Steps> Search<'a, S> {
         let ends = self.rules.may_end(origin);
         self.count_pairs(1);
         Ok(ends)
+    }
+
+    /// What comes next after a position, where that is one modifier alone, as it was learned when the game was made ready.
+    #[inline(always)]
+    pub fn onward(&self, position: Position) -> Onward
+        ensures { IsOnward self.now.game.rules position result }
+    {
+        match self.rules.paths() {
+            Some(paths) => paths.onward(position),
+            None => Onward::Unknown,
+        }
+    }
+
+    /// How many openings more the budget allows.
+    #[inline(always)]
+    pub fn left(&self) -> u32
+        ensures { self.now.opened + result ≡ self.now.openings }
+    {
+        self.budget.openings - self.opened
+    }
+
+    /// Takes up so many openings of one modifier each, as they stand one after another in a straight line.
+    #[inline(always)]
+    pub fn take_line(&mut self, modifiers: u32)
+        requires left { self.old.opened + modifiers ≤ self.old.openings }
+        requires pairs { 1 ≤ most_pairs_of self.old.game }
+        ensures search { self.new ≡ record self.old { opened = self.old.opened + modifiers; taken = self.old.taken + modifiers } }
+        ensures some { 0 < self.old.modifiers }
+        ensures few { self.old.taken ≤ self.old.opened * most_pairs_of self.old.game }
+    {
+        // The game is lawful, and the budget's openings are a number of 32 bits, so the sum of pairs is one of 64 bits.
+        let _game = self.rules.game();
+        let _openings = self.budget.openings;
+        self.opened += modifiers;
+        self.taken += u64::from(modifiers);
     }
 
     /// Whether the pattern at a position is valid in the semi-state, which is given back.
@@ -534,7 +570,7 @@ impl<'a, S: Steps> Search<'a, S> {
         Ok(self.is_valid(position, runs?))
     }
 
-    /// Whether some word runs: one that ends with no modifier more, or else one behind a modifier, of which each is tried in
+    /// Whether some word runs: one that ends with no modifier more, or else one after a modifier, of which each is tried in
     /// order of vertices and then of positions. An opening with `modifiers` more is too deep.
     #[cycle(search)]
     #[inline(always)]
@@ -562,15 +598,15 @@ impl<'a, S: Steps> Search<'a, S> {
             self.keep_list(pairs);
             return Ok(true);
         }
-        let runs = self.runs_behind(state, &mut pairs, nested, modifiers)?;
+        let runs = self.runs_after(state, &mut pairs, nested, modifiers)?;
         self.keep_list(pairs);
         Ok(runs)
     }
 
-    /// Whether some word runs behind one of these modifiers, tried in turn. An opening with `modifiers` more is too deep.
+    /// Whether some word runs after one of these modifiers, tried in turn. An opening with `modifiers` more is too deep.
     #[cycle(search)]
     #[inline(always)]
-    fn runs_behind(
+    fn runs_after(
         &mut self,
         state: &mut SemiState,
         pairs: &mut Modifiers,
@@ -581,10 +617,10 @@ impl<'a, S: Steps> Search<'a, S> {
         requires room { 2 ≤ state.old.room }
         requires ready { All (IsReady self.old.game state.old.state nested) pairs.old }
         requires inside { All (λ q. StandsInPattern self.old.game.rules (after q.1)) pairs.old }
-        ensures asked { IsAskedBehind self.old self.new state.old state.new pairs.old modifiers result }
+        ensures asked { IsAskedAfter self.old self.new state.old state.new pairs.old modifiers result }
         ensures answer { IfOk result (λ runs.
-            IsTrue runs ↔ SomeRunsBehind self.old.game state.old.state pairs.old) }
-        ensures forced { IfOk result (λ runs. RanBehind self.old.game state.old.state pairs.old runs
+            IsTrue runs ↔ SomeRunsAfter self.old.game state.old.state pairs.old) }
+        ensures forced { IfOk result (λ runs. RanAfter self.old.game state.old.state pairs.old runs
             self.old.opened self.new.opened modifiers self.old.modifiers) }
     {
         // which questions are above the limits doesn't depend on how the modifiers were met
@@ -592,16 +628,16 @@ impl<'a, S: Steps> Search<'a, S> {
             if modifiers <= 1 {
                 return Err(Over::Deep);
             }
-            if self.runs_behind_one(state, pair, nested, modifiers)? {
+            if self.runs_after_one(state, pair, nested, modifiers)? {
                 return Ok(true);
             }
         }
         Ok(false)
     }
 
-    /// Whether some word runs behind a modifier at a vertex. An opening with `modifiers` more is too deep.
+    /// Whether some word runs after a modifier at a vertex. An opening with `modifiers` more is too deep.
     #[cycle(search)]
-    fn runs_behind_one(
+    fn runs_after_one(
         &mut self,
         state: &mut SemiState,
         pair: Pair,
@@ -618,7 +654,7 @@ impl<'a, S: Steps> Search<'a, S> {
             → IsAsked self.old self.new state.old state.new pattern later (after pair.1)
             (modifiers - 1) result }
         ensures answer { IfOk result (λ runs.
-            IsTrue runs ↔ RunsBehindPair self.old.game state.old.state pair.0 pair.1) }
+            IsTrue runs ↔ RunsAfterPair self.old.game state.old.state pair.0 pair.1) }
         ensures forced { OnOk result ((cut : Bool) (later : AbstractState)
             → Applies self.old.game pair.1 (at_vertex state.old.state pair.0) later
             → CountsForced self.old.game cut pattern later (after pair.1)

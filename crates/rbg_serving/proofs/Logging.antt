@@ -117,7 +117,7 @@ module _ {W : Type 0} (told : W → List ℕ → Type 0) (text : List ℕ) where
   left_whole : {new : LoggedMatch W} {queued : List (List ℕ)} (result : Result Served ServeError) → HasLog told text new queued → LeavesLog told text new queued result
   left_whole {new} {queued} result has = record {
     held = has.held;
-    behind = [];
+    beyond = [];
     tells = subst (told new.log) (sym (append-nil has.held)) has.tells;
     handled = new.played;
     is_log = has.is;
@@ -128,7 +128,7 @@ module _ {W : Type 0} (told : W → List ℕ → Type 0) (text : List ℕ) where
   left_part : {state new : LoggedMatch W} {queued : List (List ℕ)} → HasLog told text state queued → LogLacks told state new → LeavesLog told text new queued (Err Memory)
   left_part {state} {new} {queued} has lacks = record {
     held = has.held;
-    behind = take lacks.part.count (event_lines (written state.played lacks.event));
+    beyond = take lacks.part.count (event_lines (written state.played lacks.event));
     tells = lacks.part.part has.held has.tells;
     handled = state.played;
     is_log = has.is;

@@ -63,17 +63,17 @@ module _ (earlier moment : ℕ) (rests : List Rest) (before : earlier ≤ moment
 
 -- the event at its counted moment does the same in a match that stands there at an earlier moment
 written_step : (state new : MatchState) (event : AbstractEvent) (before after : List (List ℕ)) (earlier : ℕ) → earlier ≤ state.streams.moment → state.streams.moment ≤ latest_moment → state.play.outcome ≡ None → Steps state event new before after → Steps (at_time state earlier) (at_moment (counted state.streams (moment_of event)) event) new before after
-written_step state new event before after earlier behind small going step = record {
+written_step state new event before after earlier beyond small going step = record {
   worked = step.worked;
   works = step.works;
   same_game = step.same_game;
   same_config = step.same_config;
   same_begin = step.same_begin;
   said = step.said;
-  handles = subst (λ inputs. HandlesAll state.game state.config state.play inputs new.play step.said) (sym (same_inputs earlier state.streams.moment state.streams.rests behind small event)) step.handles;
+  handles = subst (λ inputs. HandlesAll state.game state.config state.play inputs new.play step.said) (sym (same_inputs earlier state.streams.moment state.streams.rests beyond small event)) step.handles;
   told = step.told;
-  moment = λ _. step.moment going ∙ sym (same_moment earlier state.streams.moment state.streams.rests behind small event);
-  streams = λ goes_on. step.streams goes_on ∙ sym (same_streams earlier state.streams.moment state.streams.rests behind small event);
+  moment = λ _. step.moment going ∙ sym (same_moment earlier state.streams.moment state.streams.rests beyond small event);
+  streams = λ goes_on. step.streams goes_on ∙ sym (same_streams earlier state.streams.moment state.streams.rests beyond small event);
   stays = λ outcome ended. absurd (none-some outcome (sym going ∙ ended));
   silent = λ outcome ended. absurd (none-some outcome (sym going ∙ ended));
 }

@@ -57,9 +57,9 @@ pub record IsPartOfLine (state : MatchState) (bytes : List ℕ) : Type 0 where
 pub record LeavesLog {W : Type 0} (told : W → List ℕ → Type 0) (text : List ℕ) (new : LoggedMatch W)
     (queued : List (List ℕ)) (result : Result Served ServeError) : Type 0 where
   pub held : List ℕ
-  pub behind : List ℕ
-  pub tells : told new.log (held ++ behind)
+  pub beyond : List ℕ
+  pub tells : told new.log (held ++ beyond)
   pub handled : MatchState
   pub is_log : IsLog text held handled queued
-  pub part : IsPartOfLine handled behind
-  pub all : (¬ IsErrOf result Memory) → (behind ≡ []) × (handled ≡ new.played)
+  pub part : IsPartOfLine handled beyond
+  pub all : (¬ IsErrOf result Memory) → (beyond ≡ []) × (handled ≡ new.played)

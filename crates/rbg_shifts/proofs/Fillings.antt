@@ -118,9 +118,9 @@ one_vertex_before game lists a b c n many u here so_far now = record {
     at : LeadsForth game lists n → (v : ℕ) → v < length game.board.first → length game.board.first ≤ v + (many + 1) → (v ≡ u) ⊎ (v ≢ u) → IsClosed game lists c n v
     at forth v below from (inl e) = subst (IsClosed game lists c n) (sym e) now.closed
     at forth v below from (inr differ) =
-        let behind : length game.board.first ≤ v + many = beyond v from differ (below_or_not u v) in
+        let beyond : length game.board.first ≤ v + many = beyond v from differ (below_or_not u v) in
         closed_still game lists b c n v u now differ (small v below)
-        (λ p w there s again comes. later v w behind (forth p there s again v w below comes)) (so_far.closed forth v below behind)
+        (λ p w there s again comes. later v w beyond (forth p there s again v w below comes)) (so_far.closed forth v below beyond)
 
 -- An entry that was put into a table.
 entry_apart : (old new : Table) (n v m w : ℕ) → new.vertices ≡ old.vertices → ((i : ℕ) → i ≢ n * old.vertices + v → get_or new.entries.items i no_entry ≡ get_or old.entries.items i no_entry) → m * old.vertices + w ≢ n * old.vertices + v → entry_at new m w ≡ entry_at old m w
@@ -166,8 +166,8 @@ told_nowhere game lists t from to may_end v p is nowhere = record {
 }
 
 -- A shift that leads to one vertex, at which all was added that is told there.
-pub told_behind : (game : AbstractGame) (lists : Lists) (t : Table) (from to : ℕ) (may_end : Bool) (v p there : ℕ) → IsShiftAt game.rules p → ((w : ℕ) → Comes game v p w → w ≡ there) → there < t.vertices → IsUnder t (entry_at t (get_or lists.afters.items p 0) there) from to may_end → IsToldBy game lists t from to may_end v p
-told_behind game lists t from to may_end v p there is only small under = record {
+pub told_after : (game : AbstractGame) (lists : Lists) (t : Table) (from to : ℕ) (may_end : Bool) (v p there : ℕ) → IsShiftAt game.rules p → ((w : ℕ) → Comes game v p w → w ≡ there) → there < t.vertices → IsUnder t (entry_at t (get_or lists.afters.items p 0) there) from to may_end → IsToldBy game lists t from to may_end v p
+told_after game lists t from to may_end v p there is only small under = record {
   plain = λ other. absurd (other is);
   is_vertex = λ w s comes. subst (λ (x : ℕ). x < t.vertices) (sym (only w comes)) small;
   shift = λ w s comes. subst (λ (x : ℕ). IsUnder t (entry_at t (get_or lists.afters.items p 0) x) from to may_end) (sym (only w comes)) under;
@@ -180,7 +180,7 @@ added_under start old new e within adds = record {
   ends = λ t. t;
 }
 
--- The entry of a node and a vertex was put in its place, behind a table that grew.
+-- The entry of a node and a vertex was put in its place, after a table that grew.
 pub one_put : (game : AbstractGame) (lists : Lists) (old middle new : Table) (n v : ℕ) (e : Entry) → v < old.vertices → Grows (length old.targets.items) old middle → Shares middle new n v e → IsSoundTable game lists middle → IsSoundEntry game (list_at lists.interner n) (may_end_at lists.interner n) v middle e → IsWhole game lists middle n v e.start (end_of e) e.ends → FillsOne game lists old new n v
 one_put game lists old middle new n v e below grows shares sound right whole = record {
   sound = table_shared game lists middle new n v e (inside v below) sound shares right;
@@ -224,7 +224,7 @@ only_item xs x one is k d there =
 pub whole_put : (game : AbstractGame) (lists : Lists) (t : Table) (start n v : ℕ) (ends : Bool) → start ≤ length t.targets.items → IsWholeFrom game lists t start n v ends → IsWhole game lists t n v start (start + (length t.targets.items - start)) ends
 whole_put game lists t start n v ends inside whole = subst (λ (to : ℕ). IsWhole game lists t n v start to ends) (sym (whole_end start (length t.targets.items) inside)) whole
 
--- An entry was put in its place with all that was gathered behind the targets that were there.
+-- An entry was put in its place with all that was gathered after the targets that were there.
 pub one_filled : (game : AbstractGame) (lists : Lists) (old middle new : Table) (start n v : ℕ) (ends : Bool) → start ≡ length old.targets.items → v < length game.board.first → IsSoundTable game lists old → Grows start old middle → Shares middle new n v (record { start = start; many = length middle.targets.items - start; ends = ends }) → IsGathered game lists middle start n v → (IsTrue ends → EndsBy game (list_at lists.interner n) (may_end_at lists.interner n) v) → IsWholeFrom game lists middle start n v ends → FillsOne game lists old new n v
 one_filled game lists old middle new start n v ends at_end below sound grows shares gathered end whole =
     one_put game lists old middle new n v e (subst (λ (k : ℕ). v < k) (sym sound.laid_out.vertices) below)

@@ -98,22 +98,22 @@ none_at (suc p) = refl
 pub no_directions : (rules : Expression) → IsNumbered rules → AreDirectionsUpTo rules 0 nothing
 no_directions rules numbered = record { size = refl; shifts = λ p d is. absurd (no_some (sym (none_at p) ∙ is)); all = λ p d small h. absurd (let from_one = (action_within rules numbered p (shift d) h).0 in omega (arith, small, from_one)) }
 
--- A place in a list with one item more is in the list, or that of the item, or behind it.
+-- A place in a list with one item more is in the list, or that of the item, or after it.
 data Place (n : ℕ) : ℕ → Type 0 where
   before : {p : ℕ} → p < n → Place n p
   here : {p : ℕ} → p ≡ n → Place n p
-  behind : {p : ℕ} → n + 1 ≤ p → Place n p
+  beyond : {p : ℕ} → n + 1 ≤ p → Place n p
 
 place : (n p : ℕ) → Place n p
 place zero zero = here refl
-place zero (suc p) = behind (omega arith)
+place zero (suc p) = beyond (omega arith)
 place (suc n) zero = before (omega arith)
 place (suc n) (suc p) = up (place n p)
   where
     up : Place n p → Place (suc n) (suc p)
     up (before e) = before (omega (arith, e))
     up (here e) = here (ap suc e)
-    up (behind e) = behind (omega (arith, e))
+    up (beyond e) = beyond (omega (arith, e))
 
 -- One position more.
 pub one_direction : (rules : Expression) → IsNumbered rules → (last : ℕ) (directions : List (Option ℕ)) (action : Action) (direction : Option ℕ) → AreDirectionsUpTo rules last directions → Stands rules (last + 1) action → IfSome direction (λ d. action ≡ Shift d) → ((d : ℕ) → action ≡ Shift d → direction ≡ Some d) → AreDirectionsUpTo rules (last + 1) (directions ++ direction ∷ [])
@@ -144,12 +144,12 @@ one_direction rules numbered last directions action direction are stands only ea
     shifts : (p d : ℕ) → Place (last + 1) p → get_or more p None ≡ Some d → HasAction rules p (shift d)
     shifts p d (before below) is = are.shifts p d (sym (old p below) ∙ is)
     shifts p d (here e) is = stands_at p d e (shift_here d direction only (sym (new p e) ∙ is))
-    shifts p d (behind far) is = absurd (no_some (sym (get_or-eq_default more None (omega (arith, far, long))) ∙ is))
+    shifts p d (beyond far) is = absurd (no_some (sym (get_or-eq_default more None (omega (arith, far, long))) ∙ is))
 
     all : (p d : ℕ) → Place (last + 1) p → p ≤ last + 1 → HasAction rules p (shift d) → get_or more p None ≡ Some d
     all p d (before below) small h = old p below ∙ are.all p d (omega (arith, below)) h
     all p d (here e) small h = new p e ∙ each d (shift_is rules numbered (last + 1) d (subst (λ (q : ℕ). HasAction rules q (shift d)) e h) action stands)
-    all p d (behind far) small h = absurd (omega (arith, far, small))
+    all p d (beyond far) small h = absurd (omega (arith, far, small))
 
 -- Where one comes by a shift, and by a position that has no direction.
 pub comes_by : (game : AbstractGame) → IsNumbered game.rules → (v p d : ℕ) → HasAction game.rules p (shift d) → (to : Option ℕ) → to ≡ next game.board v d → (u : ℕ) → (to ≡ Some u) ↔ Comes game v p u

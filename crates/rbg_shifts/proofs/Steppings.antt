@@ -15,11 +15,11 @@ first_go : (game : AbstractGame) (v p w : ℕ) {m : List ℕ} {u : ℕ} → IsSh
 first_go game v p w is (by_shift d stands step) leads = go d stands step leads
 first_go game v p w is (by_other plain) leads = absurd (plain is)
 
--- A leap behind a shift is a leap before it.
+-- A leap after a shift is a leap before it.
 pub leap_on : (game : AbstractGame) → IsNumbered game.rules → (list : List ℕ) (may_end : Bool) (v p w j u : ℕ) → Contains list p → IsShiftAt game.rules p → Comes game v p w → (more : List ℕ) (more_end : Bool) → IsAnswerAt game.rules (after p) more more_end → IsLeapBy game more more_end w j u → IsLeapBy game list may_end v j u
-leap_on game numbered list may_end v p w j u there is comes more more_end behind by = record {
+leap_on game numbered list may_end v p w j u there is comes more more_end beyond by = record {
   leap = λ f answer.
-      let leap = by.leap (after p) behind in
+      let leap = by.leap (after p) beyond in
       record {
         shifts = p ∷ leap.shifts;
         leads = first_go game v p w is comes leap.leads;
@@ -29,9 +29,9 @@ leap_on game numbered list may_end v p w j u there is comes more more_end behind
 }
 
 pub ends_on : (game : AbstractGame) → IsNumbered game.rules → (list : List ℕ) (may_end : Bool) (v p w : ℕ) → Contains list p → IsShiftAt game.rules p → Comes game v p w → (more : List ℕ) (more_end : Bool) → IsAnswerAt game.rules (after p) more more_end → EndsBy game more more_end w → EndsBy game list may_end v
-ends_on game numbered list may_end v p w there is comes more more_end behind by = record {
+ends_on game numbered list may_end v p w there is comes more more_end beyond by = record {
   ends = λ f answer.
-      let end = by.ends (after p) behind in
+      let end = by.ends (after p) beyond in
       record {
         shifts = p ∷ end.shifts;
         to = end.to;

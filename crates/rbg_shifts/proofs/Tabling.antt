@@ -38,7 +38,7 @@ entry_same place old new grows n v =
     ap (λ (es : List Entry). get_or es (n * new.vertices + v) no_entry) grows.are_entries
     ∙ ap (λ (k : ℕ). get_or old.entries.items (n * k + v) no_entry) grows.vertices
 
--- An entry stays sound where targets behind its own are added or changed.
+-- An entry stays sound where targets after its own are added or changed.
 pub entry_grown : (game : AbstractGame) (list : List ℕ) (may_end : Bool) (v place : ℕ) (old new : Table) → Keeps place old.targets.items new.targets.items → (e : Entry) → IsWithin place e → IsSoundEntry game list may_end v old e → IsSoundEntry game list may_end v new e
 entry_grown game list may_end v place old new keeps e inside is = record {
   within = record { ends = let size = keeps.size in let within = is.within.ends in omega (arith, size, within) };
@@ -143,10 +143,10 @@ unit_sound game list may_end v p t below there plain has position vertex column 
   column = subst (λ (k : ℕ). k < row_words game) (sym column) (column_there game v below);
 }
 
--- What an entry behind a shift tells is right before the shift.
+-- What an entry after a shift tells is right before the shift.
 pub sound_on : (game : AbstractGame) → IsNumbered game.rules → (lists : Lists) (table : Table) (n v p w m : ℕ) (e : Entry) → Contains (list_at lists.interner n) p → IsShiftAt game.rules p → Comes game v p w → IsNodeOf game.rules lists.interner (after p) m → IsSoundEntry game (list_at lists.interner m) (may_end_at lists.interner m) w table e → AreSoundBy game (list_at lists.interner n) (may_end_at lists.interner n) v table.targets.items e.start (end_of e)
 sound_on game numbered lists table n v p w m e there is comes node sound = record {
-  each = λ i behind short. let at = sound.targets.each i behind short in record {
+  each = λ i beyond short. let at = sound.targets.each i beyond short in record {
     only = λ q u has. leap_on game numbered (list_at lists.interner n) (may_end_at lists.interner n) v p w q u there is comes (list_at lists.interner m) (may_end_at lists.interner m) node.answer (at.only q u has);
     some = at.some;
     column = at.column;
@@ -156,7 +156,7 @@ sound_on game numbered lists table n v p w m e there is comes node sound = recor
 pub sound_ends_on : (game : AbstractGame) → IsNumbered game.rules → (lists : Lists) (table : Table) (n v p w m : ℕ) (e : Entry) → Contains (list_at lists.interner n) p → IsShiftAt game.rules p → Comes game v p w → IsNodeOf game.rules lists.interner (after p) m → IsSoundEntry game (list_at lists.interner m) (may_end_at lists.interner m) w table e → IsTrue e.ends → EndsBy game (list_at lists.interner n) (may_end_at lists.interner n) v
 sound_ends_on game numbered lists table n v p w m e there is comes node sound ends = ends_on game numbered (list_at lists.interner n) (may_end_at lists.interner n) v p w there is comes (list_at lists.interner m) (may_end_at lists.interner m) node.answer (sound.ends ends)
 
--- The entry behind a shift, as the entry before it.
+-- The entry after a shift, as the entry before it.
 pub entry_on : (game : AbstractGame) → IsNumbered game.rules → (lists : Lists) (table : Table) (n v p w m : ℕ) (e : Entry) → Contains (list_at lists.interner n) p → IsShiftAt game.rules p → Comes game v p w → IsNodeOf game.rules lists.interner (after p) m → IsSoundEntry game (list_at lists.interner m) (may_end_at lists.interner m) w table e → (ends : Bool) → (IsTrue ends → IsTrue e.ends ⊎ IsTrue (may_end_at lists.interner n)) → IsSoundEntry game (list_at lists.interner n) (may_end_at lists.interner n) v table (record { start = e.start; many = e.many; ends = ends })
 entry_on game numbered lists table n v p w m e there is comes node sound ends either = record {
   within = record { ends = sound.within.ends };
@@ -182,7 +182,7 @@ asked_between game f v targets from to inside are all = record {
   sound = λ t there p u is. (right t there).only p u is;
   all = λ p u leap.
       let told = all p u leap in
-      (target_at targets told.at, listed told.at told.behind told.before, told.is);
+      (target_at targets told.at, listed told.at told.beyond told.before, told.is);
   some = λ t there. (right t there).some;
   columns = λ t there. (right t there).column;
 }
@@ -194,8 +194,8 @@ asked_between game f v targets from to inside are all = record {
         (subst (IsTargetOf (IsLeap game f v) (row_words game)) (any_default targets (from + k) no_target t (omega (arith, short, inside))) (are.each (from + k) (omega arith) short))
 
     listed : (i : ℕ) → from ≤ i → i < to → Contains (slice_range targets from to) (target_at targets i)
-    listed i behind short =
-        let at : from + (i - from) ≡ i = omega (arith, behind) in
+    listed i beyond short =
+        let at : from + (i - from) ≡ i = omega (arith, beyond) in
         let below : from + (i - from) < to = omega (arith, at, short) in (
           i - from,
           part_long targets from to (i - from) inside below,
@@ -217,8 +217,8 @@ module _ (game : AbstractGame) (numbered : IsNumbered game.rules) (lists : Lists
 
   leaps : AreSound (IsLeap game f v) (row_words game) table.targets.items own.start (end_of own)
   leaps = record {
-    each = λ i behind short.
-        let at = sound.targets.each i behind short in
+    each = λ i beyond short.
+        let at = sound.targets.each i beyond short in
         record { only = λ p u has. (at.only p u has).leap f node.answer; some = at.some; column = at.column };
   }
 

@@ -81,19 +81,19 @@ keeps_pushed place xs t inside = record {
 }
 
 pub keeps_set : (place k : ℕ) (xs : List Target) (t : Target) → place ≤ k → Keeps place xs (set xs k t)
-keeps_set place k xs t behind = record {
+keeps_set place k xs t beyond = record {
   size = let long = length-set xs k t in omega (arith, long);
   same = λ i below. get_or-set_other xs k i t no_target (other i below);
 }
   where
     other : (i : ℕ) → i < place → i ≢ k
-    other i below e = absurd (omega (arith, below, behind, e))
+    other i below e = absurd (omega (arith, below, beyond, e))
 
 -- What is told between two places depends on the targets there alone.
 pub tells_kept : (place : ℕ) (old new : List Target) (from to : ℕ) → Keeps place old new → to ≤ place → (j u : ℕ) → Tells old from to j u → Tells new from to j u
 tells_kept place old new from to keeps inside j u told = record {
   at = told.at;
-  behind = told.behind;
+  beyond = told.beyond;
   before = told.before;
   is = subst (λ (t : Target). IsEndOf t j u) (sym (keeps.same told.at (let short = told.before in omega (arith, short, inside)))) told.is;
 }
@@ -101,34 +101,34 @@ tells_kept place old new from to keeps inside j u told = record {
 pub tells_before : (place : ℕ) (old new : List Target) (from to : ℕ) → Keeps place old new → to ≤ place → (j u : ℕ) → Tells new from to j u → Tells old from to j u
 tells_before place old new from to keeps inside j u told = record {
   at = told.at;
-  behind = told.behind;
+  beyond = told.beyond;
   before = told.before;
   is = subst (λ (t : Target). IsEndOf t j u) (keeps.same told.at (let short = told.before in omega (arith, short, inside))) told.is;
 }
 
 pub sound_kept : (Leap : ℕ → ℕ → Type 0) (columns place : ℕ) (old new : List Target) (from to : ℕ) → Keeps place old new → to ≤ place → AreSound Leap columns old from to → AreSound Leap columns new from to
 sound_kept Leap columns place old new from to keeps inside are = record {
-  each = λ i behind short. subst (IsTargetOf Leap columns) (sym (keeps.same i (omega (arith, short, inside)))) (are.each i behind short);
+  each = λ i beyond short. subst (IsTargetOf Leap columns) (sym (keeps.same i (omega (arith, short, inside)))) (are.each i beyond short);
 }
 
 pub sound_none : (Leap : ℕ → ℕ → Type 0) (columns : ℕ) (targets : List Target) (from to : ℕ) → to ≤ from → AreSound Leap columns targets from to
-sound_none Leap columns targets from to none = record { each = λ i behind short. absurd (omega (arith, behind, short, none)) }
+sound_none Leap columns targets from to none = record { each = λ i beyond short. absurd (omega (arith, beyond, short, none)) }
 
 -- A target is appended.
 pub adds_pushed : (start : ℕ) (old : List Target) (t : Target) → start ≤ length old → AddsTarget start old (old ++ t ∷ []) t
 adds_pushed start old t inside = record {
-  sound = λ game list may_end v are is. record { each = λ i behind short. sound_at game list may_end v are is i behind (last_place (length old) i (omega (arith, short, long))) };
+  sound = λ game list may_end v are is. record { each = λ i beyond short. sound_at game list may_end v are is i beyond (last_place (length old) i (omega (arith, short, long))) };
   kept = record {
     tells = λ j u told. record {
       at = told.at;
-      behind = told.behind;
+      beyond = told.beyond;
       before = let short = told.before in omega (arith, short, long);
       is = subst (λ (x : Target). IsEndOf x j u) (sym (item told.at told.before)) told.is;
     };
   };
   has = λ j u is. record {
     at = length old;
-    behind = inside;
+    beyond = inside;
     before = omega (arith, long);
     is = subst (λ (x : Target). IsEndOf x j u) (sym (item_last (length old) refl)) is;
   };
@@ -144,24 +144,24 @@ adds_pushed start old t inside = record {
     item_last i e = get_or_push old t no_target i (sym e)
 
     sound_at : (game : AbstractGame) (list : List ℕ) (may_end : Bool) (v : ℕ) → AreSoundBy game list may_end v old start (length old) → IsTargetBy game list may_end v t → (i : ℕ) → start ≤ i → LastPlace (length old) i → IsTargetBy game list may_end v (target_at (old ++ t ∷ []) i)
-    sound_at game list may_end v are is i behind (before short) = subst (IsTargetBy game list may_end v) (sym (item i short)) (are.each i behind short)
-    sound_at game list may_end v are is i behind (last e) = subst (IsTargetBy game list may_end v) (sym (item_last i e)) is
+    sound_at game list may_end v are is i beyond (before short) = subst (IsTargetBy game list may_end v) (sym (item i short)) (are.each i beyond short)
+    sound_at game list may_end v are is i beyond (last e) = subst (IsTargetBy game list may_end v) (sym (item_last i e)) is
 
 -- A target's word is joined with that of the same position and column.
 pub adds_joined : (start k : ℕ) (old : List Target) (t : Target) → start ≤ k → k < length old → (target_at old k).position ≡ t.position → (target_at old k).column ≡ t.column → AddsTarget start old (set old k (joined t (target_at old k).word)) t
 adds_joined start k old t from there position column = record {
-  sound = λ game list may_end v are is. record { each = λ i behind short. sound_at game list may_end v are is i behind (below i short) (same_or_not i k) };
+  sound = λ game list may_end v are is. record { each = λ i beyond short. sound_at game list may_end v are is i beyond (below i short) (same_or_not i k) };
   kept = record {
     tells = λ j u told. record {
       at = told.at;
-      behind = told.behind;
+      beyond = told.beyond;
       before = let short = told.before in omega (arith, short, long);
       is = still told.at j u (same_or_not told.at k) told.is;
     };
   };
   has = λ j u is. record {
     at = k;
-    behind = from;
+    beyond = from;
     before = omega (arith, there, long);
     is = subst (λ (x : Target). IsEndOf x j u) (sym (here k refl)) (joined_second own t j u is);
   };
@@ -187,8 +187,8 @@ adds_joined start k old t from there position column = record {
     still i j u (inr differ) is = subst (λ (x : Target). IsEndOf x j u) (sym (other i differ)) is
 
     sound_at : (game : AbstractGame) (list : List ℕ) (may_end : Bool) (v : ℕ) → AreSoundBy game list may_end v old start (length old) → IsTargetBy game list may_end v t → (i : ℕ) → start ≤ i → i < length old → (i ≡ k) ⊎ (i ≢ k) → IsTargetBy game list may_end v (target_at (set old k (joined t own.word)) i)
-    sound_at game list may_end v are is i behind short (inr differ) = subst (IsTargetBy game list may_end v) (sym (other i differ)) (are.each i behind short)
-    sound_at game list may_end v are is i behind short (inl e) =
+    sound_at game list may_end v are is i beyond short (inr differ) = subst (IsTargetBy game list may_end v) (sym (other i differ)) (are.each i beyond short)
+    sound_at game list may_end v are is i beyond short (inl e) =
         let was : IsTargetBy game list may_end v own = are.each k from there in
         subst (IsTargetBy game list may_end v) (sym (here i e)) (record {
           only = λ p u has. elim (joined_either own t p u position column has) [
@@ -205,7 +205,7 @@ adds_none start ts from to place none = record {
   keeps = keeps_none start ts;
   sound = λ game list may_end v are others. are;
   kept = record { tells = λ j u told. told };
-  has = λ j u told. absurd (let behind = told.behind in let short = told.before in omega (arith, behind, short, none));
+  has = λ j u told. absurd (let beyond = told.beyond in let short = told.before in omega (arith, beyond, short, none));
 }
 
 pub adds_one : (start k : ℕ) (old middle new : List Target) (from to : ℕ) → to ≤ start → from ≤ k → k < to → AddsUpTo start old middle from to k → Keeps start middle new → AddsTarget start middle new (target_at middle k) → AddsUpTo start old new from to (k + 1)
@@ -222,14 +222,14 @@ adds_one start k old middle new from to inside starts ends adds keeps one = reco
     same = adds.keeps.same k (omega (arith, ends, inside))
 
     at : (j u : ℕ) (told : Tells old from (k + 1) j u) → LastPlace k told.at → Tells new start (length new) j u
-    at j u told (before short) = one.kept.tells j u (adds.has j u (record { at = told.at; behind = told.behind; before = short; is = told.is }))
+    at j u told (before short) = one.kept.tells j u (adds.has j u (record { at = told.at; beyond = told.beyond; before = short; is = told.is }))
     at j u told (last here) = one.has j u (subst (λ (t : Target). IsEndOf t j u) (ap (target_at old) here ∙ sym same) told.is)
 
--- All that is behind the end was added too.
+-- All that is after the end was added too.
 pub adds_all : (start : ℕ) (old new : List Target) (from to place : ℕ) → to ≤ place → AddsUpTo start old new from to place → AddsAll start old new from to
 adds_all start old new from to place far adds = record {
   keeps = adds.keeps;
   sound = adds.sound;
   kept = adds.kept;
-  has = λ j u told. adds.has j u (record { at = told.at; behind = told.behind; before = let short = told.before in omega (arith, short, far); is = told.is });
+  has = λ j u told. adds.has j u (record { at = told.at; beyond = told.beyond; before = let short = told.before in omega (arith, short, far); is = told.is });
 }

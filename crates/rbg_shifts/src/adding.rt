@@ -25,7 +25,7 @@ pub(crate) fn unit(position: Position, vertex: Vertex) -> Target
 }
 
 /// Where a target between two places has the position and the column of another one. It is looked for at a likely place
-/// first: what is told behind neighbours has nearly one order, so that mostly the next target is behind the last one.
+/// first: what is told after neighbours has nearly one order, so that mostly the next target is after the last one.
 #[inline(always)]
 pub(crate) fn find(
     targets: &[Target],
@@ -35,7 +35,7 @@ pub(crate) fn find(
     likely: usize,
 ) -> Option<usize>
     requires { to ≤ length targets.now }
-    ensures behind { IfSome result (λ i. from ≤ i) }
+    ensures beyond { IfSome result (λ i. from ≤ i) }
     ensures before { IfSome result (λ i. i < to) }
     ensures position { IfSome result (λ i. (target_at targets.now i).position ≡ target.position) }
     ensures column { IfSome result (λ i. (target_at targets.now i).column ≡ target.column) }
@@ -82,7 +82,7 @@ pub(crate) fn add(
     Ok(())
 }
 
-/// Adds the targets between two places to those from a place on, which are all behind them.
+/// Adds the targets between two places to those from a place on, which are all after them.
 #[inline(always)]
 pub(crate) fn add_all(
     targets: &mut Vec<Target>,

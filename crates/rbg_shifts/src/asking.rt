@@ -86,7 +86,7 @@ impl Leaps {
         }
     }
 
-    /// So many targets, one behind another.
+    /// So many targets, one after another.
     #[inline(always)]
     fn targets_from(&self, start: u32, many: u16) -> &[Target]
         requires { start + many ≤ length self.now.targets.items }

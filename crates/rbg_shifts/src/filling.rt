@@ -42,10 +42,10 @@ fn fill_one(
     Ok(())
 }
 
-/// The entry of a node and a vertex with what is told behind a shift of its list. What doesn't depend on the vertex is
+/// The entry of a node and a vertex with what is told after a shift of its list. What doesn't depend on the vertex is
 /// handed in.
 #[inline(always)]
-fn entry_behind(
+fn entry_after(
     table: &Table,
     lists: &Lists,
     ground: &Ground<'_>,
@@ -73,11 +73,11 @@ fn entry_behind(
             ends: may_end,
         };
     };
-    let behind = table.entry_there(branch.after, to);
-    let ends = behind.ends || may_end;
+    let beyond = table.entry_there(branch.after, to);
+    let ends = beyond.ends || may_end;
     Entry {
-        start: behind.start,
-        many: behind.many,
+        start: beyond.start,
+        many: beyond.many,
         ends,
     }
 }
@@ -93,7 +93,7 @@ fn only_of(lists: &Lists, ground: &Ground<'_>, node: usize) -> Option<Branch>
     if list.len() == 1 { Some(list[0]) } else { None }
 }
 
-/// Fills the entries of a node from which one shift leads on: they share what is told behind it.
+/// Fills the entries of a node from which one shift leads on: they share what is told after it.
 fn share_node(
     table: &mut Table,
     lists: &Lists,
@@ -111,7 +111,7 @@ fn share_node(
     let may_end = lists.interner.may_end(node);
     for index in 0..ground.vertices() {
         let vertex = index as Vertex;
-        let entry = entry_behind(
+        let entry = entry_after(
             table, lists, ground, node, vertex, branch, direction, may_end,
         );
         table.share(node, vertex, entry);

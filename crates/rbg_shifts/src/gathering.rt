@@ -13,7 +13,7 @@ use crate::lists::Lists;
 use crate::table::Table;
 use rbg_base::{Memory, Vertex};
 
-/// Gathers what a step by one position leads to, behind the targets before a place. Returns whether a word may end then.
+/// Gathers what a step by one position leads to, after the targets before a place. Returns whether a word may end then.
 #[inline(always)]
 fn gather_one(
     table: &mut Table,
@@ -52,7 +52,7 @@ fn gather_one(
     Ok(ends)
 }
 
-/// Gathers what one step leads to, by the list of a node, behind all targets. Returns whether a word may end at once or
+/// Gathers what one step leads to, by the list of a node, after all targets. Returns whether a word may end at once or
 /// then.
 #[inline(always)]
 pub(crate) fn gather(

@@ -127,7 +127,7 @@ impl Table {
     }
 
     /// Puts the entry of a node and a vertex in its place, with all targets from a place on. Memory is said to be out where
-    /// an entry can't name them: behind 4,294,967,295 targets, which take 64 gigabytes, and where they are more than 65,535,
+    /// an entry can't name them: after 4,294,967,295 targets, which take 64 gigabytes, and where they are more than 65,535,
     /// which is never met. Up to 64 vertices each target of an entry has a position of its own, of which there are at most
     /// 20,000; from 65 vertices on, the limit of words allows at most 4,194,304 / 65 for the positions and columns of one
     /// entry.

@@ -27,7 +27,7 @@ module _ {B : Type 0} (P : List Lexeme → B → List Lexeme → Type 0) (read :
   left_over ts x (t ∷ us) at k e =
       let same : t.at ≡ at = cc in
       record {
-        here = record { before = k.used; token = t; behind = us; whole = k.whole; place = same };
+        here = record { before = k.used; token = t; beyond = us; whole = k.whole; place = same };
         more = [];
         value = x;
         fits = k.spells [];

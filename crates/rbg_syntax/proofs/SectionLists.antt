@@ -63,9 +63,9 @@ split_at (y ∷ ys) (suc i) x e = ap (λ zs. y ∷ zs) (split_at ys i x e)
 
 pub twice_counted : (sections : List SectionTokens) (kind : SectionKind) → IsFirstTwice sections kind → 2 ≤ count_of kind sections
 twice_counted sections kind h =
-    let all : count_of kind sections ≡ count_of kind h.before + count_of kind (h.again ∷ h.behind) = ap (count_of kind) h.whole ∙ count_of-append kind h.before (h.again ∷ h.behind) in
+    let all : count_of kind sections ≡ count_of kind h.before + count_of kind (h.again ∷ h.beyond) = ap (count_of kind) h.whole ∙ count_of-append kind h.before (h.again ∷ h.beyond) in
     let here : same_kind h.again.kind kind ≡ true = same_kind-same h.again.kind kind h.same in
-    let more : count_of kind (h.again ∷ h.behind) ≡ count_of kind h.behind + 1 = count_of-cons kind h.again h.behind ∙ ap (λ b. count_of kind h.behind + cond {A = ℕ} b 1 0) here in
+    let more : count_of kind (h.again ∷ h.beyond) ≡ count_of kind h.beyond + 1 = count_of-cons kind h.again h.beyond ∙ ap (λ b. count_of kind h.beyond + cond {A = ℕ} b 1 0) here in
     omega (arith, all, more, h.twice)
 
 -- A further section of a kind that none before it has keeps the sections different.

@@ -10,7 +10,7 @@ prepend-both xs ys (Ok m) = ap (λ l. Ok (l, m.1)) (sym (append_assoc xs ys m.0)
 prepend-both xs ys (Err f) = refl
 
 module _ {A : Type 0} (read : List Lexeme → Reading A) (some : TakesSome read) (s : Symbol) where
-  -- behind the symbol the same list begins once more
+  -- after the symbol the same list begins once more
   begins_again : (ts : List Lexeme) (r : Reading A) → next_is (is_symbol s) ts ≡ true → read (drop 1 ts) ≡ r →
       repeated_at (is_symbol s) (after_at s read) ts ≡ separated_at s read (drop 1 ts)
   begins_again ts (Ok m) goes_on e =

@@ -5,6 +5,7 @@ mod board;
 mod budgets;
 mod comparing;
 mod generated;
+mod lines;
 mod meaning;
 mod odd;
 mod playing;

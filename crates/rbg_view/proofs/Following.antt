@@ -13,7 +13,7 @@ use Rattle.rbg_view.specs.declared.stop.Stop.{Stop}
 use Rattle.rbg_view.specs.declared.stop.Stop.TheVariants.{NotLegal, NoMove, Mark, AfterEnd, Heavy, Keeper, Memory}
 use Rattle.rbg_view.specs.Following.{BeginsWithMark, Follows, IsMessageLine, IsMoveLine, Standing, Stops, played_on}
 use Rattle.rbg_view.specs.Following.Follows.{head, made, refused}
-use Rattle.rbg_view.specs.Following.Stops.{behind_end, no_move, mark, not_legal, keeper, heavy}
+use Rattle.rbg_view.specs.Following.Stops.{beyond_end, no_move, mark, not_legal, keeper, heavy}
 use Rattle.rbg_view.specs.Lines.{HasNoMessage, IsLine, IsOther, IsSilent, SaysMessage}
 use Rattle.rbg_view.specs.Moving.{MakesNone, MakesOne, MeetsHeavy, TiresKeeper}
 use Rattle.rbg_moves.specs.Playing.{Playing}
@@ -119,7 +119,7 @@ holds_something line (Sent seat text) some is silent none = none seat text.items
 holds_something line (Other text) some is silent none = is.1.no_silence silent
 
 pub stops_after_end : (line : List ℕ) (held : ListLine) (from : Standing) (end : RecordEnd) → held ≢ Silent → IsLine line held → from.end ≡ Some end → Stops line from AfterEnd from
-stops_after_end line held from end some is told = behind_end end told (holds_something line held some is)
+stops_after_end line held from end some is told = beyond_end end told (holds_something line held some is)
 
 -- what a call says of an error, weakened
 pub err_weaker : {T : Type 0} (result : Result T Stop) (P Q : Stop → Type 0) → ((stop : Stop) → P stop → Q stop) → IfErr result P → IfErr result Q

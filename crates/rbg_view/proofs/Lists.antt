@@ -19,18 +19,18 @@ use Rattle.rbg_view.specs.Moving.{Settles}
 use Rattle.rbg_view.specs.internal.Standing.{FollowsLine, IsFollowedSoFar, TellsEnd, TellsLimit, TellsLine, TellsList, standing_of}
 
 -- a line more, with its line feed
-text_more : (before : List (List ℕ)) (line behind : List ℕ) → lines_of (before ++ line ∷ []) ++ behind ≡ lines_of before ++ (line ++ line_feed ∷ behind)
-text_more before line behind =
-    ap (λ (x : List ℕ). x ++ behind) (sym (flat_map_more line_of [] before line))
-    ∙ append_assoc (lines_of before) (line_of line) behind
-    ∙ ap (λ (x : List ℕ). lines_of before ++ x) (append_assoc line (line_feed ∷ []) behind)
+text_more : (before : List (List ℕ)) (line beyond : List ℕ) → lines_of (before ++ line ∷ []) ++ beyond ≡ lines_of before ++ (line ++ line_feed ∷ beyond)
+text_more before line beyond =
+    ap (λ (x : List ℕ). x ++ beyond) (sym (flat_map_more line_of [] before line))
+    ∙ append_assoc (lines_of before) (line_of line) beyond
+    ∙ ap (λ (x : List ℕ). lines_of before ++ x) (append_assoc line (line_feed ∷ []) beyond)
 
 -- what is after a line is shorter than what begins with it
-pub shorter : (rest line behind : List ℕ) → rest ≡ line ++ line_feed ∷ behind → length behind < length rest
-shorter rest line behind is = omega (arith, ap length is, length-append line (line_feed ∷ behind))
+pub shorter : (rest line beyond : List ℕ) → rest ≡ line ++ line_feed ∷ beyond → length beyond < length rest
+shorter rest line beyond is = omega (arith, ap length is, length-append line (line_feed ∷ beyond))
 
-pub number_fits : (number : ℕ) (rest line behind list : List ℕ) → number + length rest ≤ length list + 1 → rest ≡ line ++ line_feed ∷ behind → number ≤ length list
-number_fits number rest line behind list room is = let longer : length behind < length rest = shorter rest line behind is in omega arith
+pub number_fits : (number : ℕ) (rest line beyond list : List ℕ) → number + length rest ≤ length list + 1 → rest ≡ line ++ line_feed ∷ beyond → number ≤ length list
+number_fits number rest line beyond list room is = let longer : length beyond < length rest = shorter rest line beyond is in omega arith
 
 -- before the first line
 pub followed_none : (from : Standing) (list : List ℕ) → IsFollowedSoFar from list list 1 from
@@ -44,13 +44,13 @@ followed_none from list = record {
 }
 
 -- one line more
-pub followed_more : (from at to : Standing) (list rest line behind : List ℕ) (number : ℕ) → IsFollowedSoFar from list rest number at → (rest ≡ line ++ line_feed ∷ behind) × LacksByte line_feed line → FollowsLine line at to → IsFollowedSoFar from list behind (number + 1) to
-followed_more from at to list rest line behind number so_far cut told =
-    let longer : length behind < length rest = shorter rest line behind cut.0 in
+pub followed_more : (from at to : Standing) (list rest line beyond : List ℕ) (number : ℕ) → IsFollowedSoFar from list rest number at → (rest ≡ line ++ line_feed ∷ beyond) × LacksByte line_feed line → FollowsLine line at to → IsFollowedSoFar from list beyond (number + 1) to
+followed_more from at to list rest line beyond number so_far cut told =
+    let longer : length beyond < length rest = shorter rest line beyond cut.0 in
     let room : number + length rest ≤ length list + 1 = so_far.room in
     record {
       before = so_far.before ++ line ∷ [];
-      text = so_far.text ∙ ap (λ (x : List ℕ). lines_of so_far.before ++ x) cut.0 ∙ sym (text_more so_far.before line behind);
+      text = so_far.text ∙ ap (λ (x : List ℕ). lines_of so_far.before ++ x) cut.0 ∙ sym (text_more so_far.before line beyond);
       cut = All-push (LacksByte line_feed) so_far.before line so_far.cut cut.1;
       counted = ap (λ n. n + 1) (so_far.counted ∙ sym (length_push so_far.before line));
       room = omega arith;
@@ -58,11 +58,11 @@ followed_more from at to list rest line behind number so_far cut told =
     }
 
 -- the line that stops
-pub stops_at : (from at to : Standing) (list rest line behind : List ℕ) (number : ℕ) → IsFollowedSoFar from list rest number at → rest ≡ line ++ behind → IsLineEnd behind → LacksByte line_feed line → (stop : Stop) → StopsLine line at stop to → StopsAtLine from list number stop to.playing
-stops_at from at to list rest line behind number so_far cut ended lacks stop told = record {
+pub stops_at : (from at to : Standing) (list rest line beyond : List ℕ) (number : ℕ) → IsFollowedSoFar from list rest number at → rest ≡ line ++ beyond → IsLineEnd beyond → LacksByte line_feed line → (stop : Stop) → StopsLine line at stop to → StopsAtLine from list number stop to.playing
+stops_at from at to list rest line beyond number so_far cut ended lacks stop told = record {
   before = so_far.before;
   line = line;
-  behind = behind;
+  beyond = beyond;
   text = so_far.text ∙ ap (λ (x : List ℕ). lines_of so_far.before ++ x) cut;
   ended = ended;
   cut = All-push (LacksByte line_feed) so_far.before line so_far.cut lacks;
@@ -75,12 +75,12 @@ stops_at from at to list rest line behind number so_far cut ended lacks stop tol
 }
 
 -- a line that stops before others, and at the end of the list
-pub list_stops : (from at : Standing) (new : Showing) (list rest line behind : List ℕ) (number : ℕ) → IsFollowedSoFar from list rest number at → (rest ≡ line ++ line_feed ∷ behind) × LacksByte line_feed line → TellsLine line number at new false → TellsList list from new.scene false
-list_stops from at new list rest line behind number so_far cut told =
+pub list_stops : (from at : Standing) (new : Showing) (list rest line beyond : List ℕ) (number : ℕ) → IsFollowedSoFar from list rest number at → (rest ≡ line ++ line_feed ∷ beyond) × LacksByte line_feed line → TellsLine line number at new false → TellsList list from new.scene false
+list_stops from at new list rest line beyond number so_far cut told =
     inl (record {
       number = number;
       stop = told.0;
-      stops = stops_at from at (standing_of new) list rest line (line_feed ∷ behind) number so_far cut.0 (inr (behind, refl)) cut.1 told.0 told.1;
+      stops = stops_at from at (standing_of new) list rest line (line_feed ∷ beyond) number so_far cut.0 (inr (beyond, refl)) cut.1 told.0 told.1;
       told = told.2;
     })
 

@@ -11,9 +11,9 @@ use Rattle.rbg_view.specs.Readings.IsSaid.{one, none}
 use Rattle.rbg_view.specs.internal.Holding.{AddsMeaning}
 
 -- pairs after the letter
-pub lettered : (text behind : List ℕ) (answer : Option (List (ℕ × ℕ))) → text ≡ codes "M" ++ behind → IfSome answer (SpellsMovePairs behind) → IfSome answer (IsMoveText text)
-lettered text behind (Some pairs) cut found = with_letter behind cut found
-lettered text behind None cut found = tt
+pub lettered : (text beyond : List ℕ) (answer : Option (List (ℕ × ℕ))) → text ≡ codes "M" ++ beyond → IfSome answer (SpellsMovePairs beyond) → IfSome answer (IsMoveText text)
+lettered text beyond (Some pairs) cut found = with_letter beyond cut found
+lettered text beyond None cut found = tt
 
 -- what stands after the number with which a text begins
 same_rest : (text : List ℕ) (m n : ℕ) (x y : List ℕ) → BeginsWithNumber text m x → BeginsWithNumber text n y → x ≡ y

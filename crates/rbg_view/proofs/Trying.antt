@@ -26,7 +26,7 @@ pub first_made : (readings : List Reading) (from at to : Playing) (i : ℕ) (rea
 first_made readings from at to i reading within is same none makes = record {
   before = take i readings;
   reading = reading;
-  behind = drop (i + 1) readings;
+  beyond = drop (i + 1) readings;
   parts = parts_at readings i reading within is;
   none = none;
   makes = subst (λ p. Makes p reading to) same makes;
@@ -99,11 +99,11 @@ heavy_to_try readings from at to waits heavy =
     }
 
 -- of no moves none is made
-no_parts : (before behind : List Reading) (reading : Reading) → [] ≡ before ++ reading ∷ behind → ⊥
-no_parts before behind reading is = absurd (omega (arith, ap length is, length-append before (reading ∷ behind)))
+no_parts : (before beyond : List Reading) (reading : Reading) → [] ≡ before ++ reading ∷ beyond → ⊥
+no_parts before beyond reading is = absurd (omega (arith, ap length is, length-append before (reading ∷ beyond)))
 
 pub rests_without : (from to : Playing) (made : Bool) → TellsOne [] from to made → MakesNone [] from to
-rests_without from to true one = absurd (no_parts one.makes.before one.makes.behind one.makes.reading one.makes.parts)
+rests_without from to true one = absurd (no_parts one.makes.before one.makes.beyond one.makes.reading one.makes.parts)
 rests_without from to false none = none
 
 -- where the keeper is to move at last, play is finished

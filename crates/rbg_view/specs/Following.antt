@@ -88,7 +88,7 @@ BeginsWithMark line = (rest : List ℕ) × (line ≡ 239 ∷ 187 ∷ 191 ∷ res
 
 -- The line stops the following of a list, and this is why.
 pub data Stops (line : List ℕ) (from : Standing) : Stop → Standing → Type 0 where
-  behind_end :
+  beyond_end :
       (end : RecordEnd) →
       from.end ≡ Some end →
       (IsSilent line → HasNoMessage line → ⊥) →
@@ -177,7 +177,7 @@ pub record FollowsList (from : Standing) (list : List ℕ) (to : Playing) (told 
 
 -- a line ends at a line feed, or with the list
 abbrev pub IsLineEnd : List ℕ → Type 0
-IsLineEnd behind = (behind ≡ []) ⊎ ((rest : List ℕ) × (behind ≡ line_feed ∷ rest))
+IsLineEnd beyond = (beyond ≡ []) ⊎ ((rest : List ℕ) × (beyond ≡ line_feed ∷ rest))
 
 -- A line stops, as what it holds does.
 pub record StopsLine (line : List ℕ) (from : Standing) (stop : Stop) (to : Standing) : Type 0 where
@@ -189,9 +189,9 @@ pub record StopsLine (line : List ℕ) (from : Standing) (stop : Stop) (to : Sta
 pub record StopsAtLine (from : Standing) (list : List ℕ) (number : ℕ) (stop : Stop) (to : Playing) : Type 0 where
   pub before : List (List ℕ)
   pub line : List ℕ
-  pub behind : List ℕ
-  pub text : list ≡ lines_of before ++ (line ++ behind)
-  pub ended : IsLineEnd behind
+  pub beyond : List ℕ
+  pub text : list ≡ lines_of before ++ (line ++ beyond)
+  pub ended : IsLineEnd beyond
   pub cut : All (LacksByte line_feed) (before ++ line ∷ [])
   pub counted : number ≡ length before + 1
   pub middle : Standing

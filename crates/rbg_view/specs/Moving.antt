@@ -23,8 +23,8 @@ CanMakeNone from readings = All (λ reading. (to : Playing) → ¬ Makes from re
 pub record MakesFirst (readings : List Reading) (from to : Playing) : Type 0 where
   pub before : List Reading
   pub reading : Reading
-  pub behind : List Reading
-  pub parts : readings ≡ before ++ reading ∷ behind
+  pub beyond : List Reading
+  pub parts : readings ≡ before ++ reading ∷ beyond
   pub none : CanMakeNone from before
   pub makes : Makes from reading to
 

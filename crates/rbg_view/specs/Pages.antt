@@ -2,11 +2,9 @@
 use Rattle.std.specs.Prelude.{◌≡◌, ℕ, List, [], ◌++◌, codes}
 use Rattle.rbg_rules.specs.Meaning.{AbstractGame, AbstractPlace}
 use Rattle.rbg_game.specs.declared.layout.Layout.{Layout}
+use Rattle.rbg_record.specs.NextLine.{BeginsWith}
 use Rattle.rbg_record.specs.Lines.{nothing_next}
 use Rattle.rbg_record.specs.Right.{IsRightRecord}
-use Rattle.rbg_record.specs.Judged.{BeginsWith, IsFormFault, IsBadLine, IsHeavyLine}
-use Rattle.rbg_view.specs.declared.error.PageError.{PageError}
-use Rattle.rbg_view.specs.declared.error.PageError.TheVariants.{Form, Bad, Over, Memory}
 use Rattle.rbg_view.specs.declared.head.TheConstants.{HEAD}
 use Rattle.rbg_view.specs.declared.tail.TheConstants.{STYLES, SCRIPTS, END}
 use Rattle.rbg_view.specs.declared.style.TheConstants.{BOARD_STYLE}
@@ -66,10 +64,3 @@ pub record IsPage (game : AbstractGame) (layout : Layout) (described bytes page 
   pub told : Told
   pub tells : Tells game texts nothing_next told
   pub is : page ≡ page_text game layout described told
-
--- why there is no page: the record's first fault, as `check_record` tells it
-abbrev pub IsRefused : AbstractGame → (bytes : List ℕ) → PageError → Type 0
-IsRefused game bytes (Form line) = IsFormFault game bytes line
-IsRefused game bytes (Bad line) = IsBadLine game bytes line
-IsRefused game bytes (Over line) = IsHeavyLine game bytes line
-IsRefused game bytes Memory = Unit {0}

@@ -21,8 +21,8 @@ pub record SpellsMovePairs (text : List ℕ) (pairs : List (ℕ × ℕ)) : Type 
 
 -- the pairs of a move, with the letter of a message before them or without
 pub data IsMoveText (text : List ℕ) (pairs : List (ℕ × ℕ)) : Type 0 where
-  with_letter : (behind : List ℕ) → text ≡ codes "M" ++ behind → SpellsMovePairs behind pairs → IsMoveText text pairs
-  without_letter : ((behind : List ℕ) → text ≡ codes "M" ++ behind → ⊥) → SpellsMovePairs text pairs → IsMoveText text pairs
+  with_letter : (beyond : List ℕ) → text ≡ codes "M" ++ beyond → SpellsMovePairs beyond pairs → IsMoveText text pairs
+  without_letter : ((beyond : List ℕ) → text ≡ codes "M" ++ beyond → ⊥) → SpellsMovePairs text pairs → IsMoveText text pairs
 
 -- the player's number, a space and a move
 pub data IsPlayersMove (text : List ℕ) : Option ℕ → List (ℕ × ℕ) → Type 0 where

@@ -6,8 +6,9 @@ use Rattle.rbg_record.specs.declared.entry.Entry.{Entry}
 use Rattle.rbg_record.specs.declared.entry.Entry.TheVariants.{Move}
 use Rattle.rbg_record.specs.declared.entry.Timed.{Timed}
 use Rattle.rbg_record.specs.declared.heading.Version.{Version}
-use Rattle.rbg_record.specs.Lines.{Reached, version_next, players_next, start_next, entry_next, nothing_next, SpellsIn, Leads}
-use Rattle.rbg_record.specs.Judged.{BeginsWith}
+use Rattle.rbg_record.specs.Entries.{SpellsIn}
+use Rattle.rbg_record.specs.NextLine.{BeginsWith}
+use Rattle.rbg_record.specs.Lines.{Reached, version_next, players_next, start_next, entry_next, nothing_next, Leads}
 use Rattle.rbg_record.specs.Reaching.{place_in}
 use Rattle.rbg_record.specs.Right.{IsRightRecord}
 use Rattle.rbg_view.specs.Texts.{escaped}

@@ -3,5 +3,3 @@ pub mod Holding
 pub mod Stopping
 pub mod Trying
 pub mod Standing
--- What only this crate's own proofs use.
-pub mod Reading

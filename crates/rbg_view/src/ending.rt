@@ -42,15 +42,15 @@ fn put_going(play: &Playthrough<'_>, goes_on: bool, out: &mut Vec<u8>) -> Result
 fn put_mover(
     before: &[u8],
     play: &Playthrough<'_>,
-    behind: &[u8],
+    beyond: &[u8],
     out: &mut Vec<u8>,
 ) -> Result<(), Memory>
     ensures { Appends out.old.items out.new.items
-        (before.now ++ mover_text play.now ++ behind.now) result }
+        (before.now ++ mover_text play.now ++ beyond.now) result }
 {
     out.extend_from_slice(before)?;
     out.extend_from_slice(play.mover().as_bytes())?;
-    out.extend_from_slice(behind)
+    out.extend_from_slice(beyond)
 }
 
 /// Appends the number of the line at which a list stops, and why. Where memory has run out, it does again.
@@ -116,15 +116,15 @@ fn put_around(
     before: &[u8],
     game: &Game,
     player: u64,
-    behind: &[u8],
+    beyond: &[u8],
     out: &mut Vec<u8>,
 ) -> Result<(), Memory>
     ensures { Appends out.old.items out.new.items
-        (before.now ++ who_text game.now.players player ++ behind.now) result }
+        (before.now ++ who_text game.now.players player ++ beyond.now) result }
 {
     out.extend_from_slice(before)?;
     put_who(game, player, out)?;
-    out.extend_from_slice(behind)
+    out.extend_from_slice(beyond)
 }
 
 /// Appends the name of a player, or its number where the game has no such player.

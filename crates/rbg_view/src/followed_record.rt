@@ -1,25 +1,25 @@
 //! A record that is followed line by line, as a page shows it.
 ghost use Rattle.std.specs.Prelude.{◌≡◌, ℕ, List, [], ◌++◌, IfErr, IfNone, IfOk, IfSome, OnOk, unwrap_or};
 ghost use Rattle.rbg_rules.specs.Meaning.{IsPlaceOf};
+ghost use Rattle.rbg_record.specs.Reading.{Says};
 ghost use Rattle.rbg_record.specs.ByLine.{IsReachedIn, reached_of};
-ghost use Rattle.rbg_view.specs.Pages.{IsRefused};
+ghost use Rattle.rbg_record.specs.Judged.{IsMisfit};
+ghost use Rattle.rbg_record.specs.Lines.{Reached as AnyReached, next_of};
 ghost use Rattle.rbg_wire.specs.Lines.{line_of};
 ghost use Rattle.rbg_view.specs.Texts.{escaped};
 ghost use Rattle.rbg_view.specs.Places.{place_text, whole_text};
-ghost use Rattle.rbg_view.specs.Telling.{IsByPlayer, IsMoveIn, IsPlayersMove, IsTelling, line_text};
-ghost use Rattle.rbg_view.specs.internal.Reading.{refusal_at};
+ghost use Rattle.rbg_view.specs.Telling.{IsByPlayer, IsMoveIn, IsTelling, line_text};
 
-use crate::error::PageError;
 use crate::places::{put_place, put_whole, values_at};
 use crate::texts::put_escaped;
 use rbg_base::{Memory, Move, Pair};
 use rbg_moves::{Place, PlayedGame};
-use rbg_record::{Entry, Fault, Reached, Version, next_line, read_entry, read_line, read_timed};
+use rbg_record::{Content, Entry, Misfit, Reached, RecordLine, RecordReader, Timed, judge_line};
 use std::alloc::Global;
 use std::marker::Model;
 
 /// A record that is followed. Contracts see the lines of a page, the last place and the last move of a player.
-pub struct FollowedRecord {
+pub(crate) struct FollowedRecord {
     /// The lines with their places.
     lines: Vec<u8>,
     /// The last place.
@@ -50,21 +50,21 @@ impl Drop for FollowedRecord {
 
 impl FollowedRecord {
     /// The lines with their places.
-    pub fn as_lines(&self) -> &[u8]
+    pub(crate) fn as_lines(&self) -> &[u8]
         ensures { result.now ≡ self.now.lines }
     {
         self.lines.as_slice()
     }
 
     /// The last place.
-    pub fn last_place(&self) -> &Place
+    pub(crate) fn last_place(&self) -> &Place
         ensures { result.now ≡ self.now.place }
     {
         &self.place
     }
 
     /// The pairs of the last move of a player.
-    pub fn marked(&self) -> &[Pair]
+    pub(crate) fn marked(&self) -> &[Pair]
         ensures { result.now ≡ self.now.marked }
     {
         match &self.moved {
@@ -149,87 +149,52 @@ fn later_of(moved: Option<Move>, before: Option<Move>) -> Option<Move>
 }
 
 /// Reads a record, of either version, and follows its lines. A record that isn't right is refused.
-pub fn follow_record(
+pub(crate) fn follow_record(
     alloc: Global,
     game: &PlayedGame,
     bytes: &[u8],
-) -> Result<FollowedRecord, PageError>
+) -> Result<FollowedRecord, Misfit>
     ensures followed { IfOk result (IsTelling game.now bytes.now) }
     ensures in_game { IfOk result (λ followed. IsPlaceOf game.now followed.place) }
-    ensures refused { IfErr result (IsRefused game.now bytes.now) }
+    ensures refused { IfErr result (IsMisfit game.now bytes.now) }
 {
     let mut place = game.start()?;
     let mut lines = first_line(alloc, game, &place)?;
     let mut last = None;
+    let mut reader = RecordReader::new(bytes);
     let mut reached = Reached::Version;
-    let mut rest = bytes;
-    let mut line = 1;
-    while let Some((text, later)) = next_line(rest) {
-        let moved = move_in(&reached, text);
-        match read_line(game, reached, text) {
-            Ok(to) => reached = to,
-            Err(fault) => return Err(refusal(fault, line)),
-        }
-        put_line(game, text, &place, &reached, &mut lines)?;
+    while let Some(line) = reader.read(reached.next())? {
+        reached = judge_line(game, &reached, &line)?;
+        put_line(game, line.text, &place, &reached, &mut lines)?;
         place = reached.place_or(place)?;
-        last = later_of(moved, last);
-        rest = later;
-        line += 1;
+        last = later_of(move_in(line), last);
     }
-    let over = reached.is_over();
-    if over && rest.is_empty() {
-        Ok(FollowedRecord {
-            lines,
-            place,
-            moved: last,
-        })
-    } else {
-        Err(PageError::Form { line })
-    }
+    Ok(FollowedRecord {
+        lines,
+        place,
+        moved: last,
+    })
 }
 
-/// What a fault at a line is to a page.
-fn refusal(fault: Fault, line: usize) -> PageError
-    ensures { result ≡ refusal_at fault line }
+/// The player's move that a line has.
+fn move_in(line: RecordLine<'_>) -> Option<Move>
+    ensures { (reached : AnyReached) → Says (next_of reached) line.entry.text.now line.entry.content
+        → IsMoveIn reached line.entry.text.now result }
 {
-    match fault {
-        Fault::Form => PageError::Form { line },
-        Fault::Bad => PageError::Bad { line },
-        Fault::Over => PageError::Over { line },
-        Fault::Memory => PageError::Memory,
-    }
-}
-
-/// The player's move that a line has after the lines so far.
-fn move_in(reached: &Reached, text: &[u8]) -> Option<Move>
-    ensures { IsMoveIn (reached_of reached.now) text.now result }
-{
-    match reached {
-        Reached::Entry(standing) => players_move(standing.version, text),
-        Reached::Version => None,
-        Reached::Players => None,
-        Reached::Start => None,
-        Reached::Nothing => None,
-    }
-}
-
-/// The player's move that the text is in a record of that version.
-fn players_move(version: Version, text: &[u8]) -> Option<Move>
-    ensures found { IfSome result (IsPlayersMove version text.now) }
-    ensures none { IfNone result ((pairs : List (ℕ × ℕ)) → ¬ IsPlayersMove version text.now pairs) }
-{
-    match version {
-        Version::One => pairs_of(read_entry(text)?),
-        Version::Two => pairs_of(read_timed(text)?.entry),
+    match line.content {
+        Content::Entry(told) => pairs_of(told),
+        Content::Version(_) => None,
+        Content::Players(_) => None,
+        Content::Start(_) => None,
     }
 }
 
 /// The pairs of a player's move.
-fn pairs_of(entry: Entry) -> Option<Move>
-    ensures found { IfSome result (IsByPlayer entry) }
-    ensures none { IfNone result ((pairs : List (ℕ × ℕ)) → ¬ IsByPlayer entry pairs) }
+fn pairs_of(told: Timed) -> Option<Move>
+    ensures found { IfSome result (IsByPlayer told.entry) }
+    ensures none { IfNone result ((pairs : List (ℕ × ℕ)) → ¬ IsByPlayer told.entry pairs) }
 {
-    match entry {
+    match told.entry {
         Entry::Move { player, pairs } => { if player == 0 { None } else { Some(pairs) } }
         Entry::End { .. } => None,
     }

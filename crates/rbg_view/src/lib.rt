@@ -5,7 +5,6 @@ mod board_lines;
 mod board_text;
 mod drawing;
 mod ending;
-mod error;
 mod followed_record;
 mod game_lines;
 mod head;
@@ -24,8 +23,6 @@ mod style;
 mod tail;
 mod texts;
 
-pub use error::PageError;
-pub use followed_record::{FollowedRecord, follow_record};
 pub use game_lines::push_game;
 pub use record_page::page;
 pub use script::BOARD_SCRIPT;

@@ -48,7 +48,7 @@ impl Reading {
     }
 
     /// The move whose pairs stand after a lead.
-    fn behind(lead: Lead, text: &[u8]) -> Option<Reading>
+    fn beyond(lead: Lead, text: &[u8]) -> Option<Reading>
         ensures found { IfSome result (λ reading. MayMean lead text.now reading.player reading.pairs) }
         ensures none { IfNone result ((player : Option ℕ) (pairs : List (ℕ × ℕ)) → MayMean lead text.now player pairs → ⊥) }
     {
@@ -129,7 +129,7 @@ fn untold_readings(alloc: Global, text: &[u8]) -> Result<Vec<Reading>, AllocErro
 fn push_meaning(lead: Lead, text: &[u8], readings: &mut Vec<Reading>) -> Result<(), AllocError>
     ensures { OnOk result (AddsMeaning text.now lead readings.old.items readings.new.items) }
 {
-    if let Some(reading) = Reading::behind(lead, text) {
+    if let Some(reading) = Reading::beyond(lead, text) {
         readings.push(reading)?;
     }
     Ok(())
@@ -141,7 +141,7 @@ fn read_move_text(text: &[u8]) -> Option<Move>
     ensures none { IfNone result ((pairs : List (ℕ × ℕ)) → IsMoveText text.now pairs → ⊥) }
 {
     match after_text(b"M", text) {
-        Some(behind) => pairs_of(behind),
+        Some(beyond) => pairs_of(beyond),
         None => pairs_of(text),
     }
 }

@@ -1,10 +1,10 @@
 //! The page of a record.
 ghost use Rattle.std.specs.Prelude.{◌≡◌, ◌++◌, IfErr, IfOk, OnOk};
 ghost use Rattle.rbg_rules.specs.Meaning.{IsPlaceOf};
-ghost use Rattle.rbg_view.specs.Pages.{IsPage, IsRefused, lines_part, names_part, page_text, place_part, tail_text, values_part};
+ghost use Rattle.rbg_record.specs.Judged.{IsMisfit};
+ghost use Rattle.rbg_view.specs.Pages.{IsPage, lines_part, names_part, page_text, place_part, tail_text, values_part};
 
 use crate::drawing::put_drawing;
-use crate::error::PageError;
 use crate::followed_record::{FollowedRecord, follow_record};
 use crate::head::HEAD;
 use crate::places::values_at;
@@ -15,6 +15,7 @@ use crate::texts::{put_escaped, put_pieces, put_players, put_values, put_variabl
 use rbg_base::{Memory, Pair};
 use rbg_game::Layout;
 use rbg_moves::{Place, PlayedGame};
+use rbg_record::Misfit;
 use rbg_rules::Game;
 use std::alloc::Global;
 
@@ -29,10 +30,10 @@ pub fn page(
     layout: &Layout,
     described: &[u8],
     bytes: &[u8],
-) -> Result<Vec<u8>, PageError>
+) -> Result<Vec<u8>, Misfit>
     ensures page { IfOk result (λ page.
         IsPage game.now layout.now described.now bytes.now page.items) }
-    ensures refused { IfErr result (IsRefused game.now bytes.now) }
+    ensures refused { IfErr result (IsMisfit game.now bytes.now) }
 {
     let followed = follow_record(alloc, game, bytes)?;
     let mut out = Vec::new(alloc);

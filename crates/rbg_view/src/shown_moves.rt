@@ -78,11 +78,11 @@ impl Showing<'_> {
     {
         let mut rest = moves;
         let mut number = 1;
-        while let Some((line, behind)) = cut_at(b'\n', rest) {
+        while let Some((line, beyond)) = cut_at(b'\n', rest) {
             if !self.show_or_stop(line, number)? {
                 return Ok(false);
             }
-            rest = behind;
+            rest = beyond;
             number += 1;
         }
         if self.show_or_stop(rest, number)? {

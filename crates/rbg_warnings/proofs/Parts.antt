@@ -32,14 +32,14 @@ alone t ts found _ (to_nobody is ends) cut = none (to_nobody is ends) cut
 alone t ts found _ (between a b c d) cut = none (between a b c d) cut
 
 -- one part more
-pub step : (rules : List Token) (at further : ℕ) (is_action : Bool) (t : Token) (behind tokens : List Token) (old new : List (List Token)) → drop at rules ≡ t ∷ behind → drop (at + 1 + further) rules ≡ drop further behind → tokens ≡ t ∷ take further behind → IsPart t behind is_action further → new ≡ (if is_action then old ++ tokens ∷ [] else old) → ((more : List (List Token)) → AreCut (drop at rules) more → AreCut rules (old ++ more)) → (more : List (List Token)) → AreCut (drop (at + 1 + further) rules) more → AreCut rules (new ++ more)
-step rules at further true t behind tokens old new here next are part grown so_far more cut =
-    let rest : AreCut (drop further behind) more = subst (λ ts. AreCut ts more) next cut in
-    let one : AreCut (drop at rules) ((t ∷ take further behind) ∷ more) = subst (λ ts. AreCut ts ((t ∷ take further behind) ∷ more)) (sym here) (action part rest) in
-    rw grown (rw are (subst (AreCut rules) (sym (append_assoc old ((t ∷ take further behind) ∷ []) more)) (so_far _ one)))
-step rules at further false t behind tokens old new here next are part grown so_far more cut =
-    let rest : AreCut (drop further behind) more = subst (λ ts. AreCut ts more) next cut in
-    rw grown (so_far more (subst (λ ts. AreCut ts more) (sym here) (alone t behind more further part rest)))
+pub step : (rules : List Token) (at further : ℕ) (is_action : Bool) (t : Token) (after tokens : List Token) (old new : List (List Token)) → drop at rules ≡ t ∷ after → drop (at + 1 + further) rules ≡ drop further after → tokens ≡ t ∷ take further after → IsPart t after is_action further → new ≡ (if is_action then old ++ tokens ∷ [] else old) → ((more : List (List Token)) → AreCut (drop at rules) more → AreCut rules (old ++ more)) → (more : List (List Token)) → AreCut (drop (at + 1 + further) rules) more → AreCut rules (new ++ more)
+step rules at further true t after tokens old new here next are part grown so_far more cut =
+    let rest : AreCut (drop further after) more = subst (λ ts. AreCut ts more) next cut in
+    let one : AreCut (drop at rules) ((t ∷ take further after) ∷ more) = subst (λ ts. AreCut ts ((t ∷ take further after) ∷ more)) (sym here) (action part rest) in
+    rw grown (rw are (subst (AreCut rules) (sym (append_assoc old ((t ∷ take further after) ∷ []) more)) (so_far _ one)))
+step rules at further false t after tokens old new here next are part grown so_far more cut =
+    let rest : AreCut (drop further after) more = subst (λ ts. AreCut ts more) next cut in
+    rw grown (so_far more (subst (λ ts. AreCut ts more) (sym here) (alone t after more further part rest)))
 
 -- the part after an index is there
 pub within_rest : (rules : List Token) (at : ℕ) (t : Token) (is_action : Bool) (n : ℕ) → at < length rules → IsPart t (take (length rules - (at + 1)) (drop (at + 1) rules)) is_action n → at + 1 + n ≤ length rules

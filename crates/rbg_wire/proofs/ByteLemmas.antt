@@ -1,4 +1,4 @@
--- Texts that are cut at a byte, or behind a text.
+-- Texts that are cut at a byte, or after a text.
 use Rattle.rbg_base.proofs.Common.{◌≡◌, ◌≢◌, ℕ, true, false, List, [], ◌∷◌, ◌++◌, length, take, drop, ap, sym, ◌∙◌, refl, bytes_eq, All-head, All-tail, bytes_eq-Decides, take-append_seam}
 use Rattle.std.proofs.lemmas.List.{take-append-drop}
 use Rattle.rbg_wire.specs.Bytes.{LacksByte}
@@ -8,7 +8,7 @@ pub no_cut : (byte : ℕ) (a b : List ℕ) → LacksByte byte (a ++ byte ∷ b) 
 no_cut byte [] b lacks = All-head (λ other. other ≢ byte) byte b lacks refl
 no_cut byte (c ∷ a) b lacks = no_cut byte a b (All-tail (λ other. other ≢ byte) c (a ++ byte ∷ b) lacks)
 
--- the text before the first such byte, and the text behind it
+-- the text before the first such byte, and the text after it
 pub same_cut : (byte : ℕ) (a b x y : List ℕ) → LacksByte byte a → LacksByte byte b → a ++ byte ∷ x ≡ b ++ byte ∷ y → (a ≡ b) × (x ≡ y)
 same_cut byte [] [] x y h k same = let parts : byte ∷ x ≡ byte ∷ y = same in (refl, cc)
 same_cut byte [] (c ∷ b) x y h k same = let parts : byte ∷ x ≡ c ∷ (b ++ byte ∷ y) = same in absurd (All-head (λ other. other ≢ byte) c b k (cc))
@@ -28,7 +28,7 @@ same_end (byte ∷ a) x y same = let parts : byte ∷ (a ++ x) ≡ byte ∷ (a +
 pub different : (a b : ℕ) → a ≢ b → (x y : List ℕ) → a ∷ x ≡ b ∷ y → ⊥
 different a b apart x y same = apart (cc)
 
--- bytes behind a text
+-- bytes after a text
 pub prefix_found : (text bytes rest : List ℕ) → bytes_eq (take (length text) bytes) text ≡ true → rest ≡ drop (length text) bytes → bytes ≡ text ++ rest
 prefix_found text bytes rest test is =
     let front : take (length text) bytes ≡ text = (bytes_eq-Decides (take (length text) bytes) text).0 test in

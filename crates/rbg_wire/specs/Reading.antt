@@ -59,7 +59,7 @@ HasFewPairs (refusal_message reason) = Unit {0}
 HasFewPairs (end_message outcome) = Unit {0}
 HasFewPairs (join_message table) = Unit {0}
 
--- what is read behind this letter: the message that both spell, or none if they spell none
+-- what is read after this letter: the message that both spell, or none if they spell none
 abbrev pub ReadsAfterLetter : ℕ → List ℕ → Option Message → Type 0
 ReadsAfterLetter letter text (Some message) = SpellsMessage (letter ∷ text) (message_of message) × HasFewPairs (message_of message)
 ReadsAfterLetter letter text None = (message : AbstractMessage) → SpellsMessage (letter ∷ text) message → ⊥

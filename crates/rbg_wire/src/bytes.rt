@@ -1,4 +1,4 @@
-//! Where a byte occurs in a text, and texts that are cut there or behind another text.
+//! Where a byte occurs in a text, and texts that are cut there or after another text.
 ghost use Rattle.std.specs.Prelude.{◌≡◌, ℕ, List, ◌∷◌, ◌++◌, IfSome, IfNone};
 ghost use Rattle.rbg_wire.specs.Bytes.{LacksByte, IsFirstPlace};
 
@@ -10,7 +10,7 @@ pub(crate) fn first_place(byte: u8, text: &[u8]) -> Option<usize>
     text.iter().position(|other| *other == byte)
 }
 
-/// The bytes before the first such byte, and those behind it.
+/// The bytes before the first such byte, and those after it.
 pub fn cut_at(byte: u8, bytes: &[u8]) -> Option<(&[u8], &[u8])>
     ensures found { IfSome result (λ parts.
         (bytes.now ≡ parts.0.now ++ byte ∷ parts.1.now) × LacksByte byte parts.0.now) }
@@ -20,7 +20,7 @@ pub fn cut_at(byte: u8, bytes: &[u8]) -> Option<(&[u8], &[u8])>
     Some((&bytes[..at], &bytes[at + 1..]))
 }
 
-/// The bytes behind a text, if they begin with it.
+/// The bytes after a text, if they begin with it.
 pub fn after_text<'a>(text: &[u8], bytes: &'a [u8]) -> Option<&'a [u8]>
     ensures found { IfSome result (λ rest. bytes.now ≡ text.now ++ rest.now) }
     ensures none { IfNone result ((rest : List ℕ) → bytes.now ≡ text.now ++ rest → ⊥) }

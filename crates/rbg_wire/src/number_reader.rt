@@ -23,7 +23,7 @@ pub fn read_number(text: &[u8]) -> Result<u64, WireError>
     number_of_decimal(text).ok_or(WireError::Malformed)
 }
 
-/// A number with a space behind it, and the text behind that.
+/// A number with a space after it, and the text after that.
 pub fn cut_number(text: &[u8]) -> Option<(u64, &[u8])>
     ensures found { IfSome result (λ parts. BeginsWithNumber text.now parts.0 parts.1.now) }
     ensures none { IfNone result ((number : ℕ) (rest : List ℕ)

@@ -4,7 +4,7 @@ ghost use Rattle.rbg_wire.specs.Writing.{Appends, AppendsAll};
 
 use rbg_base::Memory;
 
-/// Takes back the bytes behind the first `len`, if the writing failed.
+/// Takes back the bytes after the first `len`, if the writing failed.
 ///
 /// A writer that may leave a part of its text where it fails so becomes one that leaves all of it or nothing.
 pub fn all_or_nothing(

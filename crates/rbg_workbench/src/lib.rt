@@ -17,4 +17,4 @@ mod text_record;
 pub use browser::play;
 pub use reader::{Described, Reader, Reading};
 pub use request_fields::{is_own_host, is_own_origin};
-pub use text_record::{TextRecord, record_text};
+pub use text_record::record_text;

@@ -1,8 +1,8 @@
 //! A list of moves, and the script of the match that they are.
 
-use crate::text_record::TextRecord;
 use rbg_base::number_of_decimal;
 use rbg_questions::Session;
+use rbg_record::{LineFault, Misfit};
 use rbg_script::{ScriptConfig, write_config, write_message};
 use rbg_wire::{after_text, cut_at, cut_number, read_pairs};
 use std::alloc::{AllocError, Global};
@@ -57,12 +57,15 @@ impl Listed {
         Ok(listed)
     }
 
-    /// The script of the list, in the place of a record, or the line that stops it.
-    pub(crate) fn script(self, text: &[u8]) -> Result<TextRecord, AllocError> {
+    /// The script of the list, or the line that stops it.
+    pub(crate) fn script(self, text: &[u8]) -> Result<Vec<u8>, Misfit> {
         let mut listed = self;
         let mut line = 1;
         let taken = listed.take_lines(text, &mut line)?;
-        Ok(recorded(taken, line, listed.script))
+        match fault_of(taken) {
+            None => Ok(listed.script),
+            Some(fault) => Err(Misfit { line, fault }),
+        }
     }
 
     /// Makes the moves of the lines, up to one that can't be taken, whose number is given.
@@ -150,13 +153,13 @@ impl Listed {
     }
 }
 
-/// What a list with this script is, where this came of the line of this number.
-fn recorded(taken: Taken, line: usize, script: Vec<u8>) -> TextRecord {
+/// What is wrong with a line of which this came.
+fn fault_of(taken: Taken) -> Option<LineFault> {
     match taken {
-        Taken::Whole => TextRecord::Record(script),
-        Taken::Form => TextRecord::Form { line },
-        Taken::Bad => TextRecord::Bad { line },
-        Taken::Over => TextRecord::Over { line },
+        Taken::Whole => None,
+        Taken::Form => Some(LineFault::Form),
+        Taken::Bad => Some(LineFault::Bad),
+        Taken::Over => Some(LineFault::Over),
     }
 }
 

@@ -159,10 +159,10 @@ static int play(int port, int matches, long moves, int hall) {
 
 static int late(int port, long turn, long early, long moves) {
   struct end pair[2];
-  // (what is to be on time stands before other work of the machine, where the system allows it)
+  // (what is to be on time comes before other work of the machine, if the system allows it)
   sched_setscheduler(0, SCHED_FIFO, &(struct sched_param){.sched_priority = 1});
   begin(pair, port, 1);
-  long said = 0, sent_at = 0, behind = 0;
+  long said = 0, sent_at = 0, delay = 0;
   for (;;) {
     struct pollfd polls[2] = {{pair[0].fd, POLLIN, 0}, {pair[1].fd, POLLIN, 0}};
     if (poll(polls, 2, 60000) <= 0) fail("poll");
@@ -176,9 +176,9 @@ static int late(int port, long turn, long early, long moves) {
     while (now_us() < until) {}
     sent_at = now_us();
     say(pair, said++);
-    behind = now_us() - until;
+    delay = now_us() - until;
   }
-  printf("%ld %ld\n", pair[0].heard - 1, behind);
+  printf("%ld %ld\n", pair[0].heard - 1, delay);
   return 0;
 }
 

@@ -24,7 +24,7 @@ NAMES = "abcdfghi"
 
 
 def game(run, players):
-    """The file of the game for so many players."""
+    """The file of the game for this many players."""
     return run.file(f"for{players}.rbg", GAME.format(players=", ".join(f"{name}(1)" for name in NAMES[:players])))
 
 
@@ -78,7 +78,7 @@ def serve_move(wire, run, rbg, moves):
 
 
 def filled_hall(run, silent):
-    """The games of a hall in whose first match two play, and in which so many lines say nothing: the seats of each match that
+    """The games of a hall in whose first match two play, and in which this many lines say nothing: the seats of each match that
     are silent, match 1 first."""
     beside = silent % 8
     seats = [beside, *[8] * (silent // 8)]
@@ -86,7 +86,7 @@ def filled_hall(run, silent):
 
 
 def beside_silent(wire, run, rbg, silent, moves):
-    """Microseconds a move of one match of a hall in which so many lines say nothing."""
+    """Microseconds a move of one match of a hall in which this many lines say nothing."""
     port, (games, seats) = free_port(), filled_hall(run, silent)
     with served([rbg, "hall", *games, "--turn", "3600000", "--rounds", "4294967295"], port):
         lines = []
@@ -100,14 +100,14 @@ def beside_silent(wire, run, rbg, silent, moves):
 
 
 def many(wire, run, rbg, matches, moves):
-    """Moves a second in all of so many matches of a hall, each of two quick players."""
+    """Moves a second in all of this many matches of a hall, each of two quick players."""
     port = free_port()
     with served([rbg, "hall", *[game(run, 2)] * matches, "--rounds", "4294967295"], port):
         return matches * moves * 1_000_000 / spent(wire, "play", port, matches, moves, "hall")
 
 
 def late_hall(stack, wire, run, rbg, early, turn, moves):
-    """The players of a hall in which each move of match 1 is said so many microseconds before the turn is over, beside 126 lines
+    """The players of a hall in which each move of match 1 is said this many microseconds before the turn is over, beside 126 lines
     that say nothing; and what is left to do until its matches begin. The other matches are soon lost on time."""
     port, (games, seats) = free_port(), filled_hall(run, 126)
     stack.enter_context(served([rbg, "hall", *games, "--turn", str(turn), "--rounds", "4294967295"], port))
@@ -121,7 +121,7 @@ def late_hall(stack, wire, run, rbg, early, turn, moves):
 
 
 def in_time(wire, run, rbg, early, turn, moves, side):
-    """Of matches side by side, each beside 126 silent lines and with so many moves, that are said so many microseconds before the
+    """Of matches side by side, each beside 126 silent lines and with this many moves, that are said this many microseconds before the
     turn is over: how many have lost on time, how many of them said the last move too late by their own clock, and how many
     moves were made in all."""
     lost = own = made = 0
@@ -130,10 +130,10 @@ def in_time(wire, run, rbg, early, turn, moves, side):
         for _, begin in halls:
             begin()
         for players, _ in halls:
-            heard, behind = map(int, players.communicate(timeout=3600)[0].split())
+            heard, delay = map(int, players.communicate(timeout=3600)[0].split())
             made += heard
             if heard < moves:
-                lost, own = lost + 1, own + (behind >= abs(early))
+                lost, own = lost + 1, own + (delay >= abs(early))
     return lost, own, made
 
 
@@ -184,7 +184,7 @@ def idle(run, rbg, seconds):
 
 @contextlib.contextmanager
 def raised():
-    """Stands before other work of the machine, where the system allows it."""
+    """Goes before other work of the machine, if the system allows it."""
     try:
         os.nice(-15)
     except OSError:
@@ -197,7 +197,7 @@ def raised():
 
 
 def in_time_row(tool, run, rbg, row, early):
-    """The row of moves that are said so many microseconds before a turn of 20 ms is over, 10,000 of them in 4 matches, or after
+    """The row of moves that are said this many microseconds before a turn of 20 ms is over, 10,000 of them in 4 matches, or after
     it. A match in which a player was too late by its own clock is made up by another one."""
     lost = own = made = 0
     for _ in range(4):
@@ -217,7 +217,7 @@ def wire(run, programs, head, row):
 
 
 def quickest(rounds, works):
-    """The least that each work has taken in so many rounds over all of them, so that other work of the machine counts less."""
+    """The least that each work has taken in this many rounds over all of them, so that other work of the machine counts less."""
     return [min(taken) for taken in zip(*[[work() for work in works] for _ in range(rounds)])]
 
 

@@ -12,7 +12,7 @@ Pairs = (v p : ℕ) → Type 0
 -- What is marked is right, and all that follows from it is marked, but for what is still open.
 --   sound: what is marked is met
 --   begun: the leaps with which all begins are marked
---   closed: so are the leaps from behind what is marked, isn't open, and holds
+--   closed: so are the leaps from after what is marked, isn't open, and holds
 --   to_try: no modifier is open, and an on only where one of its pieces stands
 --   sound_end, begun_end, closed_end: the same of whether a word may end
 pub record IsBegun

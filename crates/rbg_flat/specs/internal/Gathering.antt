@@ -18,7 +18,7 @@ pub record IsBitOf (c word v : ℕ) : Type 0 where
   pub column : v / 64 ≡ c
   pub set : bit_at word (v % 64) ≡ 1
 
--- The vertices of a word, each with the position, stand behind what was there.
+-- The vertices of a word, each with the position, stand after what was there.
 pub record PushesWord (old new : List (ℕ × ℕ)) (p c word : ℕ) : Type 0 where
   pub vertices : List ℕ
   pub lists : Lists (IsBitOf c word) vertices

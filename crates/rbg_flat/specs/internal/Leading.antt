@@ -45,13 +45,13 @@ pub record LearnsEnd (old new : Bool) (Ends : Type 0) : Type 0 where
 abbrev pub IsOnBoard : AbstractGame → (c word : ℕ) → Type 0
 IsOnBoard game c word = (b : ℕ) → bit_at word b ≡ 1 → c * 64 + b < length game.board.first
 
--- A leap leads to position p at vertex u, from behind position q at one of the vertices of a word.
+-- A leap leads to position p at vertex u, from after position q at one of the vertices of a word.
 pub record LeadsFrom (game : AbstractGame) (q c word u p : ℕ) : Type 0 where
   pub vertex : ℕ
   pub there : IsInWord q c word vertex q
   pub leap : IsLeap game (after q) vertex p u
 
--- A word may end with shifts alone behind position q at one of the vertices of a word of bits.
+-- A word may end with shifts alone after position q at one of the vertices of a word of bits.
 pub record EndsFrom (game : AbstractGame) (q c word : ℕ) : Type 0 where
   pub vertex : ℕ
   pub there : IsInWord q c word vertex q

@@ -2,6 +2,8 @@
 use Rattle.std.specs.Prelude.{◌≡◌, ◌⊎◌, ℕ, List, [], ◌∷◌, Bool, true, false, IsTrue}
 use Rattle.rbg_rules.specs.declared.rule.Action.{Action}
 use Rattle.rbg_rules.specs.declared.rule.Action.TheVariants.{Shift, On, Off, Assign, Compare, Switch, Positive, Negative}
+use Rattle.rbg_flat.specs.declared.onward.Onward.{Onward}
+use Rattle.rbg_flat.specs.declared.onward.Onward.TheVariants.{Unknown, Modifier as OnModifier, Switch as OnSwitch}
 use Rattle.rbg_flat.specs.declared.paths.Facts.{Facts}
 use Rattle.rbg_flat.specs.declared.paths.Kind.{Kind}
 use Rattle.rbg_flat.specs.declared.paths.Kind.TheVariants.{OnEither, Modifier, Pattern, On as OnOne, Comparison, Plain}
@@ -48,3 +50,14 @@ shows_switch (Assign v e) = false
 shows_switch (Compare e r f) = false
 shows_switch Positive = false
 shows_switch Negative = false
+
+-- What is told of an action at position p, where one may go on to it.
+abbrev pub ShowsOnward : ℕ → Action → Onward → Type 0
+ShowsOnward p (Off x) told = told ≡ OnModifier p
+ShowsOnward p (Assign v e) told = told ≡ OnModifier p
+ShowsOnward p (Switch n) told = told ≡ OnSwitch p
+ShowsOnward p (Shift d) told = told ≡ Unknown
+ShowsOnward p (On pieces) told = told ≡ Unknown
+ShowsOnward p (Compare e r f) told = told ≡ Unknown
+ShowsOnward p Positive told = told ≡ Unknown
+ShowsOnward p Negative told = told ≡ Unknown

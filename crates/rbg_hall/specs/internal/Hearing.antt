@@ -6,7 +6,7 @@ use Rattle.rbg_hall.specs.Tellings.{Telling, told_to}
 use Rattle.rbg_hall.specs.Kept.{KeptState}
 use Rattle.rbg_hall.specs.declared.line.LinePhase.{LinePhase}
 use Rattle.rbg_hall.specs.Events.{AbstractHallEvent, sends, ends}
-use Rattle.rbg_hall.specs.Halls.{line_behind, refused_in}
+use Rattle.rbg_hall.specs.Halls.{line_beyond, refused_in}
 use Rattle.rbg_hall.specs.Ledgers.{Becomes, HallStops, HallWrites, KeptHearsEach}
 use Rattle.rbg_hall.specs.Lines.{HallLine}
 use Rattle.rbg_hall.specs.Own.{heard_of_piece}
@@ -49,7 +49,7 @@ pub record PieceHeard {W : Type 0} (tells : W → List ℕ → Type 0) (olds : L
     (next : HallLine) (before after : List (List ℕ)) : Type 0 where
   pub told : List (List Telling)
   pub tables : EachKeptHears tells (λ table. heard_of_piece (length olds) table one line at bytes) 1 olds news told
-  pub stands : next ≡ line_behind (length olds) one bytes
+  pub stands : next ≡ line_beyond (length olds) one bytes
   pub queued : after ≡ told_to before (refused_in (length olds) one line bytes ++ flat_map (λ one. one) told)
 
 -- what is heard of a line: bytes that it sends, or its end

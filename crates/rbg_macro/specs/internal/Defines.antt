@@ -3,7 +3,7 @@ use Rattle.std.specs.Prelude.{ℕ, ◌≡◌, IsTrue, List, [], ◌∷◌, ◌++
 use Rattle.rbg_macro.specs.declared.definition.Definitions.{Definitions as KeptDefinitions}
 use Rattle.rbg_macro.specs.declared.definition.SectionBody.{SectionBody}
 use Rattle.rbg_macro.specs.declared.macros.Template.{Template}
-use Rattle.rbg_macro.specs.Definition.{Definitions, Defined, A_Section, A_Macro, Part, behind_name, defined, is_new_name}
+use Rattle.rbg_macro.specs.Definition.{Definitions, Defined, A_Section, A_Macro, Part, beyond_name, defined, is_new_name}
 use Rattle.rbg_macro.specs.Macro.{body_of}
 use Rattle.rbg_macro.specs.internal.Template.{item_in}
 use Rattle.rbg_macro.specs.Kinds.{is_symbol}
@@ -35,11 +35,11 @@ pub record AddsParameter (earlier parameters : List (List ℕ)) (ts : List Lexem
   pub new : IsTrue (is_new_name earlier parameter)
   pub added : parameters ≡ earlier ++ parameter.text ∷ []
 
--- the parameters and the body behind a macro's name, as they are kept
-pub record IsTemplateBehind (end : ℕ) (ts : List Lexeme) (template : Template) : Type 0 where
+-- the parameters and the body after a macro's name, as they are kept
+pub record IsTemplateAfter (end : ℕ) (ts : List Lexeme) (template : Template) : Type 0 where
   pub parameters : List (List ℕ)
   pub body : List Lexeme
-  pub behind : behind_name end ts ≡ Ok (parameters, body)
+  pub beyond : beyond_name end ts ≡ Ok (parameters, body)
   pub many : template.parameters ≡ length parameters
   pub filled : map item_in template.body.items ≡ body_of parameters body
 

@@ -6,7 +6,7 @@ use Rattle.rbg_macro.specs.declared.lexer.Part.{Part}
 use Rattle.rbg_macro.specs.declared.lexer.Part.TheVariants.{Skipped, Token, ZeroByte, BadByte}
 use Rattle.rbg_macro.specs.declared.token.Symbol.{Symbol}
 use Rattle.rbg_macro.specs.declared.token.TokenKind.{TokenKind}
-use Rattle.rbg_macro.specs.Text.{Lexes, behind_token}
+use Rattle.rbg_macro.specs.Text.{Lexes, after_token}
 use Rattle.rbg_macro.specs.Spelling.{spelling}
 use Rattle.rbg_macro.specs.Token.{Lexeme}
 
@@ -37,7 +37,7 @@ pub record Takes (kind : TokenKind) (bytes : List ℕ) (n : ℕ) : Type 0 where
   pub some : 0 < n
   pub within : n ≤ length bytes
   pub reads : (at : ℕ) (read : Result (List Lexeme) TextError) → Lexes (at + n) (drop n bytes) read →
-      Lexes at bytes (behind_token (record { kind = kind; text = take n bytes; at = at }) read)
+      Lexes at bytes (after_token (record { kind = kind; text = take n bytes; at = at }) read)
 
 abbrev pub IsPart : List ℕ → Part → Type 0
 IsPart bytes (Skipped n) = Skips bytes n

@@ -19,11 +19,11 @@ macro_of name t = record { name = name; parameters = t.parameters; body = map it
 abbrev pub macro_in : Bor (List ℕ) × Template → Macro
 macro_in e = macro_of e.0.now e.1
 
--- the texts behind references
+-- the texts after references
 abbrev pub texts_in : List (Bor (List ℕ)) → List (List ℕ)
 texts_in texts = map (λ t. t.now) texts
 
--- the tokens of the lists behind references
+-- the tokens of the lists after references
 abbrev pub lists_in : List (Bor (List ReadToken)) → List (List Lexeme)
 lists_in lists = map (λ l. map read_lexeme l.now) lists
 

@@ -7,5 +7,5 @@ use Rattle.rbg_match.specs.Deliveries.{Delivery, delivered}
 pub record Says {T E : Type 0} (old new : List (List ℕ)) (result : Result T E)
     (IsToSay : T → List Delivery → Type 0) : Type 0 where
   pub said : List Delivery
-  pub behind : new ≡ delivered old said
+  pub beyond : new ≡ delivered old said
   pub whole : IfOk result (λ value. IsToSay value said)

@@ -21,7 +21,7 @@ pub record FindsFront
     pub given_up : GivesUp game find_move place result
     pub fits : OnOk result ((cut : Bool) → FitsLimits game cut find_move place)
 
--- A walk from a place, behind no pair: what it gathered in a list that may hold so many moves, whether its question is
+-- A walk from a place, after no pair: what it gathered in a list that may hold so many moves, whether its question is
 -- within the limits, and what was counted of it. Where there is room for none it looks for some move.
 pub record IsWalkedFrom
     (game : AbstractGame) (place : AbstractPlace) (max : ℕ) (had has : List (List (ℕ × ℕ))) (first : List (ℕ × ℕ))

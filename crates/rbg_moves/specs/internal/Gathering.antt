@@ -7,7 +7,7 @@ use Rattle.rbg_pairs.specs.Flat.{IsFlatPart}
 use Rattle.rbg_search.specs.Searching.{Searching}
 use Rattle.rbg_moves.specs.internal.Asking.{CountsAnswer, question_of, is_cut}
 
--- A list of pairs that is wanted and not among these. Where there is room for none, `first` is this list behind the
+-- A list of pairs that is wanted and not among these. Where there is room for none, `first` is this list after the
 -- front, and as long as a move may be.
 pub record IsMissing
     (IsWanted : List (ℕ × ℕ) → Type 0) (front : List (ℕ × ℕ)) (max : ℕ) (found : List (List (ℕ × ℕ)))
@@ -20,7 +20,7 @@ pub record IsMissing
     pub told : max ≡ 0 → first ≡ front ++ pairs
     pub sized : max ≡ 0 → IsMoveLength (length first)
 
--- The new list is the old one with lists of pairs that are wanted, each once and each behind these first pairs. If it
+-- The new list is the old one with lists of pairs that are wanted, each once and each after these first pairs. If it
 -- is not cut, they are all that are wanted. If it is cut, the new list is full, and another one is wanted.
 pub record Gathers
     (IsWanted : List (ℕ × ℕ) → Type 0) (front : List (ℕ × ℕ)) (max : ℕ) (old new : List (List (ℕ × ℕ)))
@@ -37,7 +37,7 @@ pub record Gathers
     pub more : cut ≡ true → IsMissing IsWanted front max found first
 
 -- The list begins with the pair, and the rest of it is wanted.
-pub record IsBehind (q : ℕ × ℕ) (IsWanted : List (ℕ × ℕ) → Type 0) (ps : List (ℕ × ℕ)) : Type 0 where
+pub record IsBeyond (q : ℕ × ℕ) (IsWanted : List (ℕ × ℕ) → Type 0) (ps : List (ℕ × ℕ)) : Type 0 where
   pub rest : List (ℕ × ℕ)
   pub is : ps ≡ q ∷ rest
   pub wanted : IsWanted rest
@@ -88,7 +88,7 @@ AddsMove max old new front front' q true = (length old ≡ max) × ((new ≡ old
 AddsMove max old new front front' q false =
     (length old < max) × ((new ≡ old ++ (front ++ q ∷ []) ∷ []) × (front' ≡ front))
 
--- A walk from a place gathered its moves behind these first pairs, which are fewer than a move may have, and counted what
+-- A walk from a place gathered its moves after these first pairs, which are fewer than a move may have, and counted what
 -- its question takes up.
 pub record IsWalked
     (old new : Searching) (place : AbstractPlace) (front : List (ℕ × ℕ)) (max : ℕ)

@@ -1,4 +1,4 @@
--- One modifier of a move, and the place behind it.
+-- One modifier of a move, and the place after it.
 use Rattle.std.specs.Prelude.{◌≡◌, ℕ, ◌<◌, List, [], length, false, Option, Some, None, Result, Err, IfOk, IfSome, OnOk}
 use Rattle.rbg_rules.specs.Meaning.{IsModifierAt, AbstractGame, AbstractState, Applies, AbstractPlace, Legal, stand_of, IsPlaceOf, try_move, IsDeep, Start}
 use Rattle.rbg_pairs.specs.Flat.{IsNext}
@@ -11,13 +11,13 @@ use Rattle.rbg_search.specs.declared.over.Over.{Over}
 use Rattle.rbg_search.specs.declared.over.Over.TheVariants.{Deep, Wide}
 pub use Rattle.rbg_state.specs.Trials.{at_vertex}
 
--- The place in the middle of a move, behind the modifier at position p.
-abbrev pub place_behind : AbstractState → ℕ → AbstractPlace
-place_behind later p = record { state = later; last = Some p }
+-- The place in the middle of a move, after the modifier at position p.
+abbrev pub place_beyond : AbstractState → ℕ → AbstractPlace
+place_beyond later p = record { state = later; last = Some p }
 
 -- What is so of each semi-state to which the modifier of the pair q leads.
-abbrev pub Behind : AbstractGame → AbstractState → ℕ × ℕ → (AbstractState → Type 0) → Type 0
-Behind game s q Is = (later : AbstractState) → Applies game q.1 (at_vertex s q.0) later → Is later
+abbrev pub Beyond : AbstractGame → AbstractState → ℕ × ℕ → (AbstractState → Type 0) → Type 0
+Beyond game s q Is = (later : AbstractState) → Applies game q.1 (at_vertex s q.0) later → Is later
 
 -- The modifier at position p is valid at vertex v.
 pub record IsValidAt (game : AbstractGame) (s : AbstractState) (v p : ℕ) : Type 0 where
@@ -31,17 +31,17 @@ pub record IsStep (game : AbstractGame) (s : AbstractState) (f : Start) (v p : �
   pub next : IsNext game s f v p
   pub applies : Applies game p (at_vertex s v) later
   pub position : IsPositionOf game.rules p
-  pub in_game : IsPlaceOf game (place_behind later p)
+  pub in_game : IsPlaceOf game (place_beyond later p)
 
 -- A move goes on from the place: it ends at the other one, or nothing of it is left there.
 pub data IsMadeFrom (game : AbstractGame) (place : AbstractPlace) : List (ℕ × ℕ) → AbstractPlace → Type 0 where
   made : IsMadeFrom game place [] place
   goes_on : {ps : List (ℕ × ℕ)} {to : AbstractPlace} → Legal game place ps to → IsMadeFrom game place ps to
 
--- What became of the pairs: they lead to this semi-state, behind the switch at the position; or they are no legal move.
+-- What became of the pairs: they lead to this semi-state, after the switch at the position; or they are no legal move.
 abbrev pub IsTried :
     AbstractGame → AbstractPlace → List (ℕ × ℕ) → AbstractState → Option ℕ → Type 0
-IsTried game place ps new (Some last) = Legal game place ps (place_behind new last)
+IsTried game place ps new (Some last) = Legal game place ps (place_beyond new last)
 IsTried game place ps new None = (to : AbstractPlace) → ¬ Legal game place ps to
 
 -- The pairs were followed from the place as far as they come next one after another: what became of them, and what was

@@ -12,7 +12,7 @@ pub record AreMet (game : AbstractGame) (rows : ℕ) (words : List ℕ) (room : 
   pub within : met ≤ length room
   pub marked : AreMarked (length game.board.first) (marks_of game) rows words (take met room)
 
--- The new list is the old one, and maybe more behind it.
+-- The new list is the old one, and maybe more after it.
 pub record Lengthens (old new : List (ℕ × ℕ)) : Type 0 where
   pub more : List (ℕ × ℕ)
   pub grown : new ≡ old ++ more

@@ -7,27 +7,27 @@ use Rattle.rbg_record.specs.declared.checked.Checked.{Checked}
 use Rattle.rbg_record.specs.declared.checked.Checked.TheVariants as checked
 use Rattle.rbg_record.specs.declared.error.RecordError.{RecordError}
 use Rattle.rbg_record.specs.declared.error.RecordError.TheVariants as error
-use Rattle.rbg_record.specs.declared.fault.Fault.{Fault}
-use Rattle.rbg_record.specs.declared.fault.Fault.TheVariants.{Form, Bad, Over, Memory}
+use Rattle.rbg_record.specs.declared.fault.LineFault.{LineFault}
+use Rattle.rbg_record.specs.declared.fault.LineFault.TheVariants.{Form, Bad, Over, Memory}
 
 -- the fault of a question that was not answered
-abbrev pub fault_of : OverLimits → Fault
+abbrev pub fault_of : OverLimits → LineFault
 fault_of Deep = Over
 fault_of Wide = Over
 fault_of limits.Memory = Memory
 
-abbrev pub IsFaultOf : OverLimits → Fault → Type 0
+abbrev pub IsFaultOf : OverLimits → LineFault → Type 0
 IsFaultOf over fault = fault ≡ fault_of over
 
 -- what is told of a record with a fault at a line
-abbrev pub told_at : Fault → (line : ℕ) → Result Checked RecordError
+abbrev pub told_at : LineFault → (line : ℕ) → Result Checked RecordError
 told_at Form line = Err (error.Form line)
 told_at Bad line = Ok (checked.Bad line)
 told_at Over line = Err (error.Over line)
 told_at Memory line = Err error.Memory
 
 -- a question was not answered: it is above the limits, or memory ran out
-abbrev pub IsOverOrMemory : Fault → Type 0
+abbrev pub IsOverOrMemory : LineFault → Type 0
 IsOverOrMemory Form = ⊥
 IsOverOrMemory Bad = ⊥
 IsOverOrMemory Over = Unit {0}

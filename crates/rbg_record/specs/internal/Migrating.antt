@@ -1,30 +1,34 @@
 -- What was migrated of a record.
-use Rattle.std.specs.Prelude.{◌≡◌, ℕ, ◌+◌, List, [], ◌∷◌, ◌++◌, map, All, Option}
+use Rattle.std.specs.Prelude.{◌≡◌, ℕ, List, [], ◌∷◌, ◌++◌, map, All, Option}
 use Rattle.rbg_wire.specs.declared.outcome.Outcome.{Outcome}
 use Rattle.rbg_rules.specs.Meaning.{AbstractGame}
-use Rattle.rbg_record.specs.declared.entry.Entry.{Entry}
 use Rattle.rbg_record.specs.declared.entry.Entry.TheVariants.{Move, End}
+use Rattle.rbg_record.specs.declared.heading.Version.{Version}
 use Rattle.rbg_record.specs.declared.heading.Version.TheVariants.{One, Two}
-use Rattle.rbg_record.specs.Entries.{entry_text, timed_text, EntryHasSpelling, SpellsEntry}
+use Rattle.rbg_record.specs.declared.line.RecordLine.{RecordLine}
+use Rattle.rbg_record.specs.declared.next.Next.{Next}
+use Rattle.rbg_record.specs.declared.next.Next.TheVariants as nexts
+use Rattle.rbg_record.specs.Entries.{entry_text, timed_text, with_moment, EntryHasSpelling, SpellsEntry}
 use Rattle.rbg_record.specs.Heading.{version_text, players_text, start_text}
+use Rattle.rbg_record.specs.Reading.{Says}
 use Rattle.rbg_wire.specs.Lines.{line_of, lines_of}
-use Rattle.rbg_record.specs.declared.migrating.Part.{Part}
-use Rattle.rbg_record.specs.declared.migrating.Part.TheVariants.{Version, Moves, Nothing}
-use Rattle.rbg_record.specs.Lines.{with_moment}
-use Rattle.rbg_record.specs.Migration.{PlainPart, before_version, among_moves, behind_end, IsPlainSoFar}
+use Rattle.rbg_record.specs.declared.error.RecordError.{RecordError}
+use Rattle.rbg_record.specs.declared.error.RecordError.TheVariants as error
+use Rattle.rbg_record.specs.Migration.{HasPlainForm, PlainPart, before_version, among_moves, beyond_end, IsPlainFault, IsPlainSoFar}
 use Rattle.rbg_record.specs.Records.{PlainMove, plain_entry}
-use Rattle.rbg_record.specs.internal.SoFar.{IsCutSoFar}
 
--- where the code's value says that one is
-abbrev pub part_of : Part → PlainPart
-part_of Version = before_version
-part_of Moves = among_moves
-part_of Nothing = behind_end
+-- this may come next in a record of version 1
+abbrev pub IsPlainNext : Next → Type 0
+IsPlainNext nexts.Version = Unit {0}
+IsPlainNext (nexts.Entry One) = Unit {0}
+IsPlainNext nexts.Nothing = Unit {0}
+IsPlainNext _ = ⊥
 
--- where an entry leads
-abbrev pub part_behind : Entry → PlainPart
-part_behind (Move player pairs) = among_moves
-part_behind (End outcome) = behind_end
+-- where one is in a record of version 1 when this comes next
+abbrev pub part_of : Next → PlainPart
+part_of nexts.Version = before_version
+part_of nexts.Nothing = beyond_end
+part_of _ = among_moves
 
 -- the first texts of version 2
 abbrev pub head_texts : AbstractGame → List (List ℕ)
@@ -44,7 +48,7 @@ pub data Migrates (game : AbstractGame) : PlainPart → (text : List ℕ) → Pl
   end : {text old new : List ℕ} {outcome : Option Outcome} →
       SpellsEntry text (End outcome) →
       new ≡ old ++ line_of (timed_text (with_moment (End outcome))) →
-      Migrates game among_moves text behind_end old new
+      Migrates game among_moves text beyond_end old new
 
 -- the texts of version 1 that tell these moves, and then this end
 abbrev pub moves_texts : List PlainMove → List (List ℕ)
@@ -72,12 +76,35 @@ pub record TellsAll (game : AbstractGame) (texts : List (List ℕ)) (out : List 
 abbrev pub IsTold : AbstractGame → PlainPart → (texts : List (List ℕ)) → (out : List ℕ) → Type 0
 IsTold game before_version texts out = (texts ≡ []) × (out ≡ [])
 IsTold game among_moves texts out = TellsMoves game texts out
-IsTold game behind_end texts out = TellsAll game texts out
+IsTold game beyond_end texts out = TellsAll game texts out
 
--- The lines before the rest are migrated, and the next line has this number.
-pub record IsMigratedSoFar (game : AbstractGame) (bytes : List ℕ) (part : PlainPart)
-    (rest : List ℕ) (line : ℕ) (out : List ℕ) : Type 0 where
-  pub texts : List (List ℕ)
-  pub cut : IsCutSoFar bytes texts rest line
-  pub so_far : IsPlainSoFar texts part
-  pub told : IsTold game part texts out
+-- Lines of these texts are migrated: this comes next, and this was written of them.
+pub record AreMigrated (game : AbstractGame) (texts : List (List ℕ)) (so_far : Next × List ℕ) : Type 0 where
+  pub plain : IsPlainNext so_far.0
+  pub lead : IsPlainSoFar texts (part_of so_far.0)
+  pub told : IsTold game (part_of so_far.0) texts so_far.1
+
+-- A line leads on where that comes next, and what it is in version 2 was written.
+pub record MigratesLine (game : AbstractGame) (next : Next) (text : List ℕ) (to : Next) (old new : List ℕ) : Type 0 where
+  pub migrates : Migrates game (part_of next) text (part_of to) old new
+  pub plain : IsPlainNext to
+
+-- why a line of version 1 isn't migrated: it isn't of the form, whatever comes next, or memory ran out
+abbrev pub RefusesPlain : RecordLine → RecordError → Type 0
+RefusesPlain line (error.Form number) =
+    (number ≡ line.number)
+    × ((next : Next) → IsPlainNext next → Says next line.text.now line.content → ¬ HasPlainForm (part_of next) line.text.now)
+RefusesPlain line (error.Over number) = ⊥
+RefusesPlain line error.Memory = Unit {0}
+
+-- why a version is not migrated: it is version 2, or memory ran out
+abbrev pub RefusesVersion : Version → (line : ℕ) → RecordError → Type 0
+RefusesVersion read line (error.Form number) = (number ≡ line) × (read ≡ Two)
+RefusesVersion read line (error.Over number) = ⊥
+RefusesVersion read line error.Memory = Unit {0}
+
+-- why a record isn't migrated
+abbrev pub IsPlainRefusal : (bytes : List ℕ) → RecordError → Type 0
+IsPlainRefusal bytes (error.Form line) = IsPlainFault bytes line
+IsPlainRefusal bytes (error.Over line) = ⊥
+IsPlainRefusal bytes error.Memory = Unit {0}

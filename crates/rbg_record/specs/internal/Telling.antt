@@ -1,23 +1,24 @@
 -- What was told of a record in its script so far.
-use Rattle.std.specs.Prelude.{◌≡◌, ◌+◌, ℕ, List, [], ◌∷◌, ◌++◌, All, Option}
+use Rattle.std.specs.Prelude.{◌≡◌, ℕ, List, [], ◌∷◌, ◌++◌, All, Option}
 use Rattle.std.specs.List.{flat_map, AllZip}
 use Rattle.rbg_wire.specs.declared.outcome.Outcome.{Outcome}
 use Rattle.rbg_wire.specs.Bytes.{LacksByte}
 use Rattle.rbg_wire.specs.Lines.{line_feed, line_of, lines_of}
-use Rattle.rbg_record.specs.declared.entry.Entry.{Entry}
-use Rattle.rbg_record.specs.declared.entry.Entry.TheVariants.{Move, End}
+use Rattle.rbg_record.specs.declared.entry.Entry.TheVariants.{End}
 use Rattle.rbg_record.specs.declared.entry.Timed.{Timed}
 use Rattle.rbg_record.specs.declared.heading.Version.{Version}
 use Rattle.rbg_record.specs.declared.heading.Version.TheVariants.{Two}
+use Rattle.rbg_record.specs.declared.line.RecordLine.{RecordLine}
+use Rattle.rbg_record.specs.declared.next.Next.{Next}
+use Rattle.rbg_record.specs.declared.next.Next.TheVariants as nexts
+use Rattle.rbg_record.specs.Entries.{SpellsIn}
 use Rattle.rbg_record.specs.Heading.{version_text, SpellsPlayers}
-use Rattle.rbg_record.specs.Lines.{SpellsIn}
-use Rattle.rbg_record.specs.internal.SoFar.{IsCutSoFar}
 use Rattle.rbg_script.specs.declared.config.ScriptConfig.{ScriptConfig}
 use Rattle.rbg_script.specs.Config.{ConfigHasSpelling, config_text}
 use Rattle.rbg_script.specs.Events.{AbstractEvent, SpellsEvent}
-use Rattle.rbg_record.specs.declared.part.Part.{Part}
-use Rattle.rbg_record.specs.declared.part.Part.TheVariants as parts
-use Rattle.rbg_record.specs.Scripting.{IsHead, IsMove, LeadsOn, LeadThere, events_in}
+use Rattle.rbg_record.specs.declared.script_error.ScriptingError.{ScriptingError}
+use Rattle.rbg_record.specs.declared.script_error.ScriptingError.TheVariants.{Form, Memory}
+use Rattle.rbg_record.specs.Scripting.{HasForm, IsHead, IsMove, IsNoRecord, LeadsOn, LeadThere, events_in}
 
 -- Lines are appended that spell these events.
 pub record TellsEvents (events : List AbstractEvent) (old new : List ℕ) : Type 0 where
@@ -25,11 +26,6 @@ pub record TellsEvents (events : List AbstractEvent) (old new : List ℕ) : Type
   pub is : new ≡ old ++ lines_of lines
   pub spelled : AllZip SpellsEvent lines events
   pub whole : All (LacksByte line_feed) lines
-
--- what comes after an entry
-abbrev pub part_behind : Version → Entry → Part
-part_behind version (Move player pairs) = parts.Entry version
-part_behind version (End outcome) = parts.Nothing
 
 -- The texts are the first lines of a record and these entries, and this was written of them.
 pub record TellsEntries (version : Version) (entries : List Timed) (texts : List (List ℕ)) (out : List ℕ) : Type 0 where
@@ -63,21 +59,28 @@ pub record TellsWhole (texts : List (List ℕ)) (out : List ℕ) : Type 0 where
   pub tells : TellsEntries version (moves ++ record { at = at; entry = End outcome } ∷ []) texts out
 
 -- what was written of the lines up to that part
-abbrev pub IsTold : Part → (texts : List (List ℕ)) → (out : List ℕ) → Type 0
-IsTold parts.Version texts out = (texts ≡ []) × (out ≡ [])
-IsTold parts.Players texts out = (texts ≡ version_text Two ∷ []) × (out ≡ [])
-IsTold parts.Start texts out = TellsPlayers texts out
-IsTold (parts.Entry version) texts out = TellsMoves version texts out
-IsTold parts.Nothing texts out = TellsWhole texts out
+abbrev pub IsTold : Next → (texts : List (List ℕ)) → (out : List ℕ) → Type 0
+IsTold nexts.Version texts out = (texts ≡ []) × (out ≡ [])
+IsTold nexts.Players texts out = (texts ≡ version_text Two ∷ []) × (out ≡ [])
+IsTold nexts.Start texts out = TellsPlayers texts out
+IsTold (nexts.Entry version) texts out = TellsMoves version texts out
+IsTold nexts.Nothing texts out = TellsWhole texts out
 
 -- A line leads on, and what was written of it is told.
-pub record TellsNext (from : Part) (text : List ℕ) (to : Part) (old new : List ℕ) : Type 0 where
+pub record TellsNext (from : Next) (text : List ℕ) (to : Next) (old new : List ℕ) : Type 0 where
   pub leads : LeadsOn from text to
   pub told : (texts : List (List ℕ)) → IsTold from texts old → IsTold to (texts ++ text ∷ []) new
 
--- The lines before the rest are told, and the next line has this number.
-pub record IsToldSoFar (bytes : List ℕ) (part : Part) (rest : List ℕ) (line : ℕ) (out : List ℕ) : Type 0 where
-  pub texts : List (List ℕ)
-  pub cut : IsCutSoFar bytes texts rest line
-  pub leads : LeadThere texts part
-  pub told : IsTold part texts out
+-- Lines of these texts are told: this comes next, and this was written of them.
+abbrev pub AreTold : (texts : List (List ℕ)) → Next × List ℕ → Type 0
+AreTold texts so_far = LeadThere texts so_far.0 × IsTold so_far.0 texts so_far.1
+
+-- why a line isn't told: it isn't of the form, or memory ran out
+abbrev pub RefusesLine : Next → RecordLine → ScriptingError → Type 0
+RefusesLine next line (Form number) = (number ≡ line.number) × ¬ HasForm next line.text.now
+RefusesLine next line Memory = Unit {0}
+
+-- why there is no script of a record
+abbrev pub IsRefusal : (bytes : List ℕ) → ScriptingError → Type 0
+IsRefusal bytes (Form line) = IsNoRecord bytes line
+IsRefusal bytes Memory = Unit {0}

@@ -11,7 +11,7 @@ use Rattle.rbg_script.specs.Lines.{HasLines}
 use Rattle.rbg_script.specs.Scripts.{IsNoEvent}
 use Rattle.rbg_script.specs.internal.Whole.{WholeSoFar}
 
--- the text begins with the line, and the rest is behind it
+-- the text begins with the line, and the rest is after it
 pub data BeginsWith (text line rest : List ℕ) : Type 0 where
   ended : LacksByte line_feed line → text ≡ line ++ line_feed ∷ rest → BeginsWith text line rest
   alone : LacksByte line_feed line → text ≡ line → rest ≡ [] → BeginsWith text line rest
@@ -25,7 +25,7 @@ pub data TakesLine (line : List ℕ) (old new : List AbstractEvent) : Bool → T
   taken : (event : AbstractEvent) → SpellsEvent line event → new ≡ old ++ event ∷ [] → TakesLine line old new true
   not_taken : IsNoEvent line → new ≡ old → TakesLine line old new false
 
--- what is left of a text behind lines that spell these events
+-- what is left of a text after lines that spell these events
 pub record ReadSoFar (text left : List ℕ) (events : List AbstractEvent) : Type 0 where
   pub lines : List (List ℕ)
   pub spelled : AllZip SpellsEvent lines events
@@ -39,14 +39,14 @@ pub record SpellsEvents (text : List ℕ) (events : List AbstractEvent) : Type 0
 
 -- why the lines below the first are not read as events
 pub data IsEventReason (text : List ℕ) : ScriptError → Type 0 where
-  bad_line : (line : List ℕ) (before behind : List (List ℕ)) (events : List AbstractEvent)
-      → HasLines text (before ++ line ∷ behind)
+  bad_line : (line : List ℕ) (before after : List (List ℕ)) (events : List AbstractEvent)
+      → HasLines text (before ++ line ∷ after)
       → AllZip SpellsEvent before events
       → IsNoEvent line
       → IsEventReason text (Line (length before + 2))
   out_of_memory : IsEventReason text Memory
 
--- what is left of an input behind whole lines that are not the mark
+-- what is left of an input after whole lines that are not the mark
 pub record Unmarked (input left : List ℕ) : Type 0 where
   pub far : WholeSoFar input left
   pub unmarked : All (λ line. line ≢ mark) far.lines

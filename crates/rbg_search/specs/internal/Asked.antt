@@ -1,4 +1,4 @@
--- What is counted while the patterns of a flat part are asked, and behind its modifiers.
+-- What is counted while the patterns of a flat part are asked, and after its modifiers.
 use Rattle.std.specs.Prelude.{◌≡◌, ◌≢◌, ℕ, ◌≤◌, List, [], ◌∷◌, All, AllPairs, Contains, Result, Err, IsOk}
 use Rattle.rbg_rules.specs.Meaning.{Expression, IsLevel, inside, Start, AbstractGame, AbstractState, IsGame, Question, reach, Item, modifier_at, pattern_at}
 use Rattle.rbg_state.specs.History.{History}
@@ -30,7 +30,7 @@ abbrev pub CountsAsked : AbstractGame → AbstractState → Start → (done : Li
 CountsAsked game s f done old new = CountsBeginning BeginsAsked game reach s f done old new
 
 -- The pairs are modifiers that come next in a pattern of a lawful game, each once, and no word may end before them.
-pub record GoesBehind (game : AbstractGame) (s : AbstractState) (f : Start) (pairs : List (ℕ × ℕ)) : Type 0 where
+pub record GoesAfter (game : AbstractGame) (s : AbstractState) (f : Start) (pairs : List (ℕ × ℕ)) : Type 0 where
   pub lawful : IsGame game
   pub inside : StandsInPattern game.rules f
   pub no_end : ¬ MayEnd game s f

@@ -8,7 +8,7 @@ use Rattle.rbg_search.specs.Searching.{Searching}
 use Rattle.rbg_search.specs.Taken.{CountsPairs}
 use Rattle.rbg_search.specs.internal.Asked.{CountsAsked}
 use Rattle.rbg_search.specs.internal.Begun.{IsBegun}
-use Rattle.rbg_search.specs.internal.Behind.{IsReady}
+use Rattle.rbg_search.specs.internal.Beyond.{IsReady}
 use Rattle.rbg_search.specs.internal.Spent.{IsSpent}
 use Rattle.rbg_search.specs.internal.Taking.{AsksForced}
 
@@ -30,7 +30,7 @@ pub record FindsByPairs (h k : Searching) (s l : History) (f : Start) (flat : Fl
   pub finds : Finds h k s l f (take flat.taken flat.queue.pairs)
   pub begun : IsBegun h.game s.state f flat
 
--- The flat part was found whole, and behind each of its modifiers `nested` patterns at most stand one inside the other.
+-- The flat part was found whole, and after each of its modifiers `nested` patterns at most stand one inside the other.
 pub record HasFound
     (h k : Searching) (s l : History) (f : Start) (nested : ℕ) (pairs : List (ℕ × ℕ)) (ends : Bool)
     : Type 0

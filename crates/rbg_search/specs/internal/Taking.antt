@@ -1,7 +1,7 @@
--- Which forced openings were taken up while the patterns of a flat part are asked, and behind its modifiers.
+-- Which forced openings were taken up while the patterns of a flat part are asked, and after its modifiers.
 use Rattle.std.specs.Prelude.{◌≡◌, ℕ, ◌+◌, ◌≤◌, List, [], ◌∷◌, length, Contains, Bool, false}
 use Rattle.rbg_rules.specs.Meaning.{IsNumbered, IsPatternAt, inside, beginning, AbstractGame, AbstractState, pattern, Item, pattern_at, Forced}
-use Rattle.rbg_search.specs.Forced.{HasFewInRow, TakesBehind}
+use Rattle.rbg_search.specs.Forced.{HasFewInRow, TakesAfter}
 use Rattle.rbg_pairs.specs.Closure.{at_vertex}
 
 -- The empty list was taken up, and all that is forced in the patterns among the pairs that are done.
@@ -21,12 +21,12 @@ pub record AsksForced
         Forced game cut pattern (at_vertex s v) (beginning (inside p)) o →
         HasFewInRow most most o
 
--- The count doesn't fall, and where no word runs behind the pairs, all was taken up that is forced behind them.
-pub record RanBehind
+-- The count doesn't fall, and where no word runs after the pairs, all was taken up that is forced after them.
+pub record RanAfter
     (game : AbstractGame) (s : AbstractState) (pairs : List (ℕ × ℕ)) (runs : Bool) (old new left most : ℕ)
     : Type 0
   where
     pub grows : old ≤ new
     pub forced :
         (cut : Bool) → IsNumbered game.rules → runs ≡ false →
-        TakesBehind game cut pattern s pairs old new left most
+        TakesAfter game cut pattern s pairs old new left most

@@ -1,14 +1,14 @@
--- A search that tries modifiers in turn, whether some word runs behind one of them.
+-- A search that tries modifiers in turn, whether some word runs after one of them.
 use Rattle.std.specs.Prelude.{◌≡◌, ℕ, ◌≤◌, List, All, Bool, Result, Err, IsOk}
 use Rattle.rbg_rules.specs.Meaning.{IsNumbered, Start, reach, pattern}
 use Rattle.rbg_state.specs.History.{History}
 use Rattle.rbg_search.specs.Counting.{CountsOpenings}
-use Rattle.rbg_search.specs.Forced.{TakesBehind}
+use Rattle.rbg_search.specs.Forced.{TakesAfter}
 use Rattle.rbg_search.specs.Passing.{CountsUpTo}
 use Rattle.rbg_search.specs.Searching.{Searching}
 use Rattle.rbg_search.specs.Taken.{CountsPairs, CountsTaken}
-use Rattle.rbg_search.specs.internal.Asked.{GoesBehind, IsCounted}
-use Rattle.rbg_search.specs.internal.Behind.{RunsBehindPair}
+use Rattle.rbg_search.specs.internal.Asked.{GoesAfter, IsCounted}
+use Rattle.rbg_search.specs.internal.Beyond.{RunsAfterPair}
 use Rattle.rbg_search.specs.declared.over.Over.{Over}
 use Rattle.rbg_search.specs.declared.over.Over.TheVariants.{Deep, Memory, Wide}
 
@@ -18,35 +18,35 @@ pub record Stays (h k : Searching) (s l : History) : Type 0 where
   pub given_back : l ≡ record s { room = l.room }
   pub room : s.room ≤ l.room
 
--- A pattern's question went on behind the pairs. The search was h and is k, the semi-state was s and is l; the flat part
+-- A pattern's question went on after the pairs. The search was h and is k, the semi-state was s and is l; the flat part
 -- from f, in which the pairs were found, was counted from a on.
-pub record IsAskedBehind {X : Type 0}
+pub record IsAskedAfter {X : Type 0}
     (h k : Searching) (s l : History) (pairs : List (ℕ × ℕ)) (left : ℕ) (result : Result X Over)
     : Type 0
   where
     pub stays : Stays h k s l
     pub counts :
-        (f : Start) (a : ℕ) → GoesBehind h.game s.state f pairs → CountsOpenings h.game reach s.state f a h.opened →
+        (f : Start) (a : ℕ) → GoesAfter h.game s.state f pairs → CountsOpenings h.game reach s.state f a h.opened →
         IsCounted h.game pattern s.state f a k.opened left h.openings h.modifiers (result ≡ Err Deep)
         (result ≡ Err Wide)
     pub taken :
-        (f : Start) → GoesBehind h.game s.state f pairs →
+        (f : Start) → GoesAfter h.game s.state f pairs →
         CountsTaken h.game pattern s.state f h.opened k.opened h.taken k.taken (IsOk result) (¬ (result ≡ Err Memory))
 
--- Behind those of the pairs that are done no word runs.
-pub record TriesBehind
+-- After those of the pairs that are done no word runs.
+pub record TriesAfter
     (h k : Searching) (s l : History) (pairs done : List (ℕ × ℕ)) (left : ℕ)
     : Type 0
   where
     pub stays : Stays h k s l
-    pub none : All (λ q. ¬ RunsBehindPair h.game s.state q.0 q.1) done
+    pub none : All (λ q. ¬ RunsAfterPair h.game s.state q.0 q.1) done
     pub counted :
-        (f : Start) (a : ℕ) → GoesBehind h.game s.state f pairs → CountsOpenings h.game reach s.state f a h.opened →
+        (f : Start) (a : ℕ) → GoesAfter h.game s.state f pairs → CountsOpenings h.game reach s.state f a h.opened →
         CountsUpTo h.game pattern s.state f done a k.opened
     pub grows : h.opened ≤ k.opened
     pub forced :
         (cut : Bool) → IsNumbered h.game.rules →
-        TakesBehind h.game cut pattern s.state done h.opened k.opened left h.modifiers
+        TakesAfter h.game cut pattern s.state done h.opened k.opened left h.modifiers
     pub taken :
-        (f : Start) → GoesBehind h.game s.state f pairs →
+        (f : Start) → GoesAfter h.game s.state f pairs →
         CountsPairs h.game pattern s.state f h.opened k.opened h.taken k.taken (Unit {0})

@@ -9,7 +9,7 @@ use crate::give::{Give, Take};
 use crate::{Line, Polled, Put};
 
 /// The bytes from a place on.
-fn behind(bytes: &[u8], from: usize) -> &[u8]
+fn beyond(bytes: &[u8], from: usize) -> &[u8]
     ensures { result.now ≡ drop from bytes.now }
 {
     if from < bytes.len() {
@@ -47,7 +47,7 @@ impl Line for MemoryLine {
         };
         match give {
             Give::Bytes(bytes) => {
-                let rest = behind(bytes, self.offset);
+                let rest = beyond(bytes, self.offset);
                 let count = copy(rest, buffer);
                 if count < rest.len() {
                     self.offset += count;

@@ -22,7 +22,7 @@ target_at targets i = slice_index_or targets i no_target
 -- One of the targets between two places tells of position j at vertex u.
 pub record Tells (targets : List Target) (from to j u : ℕ) : Type 0 where
   pub at : ℕ
-  pub behind : from ≤ at
+  pub beyond : from ≤ at
   pub before : at < to
   pub is : IsEndOf (target_at targets at) j u
 

@@ -87,7 +87,7 @@ fn compare_turn<S: Steps>(
     Ok(turn_after(asked, &turn.place, &moves, choice))
 }
 
-/// Compares everything at two places, one move behind the other.
+/// Compares everything at two places, one move after the other.
 fn compare_two<S: Steps>(
     asked: &Asked<'_, S>,
     turn: &Turn,
@@ -106,7 +106,7 @@ fn compare_two<S: Steps>(
     Ok(())
 }
 
-/// Compares everything at three places, one move behind the other.
+/// Compares everything at three places, one move after the other.
 fn compare_three<S: Steps>(
     asked: &Asked<'_, S>,
     turn: &Turn,

@@ -34,7 +34,7 @@ const HEAVY_FIRST: &str = "->white {! ({! [w] {}} + {! {e}}) {}} ->black";
 
 const LIGHT_FIRST: &str = "->white {! ({! {e}} + {! [w] {}}) {}} ->black";
 
-const BEHIND_A_SHIFT: &str = "->white {! (right {! {e}} + {! [w] {}}) {}} ->black";
+const AFTER_A_SHIFT: &str = "->white {! (right {! {e}} + {! [w] {}}) {}} ->black";
 
 const BESIDE_AN_END: &str = "->white {? ({e} + {! [w] {}})} ->black";
 
@@ -51,7 +51,7 @@ const EXAMPLES: [Example; 13] = [
     (ONE, CHOICE, 1, 1, Err(Over::Deep), 1, 2),
     (TWO, HEAVY_FIRST, 2, 1, Err(Over::Deep), 2, 3),
     (TWO, LIGHT_FIRST, 2, 1, Err(Over::Wide), 2, 3),
-    (TWO, BEHIND_A_SHIFT, 2, 1, Err(Over::Deep), 2, 4),
+    (TWO, AFTER_A_SHIFT, 2, 1, Err(Over::Deep), 2, 4),
     (TWO, BESIDE_AN_END, 2, 1, Err(Over::Deep), 2, 3),
     (ONE, MAY_END, 1, 1, Ok(true), 1, 1),
 ];

@@ -118,7 +118,7 @@ fn compare_near<S: Steps>(
     compare_longer(asked, place, &mut pairs, &near(last), moves, tally)
 }
 
-/// What is put behind the front of a move that ends with a pair, one after the other: pairs that differ in a little, the
+/// What is put after the front of a move that ends with a pair, one after the other: pairs that differ in a little, the
 /// pair, and the pair once more.
 fn near(last: &Pair) -> [Pair; 4] {
     let elsewhere = Pair {
@@ -132,7 +132,7 @@ fn near(last: &Pair) -> [Pair; 4] {
     [elsewhere, otherwise, *last, *last]
 }
 
-/// Tries some pairs with more pairs behind them, one after the other.
+/// Tries some pairs with more pairs after them, one after the other.
 fn compare_longer<S: Steps>(
     asked: &Asked<'_, S>,
     place: &Place,

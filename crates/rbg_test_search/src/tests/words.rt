@@ -1,4 +1,4 @@
-//! Words of rules, each cut behind its sixth letter. A letter is the position of an action.
+//! Words of rules, each cut after its sixth letter. A letter is the position of an action.
 ghost use Rattle.std.specs.Prelude.{◌<◌};
 
 use crate::tests::odd::Odd;
@@ -106,8 +106,8 @@ fn join(alloc: Global, firsts: &[Word], seconds: &[Word]) -> Result<Vec<Word>, O
     Ok(joined)
 }
 
-/// Puts each of the second words behind each word of the list.
-fn put_behind(alloc: Global, before: &mut Vec<Word>, seconds: &[Word]) -> Result<(), Odd> {
+/// Puts each of the second words after each word of the list.
+fn put_after(alloc: Global, before: &mut Vec<Word>, seconds: &[Word]) -> Result<(), Odd> {
     *before = join(alloc, before.as_slice(), seconds)?;
     Ok(())
 }
@@ -125,7 +125,7 @@ fn repeat(alloc: Global, words: &[Word]) -> Result<Vec<Word>, Odd> {
     add_all(&mut one_or_none, words)?;
     let mut repeated = only(alloc, Word::EMPTY)?;
     for _ in 0..=LETTERS {
-        put_behind(alloc, &mut repeated, &one_or_none)?;
+        put_after(alloc, &mut repeated, &one_or_none)?;
     }
     Ok(repeated)
 }
@@ -140,7 +140,7 @@ pub(crate) fn words(alloc: Global, tree: &Tree) -> Result<Vec<Word>, Odd> {
             let mut all = only(alloc, Word::EMPTY)?;
             for part in parts {
                 let more = words(alloc, part)?;
-                put_behind(alloc, &mut all, &more)?;
+                put_after(alloc, &mut all, &more)?;
             }
             Ok(all)
         }
@@ -159,17 +159,17 @@ pub(crate) fn words(alloc: Global, tree: &Tree) -> Result<Vec<Word>, Odd> {
     }
 }
 
-/// Puts the words of a part behind each word of the list.
-fn put_part_behind(alloc: Global, before: &mut Vec<Word>, part: &Tree) -> Result<(), Odd> {
+/// Puts the words of a part after each word of the list.
+fn put_part_after(alloc: Global, before: &mut Vec<Word>, part: &Tree) -> Result<(), Odd> {
     let more = words(alloc, part)?;
-    put_behind(alloc, before, &more)
+    put_after(alloc, before, &more)
 }
 
-/// Puts any number of words of a part behind each word of the list.
-fn put_star_behind(alloc: Global, before: &mut Vec<Word>, part: &Tree) -> Result<(), Odd> {
+/// Puts any number of words of a part after each word of the list.
+fn put_star_after(alloc: Global, before: &mut Vec<Word>, part: &Tree) -> Result<(), Odd> {
     let once = words(alloc, part)?;
     let many = repeat(alloc, &once)?;
-    put_behind(alloc, before, &many)
+    put_after(alloc, before, &many)
 }
 
 /// Adds what follows a position in the words of a part that have it. Where the position stands inside a pattern, the end
@@ -203,7 +203,7 @@ fn add_rests(
         Tree::Then(parts) => {
             let mut within = Vec::new(alloc);
             for part in parts {
-                put_part_behind(alloc, &mut within, part)?;
+                put_part_after(alloc, &mut within, part)?;
                 add_rests(alloc, part, after, &mut within, ended)?;
             }
             add_all(open, &within)
@@ -217,7 +217,7 @@ fn add_rests(
         Tree::Star(part) => {
             let mut within = Vec::new(alloc);
             add_rests(alloc, part, after, &mut within, ended)?;
-            put_star_behind(alloc, &mut within, part)?;
+            put_star_after(alloc, &mut within, part)?;
             add_all(open, &within)
         }
     }

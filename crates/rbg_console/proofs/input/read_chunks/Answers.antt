@@ -1,4 +1,4 @@
--- What a read gives comes behind what was read before.
+-- What a read gives comes after what was read before.
 use Rattle.std.proofs.Common.{rules, ◌∙◌, ap, sym, subst}
 use Rattle.std.specs.Io.KnownBytes.{Consumes}
 use Rattle.std.proofs.KnownBytes.{Consumes-trans, Consumes-kept}

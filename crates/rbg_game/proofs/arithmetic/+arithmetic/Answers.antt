@@ -4,7 +4,7 @@ use Rattle.rbg_grammar.proofs.Common.{SpeltExpression, no_operands, operands_aft
 use Rattle.rbg_rules.specs.Meaning.{arithmetic_of}
 use Rattle.rbg_game.proofs.NumberingCommon.{Memory, names_of, HasArithmeticFault, arithmetic_memory}
 use Rattle.rbg_base.proofs.Errors.{passed_on}
-use Rattle.rbg_game.proofs.ArithmeticLemmas.{fault_of_operand, one_operand, is_chain, operands_formed, is_number, is_name, negated_formed, fault_of_negated, negated_made, item_behind, take_first, chain_step, chain_made, combines_operand}
+use Rattle.rbg_game.proofs.ArithmeticLemmas.{fault_of_operand, one_operand, is_chain, operands_formed, is_number, is_name, negated_formed, fault_of_negated, negated_made, item_after, take_first, chain_step, chain_made, combines_operand}
 use Rattle.rbg_game.proofs.arithmetic.+arithmetic.Goals as goal
 
 pub number_expression-number_expression-requires : goal.number_expression-number_expression-requires
@@ -62,14 +62,14 @@ number_operands-loop-operand-init t c =
 
 pub number_operands-number_operand-requires : goal.number_operands-number_operand-requires
 number_operands-number_operand-requires t c =
-    let item = item_behind c.args.operands.now c.loop-operand.operand-index c.operand-item.result c.loop-operand-test.true c.operand-item.is in
+    let item = item_after c.args.operands.now c.loop-operand.operand-index c.operand-item.result c.loop-operand-test.true c.operand-item.is in
     let at = item.1 in
     let within = item.0 in
     (search (rules, the_lemmas, at, within), (subst (λ f. is_formed_expression (expression_of f.value) ≡ true) (sym at) (c.requires.formed (c.loop-operand.operand-index + 1) c.operand-item.result within), c.requires.limits))
 
 pub number_operands-returns-in_err-number_operand-clause-fault : goal.number_operands-returns-in_err-number_operand-clause-fault
 number_operands-returns-in_err-number_operand-clause-fault t c =
-    let item = item_behind c.args.operands.now c.loop-operand.operand-index c.operand-item.result c.loop-operand-test.true c.operand-item.is in
+    let item = item_after c.args.operands.now c.loop-operand.operand-index c.operand-item.result c.loop-operand-test.true c.operand-item.is in
     passed_on c.from_residual-in_err-number_operand.result c.in_err-number_operand.field-0.0 (HasArithmeticFault (names_of c.args.names.now) (SpeltExpression.chain (operands_after no_operands (map operand_of c.args.operands.now)))) c.from_residual-in_err-number_operand.ensures.1
     (fault_of_operand (names_of c.args.names.now) c.args.operands.now (c.loop-operand.operand-index + 1) c.operand-item.result c.operand-item.result c.in_err-number_operand.field-0.0 item.0 item.1 c.in_err-number_operand.ensures.fault)
 

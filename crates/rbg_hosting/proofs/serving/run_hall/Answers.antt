@@ -1,6 +1,7 @@
 -- The lines tell nothing but their failures, and the clock was not asked before.
 use Rattle.std.proofs.Common.{[]}
-use Rattle.rbg_hosting.proofs.RecordLemmas.{all_tell, ended_so}
+use Rattle.rbg_hosting.proofs.RecordLemmas.{all_tell}
+use Rattle.rbg_hosting.proofs.RecordedLemmas.{ended_so}
 use Rattle.rbg_hosting.proofs.serving.run_hall.Goals as goal
 
 pub returns-in-Ok : goal.returns-in-Ok

@@ -14,12 +14,12 @@ returns g c =
       works = c.keep_logs.ensures.failed ∙ first.works;
       queued = first.queued;
     } in
-    let ended = c.in_ok-run_hall.ensures starts made in
+    let ended = c.in_ok-ended.ensures starts made in
     let same = length-map c.in_ok-tables.tables.items start_of ∙ search rules in
     record {
       tables = starts;
       are = c.in_ok-tables.ensures.tables;
-      state = c.run_hall.new.hall.state;
+      state = c.in_ok-ended.ended.state;
       ended = ended;
-      printed_so = c.in_ok-records_of.ensures starts same ended;
+      printed_so = c.in_ok-text.ensures starts same ended;
     }

@@ -7,7 +7,7 @@ use Rattle.rbg_macro.proofs.call.read_arguments.Goals as goal
 pub returns-clause-ok : goal.returns-clause-ok
 returns-clause-ok c =
     let found = rw c.in-Some.is at c.in_ok-len.ensures.arguments in
-    let rest = ap (map read_lexeme) (take_rest c.args.behind.now 1) ∙ sym (drop-map read_lexeme 1 c.args.behind.now) in
+    let rest = ap (map read_lexeme) (take_rest c.args.beyond.now 1) ∙ sym (drop-map read_lexeme 1 c.args.beyond.now) in
     let opens = sym c.begins_with_parenthesis.ensures ∙ c.if-not-begins_with_parenthesis.false in
     record {
       meets = λ name.

@@ -17,7 +17,7 @@ pub returns-clause-ok : goal.returns-clause-ok
 returns-clause-ok c = record {
   what = _;
   defines = defined_macro _ _ _ _ _ _ c.in_ok-template.template c.in_ok-name.ensures c.in_default.ensures (sym c.contains.ensures ∙ c.if-contains.false)
-      c.in_ok-template.ensures.ok.behind c.in_ok-template.ensures.ok.many c.in_ok-template.ensures.ok.filled;
+      c.in_ok-template.ensures.ok.beyond c.in_ok-template.ensures.ok.many c.in_ok-template.ensures.ok.filled;
   added =
       ap (λ (ms : List Macro). let ds : Definitions = record { sections = map section_of c.args.definitions.now.sections.items; macros = ms } in ds)
       c.in_ok-insert.ensures;

@@ -5,7 +5,7 @@ pub returns-clause-ok : goal.returns-clause-ok
 returns-clause-ok c = record {
   parameters = _;
   body = _;
-  behind = c.in_ok-body.ensures;
+  beyond = c.in_ok-body.ensures;
   many = c.in_ok-new.ensures.parameters;
   filled = c.in_ok-new.ensures.body;
 }

@@ -20,4 +20,4 @@ returns-in_err-greet_seat c = said_refused _ c.loop-index.invariant c.greet_seat
 pub loop-index-preserved : goal.loop-index-preserved
 loop-index-preserved c =
     let told = c.in_ok-greet_seat.ensures in
-    rw (greetings_more c.args.text.now c.args.config c.args.game.now.players c.loop-index.index c.player_name-name.result.now c.player_name-name.ensures) (said_more _ _ _ c.loop-index.invariant (rw (← told.whole) told.behind))
+    rw (greetings_more c.args.text.now c.args.config c.args.game.now.players c.loop-index.index c.player_name-name.result.now c.player_name-name.ensures) (said_more _ _ _ c.loop-index.invariant (rw (← told.whole) told.beyond))

@@ -8,7 +8,7 @@ tell-requires-2-clause-is_there c = rw (length-says c.tell.ensures) c.requires.m
 pub returns-in_err-tell-2 : goal.returns-in_err-tell-2
 returns-in_err-tell-2 c =
     let first = c.in_ok-tell.ensures in
-    said_refused first.said first.behind c.tell-2.ensures c.from_residual-in_err-tell-2.result c.from_residual-in_err-tell-2.ensures.0 _
+    said_refused first.said first.beyond c.tell-2.ensures c.from_residual-in_err-tell-2.result c.from_residual-in_err-tell-2.ensures.0 _
 
 pub tell-requires-3-clause-is_there : goal.tell-requires-3-clause-is_there
 tell-requires-3-clause-is_there c = rw (length-says c.tell-2.ensures, length-says c.tell.ensures) c.requires.most
@@ -17,7 +17,7 @@ pub returns-in_err-tell-3 : goal.returns-in_err-tell-3
 returns-in_err-tell-3 c =
     let first = c.in_ok-tell.ensures in
     let second = c.in_ok-tell-2.ensures in
-    said_refused (first.said ++ second.said) (said_more _ first.said second.said first.behind second.behind) c.tell-3.ensures c.from_residual-in_err-tell-3.result c.from_residual-in_err-tell-3.ensures.0 _
+    said_refused (first.said ++ second.said) (said_more _ first.said second.said first.beyond second.beyond) c.tell-3.ensures c.from_residual-in_err-tell-3.result c.from_residual-in_err-tell-3.ensures.0 _
 
 pub returns : goal.returns
 returns c =
@@ -26,6 +26,6 @@ returns c =
     let third = c.in_ok-tell-3.ensures in
     record {
       said = (first.said ++ second.said) ++ third.said;
-      behind = said_more _ (first.said ++ second.said) third.said (said_more _ first.said second.said first.behind second.behind) third.behind;
+      beyond = said_more _ (first.said ++ second.said) third.said (said_more _ first.said second.said first.beyond second.beyond) third.beyond;
       whole = rw (first.whole, second.whole, third.whole, c.as_bytes.ensures.value, c.from.ensures) refl;
     }

@@ -5,7 +5,7 @@ use Rattle.rbg_pairs.specs.Flat.{IsNext}
 use Rattle.rbg_state.specs.History.{History}
 use Rattle.rbg_state.proofs.Histories.{after_nothing, after_both}
 use Rattle.rbg_search.proofs.Asking.{after_room}
-use Rattle.rbg_moves.specs.internal.Stepping.{at_vertex, place_behind, IsValidAt, IsMadeFrom, goes_on}
+use Rattle.rbg_moves.specs.internal.Stepping.{at_vertex, place_beyond, IsValidAt, IsMadeFrom, goes_on}
 use Rattle.rbg_moves.proofs.Steps.{made_next, made_on, made_end, valid_next, next_there, place_after}
 use Rattle.rbg_moves.proofs.Results.{on_err}
 use Rattle.rbg_moves.proofs.making.make_each.Goals as goal
@@ -33,10 +33,10 @@ module _ (game : AbstractGame) (lawful : IsGame game) (place to : AbstractPlace)
       subst (λ (u : AbstractState). IsValidAt game u v p) (sym same)
       (valid_next game lawful.numbered place.state (stand_of place.last) v p (next_there game lawful place.state (stand_of place.last) v p fits next) next)
 
-  made_further : (later : AbstractState) → Applies game p (at_vertex place.state v) later → IsMadeFrom game (place_behind later p) (drop (k + 1) all) to
+  made_further : (later : AbstractState) → Applies game p (at_vertex place.state v) later → IsMadeFrom game (place_beyond later p) (drop (k + 1) all) to
   made_further later applied =
       let further : suc k ≡ k + 1 = omega arith in
-      subst (λ (n : ℕ). IsMadeFrom game (place_behind later p) (drop n all) to) further
+      subst (λ (n : ℕ). IsMadeFrom game (place_beyond later p) (drop n all) to) further
       (made_on game lawful.numbered place v p (drop (suc k) all) to later applied goes_there)
 
 pub apply_at-requires-clause-valid : goal.apply_at-requires-clause-valid

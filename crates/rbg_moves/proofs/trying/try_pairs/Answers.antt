@@ -6,7 +6,7 @@ use Rattle.rbg_search.proofs.Common.{CountsForced, somewhere, Searching}
 use Rattle.rbg_moves.specs.Answers.{GivesUp}
 use Rattle.rbg_moves.specs.Limits.{FitsLimits}
 use Rattle.rbg_moves.specs.Tallying.{IsTallied}
-use Rattle.rbg_moves.specs.internal.Stepping.{place_behind, IsTried}
+use Rattle.rbg_moves.specs.internal.Stepping.{place_beyond, IsTried}
 use Rattle.rbg_moves.proofs.Asked.{asked_in_vain, asked_fits, asked_tallies, at_place, gives_answer, gives_memory, tallies_one, tries_none, uncut_answer}
 use Rattle.rbg_moves.proofs.Forcing.{illegal_counts, illegal_fits}
 use Rattle.rbg_moves.proofs.Tallies.{tallied}
@@ -36,11 +36,11 @@ returns-in-Some-clause-tries x c =
     let ps : List (ℕ × ℕ) = c.as_slice.result.now in
     let there = c.to.view_is ∙ c.in_ok-to.ensures.copy in
     let legal = tried_as game place c.args.pairs.now ps new c.in_ok-end.end (Some c.in-Some.last) c.as_slice.ensures.pairs c.in-Some.is (at_place c.search_in-search.ensures.begun there (λ h p. IsTried h.game p ps new c.in_ok-end.end) c.in_ok-end.ensures.followed.tried) in
-    let within = at_place c.search_in-search.ensures.begun there (λ h p. IfSome c.in_ok-end.end (λ last. IsPlaceOf h.game (place_behind new last))) c.in_ok-end.ensures.in_game in
+    let within = at_place c.search_in-search.ensures.begun there (λ h p. IfSome c.in_ok-end.end (λ last. IsPlaceOf h.game (place_beyond new last))) c.in_ok-end.ensures.in_game in
     record {
       legal = legal;
-      only = λ other also. one_place_law game c.game-game.ensures.lawful.numbered place c.args.pairs.now other (place_behind new c.in-Some.last) also legal;
-      in_game = subst (λ (o : Option ℕ). IfSome o (λ last. IsPlaceOf game (place_behind new last))) c.in-Some.is within;
+      only = λ other also. one_place_law game c.game-game.ensures.lawful.numbered place c.args.pairs.now other (place_beyond new c.in-Some.last) also legal;
+      in_game = subst (λ (o : Option ℕ). IfSome o (λ last. IsPlaceOf game (place_beyond new last))) c.in-Some.is within;
       illegal = tt;
       given_up = gives_answer _ _ _ _;
       fits = λ cut.

@@ -1,15 +1,18 @@
 -- How far the recursion goes, and what the loop over the pairs keeps.
-use Rattle.std.proofs.Common.{◌≡◌, ◌≤◌, ◌-◌, ◌*◌, ◌++◌, ℕ, List, All, length}
+use Rattle.std.proofs.Common.{◌≡◌, ◌≤◌, ◌-◌, ◌*◌, ◌+◌, ◌++◌, ℕ, List, All, length}
 use Rattle.rbg_base.specs.Move.{most_pairs}
 use Rattle.rbg_rules.specs.Meaning.{stand_of, IsSwitchAt}
 use Rattle.rbg_moves.proofs.Further.{IsSoFar, IsWhole}
 use Rattle.rbg_moves.proofs.walking.+walk.Given as goal
 
 abbrev pub decreases-walk : goal.decreases-walk
-decreases-walk g l = 2 * (most_pairs - length l.front.now.items)
+decreases-walk g l = 3 * (most_pairs - length l.front.now.items)
 
-abbrev pub decreases-walk_behind : goal.decreases-walk_behind
-decreases-walk_behind g l = 2 * (most_pairs - length l.front.now.items) - 1
+abbrev pub decreases-walk_after : goal.decreases-walk_after
+decreases-walk_after g l = 3 * (most_pairs - length l.front.now.items) - 1
+
+abbrev pub decreases-walk_on : goal.decreases-walk_on
+decreases-walk_on g l = 3 * (most_pairs - length l.front.now.items) + 1
 
 abbrev pub invariant-walk-loop-pair : goal.invariant-walk-loop-pair
 invariant-walk-loop-pair g l = record {

@@ -1,7 +1,8 @@
 -- The moves that are listed are the answer, or the fault of the record.
 use Rattle.std.proofs.Common.{subst}
 use Rattle.std.proofs.lemmas.Result.{IfOk-weaker}
-use Rattle.rbg_operations.specs.Behind.{IsMisfit, IsMovesAfter}
+use Rattle.rbg_operations.specs.After.{IsMovesAfter}
+use Rattle.rbg_record.specs.Judged.{IsMisfit}
 use Rattle.rbg_operations.specs.Answers.IsGamesAnswer.{goes_on}
 use Rattle.rbg_operations.proofs.JudgingLemmas.{misfit_answer}
 use Rattle.rbg_operations.proofs.moves.go_on.Goals as goal

@@ -1,6 +1,6 @@
 -- What is written to no bytes is the text.
 use Rattle.std.proofs.Common.{◌≡◌, sym, subst, rules}
-use Rattle.rbg_operations.specs.Behind.{GoesOnAt}
+use Rattle.rbg_operations.specs.After.{GoesOnAt}
 use Rattle.rbg_operations.proofs.place.place_lines.Goals as goal
 
 pub returns : goal.returns

@@ -1,8 +1,8 @@
 -- The scores where no move was found, or the moves.
 use Rattle.rbg_base.proofs.Common.{◌≡◌, ◌∙◌, ◌++◌, ap, subst, on_ok_weaker, flat_map, ◌==◌}
 use Rattle.rbg_operations.specs.Lines.{move_line, cut_text}
-use Rattle.rbg_operations.specs.Behind.GoesOnAt.{finished, listed}
-use Rattle.rbg_operations.proofs.Following.{nothing_left, something_left}
+use Rattle.rbg_operations.specs.After.GoesOnAt.{finished, listed}
+use Rattle.rbg_operations.proofs.ListingLemmas.{nothing_left, something_left}
 use Rattle.rbg_operations.proofs.ListingLemmas.{none_legal}
 use Rattle.rbg_operations.proofs.place.write_found.Goals as goal
 

@@ -1,6 +1,6 @@
 -- What was found is written, or the question is above the limits.
 use Rattle.rbg_base.proofs.Common.{codes, on_ok_weaker}
-use Rattle.rbg_operations.specs.Behind.GoesOnAt.{too_hard}
+use Rattle.rbg_operations.specs.After.GoesOnAt.{too_hard}
 use Rattle.rbg_operations.proofs.ListingLemmas.{both_hold, over_error}
 use Rattle.rbg_operations.proofs.place.write_place.Goals as goal
 

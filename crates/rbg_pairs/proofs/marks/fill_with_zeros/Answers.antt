@@ -11,13 +11,13 @@ as_long a k xs ys within long =
     let rest = length-append ys (post_of a k xs) in
     let front = length-take-le a xs (omega (arith, within)) in
     let back = length-drop k (drop a xs) in
-    let behind = length-drop a xs in
-    omega (arith, whole, rest, front, back, behind, long, within)
+    let beyond = length-drop a xs in
+    omega (arith, whole, rest, front, back, beyond, long, within)
 
 part_length : (a k : ℕ) (xs : List ℕ) → a + k ≤ length xs → length (mid_of a k xs) ≡ k
 part_length a k xs within =
-    let behind = length-drop a xs in
-    length-take-le k (drop a xs) (omega (arith, behind, within))
+    let beyond = length-drop a xs in
+    length-take-le k (drop a xs) (omega (arith, beyond, within))
 
 pub loop-done-preserved : goal.loop-done-preserved
 loop-done-preserved c =

@@ -10,7 +10,7 @@ use Rattle.rbg_questions.specs.Counting.{Sums}
 use Rattle.rbg_questions.specs.Refusals.{IsNotCounted, most_counted}
 use Rattle.rbg_questions.specs.Refusals.Meets.{here}
 use Rattle.rbg_questions.specs.Refusals.AreTooMany.{sum}
-use Rattle.rbg_questions.proofs.Refusing.{no_sum, different_take, behind_first, unsettled_refused, refused_next, asked_of_some}
+use Rattle.rbg_questions.proofs.Refusing.{no_sum, different_take, beyond_first, unsettled_refused, refused_next, asked_of_some}
 use Rattle.rbg_base.proofs.Errors.{passed_on}
 use Rattle.rbg_questions.proofs.CountSums.{sums_more, sums_end, counted_from, all_at, all_going}
 use Rattle.rbg_questions.proofs.counting.+counting.Goals as goal
@@ -33,11 +33,11 @@ count_after-loop-index-preserved t c =
     let k = c.loop-index.index in
     let pairs = c.get-pairs.result.now in
     let sum : c.join.result ≡ Some c.in_ok-counts.counts = c.in_ok-counts.ensures.ok_part in
-    let sequences : c.in_ok-counts.counts.sequences ≡ c.loop-index.counts.sequences + c.in_ok-behind.behind.sequences = subst (λ o. IfSome o (λ s. s.sequences ≡ c.loop-index.counts.sequences + c.in_ok-behind.behind.sequences)) sum c.join.ensures.sequences in
-    let ended : c.in_ok-counts.counts.ended ≡ c.loop-index.counts.ended + c.in_ok-behind.behind.ended = subst (λ o. IfSome o (λ s. s.ended ≡ c.loop-index.counts.ended + c.in_ok-behind.behind.ended)) sum c.join.ensures.ended in
-    sums_more (AreCountedAfter c.args.game.now c.args.further c.args.extent c.args.place.now) firsts k pairs c.loop-index.counts.sequences c.loop-index.counts.ended c.in_ok-behind.behind.sequences c.in_ok-behind.behind.ended c.in_ok-counts.counts.sequences c.in_ok-counts.counts.ended
+    let sequences : c.in_ok-counts.counts.sequences ≡ c.loop-index.counts.sequences + c.in_ok-after.after.sequences = subst (λ o. IfSome o (λ s. s.sequences ≡ c.loop-index.counts.sequences + c.in_ok-after.after.sequences)) sum c.join.ensures.sequences in
+    let ended : c.in_ok-counts.counts.ended ≡ c.loop-index.counts.ended + c.in_ok-after.after.ended = subst (λ o. IfSome o (λ s. s.ended ≡ c.loop-index.counts.ended + c.in_ok-after.after.ended)) sum c.join.ensures.ended in
+    sums_more (AreCountedAfter c.args.game.now c.args.further c.args.extent c.args.place.now) firsts k pairs c.loop-index.counts.sequences c.loop-index.counts.ended c.in_ok-after.after.sequences c.in_ok-after.after.ended c.in_ok-counts.counts.sequences c.in_ok-counts.counts.ended
     (slice_get_within firsts k pairs c.get-pairs.ensures.pairs) (sym (get_or_from_slice_get firsts k pairs pairs c.get-pairs.ensures.pairs)) c.loop-index.invariant
-    (c.lead.new.to, c.in_ok-lead.ensures.to, c.in_ok-behind.ensures.counted)
+    (c.lead.new.to, c.in_ok-lead.ensures.to, c.in_ok-after.ensures.counted)
     sequences ended
 
 pub count_after-returns-clause-counted : goal.count_after-returns-clause-counted
@@ -45,10 +45,10 @@ count_after-returns-clause-counted t c =
     let all : length c.args.firsts.now ≤ c.loop-index.index = omega (arith, c.loop-index-test.false, c.len-index-end.ensures.count) in
     sums_end (AreCountedAfter c.args.game.now c.args.further c.args.extent c.args.place.now) c.args.firsts.now c.loop-index.index c.loop-index.counts.sequences c.loop-index.counts.ended all c.loop-index.invariant
 
-pub count_after-returns-in_err-behind-clause-refused : goal.count_after-returns-in_err-behind-clause-refused
-count_after-returns-in_err-behind-clause-refused t c =
-    passed_on c.from_residual-in_err-behind.result c.in_err-behind.field-0.0 _ c.from_residual-in_err-behind.ensures.1
-    (λ place settles. behind_first _ _ _ _ _ _ _ c.in_err-behind.field-0.0 settles c.in_ok-lead.ensures.to c.in_err-behind.ensures.refused)
+pub count_after-returns-in_err-after-clause-refused : goal.count_after-returns-in_err-after-clause-refused
+count_after-returns-in_err-after-clause-refused t c =
+    passed_on c.from_residual-in_err-after.result c.in_err-after.field-0.0 _ c.from_residual-in_err-after.ensures.1
+    (λ place settles. beyond_first _ _ _ _ _ _ _ c.in_err-after.field-0.0 settles c.in_ok-lead.ensures.to c.in_err-after.ensures.refused)
 
 pub count_after-returns-in_err-counts-clause-refused : goal.count_after-returns-in_err-counts-clause-refused
 count_after-returns-in_err-counts-clause-refused t c =
@@ -56,14 +56,14 @@ count_after-returns-in_err-counts-clause-refused t c =
     let k = c.loop-index.index in
     let pairs = c.get-pairs.result.now in
     let Has = AreCountedAfter c.args.game.now c.args.further c.args.extent c.args.place.now in
-    let sequences = c.loop-index.counts.sequences + c.in_ok-behind.behind.sequences in
-    let ended = c.loop-index.counts.ended + c.in_ok-behind.behind.ended in
+    let sequences = c.loop-index.counts.sequences + c.in_ok-after.after.sequences in
+    let ended = c.loop-index.counts.ended + c.in_ok-after.after.ended in
     let told = no_sum _ c.join.result c.in_err-counts.field-0.0 c.in_err-counts.ensures.value in
     let above : (most_counted < sequences) ⊎ (most_counted < ended) = subst (λ o. IfNone o ((most_counted < sequences) ⊎ (most_counted < ended))) told.1 c.join.ensures.above in
     let sums : Sums Has (take (k + 1) firsts) sequences ended =
-    sums_more Has firsts k pairs c.loop-index.counts.sequences c.loop-index.counts.ended c.in_ok-behind.behind.sequences c.in_ok-behind.behind.ended sequences ended
+    sums_more Has firsts k pairs c.loop-index.counts.sequences c.loop-index.counts.ended c.in_ok-after.after.sequences c.in_ok-after.after.ended sequences ended
     (slice_get_within firsts k pairs c.get-pairs.ensures.pairs) (sym (get_or_from_slice_get firsts k pairs pairs c.get-pairs.ensures.pairs)) c.loop-index.invariant
-    (c.lead.new.to, c.in_ok-lead.ensures.to, c.in_ok-behind.ensures.counted) refl refl in
+    (c.lead.new.to, c.in_ok-lead.ensures.to, c.in_ok-after.ensures.counted) refl refl in
     passed_on c.from_residual-in_err-counts.result c.in_err-counts.field-0.0 _ c.from_residual-in_err-counts.ensures.1
     (λ place settles. subst (λ e. IsNotCounted c.args.game.now (suc c.args.further) c.args.extent place e) (sym told.0)
     (here tt (sum settles (All-take (IsLegal c.args.game.now c.args.place.now) (k + 1) firsts c.requires.legal) (different_take (λ (a b : List (ℕ × ℕ)). a ≢ b) (k + 1) firsts c.requires.different) sums above)))

@@ -1,26 +1,36 @@
-use Rattle.std.proofs.Common.{Result, subst, sym, ◌∙◌}
-use Rattle.std.proofs.lemmas.Bool.{true≢false}
-use Rattle.rbg_record.proofs.Common.{Checked, RecordError, IsJudged, reached_of}
-use Rattle.rbg_record.proofs.SoFarLemmas.{read_none, read_more, read_fault, read_short, not_empty}
+use Rattle.std.proofs.Common.{refl, subst}
+use Rattle.rbg_base.proofs.Errors.{passed_on}
+use Rattle.rbg_record.specs.declared.next.Next.{Next}
+use Rattle.rbg_record.proofs.LineCommon.{Says}
+use Rattle.rbg_record.proofs.Stopping.{read_more, read_none}
+use Rattle.rbg_record.specs.declared.fault.LineFault.TheVariants.{Form}
+use Rattle.rbg_record.specs.Lines as lines
+use Rattle.rbg_record.proofs.SoFarLemmas.{judged_whole, misjudged, misread}
 use Rattle.rbg_record.proofs.checking.judge_lines.Goals as goal
-use Rattle.rbg_record.proofs.checking.judge_lines.Goals.{else-over-via-then-over+else-is_empty, else-over-via-else-over}
 
-pub loop-text-init : goal.loop-text-init
-loop-text-init c = read_none c.args.game.now c.args.bytes.now
+pub loop-reached-init : goal.loop-reached-init
+loop-reached-init c = (read_none c.args.bytes.now lines.version_next _ c.new-reader.ensures lines.none, tt)
 
-pub returns-in-Err : goal.returns-in-Err
-returns-in-Err c =
-    subst (λ (answer : Result Checked RecordError). IsJudged c.args.game.now c.args.bytes.now answer) (sym c.at.ensures)
-    (read_fault c.args.game.now c.args.bytes.now (reached_of c.loop-text.reached) c.loop-text.rest.now c.in-Some.text.now c.in-Some.later.now c.loop-text.line c.in-Err.fault c.loop-text.invariant c.in-Some.ensures.found c.in-Err.ensures.refused)
+pub returns-in_err-line-clause-misfit : goal.returns-in_err-line-clause-misfit
+returns-in_err-line-clause-misfit c =
+    passed_on c.from_residual.result (record { line = c.in_err-line.field-0.0.line; fault = Form }) _ c.from_residual.ensures.1
+    (misread c.loop-reached.invariant.0 c.in_err-line.field-0.0 _ refl c.next.ensures c.in_err-line.ensures.fault)
 
-pub loop-text-preserved : goal.loop-text-preserved
-loop-text-preserved c =
-    read_more c.args.game.now c.args.bytes.now (reached_of c.loop-text.reached) (reached_of c.in-Ok.to) c.loop-text.rest.now c.in-Some.text.now c.in-Some.later.now c.loop-text.line c.loop-text.invariant c.in-Some.ensures.found c.in-Ok.ensures.leads c.in-Ok.ensures.in_game
+pub judge_line-requires-clause-says : goal.judge_line-requires-clause-says
+judge_line-requires-clause-says c =
+    let takes = rw c.in-Some.is at c.in_ok-line.ensures.line in
+    subst (λ (next : Next). Says next c.in-Some.line.text.now c.in-Some.line.content) c.next.ensures takes.says
 
-pub returns : goal.returns
-returns c =
-    read_short c.args.game.now c.args.bytes.now (reached_of c.loop-text.reached) c.loop-text.rest.now c.loop-text.line c.loop-text.invariant c.in_default.ensures.none
-    (elim c.else-over.branch [
-      | else-over-via-then-over+else-is_empty w ↦ (λ over none. not_empty c.loop-text.rest.now w.is_empty.result w.is_empty.ensures w.if-is_empty.false none)
-      | else-over-via-else-over w ↦ (λ over none. true≢false (sym (c.is_over-over.ensures.1 over) ∙ w.if-over.false))
-    ])
+pub returns-in_err-reached-clause-misfit : goal.returns-in_err-reached-clause-misfit
+returns-in_err-reached-clause-misfit c =
+    let takes = rw c.in-Some.is at c.in_ok-line.ensures.line in
+    passed_on c.from_residual-in_err-reached.result c.in_err-reached.field-0.0 _ c.from_residual-in_err-reached.ensures.1
+    (misjudged c.loop-reached.invariant.0 c.in-Some.line c.in_err-reached.field-0.0 takes c.in_err-reached.ensures.refused)
+
+pub loop-reached-preserved : goal.loop-reached-preserved
+loop-reached-preserved c =
+    let takes = rw c.in-Some.is at c.in_ok-line.ensures.line in
+    (read_more c.loop-reached.invariant.0 takes.first takes.later (λ texts led. lines.more led c.in_ok-reached.ensures.leads), c.in_ok-reached.ensures.in_game)
+
+pub returns-clause-good : goal.returns-clause-good
+returns-clause-good c = judged_whole c.loop-reached.invariant.0 c.next.ensures (rw c.in_default.is at c.in_ok-line.ensures.over)

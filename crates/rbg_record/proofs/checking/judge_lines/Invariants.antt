@@ -1,9 +1,10 @@
 use Rattle.std.proofs.Common.{length}
-use Rattle.rbg_record.proofs.Common.{reached_of, IsReadSoFar}
+use Rattle.rbg_record.proofs.Common.{IsReachedIn, reached_of}
+use Rattle.rbg_record.proofs.SoFarLemmas.{IsJudgedSoFar}
 use Rattle.rbg_record.proofs.checking.judge_lines.Given as goal
 
-abbrev pub invariant-loop-text : goal.invariant-loop-text
-invariant-loop-text l = IsReadSoFar l.game l.bytes (reached_of l.reached) l.rest l.line
+abbrev pub invariant-loop-reached : goal.invariant-loop-reached
+invariant-loop-reached l = IsJudgedSoFar l.game l.bytes (reached_of l.reached) l.reader × IsReachedIn l.game (reached_of l.reached)
 
-abbrev pub decreases-loop-text : goal.decreases-loop-text
-decreases-loop-text l = length l.rest
+abbrev pub decreases-loop-reached : goal.decreases-loop-reached
+decreases-loop-reached l = length l.reader.rest

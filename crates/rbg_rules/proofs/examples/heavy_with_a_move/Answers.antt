@@ -2,7 +2,7 @@
 use Rattle.std.proofs.Common.{◌≡◌, ℕ, zero, suc, List, [], ◌∷◌, ◌++◌, refl, inl, inr, sym, ap, ◌∙◌, subst, ◌⊎◌, append_assoc, arith}
 use Rattle.std.proofs.lemmas.Bool.{eq-eqb}
 use Rattle.std.proofs.lemmas.List.{append-nil}
-use Rattle.rbg_rules.specs.Meaning.{off, on, switch, act, star, choice_of, sequence_of, Expression, HasAction, IsNumbered, IsSwitchAt, outermost, after, Word, Follows, AbstractState, Applies, RunPairs, stay, modify, pass, Opening, at, IsProperPrefix, AnswersBehind, IsDeep, find_move, items_of, IsJoinOfWords}
+use Rattle.rbg_rules.specs.Meaning.{off, on, switch, act, star, choice_of, sequence_of, Expression, HasAction, IsNumbered, IsSwitchAt, outermost, after, Word, Follows, AbstractState, Applies, RunPairs, stay, modify, pass, Opening, at, IsProperPrefix, AnswersAfter, IsDeep, find_move, items_of, IsJoinOfWords}
 use Rattle.rbg_rules.specs.ExampleGames.{heavy_choice, state_of}
 use Rattle.rbg_rules.proofs.PositionLemmas.{Among, Among_left, Among_right}
 use Rattle.rbg_rules.proofs.MoveLemmas.{applied_acts}
@@ -102,13 +102,13 @@ three_or_four b (inl (inl none)) = absurd none
 three_or_four b (inl (inr (u, v, in_u, last, e))) = inl (subst (Among 3) (sym e) (Among_right 3 u v (subst (Among 3) (sym last) (inl refl))))
 three_or_four b (inr is) = inr (subst (Among 4) (sym is) (inl refl))
 
-no_answer : (n : ℕ) (qs : List (ℕ × ℕ)) → IsProperPrefix qs (pairs n) → ¬ AnswersBehind heavy_choice find_move start (after 1) qs
+no_answer : (n : ℕ) (qs : List (ℕ × ℕ)) → IsProperPrefix qs (pairs n) → ¬ AnswersAfter heavy_choice find_move start (after 1) qs
 no_answer n qs (more, some, is) (m, t, q, runs_on, follows_on, switches) =
     let rest = remains 1 (switch 1) (either ∷ act 5 (switch 2) ∷ []) numbered (inl (inl (inr (refl, refl)))) refl (m ++ q ∷ []) follows_on in
-    behind rest.back rest.others
+    beyond rest.back rest.others
   where
-    behind : (back : List ℕ) → IsJoinOfWords (either ∷ act 5 (switch 2) ∷ []) ((m ++ q ∷ []) ++ back) → ⊥
-    behind back (b, v, in_b, last, e) =
+    beyond : (back : List ℕ) → IsJoinOfWords (either ∷ act 5 (switch 2) ∷ []) ((m ++ q ∷ []) ++ back) → ⊥
+    beyond back (b, v, in_b, last, e) =
         let joined : m ++ q ∷ back ≡ b ++ 5 ∷ [] = sym (append_assoc m (q ∷ []) back) ∙ e ∙ ap (λ (z : List ℕ). b ++ z) (acts_joined ((5, switch 2) ∷ []) v last) in
         elim (split m b q 5 back joined) [
           | inl h ↦ in_branch b in_b q h switches

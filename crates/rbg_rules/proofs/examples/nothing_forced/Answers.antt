@@ -1,6 +1,6 @@
 -- The proof of `examples::nothing_forced`.
 use Rattle.std.proofs.Common.{◌≡◌, ℕ, List, [], ◌∷◌, ◌++◌, refl, sym, ap, ◌∙◌, subst}
-use Rattle.rbg_rules.specs.Meaning.{IsNumbered, IsSwitchAt, after, at, behind, IsMove}
+use Rattle.rbg_rules.specs.Meaning.{IsNumbered, IsSwitchAt, after, at, beyond, IsMove}
 use Rattle.rbg_rules.specs.ExampleGames.{star_of_offs, state_of}
 use Rattle.rbg_rules.proofs.PlaceLemmas.{RunPairs-append, one_switch, snoc_same}
 use Rattle.rbg_rules.proofs.Standing.{no_switch_at}
@@ -19,4 +19,4 @@ no_move move =
 
 pub returns : goal.returns
 returns c cut o (at runs goes forced) = no_move forced
-returns c cut o (behind runs goes forced follows pattern more) = no_move forced
+returns c cut o (beyond runs goes forced follows pattern more) = no_move forced

@@ -1,7 +1,7 @@
 -- The proof of `examples::openings_in_a_pattern`.
 use Rattle.std.proofs.Common.{◌≡◌, ℕ, List, [], ◌∷◌, refl, inl, inr, subst}
 use Rattle.rbg_board.specs.Graph.{next}
-use Rattle.rbg_rules.specs.Meaning.{shift, off, positive, negative, Expression, HasAction, outermost, inside, IsLevel, beginning, WordOf, Word, AbstractState, RunPairs, stay, modify, pass, at, behind, AnswersBehind, GoesTo, pattern}
+use Rattle.rbg_rules.specs.Meaning.{shift, off, positive, negative, Expression, HasAction, outermost, inside, IsLevel, beginning, WordOf, Word, AbstractState, RunPairs, stay, modify, pass, at, beyond, AnswersAfter, GoesTo, pattern}
 use Rattle.rbg_rules.specs.ExampleGames.{looking_right}
 use Rattle.rbg_rules.proofs.Standing.{no_switches, not_quiet}
 use Rattle.rbg_rules.proofs.ExampleLemmas.{only_nothing, all_of_one, acts_word, only_word}
@@ -32,14 +32,14 @@ inside_word w of_level = only_word inner w (subst (λ (x : Expression). Word x w
 some_pair : (t : AbstractState) → ¬ RunPairs looking_right (3 ∷ 4 ∷ []) at_first t []
 some_pair t (pass applied quiet (pass applied' quiet' stay)) = not_quiet refl applied' quiet'
 
-no_answer : ¬ AnswersBehind looking_right pattern at_first (beginning (inside 2)) []
+no_answer : ¬ AnswersAfter looking_right pattern at_first (beginning (inside 2)) []
 no_answer (m, t, runs, ends) = some_pair t (subst (λ (w : List ℕ). RunPairs looking_right w at_first t []) (inside_word m ends) runs.runs)
 
 goes_inside : GoesTo looking_right pattern at_first (beginning (inside 2)) ((1, 4) ∷ [])
-goes_inside qs (more, some, e) answer = no_answer (subst (λ (ps : List (ℕ × ℕ)). AnswersBehind looking_right pattern at_first (beginning (inside 2)) ps) (all_of_one (1, 4) qs more some e) answer)
+goes_inside qs (more, some, e) answer = no_answer (subst (λ (ps : List (ℕ × ℕ)). AnswersAfter looking_right pattern at_first (beginning (inside 2)) ps) (all_of_one (1, 4) qs more some e) answer)
 
 pub returns : goal.returns
-returns c = behind {m = []} {t = at_first} {ps = []} {p = 2}
+returns c = beyond {m = []} {t = at_first} {ps = []} {p = 2}
     (record { no_switch = no_switches looking_right.rules [] refl; follows = (outermost, [], 2 ∷ 5 ∷ 6 ∷ 7 ∷ 8 ∷ [], record { expression = looking_right.rules; is_level = refl; is_word = acts_word actions }); runs = stay })
     (λ qs (more, some, e). absurd (only_nothing qs more some e))
     (outermost, [], 5 ∷ 6 ∷ 7 ∷ 8 ∷ [], record { expression = looking_right.rules; is_level = refl; is_word = acts_word actions })

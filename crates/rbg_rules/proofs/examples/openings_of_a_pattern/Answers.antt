@@ -1,6 +1,6 @@
 -- The proof of `examples::openings_of_a_pattern`.
 use Rattle.std.proofs.Common.{◌≡◌, ℕ, List, [], ◌∷◌, ◌++◌, refl, inl, inr, sym, ap, ◌∙◌, subst, ◌⊎◌, arith, Bool, All, Contains}
-use Rattle.rbg_rules.specs.Meaning.{on, off, positive, negative, Expression, HasAction, IsNumbered, IsPatternAt, IsLevel, inside, Word, WordOf, Start, beginning, Follows, AbstractState, Applies, RunPairs, stay, modify, pass, Item, modifier_at, RunsOn, Opening, at, behind, GoesTo, Forced, SomeWordRuns, pattern, items_of, is_pattern}
+use Rattle.rbg_rules.specs.Meaning.{on, off, positive, negative, Expression, HasAction, IsNumbered, IsPatternAt, IsLevel, inside, Word, WordOf, Start, beginning, Follows, AbstractState, Applies, RunPairs, stay, modify, pass, Item, modifier_at, RunsOn, Opening, at, beyond, GoesTo, Forced, SomeWordRuns, pattern, items_of, is_pattern}
 use Rattle.rbg_rules.specs.ExampleGames.{asking_a_sum, off_and_stop}
 use Rattle.rbg_rules.proofs.PositionLemmas.{Among, Among_left, Among_right, one_stands}
 use Rattle.rbg_rules.proofs.MoveLemmas.{applied_acts}
@@ -113,7 +113,7 @@ is_one m t ps run (inr e) = let same = one_pair asking_a_sum 4 refl start t ps (
 
 pub returns-clause-no_other : goal.returns-clause-no_other
 returns-clause-no_other c o (at {m} {t} {ps} runs goes_on) = is_one m t ps runs.runs (short m start t ps runs.follows runs.runs)
-returns-clause-no_other c o (behind {m} {p} runs goes_on follows is_pattern_at more) = absurd (no_pattern_follows m p follows is_pattern_at)
+returns-clause-no_other c o (beyond {m} {p} runs goes_on follows is_pattern_at more) = absurd (no_pattern_follows m p follows is_pattern_at)
 
 -- The three runs.
 runs_at_once : RunsOn asking_a_sum start asked [] start []

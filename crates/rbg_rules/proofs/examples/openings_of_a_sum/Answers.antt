@@ -1,6 +1,6 @@
 -- The proof of `examples::openings_of_a_sum`.
 use Rattle.std.proofs.Common.{◌≡◌, ℕ, List, [], ◌∷◌, ◌++◌, refl, inl, inr, sym, ap, subst, ◌⊎◌, arith, All, Contains}
-use Rattle.rbg_rules.specs.Meaning.{off, switch, act, choice_of, HasAction, IsNumbered, IsSwitchAt, HasNoSwitch, outermost, after, Follows, Word, AbstractState, RunPairs, stay, modify, pass, IsJoinOfWords, Item, modifier_at, Opening, at, behind, GoesTo, AnswersBehind, find_move, items_of, is_pattern, Expression}
+use Rattle.rbg_rules.specs.Meaning.{off, switch, act, choice_of, HasAction, IsNumbered, IsSwitchAt, HasNoSwitch, outermost, after, Follows, Word, AbstractState, RunPairs, stay, modify, pass, IsJoinOfWords, Item, modifier_at, Opening, at, beyond, GoesTo, AnswersAfter, find_move, items_of, is_pattern, Expression}
 use Rattle.rbg_rules.specs.ExampleGames.{small_sum}
 use Rattle.rbg_rules.proofs.Standing.{none_such, no_switch_at, no_switches, no_pattern_at, ModifiesAt, not_quiet}
 use Rattle.rbg_rules.proofs.ExampleLemmas.{only_nothing, all_of_one, no_pairs, one_pair, remains, all_among}
@@ -51,8 +51,8 @@ short (x ∷ y ∷ m) none begun = absurd (all_among (λ p. ¬ IsSwitchAt small_
 some_pair : (p : ℕ) → ModifiesAt small_sum.rules p → (w : List ℕ) (s t : AbstractState) → ¬ RunPairs small_sum (p ∷ w) s t []
 some_pair p modifier w s t (pass applied quiet run) = not_quiet modifier applied quiet
 
--- No switch is behind no modifier.
-no_answer : ¬ AnswersBehind small_sum find_move start (after 1) []
+-- No switch is after no modifier.
+no_answer : ¬ AnswersAfter small_sum find_move start (after 1) []
 no_answer ([], t, q, runs, follows, switch_at) =
     let begun = begins (q ∷ []) follows in
     elim begun.one_of_two [
@@ -67,7 +67,7 @@ no_answer (x ∷ m, t, q, runs, follows, switch_at) =
     ]
 
 goes_to : (pair : ℕ × ℕ) → GoesTo small_sum find_move start (after 1) (pair ∷ [])
-goes_to pair qs (more, some, e) answer = no_answer (subst (λ (ps : List (ℕ × ℕ)). AnswersBehind small_sum find_move start (after 1) ps) (all_of_one pair qs more some e) answer)
+goes_to pair qs (more, some, e) answer = no_answer (subst (λ (ps : List (ℕ × ℕ)). AnswersAfter small_sum find_move start (after 1) ps) (all_of_one pair qs more some e) answer)
 
 word_two : Word small_sum.rules (1 ∷ 2 ∷ 4 ∷ [])
 word_two = (1 ∷ 2 ∷ [], 4 ∷ [], (1 ∷ [], 2 ∷ [], ([], 1 ∷ [], refl, refl, refl), inl (inr refl), refl), refl, refl)
@@ -81,17 +81,17 @@ IsOpened o = Opening small_sum find_move start (after 1) o
 at_once : IsOpened []
 at_once = at {m = []} {t = start} {ps = []} (record { no_switch = no_switches small_sum.rules [] refl; follows = (outermost, [], 2 ∷ 4 ∷ [], record { expression = small_sum.rules; is_level = refl; is_word = word_two }); runs = stay }) (λ qs (more, some, e). absurd (only_nothing qs more some e))
 
-behind_e : IsOpened (modifier_at 0 2 ∷ [])
-behind_e = at {m = 2 ∷ []} {t = start} {ps = (0, 2) ∷ []} (record { no_switch = no_switches small_sum.rules (2 ∷ []) refl; follows = (outermost, [], 4 ∷ [], record { expression = small_sum.rules; is_level = refl; is_word = word_two }); runs = modify (record { action = off 0; stands = puts_e; acts = refl }) refl stay }) (goes_to (0, 2))
+after_e : IsOpened (modifier_at 0 2 ∷ [])
+after_e = at {m = 2 ∷ []} {t = start} {ps = (0, 2) ∷ []} (record { no_switch = no_switches small_sum.rules (2 ∷ []) refl; follows = (outermost, [], 4 ∷ [], record { expression = small_sum.rules; is_level = refl; is_word = word_two }); runs = modify (record { action = off 0; stands = puts_e; acts = refl }) refl stay }) (goes_to (0, 2))
 
-behind_w : IsOpened (modifier_at 0 3 ∷ [])
-behind_w = at {m = 3 ∷ []} {t = with_piece} {ps = (0, 3) ∷ []} (record { no_switch = no_switches small_sum.rules (3 ∷ []) refl; follows = (outermost, [], 4 ∷ [], record { expression = small_sum.rules; is_level = refl; is_word = word_three }); runs = modify (record { action = off 1; stands = puts_w; acts = refl }) refl stay }) (goes_to (0, 3))
+after_w : IsOpened (modifier_at 0 3 ∷ [])
+after_w = at {m = 3 ∷ []} {t = with_piece} {ps = (0, 3) ∷ []} (record { no_switch = no_switches small_sum.rules (3 ∷ []) refl; follows = (outermost, [], 4 ∷ [], record { expression = small_sum.rules; is_level = refl; is_word = word_three }); runs = modify (record { action = off 1; stands = puts_w; acts = refl }) refl stay }) (goes_to (0, 3))
 
 abbrev three : List (List Item)
 three = [] ∷ (modifier_at 0 2 ∷ []) ∷ (modifier_at 0 3 ∷ []) ∷ []
 
 these : All IsOpened three
-these = all_three IsOpened [] (modifier_at 0 2 ∷ []) (modifier_at 0 3 ∷ []) at_once behind_e behind_w
+these = all_three IsOpened [] (modifier_at 0 2 ∷ []) (modifier_at 0 3 ∷ []) at_once after_e after_w
 
 pub returns-clause-these : goal.returns-clause-these
 returns-clause-these c = these
@@ -103,7 +103,7 @@ is_one m t ps run (inr e) = let same = one_pair small_sum 3 refl start t ps (sub
 
 pub returns-clause-no_other : goal.returns-clause-no_other
 returns-clause-no_other c o (at {m} {t} {ps} runs goes) = is_one m t ps runs.runs (short m runs.no_switch (begins m runs.follows))
-returns-clause-no_other c o (behind {p} runs goes follows pattern more) = absurd (no_pattern_at small_sum.rules p (none_such (λ q a. is_pattern a) small_sum.rules refl p) pattern)
+returns-clause-no_other c o (beyond {p} runs goes follows pattern more) = absurd (no_pattern_at small_sum.rules p (none_such (λ q a. is_pattern a) small_sum.rules refl p) pattern)
 
 pub returns-clause-three : goal.returns-clause-three
 returns-clause-three c = record { openings = three; different = three_apart [] (modifier_at 0 2 ∷ []) (modifier_at 0 3 ∷ []) (λ e. cc) (λ e. cc) (λ e. cc); opened = these; count = refl }

@@ -1,8 +1,8 @@
--- Three numbers stand behind the word, and two of them have limits.
+-- Three numbers stand after the word, and two of them have limits.
 use Rattle.std.proofs.Common.{◌∙◌, sym, ◌≡◌, true, false}
 use Rattle.rbg_wire.proofs.ReadsLemmas.{reads_found, reads_none}
 use Rattle.rbg_script.proofs.Apart.{one_config}
-use Rattle.rbg_script.proofs.Parts.{config_shape, config_fields, config_last, behind_first, turn_small, refusals_small, spells_config, other_limits}
+use Rattle.rbg_script.proofs.Parts.{config_shape, config_fields, config_last, beyond_first, turn_small, refusals_small, spells_config, other_limits}
 use Rattle.rbg_script.proofs.config_reader.read_config.Goals as goal
 
 pub returns-in_err-fields : goal.returns-in_err-fields
@@ -21,7 +21,7 @@ returns-in_err-refusals c =
     rw c.from_residual-in_err-refusals.ensures (reads_none (λ config h.
     c.in_err-refusals.ensures.none config.refusals _ (record {
       small = refusals_small config.turn_ms config.refusals h.has.0;
-      parts = behind_first _ _ _ _ config.turn_ms c.in_ok-turn_ms.ensures.found (turn_small config.turn_ms config.refusals h.has.0) (config_fields _ _ config c.in_ok-fields.ensures.found h);
+      parts = beyond_first _ _ _ _ config.turn_ms c.in_ok-turn_ms.ensures.found (turn_small config.turn_ms config.refusals h.has.0) (config_fields _ _ config c.in_ok-fields.ensures.found h);
     })))
 
 pub returns-in_err-now : goal.returns-in_err-now

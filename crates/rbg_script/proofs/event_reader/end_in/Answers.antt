@@ -1,6 +1,6 @@
--- Two numbers stand behind the word, the first before the first space.
+-- Two numbers stand after the word, the first before the first space.
 use Rattle.std.proofs.Common.{◌∙◌}
-use Rattle.rbg_script.proofs.Parts.{end_shape, end_fields, behind_first, spells_end}
+use Rattle.rbg_script.proofs.Parts.{end_shape, end_fields, beyond_first, spells_end}
 use Rattle.rbg_script.proofs.event_reader.end_in.Goals as goal
 
 pub returns-in_err-fields-clause-none : goal.returns-in_err-fields-clause-none
@@ -14,7 +14,7 @@ pub returns-in_err-at-clause-none : goal.returns-in_err-at-clause-none
 returns-in_err-at-clause-none c =
     let first = c.in_ok-seat.ensures.found in
     rw c.from_residual-in_err-at.ensures (λ seat at numbers is.
-    c.in_err-at.ensures.none at numbers.1 (behind_first _ _ _ _ seat first numbers.0 (end_fields _ _ seat at c.in_ok-fields.ensures.found is)))
+    c.in_err-at.ensures.none at numbers.1 (beyond_first _ _ _ _ seat first numbers.0 (end_fields _ _ seat at c.in_ok-fields.ensures.found is)))
 
 pub returns-clause-found : goal.returns-clause-found
 returns-clause-found c =

@@ -1,4 +1,4 @@
--- The digits stand behind the moment.
+-- The digits stand after the moment.
 use Rattle.rbg_script.specs.Events.{SpellsBytes, by_digits}
 use Rattle.rbg_script.proofs.Apart.{bad_digits, some_here, none_here}
 use Rattle.rbg_script.proofs.event_reader.piece_in.Goals as goal

@@ -1,6 +1,6 @@
--- Two numbers stand behind the word, with a space behind each.
+-- Two numbers stand after the word, with a space after each.
 use Rattle.std.proofs.Common.{◌∙◌}
-use Rattle.rbg_script.proofs.Parts.{fields_shape, behind_word, behind_first, has_fields}
+use Rattle.rbg_script.proofs.Parts.{fields_shape, after_word, beyond_first, has_fields}
 use Rattle.rbg_script.proofs.fields.fields_in.Goals as goal
 
 pub returns-in_err-fields-clause-none : goal.returns-in_err-fields-clause-none
@@ -8,7 +8,7 @@ returns-in_err-fields-clause-none c = rw c.from_residual.ensures (λ seat at res
 
 pub returns-in_err-seat-clause-none : goal.returns-in_err-seat-clause-none
 returns-in_err-seat-clause-none c =
-    rw c.from_residual-in_err-seat.ensures (λ seat at rest h. c.in_err-seat.ensures.none seat _ (record { small = h.numbers.0; parts = behind_word _ _ _ seat at rest c.in_ok-fields.ensures.found h }))
+    rw c.from_residual-in_err-seat.ensures (λ seat at rest h. c.in_err-seat.ensures.none seat _ (record { small = h.numbers.0; parts = after_word _ _ _ seat at rest c.in_ok-fields.ensures.found h }))
 
 pub returns-in_err-at-clause-none : goal.returns-in_err-at-clause-none
 returns-in_err-at-clause-none c =
@@ -16,7 +16,7 @@ returns-in_err-at-clause-none c =
     rw c.from_residual-in_err-at.ensures (λ seat at rest h.
     c.in_err-at.ensures.none at rest (record {
       small = h.numbers.1;
-      parts = behind_first _ _ _ _ seat first h.numbers.0 (behind_word _ _ _ seat at rest c.in_ok-fields.ensures.found h);
+      parts = beyond_first _ _ _ _ seat first h.numbers.0 (after_word _ _ _ seat at rest c.in_ok-fields.ensures.found h);
     }))
 
 pub returns-clause-found : goal.returns-clause-found

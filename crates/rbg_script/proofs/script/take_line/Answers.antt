@@ -1,4 +1,4 @@
--- The event of the line is added behind the others.
+-- The event of the line is added after the others.
 use Rattle.rbg_base.proofs.Common.{refl, ap, map, ◌∙◌, map-append}
 use Rattle.rbg_script.specs.Events.{SpellsEvent, event_of}
 use Rattle.rbg_script.specs.internal.Reading.{taken, not_taken}

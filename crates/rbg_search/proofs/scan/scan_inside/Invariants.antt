@@ -1,4 +1,4 @@
--- One pair is left, and it stands behind all that were tried.
+-- One pair is left, and it stands after all that were tried.
 use Rattle.std.proofs.Common.{◌<◌, ◌-◌, ◌^◌, length}
 use Rattle.rbg_rules.specs.Meaning.{inside, beginning}
 use Rattle.rbg_pairs.proofs.Common.{IsPositionOf, at_vertex}

@@ -15,6 +15,6 @@ returns-clause-adds c =
     let there : k < length ts = search rules in
     let at : c.index.result.now ≡ target_at ts k = c.index.ensures ∙ any_default ts k c.index.result.now no_target there in
     subst (λ (x : Target). AddsTarget c.args.start ts (set ts k (record { position = t.position; column = t.column; word = bit_or x.word t.word })) t) (sym at)
-    (adds_joined c.args.start k ts t c.in-Some.ensures.behind there
+    (adds_joined c.args.start k ts t c.in-Some.ensures.beyond there
     (ap (λ (xs : List Target). (target_at xs k).position) (sym c.deref.ensures.value) ∙ c.in-Some.ensures.position)
     (ap (λ (xs : List Target). (target_at xs k).column) (sym c.deref.ensures.value) ∙ c.in-Some.ensures.column))

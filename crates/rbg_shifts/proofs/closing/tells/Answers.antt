@@ -15,7 +15,7 @@ returns-in-Some c = λ is j u has.
     let same : bit_or c.index.result.now.word t.word ≡ c.index-in-Some.result.now.word = search rules in
     record {
       at = k;
-      behind = c.in-Some.ensures.behind;
+      beyond = c.in-Some.ensures.beyond;
       before = c.in-Some.ensures.before;
       is = under_target (target_at ts k) t j u
           (ap (λ (xs : List Target). (target_at xs k).position) (sym c.deref.ensures.value) ∙ c.in-Some.ensures.position)

@@ -16,10 +16,10 @@ loop-index-preserved c =
     let k : ℕ = c.loop-index.index in
     let there : k < length ts = let within = c.requires.other.ends in omega (arith, within, c.loop-index-test.true) in
     let at : c.index.result.now ≡ target_at ts k = c.index.ensures ∙ any_default ts k c.index.result.now no_target there in
-    λ i behind below j u is. elim (last_place k i below) [
-      | before e ↦ c.loop-index.invariant i behind e j u is
+    λ i beyond below j u is. elim (last_place k i below) [
+      | before e ↦ c.loop-index.invariant i beyond e j u is
       | last e ↦ c.tells.ensures c.if-not-tells.false j u (subst (λ (t : Target). IsEndOf t j u) (sym at) (subst (λ (m : ℕ). IsEndOf (target_at ts m) j u) e is))
     ]
 
 pub returns : goal.returns
-returns c = λ t j u told. c.loop-index.invariant told.at told.behind (let short = told.before in omega (arith, short, c.loop-index-test.false)) j u told.is
+returns c = λ t j u told. c.loop-index.invariant told.at told.beyond (let short = told.before in omega (arith, short, c.loop-index-test.false)) j u told.is

@@ -21,9 +21,9 @@ loop-index-preserved c =
     let count = c.vertices-index-end.ensures.count in
     let so_far = c.loop-index.invariant in
     let old = c.loop-index.table in
-    let entry = c.entry_behind-entry.result in
+    let entry = c.entry_after-entry.result in
     let below : c.loop-index.index < length c.args.ground.now.board.first = omega (arith, count, c.loop-index-test.true) in
     let inside : c.loop-index.index < old.vertices = subst (λ (n : ℕ). c.loop-index.index < n) (sym so_far.sound.laid_out.vertices) below in
     one_more_vertex c.args.ground.now c.args.lists.now c.args.table.now old c.share.new.self c.args.node c.loop-index.index below so_far
-    (one_put c.args.ground.now c.args.lists.now old old c.share.new.self c.args.node c.loop-index.index entry inside (grows_none (length old.targets.items) old) c.share.ensures so_far.sound c.entry_behind-entry.ensures.sound
-    (whole_of_one c.args.ground.now c.args.lists.now old c.args.node c.loop-index.index c.args.branch.now.position entry.start (end_of entry) entry.ends c.requires.only c.entry_behind-entry.ensures.ends c.entry_behind-entry.ensures.told))
+    (one_put c.args.ground.now c.args.lists.now old old c.share.new.self c.args.node c.loop-index.index entry inside (grows_none (length old.targets.items) old) c.share.ensures so_far.sound c.entry_after-entry.ensures.sound
+    (whole_of_one c.args.ground.now c.args.lists.now old c.args.node c.loop-index.index c.args.branch.now.position entry.start (end_of entry) entry.ends c.requires.only c.entry_after-entry.ensures.ends c.entry_after-entry.ensures.told))

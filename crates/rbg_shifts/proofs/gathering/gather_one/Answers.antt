@@ -1,8 +1,8 @@
 use Rattle.std.proofs.Common.{◌≡◌, ◌<◌, ◌∙◌, ℕ, List, length, get_or, false, sym, ap, subst, Bool}
 use Rattle.rbg_shifts.proofs.Common.{Entry, IsShiftAt, entry_at, IsUnder, list_at, may_end_at, Comes}
 use Rattle.rbg_shifts.proofs.Cases.{some_same}
-use Rattle.rbg_shifts.proofs.Fillings.{told_plain, told_behind, added_under}
-use Rattle.rbg_shifts.proofs.Sharing.{IsRightBehind, right_behind, behind_there}
+use Rattle.rbg_shifts.proofs.Fillings.{told_plain, told_after, added_under}
+use Rattle.rbg_shifts.proofs.Sharing.{IsRightAfter, right_after, after_there}
 use Rattle.rbg_shifts.proofs.Tabling.{entry_same, unit_sound, sound_on, sound_ends_on}
 use Rattle.rbg_shifts.proofs.gathering.gather_one.Goals as goal
 
@@ -21,22 +21,22 @@ returns-in_default-clause-told c =
 
 pub entry_there-entry-requires : goal.entry_there-entry-requires
 entry_there-entry-requires c =
-    behind_there c.args.ground.now c.requires.right.lawful.numbered c.args.lists.now c.requires.right.nodes c.args.table.now c.requires.right.sound c.args.branch.now.position c.in-Some-step.to c.args.branch.now.after
+    after_there c.args.ground.now c.requires.right.lawful.numbered c.args.lists.now c.requires.right.nodes c.args.table.now c.requires.right.sound c.args.branch.now.position c.in-Some-step.to c.args.branch.now.after
     (record { direction = c.in-Some.direction; stands = c.requires.branch.stands c.in-Some.direction c.in-Some.is }) c.in-Some-step.ensures.is_vertex c.requires.branch.after
 
 pub add_all-requires-clause-before : goal.add_all-requires-clause-before
 add_all-requires-clause-before c = (c.entry_there-entry.ensures.within c.args.start c.requires.within).ends
 
--- The branch is a shift that leads to one vertex, with what is told behind it.
+-- The branch is a shift that leads to one vertex, with what is told after it.
 is_shift : (c : goal.In_ok-add_all) → IsShiftAt c.args.ground.now.rules c.args.branch.now.position
 is_shift c = record { direction = c.in-Some.direction; stands = c.requires.branch.stands c.in-Some.direction c.in-Some.is }
 
 comes : (c : goal.In_ok-add_all) → Comes c.args.ground.now c.args.vertex c.args.branch.now.position c.in-Some-step.to
 comes c = (c.step.ensures.comes c.args.branch.now.position c.in-Some-step.to (c.requires.branch.stands c.in-Some.direction c.in-Some.is)).0 c.in-Some-step.is
 
-behind : (c : goal.In_ok-add_all) → IsRightBehind c.args.ground.now c.args.lists.now c.args.table.now c.args.branch.now.position c.in-Some-step.to c.entry_there-entry.result.now
-behind c =
-    right_behind c.args.ground.now c.requires.right.lawful.numbered c.args.lists.now c.requires.right.nodes c.args.table.now c.requires.right.sound c.args.branch.now.position c.in-Some-step.to c.args.branch.now.after c.entry_there-entry.result.now
+beyond : (c : goal.In_ok-add_all) → IsRightAfter c.args.ground.now c.args.lists.now c.args.table.now c.args.branch.now.position c.in-Some-step.to c.entry_there-entry.result.now
+beyond c =
+    right_after c.args.ground.now c.requires.right.lawful.numbered c.args.lists.now c.requires.right.nodes c.args.table.now c.requires.right.sound c.args.branch.now.position c.in-Some-step.to c.args.branch.now.after c.entry_there-entry.result.now
     (is_shift c) c.in-Some-step.ensures.is_vertex c.requires.branch.after c.entry_there-entry.ensures.entry
 
 pub returns-clause-gathered : goal.returns-clause-gathered
@@ -44,12 +44,12 @@ returns-clause-gathered c =
     let interner = c.args.lists.now.interner in
     c.in_ok-add_all.ensures.adds.sound c.args.ground.now (list_at interner c.args.node) (may_end_at interner c.args.node) c.args.vertex c.requires.gathered
     (sound_on c.args.ground.now c.requires.right.lawful.numbered c.args.lists.now c.args.table.now c.args.node c.args.vertex c.args.branch.now.position c.in-Some-step.to (get_or c.args.lists.now.afters.items c.args.branch.now.position 0) c.entry_there-entry.result.now
-    c.requires.listed (is_shift c) (comes c) (behind c).node (behind c).sound)
+    c.requires.listed (is_shift c) (comes c) (beyond c).node (beyond c).sound)
 
 pub returns-clause-ends : goal.returns-clause-ends
 returns-clause-ends c =
     sound_ends_on c.args.ground.now c.requires.right.lawful.numbered c.args.lists.now c.args.table.now c.args.node c.args.vertex c.args.branch.now.position c.in-Some-step.to (get_or c.args.lists.now.afters.items c.args.branch.now.position 0) c.entry_there-entry.result.now
-    c.requires.listed (is_shift c) (comes c) (behind c).node (behind c).sound
+    c.requires.listed (is_shift c) (comes c) (beyond c).node (beyond c).sound
 
 pub returns-clause-told : goal.returns-clause-told
 returns-clause-told c =
@@ -62,7 +62,7 @@ returns-clause-told c =
     let on_board : to < new.vertices = subst (λ (n : ℕ). to < n) (sym (grows.vertices ∙ c.requires.right.sound.laid_out.vertices)) c.in-Some-step.ensures.is_vertex in
     let same : entry ≡ entry_at new m to =
     c.entry_there-entry.ensures.entry ∙ ap (λ (k : ℕ). entry_at c.args.table.now k to) c.requires.branch.after ∙ sym (entry_same c.args.start c.args.table.now new grows m to) in
-    told_behind c.args.ground.now c.args.lists.now new c.args.start (length new.targets.items) entry.ends c.args.vertex p to (is_shift c)
+    told_after c.args.ground.now c.args.lists.now new c.args.start (length new.targets.items) entry.ends c.args.vertex p to (is_shift c)
     (λ w at. some_same (sym c.in-Some-step.is ∙ (c.step.ensures.comes p w (c.requires.branch.stands c.in-Some.direction c.in-Some.is)).1 at)) on_board
     (subst (λ (e : Entry). IsUnder new e c.args.start (length new.targets.items) entry.ends) same
     (added_under c.args.start c.args.table.now new entry (c.entry_there-entry.ensures.within c.args.start c.requires.within) c.in_ok-add_all.ensures.adds))

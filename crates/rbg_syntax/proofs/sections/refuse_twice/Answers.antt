@@ -11,7 +11,7 @@ returns-then-stands_before-clause-twice c =
     record {
       before = take i sections;
       again = c.section.result;
-      behind = drop 1 (drop i sections);
+      beyond = drop 1 (drop i sections);
       whole = split_at sections i c.section.result c.section.ensures;
       different = c.loop-index.invariant;
       same = sym c.kind-which.ensures;

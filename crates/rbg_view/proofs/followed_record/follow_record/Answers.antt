@@ -1,46 +1,61 @@
--- Each line is read and told after those before it.
-use Rattle.rbg_base.proofs.Common.{ap, length, sym, ◌∙◌, subst, [], unwrap_or, nil_from_length}
-use Rattle.std.proofs.lemmas.Bool.{eqb-true, true≢false}
-use Rattle.rbg_record.specs.ByLine.{reached_of}
-use Rattle.rbg_record.proofs.SoFarLemmas.{read_fault, read_short, not_empty}
-use Rattle.rbg_rules.specs.Meaning.{AbstractPlace}
+-- Each line is read, judged and followed after those before it.
+use Rattle.rbg_base.proofs.Common.{◌≡◌, ap, refl, subst, sym, ◌∙◌, [], unwrap_or}
+use Rattle.rbg_base.proofs.Errors.{passed_on}
+use Rattle.rbg_rules.specs.Meaning.{AbstractPlace, IsPlaceOf}
 use Rattle.rbg_wire.specs.Lines.{line_of}
+use Rattle.rbg_record.specs.declared.next.Next.{Next}
+use Rattle.rbg_record.proofs.LineCommon.{Says}
+use Rattle.rbg_record.proofs.Stopping.{read_more, read_none}
+use Rattle.rbg_record.specs.declared.fault.LineFault.TheVariants.{Form}
+use Rattle.rbg_record.specs.Lines as lines
+use Rattle.rbg_record.specs.ByLine.{reached_of}
+use Rattle.rbg_record.proofs.SoFarLemmas.{misjudged, misread, place_in_game}
 use Rattle.rbg_view.specs.Places.{whole_text}
-use Rattle.rbg_view.specs.Pages.{IsRefused}
-use Rattle.rbg_view.specs.declared.error.PageError.{PageError}
-use Rattle.rbg_view.proofs.PageReading.{told_none, told_next, told_whole, refused_at}
+use Rattle.rbg_view.specs.Telling.{Tells, Told, told_first}
+use Rattle.rbg_view.specs.Telling as telling
+use Rattle.rbg_view.proofs.PageReading.{judged, tell_one, told_whole}
 use Rattle.rbg_view.proofs.followed_record.follow_record.Goals as goal
-use Rattle.rbg_view.proofs.followed_record.follow_record.Goals.{else-over-via-then-over+else-is_empty, else-over-via-else-over}
 
-pub loop-text-init : goal.loop-text-init
-loop-text-init c =
-    told_none c.args.game.now c.args.bytes.now _
-    (λ i. record { lines = (c.in_ok-lines.ensures ∙ ap (λ (p : AbstractPlace). line_of (whole_text p)) c.in_ok-place.ensures.start) i; place = c.in_ok-place.ensures.start i; marked = [] })
-    c.in_ok-place.ensures.in_game
+pub loop-reached-init : goal.loop-reached-init
+loop-reached-init c =
+    let first : record { lines = c.in_ok-lines.lines.items; place = c.in_ok-place.place; marked = [] } ≡ told_first c.args.game.now =
+    λ i. record { lines = (c.in_ok-lines.ensures ∙ ap (λ (p : AbstractPlace). line_of (whole_text p)) c.in_ok-place.ensures.start) i; place = c.in_ok-place.ensures.start i; marked = [] } in (
+      read_none c.args.bytes.now (lines.version_next, record { lines = c.in_ok-lines.lines.items; place = c.in_ok-place.place; marked = [] }) _ c.new-reader.ensures
+          (subst (λ (one : Told). Tells c.args.game.now [] lines.version_next one) (sym first) telling.nothing),
+      tt,
+      c.in_ok-place.ensures.in_game,
+    )
 
-pub returns-in-Err-clause-refused : goal.returns-in-Err-clause-refused
-returns-in-Err-clause-refused c =
-    subst (λ (error : PageError). IsRefused c.args.game.now c.args.bytes.now error) (sym c.refusal.ensures)
-    (refused_at c.args.game.now c.args.bytes.now c.in-Err.fault c.loop-text.line
-    (read_fault c.args.game.now c.args.bytes.now (reached_of c.loop-text.reached) c.loop-text.rest.now c.in-Some.text.now c.in-Some.later.now c.loop-text.line c.in-Err.fault c.loop-text.invariant.so_far c.in-Some.ensures.found c.in-Err.ensures.refused))
+pub returns-in_err-line-clause-refused : goal.returns-in_err-line-clause-refused
+returns-in_err-line-clause-refused c =
+    passed_on c.from_residual-in_err-line.result (record { line = c.in_err-line.field-0.0.line; fault = Form }) _ c.from_residual-in_err-line.ensures.1
+    (misread (judged c.loop-reached.invariant.0) c.in_err-line.field-0.0 _ refl c.next.ensures c.in_err-line.ensures.fault)
 
-pub loop-text-preserved : goal.loop-text-preserved
-loop-text-preserved c =
-    told_next c.args.game.now c.args.bytes.now (reached_of c.loop-text.reached) (reached_of c.in-Ok.to) c.loop-text.rest.now c.in-Some.text.now c.in-Some.later.now c.loop-text.line
-    (record { lines = c.loop-text.lines.items; place = c.loop-text.place; marked = unwrap_or c.loop-text.last [] })
-    _ c.move_in-moved.result c.loop-text.invariant c.in-Some.ensures.found c.in-Ok.ensures.leads c.in-Ok.ensures.in_game c.move_in-moved.ensures
-    (λ i. record { lines = c.in_ok-put_line.ensures i; place = c.in_ok-place-2.ensures i; marked = c.later_of-last.ensures i })
+pub judge_line-requires-clause-says : goal.judge_line-requires-clause-says
+judge_line-requires-clause-says c =
+    let takes = rw c.in-Some.is at c.in_ok-line.ensures.line in
+    subst (λ (next : Next). Says next c.in-Some.line.text.now c.in-Some.line.content) c.next.ensures takes.says
 
-pub returns-else-over-clause-refused : goal.returns-else-over-clause-refused
-returns-else-over-clause-refused c =
-    read_short c.args.game.now c.args.bytes.now (reached_of c.loop-text.reached) c.loop-text.rest.now c.loop-text.line c.loop-text.invariant.so_far c.in_default.ensures.none
-    (elim c.else-over.branch [
-      | else-over-via-then-over+else-is_empty w ↦ (λ over none. not_empty c.loop-text.rest.now w.is_empty.result w.is_empty.ensures w.if-is_empty.false none)
-      | else-over-via-else-over w ↦ (λ over none. true≢false (sym (c.is_over-over.ensures.1 over) ∙ w.if-over.false))
-    ])
+pub returns-in_err-reached-clause-refused : goal.returns-in_err-reached-clause-refused
+returns-in_err-reached-clause-refused c =
+    let takes = rw c.in-Some.is at c.in_ok-line.ensures.line in
+    passed_on c.from_residual-in_err-reached.result c.in_err-reached.field-0.0 _ c.from_residual-in_err-reached.ensures.1
+    (misjudged (judged c.loop-reached.invariant.0) c.in-Some.line c.in_err-reached.field-0.0 takes c.in_err-reached.ensures.refused)
 
-pub returns-then-is_empty-clause-followed : goal.returns-then-is_empty-clause-followed
-returns-then-is_empty-clause-followed c =
-    told_whole c.args.game.now c.args.bytes.now (reached_of c.loop-text.reached) c.loop-text.rest.now c.loop-text.line
-    (record { lines = c.loop-text.lines.items; place = c.loop-text.place; marked = unwrap_or c.loop-text.last [] })
-    c.loop-text.invariant (c.is_over-over.ensures.0 c.if-over.true) (nil_from_length c.loop-text.rest.now (eqb-true (length c.loop-text.rest.now) 0 (sym c.is_empty.ensures ∙ c.if-is_empty.true)))
+pub loop-reached-preserved : goal.loop-reached-preserved
+loop-reached-preserved c =
+    let takes = rw c.in-Some.is at c.in_ok-line.ensures.line in
+    let in_game = c.in_ok-reached.ensures.in_game in
+    let game = c.args.game.now in
+    let says = subst (λ (next : Next). Says next c.in-Some.line.text.now c.in-Some.line.content) c.next.ensures takes.says in (
+      read_more c.loop-reached.invariant.0 takes.first takes.later
+          (λ texts told. tell_one game texts c.in-Some.line.text.now (reached_of c.loop-reached.reached) (reached_of c.in_ok-reached.reached)
+          (record { lines = c.loop-reached.lines.items; place = c.loop-reached.place; marked = unwrap_or c.loop-reached.last [] })
+          _ c.move_in.result c.in_ok-reached.ensures.leads (c.move_in.ensures (reached_of c.loop-reached.reached) says)
+          (λ i. record { lines = c.in_ok-put_line.ensures i; place = c.in_ok-place-2.ensures i; marked = c.later_of-last.ensures i }) told),
+      in_game,
+      subst (IsPlaceOf game) (sym c.in_ok-place-2.ensures) (place_in_game game (reached_of c.in_ok-reached.reached) c.loop-reached.place in_game c.loop-reached.invariant.2),
+    )
+
+pub returns-clause-followed : goal.returns-clause-followed
+returns-clause-followed c = told_whole c.loop-reached.invariant.0 c.next.ensures (rw c.in_default.is at c.in_ok-line.ensures.over)

@@ -6,7 +6,7 @@ use Rattle.rbg_flat.proofs.sets.Sets.place.Goals as goal
 small_place : (size columns q c : ℕ) → q < size → c < columns → size * columns < 2 ^ 64 → q * columns + c < 2 ^ 64
 small_place size columns q c first second small = let below = mul-add-lt q columns c size first second in let turned = mul_comm columns size in omega (arith, below, turned, small)
 
--- A position is moved up to where its row begins, and the column fits behind that.
+-- A position is moved up to where its row begins, and the column fits after that.
 moved : (size columns shift q c : ℕ) → columns ≡ 2 ^ shift → q < size → c < columns → size * columns < 2 ^ 64 → (q * 2 ^ shift % 2 ^ 64 ≡ q * columns) × (q * 2 ^ shift % 2 ^ 64 + c < 2 ^ 64)
 moved size columns shift q c doubled first second small =
     let fits = small_place size columns q c first second small in

@@ -17,4 +17,4 @@ returns-in_err-tell c = said_refused _ c.loop-index.invariant c.tell.ensures c.f
 pub loop-index-preserved : goal.loop-index-preserved
 loop-index-preserved c =
     let told = c.in_ok-tell.ensures in
-    rw (to_each-more c.loop-index.index (message_of c.args.message.now)) (said_more _ _ _ c.loop-index.invariant (rw (← told.whole) told.behind))
+    rw (to_each-more c.loop-index.index (message_of c.args.message.now)) (said_more _ _ _ c.loop-index.invariant (rw (← told.whole) told.beyond))

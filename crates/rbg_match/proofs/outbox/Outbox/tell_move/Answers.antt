@@ -23,4 +23,4 @@ pub loop-index-preserved : goal.loop-index-preserved
 loop-index-preserved c =
     let spelled = rw c.clear.ensures.items at c.in_ok-write_move.ensures.ok in
     let told = c.in_ok-queue.ensures (move_message c.args.pairs.now) (c.deref.ensures.value ∙ spelled) in
-    rw (to_each-more c.loop-index.index (move_message c.args.pairs.now)) (said_more _ _ _ c.loop-index.invariant (rw (← told.whole) told.behind))
+    rw (to_each-more c.loop-index.index (move_message c.args.pairs.now)) (said_more _ _ _ c.loop-index.invariant (rw (← told.whole) told.beyond))

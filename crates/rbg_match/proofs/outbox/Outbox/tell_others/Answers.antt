@@ -20,6 +20,6 @@ loop-index-preserved c =
     elim c.if-index-one.branch [
       | then-index-one+in_ok-tell w ↦
           let told = w.in_ok-tell.ensures in
-          rw (to_others-more c.loop-index.index c.args.one (message_of c.args.message.now) w.if-index-one.true, w.self-is) (said_more _ _ _ c.loop-index.invariant (rw (← told.whole) told.behind))
+          rw (to_others-more c.loop-index.index c.args.one (message_of c.args.message.now) w.if-index-one.true, w.self-is) (said_more _ _ _ c.loop-index.invariant (rw (← told.whole) told.beyond))
       | else-index-one w ↦ rw (to_others-same c.loop-index.index c.args.one (message_of c.args.message.now) w.if-index-one.false, w.self-is) c.loop-index.invariant
     ]

@@ -23,7 +23,7 @@ pub returns-in_err-tell_each : goal.returns-in_err-tell_each
 returns-in_err-tell_each c =
     let told = c.in_ok-tell.ensures in
     let refusal = c.from_residual-in_err-tell_each in
-    rw (← c.self.view_is) (refuses_saying _ (said_refused told.said told.behind c.tell_each.ensures refusal.result refusal.ensures.0 (λ _ _. Unit {0})) _ refusal.result refusal.ensures.0 _)
+    rw (← c.self.view_is) (refuses_saying _ (said_refused told.said told.beyond c.tell_each.ensures refusal.result refusal.ensures.0 (λ _ _. Unit {0})) _ refusal.result refusal.ensures.0 _)
 
 pub invariant_of-self-else-refuse : goal.invariant_of-self-else-refuse
 invariant_of-self-else-refuse c =

@@ -18,7 +18,7 @@ loop-index-preserved c =
     let so_far = c.loop-index.invariant in
     let below = c.loop-index-test.true in
     let within : index < length old = omega (arith, below, c.requires) in
-    let here = byte_at before old buffer kept index so_far.kept so_far.behind so_far.buffer in
+    let here = byte_at before old buffer kept index so_far.kept so_far.after so_far.buffer in
     let begun_then = c.takes.ensures.begun ∙ begun_more begun c.loop-index.self.begun byte index old within here so_far.begun in
     elim c.if-takes.branch [
       | then-takes w ↦ (
@@ -27,8 +27,8 @@ loop-index-preserved c =
           let one = length-append before (byte ∷ []) in
           record {
             kept = omega (arith, w.kept-is, so_far.kept, long, one);
-            behind = omega (arith, w.kept-is, so_far.behind);
-            buffer = w.buffer-is ∙ (written_after before old buffer kept byte so_far.kept (omega (arith, so_far.behind, within)) so_far.buffer ∙ (ap (λ n. (before ++ byte ∷ []) ++ drop n old) (sym w.kept-is) ∙ ap (λ front. front ++ drop c.if-takes.kept old) (sym more)));
+            after = omega (arith, w.kept-is, so_far.after);
+            buffer = w.buffer-is ∙ (written_after before old buffer kept byte so_far.kept (omega (arith, so_far.after, within)) so_far.buffer ∙ (ap (λ n. (before ++ byte ∷ []) ++ drop n old) (sym w.kept-is) ∙ ap (λ front. front ++ drop c.if-takes.kept old) (sym more)));
             begun = begun_then;
           })
       | else-takes w ↦ (
@@ -36,7 +36,7 @@ loop-index-preserved c =
           let long = ap length more in
           record {
             kept = omega (arith, w.kept-is, so_far.kept, long);
-            behind = omega (arith, w.kept-is, so_far.behind);
+            after = omega (arith, w.kept-is, so_far.after);
             buffer = w.buffer-is ∙ (so_far.buffer ∙ (ap (λ n. before ++ drop n old) (sym w.kept-is) ∙ ap (λ front. front ++ drop c.if-takes.kept old) (sym more)));
             begun = begun_then;
           })

@@ -6,7 +6,7 @@ use Rattle.rbg_network.proofs.passing.Passing.pass.Given as goal
 abbrev pub invariant-loop-index : goal.invariant-loop-index
 invariant-loop-index l = record {
   kept : l.kept ≡ length (passed l.initial.self.begun (take l.index l.initial.buffer));
-  behind : l.kept ≤ l.index;
+  after : l.kept ≤ l.index;
   buffer : l.buffer ≡ passed l.initial.self.begun (take l.index l.initial.buffer) ++ drop l.kept l.initial.buffer;
   begun : l.self.begun ≡ begun_after l.initial.self.begun (take l.index l.initial.buffer);
 }

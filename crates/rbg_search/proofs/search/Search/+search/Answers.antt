@@ -3,20 +3,20 @@ use Rattle.rbg_rules.specs.Meaning.{inside, IsPatternAt, Start, beginning, after
 use Rattle.rbg_state.specs.History.{History}
 use Rattle.rbg_pairs.proofs.Common.{IsFlatPart, start_of, at_vertex, IsReached, NestsFrom, HasMarksOf}
 use Rattle.rbg_flat.specs.Paths.{ArePathsOf}
-use Rattle.rbg_search.proofs.Common.{IsBegun, HasSetsFor, IsWhole, IsToBeAsked, FindsByPairs, IsReady, RunsBehindPair, SomeRunsBehind, StandsInPattern, CountsForced, RanBehind, Deep, Wide, Memory, Searching}
+use Rattle.rbg_search.proofs.Common.{IsBegun, HasSetsFor, IsWhole, IsToBeAsked, FindsByPairs, IsReady, RunsAfterPair, SomeRunsAfter, StandsInPattern, CountsForced, RanAfter, Deep, Wide, Memory, Searching}
 use Rattle.rbg_search.proofs.Asking.{back, mark_within, given_room, runs_one, runs_here, runs_there}
-use Rattle.rbg_search.proofs.Behinds.{all_ready}
+use Rattle.rbg_search.proofs.Afters.{all_ready}
 use Rattle.rbg_search.proofs.Turns.{turn_fewer, turn_after, turn_there, turn_end, turn_some, none_of_all, ran_permuted}
 use Rattle.std.proofs.lemmas.List.Sorted.{IsPermutation-refl}
 use Rattle.rbg_search.proofs.Kept.{onward, before, onward_rules, rules_before, further_on}
-use Rattle.rbg_search.proofs.Behinds.{runs_at_end}
+use Rattle.rbg_search.proofs.Afters.{runs_at_end}
 use Rattle.rbg_search.proofs.Counted.{search_before}
 use Rattle.rbg_search.proofs.Forcing.{word_forced}
 use Rattle.rbg_search.proofs.ForcingSteps.{ran_some, asked_forced}
 use Rattle.rbg_search.proofs.Patterns.{pattern_inside, inside_start}
 use Rattle.rbg_search.proofs.Counted.{memory_not_deep, memory_not_wide, ok_not_err}
 use Rattle.rbg_search.proofs.CountedSteps.{not_memory, inside_pairs}
-use Rattle.rbg_search.proofs.Asks.{asked_since, found_since, handed_on, answered_on, not_entered, as_pattern, asked_there, asked_behind, asked_same}
+use Rattle.rbg_search.proofs.Asks.{asked_since, found_since, handed_on, answered_on, not_entered, as_pattern, asked_there, asked_after, asked_same}
 use Rattle.rbg_search.proofs.Finding.{IsNextPair, finds_none, finds_room, finds_asked, finds_refused, asks_within, reached_next, pairs_begun, begun_now, pairs_on, pairs_stopped, pairs_left, pairs_lost, pairs_dropped, pairs_more, pairs_forced, pairs_own}
 use Rattle.rbg_search.proofs.FindingBySets.{sets_begun, sets_on, sets_now, reached_here, sets_left, sets_lost, sets_more, sets_forced, sets_part, sets_own}
 use Rattle.rbg_search.proofs.Orders.{positions_within}
@@ -419,8 +419,8 @@ word_runs-returns-then-ends-clause-forced g t c = λ cut.
     (runs_at_end h.game found.lawful.numbered s.state f pairs c.in_ok-ends.ends found.reaches.reached c.if-ends.true)
     (omega (arith, same)) (found.reaches.forced cut c.args.modifiers)
 
-pub word_runs-runs_behind-requires : goal.word_runs-runs_behind-requires
-word_runs-runs_behind-requires g t c κs within =
+pub word_runs-runs_after-requires : goal.word_runs-runs_after-requires
+word_runs-runs_after-requires g t c κs within =
     let first = asked_since c.take_list-pairs.ensures c.flat_part.ensures.asked in
     let found = found_since c.take_list-pairs.ensures c.in_ok-ends.ensures.found in
     let h = c.args.self.now in
@@ -439,7 +439,7 @@ word_runs-returns-in_err-runs-clause-asked g t c =
     let first = asked_since c.take_list-pairs.ensures c.flat_part.ensures.asked in
     let found = found_since c.take_list-pairs.ensures c.in_ok-ends.ensures.found in
     handed_on
-    (asked_behind first c.in_ok-ends.was found c.requires.inside c.if-ends.false c.runs_behind.ensures.asked)
+    (asked_after first c.in_ok-ends.was found c.requires.inside c.if-ends.false c.runs_after.ensures.asked)
     c.from_residual-in_err-runs.result c.in_err-runs.field-0.0 c.in_err-runs.was c.from_residual-in_err-runs.ensures.1
 
 pub word_runs-returns-clause-asked : goal.word_runs-returns-clause-asked
@@ -448,7 +448,7 @@ word_runs-returns-clause-asked g t c =
     let found = found_since c.take_list-pairs.ensures c.in_ok-ends.ensures.found in
     asked_same
     (answered_on
-    (asked_behind first c.in_ok-ends.was found c.requires.inside c.if-ends.false c.runs_behind.ensures.asked)
+    (asked_after first c.in_ok-ends.was found c.requires.inside c.if-ends.false c.runs_after.ensures.asked)
     c.in_ok-runs.runs c.in_ok-runs.runs c.in_ok-runs.was)
     c.keep_list-2.new.self c.keep_list-2.ensures
 
@@ -462,8 +462,8 @@ word_runs-returns-clause-answer g t c =
     let l = c.flat_part.new.state in
     let f : Start = start_of c.args.origin in
     let pairs : List (ℕ × ℕ) = c.flat_part.new.pairs in
-    let decides : IsTrue c.in_ok-runs.runs ↔ SomeRunsBehind h.game s.state pairs =
-    before (λ x u. IsTrue c.in_ok-runs.runs ↔ SomeRunsBehind x u pairs) h k s l first.kept first.given_back c.in_ok-runs.ensures.answer in
+    let decides : IsTrue c.in_ok-runs.runs ↔ SomeRunsAfter h.game s.state pairs =
+    before (λ x u. IsTrue c.in_ok-runs.runs ↔ SomeRunsAfter x u pairs) h k s l first.kept first.given_back c.in_ok-runs.ensures.answer in
     runs_there h.game found.lawful.numbered s.state f pairs c.in_ok-ends.ends c.in_ok-runs.runs found.reaches.reached c.if-ends.false decides
 
 pub word_runs-returns-clause-forced : goal.word_runs-returns-clause-forced
@@ -476,31 +476,31 @@ word_runs-returns-clause-forced g t c = λ cut.
     let l = c.flat_part.new.state in
     let f : Start = start_of c.args.origin in
     let pairs : List (ℕ × ℕ) = c.flat_part.new.pairs in
-    let decides : IsTrue c.in_ok-runs.runs ↔ SomeRunsBehind h.game s.state pairs =
-    before (λ x u. IsTrue c.in_ok-runs.runs ↔ SomeRunsBehind x u pairs) h k s l first.kept first.given_back c.in_ok-runs.ensures.answer in
-    let last = c.runs_behind.new.self.opened in
+    let decides : IsTrue c.in_ok-runs.runs ↔ SomeRunsAfter h.game s.state pairs =
+    before (λ x u. IsTrue c.in_ok-runs.runs ↔ SomeRunsAfter x u pairs) h k s l first.kept first.given_back c.in_ok-runs.ensures.answer in
+    let last = c.runs_after.new.self.opened in
     let answer = runs_there h.game found.lawful.numbered s.state f pairs c.in_ok-ends.ends c.in_ok-runs.runs found.reaches.reached c.if-ends.false decides in
-    let ran : RanBehind h.game s.state pairs c.in_ok-runs.runs k.opened last c.args.modifiers h.modifiers =
-    search_before (λ y w. RanBehind y.game w pairs c.in_ok-runs.runs k.opened last c.args.modifiers y.modifiers) h k s l first.kept first.given_back c.in_ok-runs.ensures.forced in
+    let ran : RanAfter h.game s.state pairs c.in_ok-runs.runs k.opened last c.args.modifiers h.modifiers =
+    search_before (λ y w. RanAfter y.game w pairs c.in_ok-runs.runs k.opened last c.args.modifiers y.modifiers) h k s l first.kept first.given_back c.in_ok-runs.ensures.forced in
     subst (λ (n : ℕ). CountsForced h.game cut pattern s.state f h.opened n c.args.modifiers h.modifiers) (sym (ap (λ (x : Searching). x.opened) c.keep_list-2.ensures))
     (asked_forced h.game found.lawful.numbered s.state f pairs c.in_ok-ends.ends c.in_ok-runs.runs h.opened k.opened last c.args.modifiers h.modifiers cut answer found.reaches.reached (found.reaches.forced cut c.args.modifiers) ran)
 
--- ---- whether one runs behind modifiers
+-- ---- whether one runs after modifiers
 
-pub runs_behind-loop-pair-init : goal.runs_behind-loop-pair-init
-runs_behind-loop-pair-init g t c = record {
+pub runs_after-loop-pair-init : goal.runs_after-loop-pair-init
+runs_after-loop-pair-init g t c = record {
   done = [];
   whole = IsPermutation-refl c.args.pairs.now;
   tries = tries_none c.args.self.now c.args.state.now c.args.pairs.now c.args.modifiers;
 }
 
-pub runs_behind-returns-then-modifiers-le1-clause-asked : goal.runs_behind-returns-then-modifiers-le1-clause-asked
-runs_behind-returns-then-modifiers-le1-clause-asked g t c =
+pub runs_after-returns-then-modifiers-le1-clause-asked : goal.runs_after-returns-then-modifiers-le1-clause-asked
+runs_after-returns-then-modifiers-le1-clause-asked g t c =
     let is = c.loop-pair.invariant in
     tries_deep is.tries c.loop-pair.pairs c.take_least.new.self c.in-Some.pair is.whole c.in-Some.ensures.permutation c.args.nested c.requires.ready c.if-modifiers-le1.true
 
-pub runs_behind-runs_behind_one-requires : goal.runs_behind-runs_behind_one-requires
-runs_behind-runs_behind_one-requires g t c κs within =
+pub runs_after-runs_after_one-requires : goal.runs_after-runs_after_one-requires
+runs_after-runs_after_one-requires g t c κs within =
     let h = c.args.self.now in
     let k = c.loop-pair.self in
     let s = c.args.state.now in
@@ -515,18 +515,18 @@ runs_behind-runs_behind_one-requires g t c κs within =
     let inside = onward (λ x u. StandsInPattern x.rules (after q.1)) h k s l is.tries.stays.kept is.tries.stays.given_back (All-contains (λ r. StandsInPattern h.game.rules (after r.1)) c.args.pairs.now q c.requires.inside there) in
     (search rules, (within, (fits, (room, (ready, (inside, some))))))
 
-pub runs_behind-returns-in_err-runs_behind_one-clause-asked : goal.runs_behind-returns-in_err-runs_behind_one-clause-asked
-runs_behind-returns-in_err-runs_behind_one-clause-asked g t c =
+pub runs_after-returns-in_err-runs_after_one-clause-asked : goal.runs_after-returns-in_err-runs_after_one-clause-asked
+runs_after-returns-in_err-runs_after_one-clause-asked g t c =
     let is = c.loop-pair.invariant in
-    tries_failed is.tries c.loop-pair.pairs c.take_least.new.self c.in-Some.pair is.whole c.in-Some.ensures.permutation c.args.nested c.requires.ready (omega (arith, c.if-modifiers-le1.false)) c.runs_behind_one.ensures.asked c.from_residual.result c.in_err-runs_behind_one.field-0.0 c.in_err-runs_behind_one.was c.from_residual.ensures.1
+    tries_failed is.tries c.loop-pair.pairs c.take_least.new.self c.in-Some.pair is.whole c.in-Some.ensures.permutation c.args.nested c.requires.ready (omega (arith, c.if-modifiers-le1.false)) c.runs_after_one.ensures.asked c.from_residual.result c.in_err-runs_after_one.field-0.0 c.in_err-runs_after_one.was c.from_residual.ensures.1
 
-pub runs_behind-returns-then-branch-clause-asked : goal.runs_behind-returns-then-branch-clause-asked
-runs_behind-returns-then-branch-clause-asked g t c =
+pub runs_after-returns-then-branch-clause-asked : goal.runs_after-returns-then-branch-clause-asked
+runs_after-returns-then-branch-clause-asked g t c =
     let is = c.loop-pair.invariant in
-    tries_yes is.tries c.loop-pair.pairs c.take_least.new.self c.in-Some.pair is.whole c.in-Some.ensures.permutation c.args.nested c.requires.ready (omega (arith, c.if-modifiers-le1.false)) c.runs_behind_one.ensures.asked c.in_ok-runs_behind_one.field-0 c.in_ok-runs_behind_one.was true
+    tries_yes is.tries c.loop-pair.pairs c.take_least.new.self c.in-Some.pair is.whole c.in-Some.ensures.permutation c.args.nested c.requires.ready (omega (arith, c.if-modifiers-le1.false)) c.runs_after_one.ensures.asked c.in_ok-runs_after_one.field-0 c.in_ok-runs_after_one.was true
 
-pub runs_behind-returns-then-branch-clause-answer : goal.runs_behind-returns-then-branch-clause-answer
-runs_behind-returns-then-branch-clause-answer g t c =
+pub runs_after-returns-then-branch-clause-answer : goal.runs_after-returns-then-branch-clause-answer
+runs_after-returns-then-branch-clause-answer g t c =
     let h = c.args.self.now in
     let k = c.loop-pair.self in
     let s = c.args.state.now in
@@ -534,36 +534,36 @@ runs_behind-returns-then-branch-clause-answer g t c =
     let is = c.loop-pair.invariant in
     let q : ℕ × ℕ = c.in-Some.pair in
     let there = turn_there c.args.pairs.now is.done c.loop-pair.pairs c.take_least.new.self q is.whole c.in-Some.ensures.permutation in
-    let decides = before (λ x u. IsTrue c.in_ok-runs_behind_one.field-0 ↔ RunsBehindPair x u q.0 q.1) h k s l is.tries.stays.kept is.tries.stays.given_back c.in_ok-runs_behind_one.ensures.answer in
-    turn_some h.game s.state c.args.pairs.now q c.in_ok-runs_behind_one.field-0 there decides c.if-branch.true
+    let decides = before (λ x u. IsTrue c.in_ok-runs_after_one.field-0 ↔ RunsAfterPair x u q.0 q.1) h k s l is.tries.stays.kept is.tries.stays.given_back c.in_ok-runs_after_one.ensures.answer in
+    turn_some h.game s.state c.args.pairs.now q c.in_ok-runs_after_one.field-0 there decides c.if-branch.true
 
-pub runs_behind-returns-then-branch-clause-forced : goal.runs_behind-returns-then-branch-clause-forced
-runs_behind-returns-then-branch-clause-forced g t c =
+pub runs_after-returns-then-branch-clause-forced : goal.runs_after-returns-then-branch-clause-forced
+runs_after-returns-then-branch-clause-forced g t c =
     let is = c.loop-pair.invariant in
-    ran_some c.args.self.now.game c.args.state.now.state c.args.pairs.now c.args.self.now.opened c.runs_behind_one.new.self.opened c.args.modifiers c.args.self.now.modifiers
-    (tries_grow is.tries c.loop-pair.pairs c.take_least.new.self c.in-Some.pair is.whole c.in-Some.ensures.permutation c.args.nested c.requires.ready (omega (arith, c.if-modifiers-le1.false)) c.runs_behind_one.ensures.asked c.in_ok-runs_behind_one.field-0 c.in_ok-runs_behind_one.was c.in_ok-runs_behind_one.ensures.forced)
+    ran_some c.args.self.now.game c.args.state.now.state c.args.pairs.now c.args.self.now.opened c.runs_after_one.new.self.opened c.args.modifiers c.args.self.now.modifiers
+    (tries_grow is.tries c.loop-pair.pairs c.take_least.new.self c.in-Some.pair is.whole c.in-Some.ensures.permutation c.args.nested c.requires.ready (omega (arith, c.if-modifiers-le1.false)) c.runs_after_one.ensures.asked c.in_ok-runs_after_one.field-0 c.in_ok-runs_after_one.was c.in_ok-runs_after_one.ensures.forced)
 
-pub runs_behind-loop-pair-preserved : goal.runs_behind-loop-pair-preserved
-runs_behind-loop-pair-preserved g t c =
+pub runs_after-loop-pair-preserved : goal.runs_after-loop-pair-preserved
+runs_after-loop-pair-preserved g t c =
     let is = c.loop-pair.invariant in
     record {
       done = is.done ++ c.in-Some.pair ∷ [];
       whole = turn_after c.args.pairs.now is.done c.loop-pair.pairs c.take_least.new.self c.in-Some.pair is.whole c.in-Some.ensures.permutation;
-      tries = tries_more is.tries c.loop-pair.pairs c.take_least.new.self c.in-Some.pair is.whole c.in-Some.ensures.permutation c.args.nested c.requires.ready (omega (arith, c.if-modifiers-le1.false)) c.runs_behind_one.ensures.asked c.in_ok-runs_behind_one.field-0 c.in_ok-runs_behind_one.was c.in_ok-runs_behind_one.ensures.forced c.in_ok-runs_behind_one.ensures.answer c.if-branch.false;
+      tries = tries_more is.tries c.loop-pair.pairs c.take_least.new.self c.in-Some.pair is.whole c.in-Some.ensures.permutation c.args.nested c.requires.ready (omega (arith, c.if-modifiers-le1.false)) c.runs_after_one.ensures.asked c.in_ok-runs_after_one.field-0 c.in_ok-runs_after_one.was c.in_ok-runs_after_one.ensures.forced c.in_ok-runs_after_one.ensures.answer c.if-branch.false;
     }
 
-pub runs_behind-loop-pair-smaller : goal.runs_behind-loop-pair-smaller
-runs_behind-loop-pair-smaller g t c = turn_fewer c.loop-pair.pairs c.take_least.new.self c.in-Some.pair c.in-Some.ensures.permutation
+pub runs_after-loop-pair-smaller : goal.runs_after-loop-pair-smaller
+runs_after-loop-pair-smaller g t c = turn_fewer c.loop-pair.pairs c.take_least.new.self c.in-Some.pair c.in-Some.ensures.permutation
 
-pub runs_behind-returns-clause-asked : goal.runs_behind-returns-clause-asked
-runs_behind-returns-clause-asked g t c = tries_end c.loop-pair.invariant.tries false
+pub runs_after-returns-clause-asked : goal.runs_after-returns-clause-asked
+runs_after-returns-clause-asked g t c = tries_end c.loop-pair.invariant.tries false
 
-pub runs_behind-returns-clause-answer : goal.runs_behind-returns-clause-answer
-runs_behind-returns-clause-answer g t c =
+pub runs_after-returns-clause-answer : goal.runs_after-returns-clause-answer
+runs_after-returns-clause-answer g t c =
     none_of_all c.args.self.now.game c.args.state.now.state c.args.pairs.now c.loop-pair.invariant.done (turn_end c.args.pairs.now c.loop-pair.invariant.done c.loop-pair.pairs c.loop-pair.invariant.whole c.in_default.ensures.none) c.loop-pair.invariant.tries.none
 
-pub runs_behind-returns-clause-forced : goal.runs_behind-returns-clause-forced
-runs_behind-returns-clause-forced g t c =
+pub runs_after-returns-clause-forced : goal.runs_after-returns-clause-forced
+runs_after-returns-clause-forced g t c =
     let is = c.loop-pair.invariant in
     let moves = turn_end c.args.pairs.now is.done c.loop-pair.pairs is.whole c.in_default.ensures.none in
     record {
@@ -571,46 +571,46 @@ runs_behind-returns-clause-forced g t c =
       forced = λ cut numbered _. ran_permuted c.args.self.now.game cut c.args.state.now.state c.args.pairs.now is.done c.args.self.now.opened c.loop-pair.self.opened c.args.modifiers c.args.self.now.modifiers moves (is.tries.forced cut numbered);
     }
 
-pub runs_behind_one-apply_at-requires-clause-vertex : goal.runs_behind_one-apply_at-requires-clause-vertex
-runs_behind_one-apply_at-requires-clause-vertex g t c = let ready = rw (← c.pair.view_is) at c.requires.ready in ready.vertex
+pub runs_after_one-apply_at-requires-clause-vertex : goal.runs_after_one-apply_at-requires-clause-vertex
+runs_after_one-apply_at-requires-clause-vertex g t c = let ready = rw (← c.pair.view_is) at c.requires.ready in ready.vertex
 
-pub runs_behind_one-apply_at-requires-clause-position : goal.runs_behind_one-apply_at-requires-clause-position
-runs_behind_one-apply_at-requires-clause-position g t c = let ready = rw (← c.pair.view_is) at c.requires.ready in ready.position
+pub runs_after_one-apply_at-requires-clause-position : goal.runs_after_one-apply_at-requires-clause-position
+runs_after_one-apply_at-requires-clause-position g t c = let ready = rw (← c.pair.view_is) at c.requires.ready in ready.position
 
-pub runs_behind_one-apply_at-requires-clause-modifies : goal.runs_behind_one-apply_at-requires-clause-modifies
-runs_behind_one-apply_at-requires-clause-modifies g t c = let ready = rw (← c.pair.view_is) at c.requires.ready in ready.modifies
+pub runs_after_one-apply_at-requires-clause-modifies : goal.runs_after_one-apply_at-requires-clause-modifies
+runs_after_one-apply_at-requires-clause-modifies g t c = let ready = rw (← c.pair.view_is) at c.requires.ready in ready.modifies
 
-pub runs_behind_one-undo_to-requires : goal.runs_behind_one-undo_to-requires
-runs_behind_one-undo_to-requires g t c =
+pub runs_after_one-undo_to-requires : goal.runs_after_one-undo_to-requires
+runs_after_one-undo_to-requires g t c =
     mark_within c.args.state.now c.apply_at.new.state c.word_runs-runs.new.state c.mark-mark.result c.mark-mark.ensures c.apply_at.ensures.after c.word_runs-runs.ensures.asked.given_back
 
-pub runs_behind_one-word_runs-runs-requires : goal.runs_behind_one-word_runs-runs-requires
-runs_behind_one-word_runs-runs-requires g t c κs within =
+pub runs_after_one-word_runs-runs-requires : goal.runs_after_one-word_runs-runs-requires
+runs_after_one-word_runs-runs-requires g t c κs within =
     let ready = rw (← c.pair.view_is) at c.requires.ready in
     let inside = rw (← c.pair.view_is) at c.requires.inside in
     (search rules, (within, (c.apply_at.ensures.fits, (ready.nests, inside))))
 
-pub runs_behind_one-returns-in_err-runs-clause-asked : goal.runs_behind_one-returns-in_err-runs-clause-asked
-runs_behind_one-returns-in_err-runs-clause-asked g t c = rw (← c.pair.view_is) (λ later applies.
+pub runs_after_one-returns-in_err-runs-clause-asked : goal.runs_after_one-returns-in_err-runs-clause-asked
+runs_after_one-returns-in_err-runs-clause-asked g t c = rw (← c.pair.view_is) (λ later applies.
     let given = back c.args.state.now c.apply_at.new.state c.word_runs-runs.new.state c.undo_to.new.self c.mark-mark.result c.mark-mark.ensures c.apply_at.ensures.after c.word_runs-runs.ensures.asked.given_back c.undo_to.ensures.given_back in
     let there =
     asked_there c.word_runs-runs.ensures.asked c.args.state.now c.undo_to.new.self later (c.args.modifiers - 1) (c.apply_at.ensures.only later applies) refl given
     (given_room c.args.state.now c.apply_at.new.state c.word_runs-runs.new.state c.undo_to.new.self c.apply_at.ensures.capacity c.word_runs-runs.ensures.asked.given_back c.word_runs-runs.ensures.asked.room c.undo_to.ensures.capacity given) in
     handed_on there c.from_residual.result c.in_err-runs.field-0.0 c.in_err-runs.was c.from_residual.ensures.1)
 
-pub runs_behind_one-returns-clause-asked : goal.runs_behind_one-returns-clause-asked
-runs_behind_one-returns-clause-asked g t c = rw (← c.pair.view_is) (λ later applies.
+pub runs_after_one-returns-clause-asked : goal.runs_after_one-returns-clause-asked
+runs_after_one-returns-clause-asked g t c = rw (← c.pair.view_is) (λ later applies.
     let given = back c.args.state.now c.apply_at.new.state c.word_runs-runs.new.state c.undo_to.new.self c.mark-mark.result c.mark-mark.ensures c.apply_at.ensures.after c.word_runs-runs.ensures.asked.given_back c.undo_to.ensures.given_back in
     let there =
     asked_there c.word_runs-runs.ensures.asked c.args.state.now c.undo_to.new.self later (c.args.modifiers - 1) (c.apply_at.ensures.only later applies) refl given
     (given_room c.args.state.now c.apply_at.new.state c.word_runs-runs.new.state c.undo_to.new.self c.apply_at.ensures.capacity c.word_runs-runs.ensures.asked.given_back c.word_runs-runs.ensures.asked.room c.undo_to.ensures.capacity given) in
     answered_on there c.in_ok-runs.field-0 c.in_ok-runs.field-0 c.in_ok-runs.was)
 
-pub runs_behind_one-returns-clause-answer : goal.runs_behind_one-returns-clause-answer
-runs_behind_one-returns-clause-answer g t c =
+pub runs_after_one-returns-clause-answer : goal.runs_after_one-returns-clause-answer
+runs_after_one-returns-clause-answer g t c =
     let ready = rw (← c.pair.view_is) at c.requires.ready in
     rw (← c.pair.view_is) (runs_one c.args.self.now.game c.args.state.now.state c.apply_at.new.state.state c.args.nested c.pair.inside.vertex c.pair.inside.position c.in_ok-runs.field-0 ready c.apply_at.ensures.only c.in_ok-runs.ensures.answer)
 
-pub runs_behind_one-returns-clause-forced : goal.runs_behind_one-returns-clause-forced
-runs_behind_one-returns-clause-forced g t c = rw (← c.pair.view_is) (λ cut later applies.
+pub runs_after_one-returns-clause-forced : goal.runs_after_one-returns-clause-forced
+runs_after_one-returns-clause-forced g t c = rw (← c.pair.view_is) (λ cut later applies.
     subst (λ (u : AbstractState). CountsForced c.args.self.now.game cut pattern u (after c.pair.inside.position) c.args.self.now.opened c.word_runs-runs.new.self.opened (c.args.modifiers - 1) c.args.self.now.modifiers) (sym (c.apply_at.ensures.only later applies)) (c.in_ok-runs.ensures.forced cut))

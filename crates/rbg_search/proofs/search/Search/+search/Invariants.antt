@@ -2,7 +2,7 @@
 use Rattle.std.proofs.Common.{◌+◌, ◌*◌, ◌-◌, ◌^◌, ◌++◌, ℕ, List, length, IsPermutation}
 use Rattle.rbg_pairs.specs.Start.{start_of}
 use Rattle.rbg_flat.specs.internal.Sets.{weight}
-use Rattle.rbg_search.proofs.Common.{FindsBySets, FindsByPairs, TriesBehind}
+use Rattle.rbg_search.proofs.Common.{FindsBySets, FindsByPairs, TriesAfter}
 use Rattle.rbg_search.proofs.search.Search.+search.Given as goal
 
 abbrev pub decreases-flat_part : goal.decreases-flat_part
@@ -20,11 +20,11 @@ decreases-ask g l = l.nested * 1000000 + 1
 abbrev pub decreases-word_runs : goal.decreases-word_runs
 decreases-word_runs g l = l.nested * 1000000 + l.modifiers * 10 + 5
 
-abbrev pub decreases-runs_behind : goal.decreases-runs_behind
-decreases-runs_behind g l = l.nested * 1000000 + l.modifiers * 10 + 4
+abbrev pub decreases-runs_after : goal.decreases-runs_after
+decreases-runs_after g l = l.nested * 1000000 + l.modifiers * 10 + 4
 
-abbrev pub decreases-runs_behind_one : goal.decreases-runs_behind_one
-decreases-runs_behind_one g l = l.nested * 1000000 + l.modifiers * 10 + 3
+abbrev pub decreases-runs_after_one : goal.decreases-runs_after_one
+decreases-runs_after_one g l = l.nested * 1000000 + l.modifiers * 10 + 3
 
 abbrev pub invariant-pairs_part-loop-next : goal.invariant-pairs_part-loop-next
 invariant-pairs_part-loop-next g l = FindsByPairs l.fn.self l.self l.fn.state l.state (start_of l.fn.origin) l.flat.value
@@ -38,12 +38,12 @@ invariant-sets_part-loop-vertex g l = FindsBySets l.fn.self l.self l.fn.state l.
 abbrev pub decreases-sets_part-loop-vertex : goal.decreases-sets_part-loop-vertex
 decreases-sets_part-loop-vertex g l = weight l.flat.value.sets
 
-abbrev pub invariant-runs_behind-loop-pair : goal.invariant-runs_behind-loop-pair
-invariant-runs_behind-loop-pair g l = record {
+abbrev pub invariant-runs_after-loop-pair : goal.invariant-runs_after-loop-pair
+invariant-runs_after-loop-pair g l = record {
   done : List (ℕ × ℕ);
   whole : IsPermutation l.fn.pairs (done ++ l.pairs);
-  tries : TriesBehind l.fn.self l.self l.fn.state l.state l.fn.pairs done l.fn.modifiers;
+  tries : TriesAfter l.fn.self l.self l.fn.state l.state l.fn.pairs done l.fn.modifiers;
 }
 
-abbrev pub decreases-runs_behind-loop-pair : goal.decreases-runs_behind-loop-pair
-decreases-runs_behind-loop-pair g l = length l.pairs
+abbrev pub decreases-runs_after-loop-pair : goal.decreases-runs_after-loop-pair
+decreases-runs_after-loop-pair g l = length l.pairs

@@ -11,21 +11,21 @@ pub returns-then-not-branch : goal.returns-then-not-branch
 returns-then-not-branch c =
     let stops : c.in_ok-show_or_stop.field-0 ≡ false = c.if-not-branch.true in
     let told = subst (TellsLine c.in-Some.line.now c.loop-line.number (standing_of c.loop-line.self) c.show_or_stop.new.self) stops c.in_ok-show_or_stop.ensures in
-    list_stops (standing_of c.args.self.now) (standing_of c.loop-line.self) c.show_or_stop.new.self c.args.moves.now c.loop-line.rest.now c.in-Some.line.now c.in-Some.behind.now c.loop-line.number c.loop-line.invariant c.in-Some.ensures.found told
+    list_stops (standing_of c.args.self.now) (standing_of c.loop-line.self) c.show_or_stop.new.self c.args.moves.now c.loop-line.rest.now c.in-Some.line.now c.in-Some.beyond.now c.loop-line.number c.loop-line.invariant c.in-Some.ensures.found told
 
 pub overflow_add-number : goal.overflow_add-number
 overflow_add-number c =
-    let fits = number_fits c.loop-line.number c.loop-line.rest.now c.in-Some.line.now c.in-Some.behind.now c.args.moves.now c.loop-line.invariant.room c.in-Some.ensures.found.0 in
+    let fits = number_fits c.loop-line.number c.loop-line.rest.now c.in-Some.line.now c.in-Some.beyond.now c.args.moves.now c.loop-line.invariant.room c.in-Some.ensures.found.0 in
     omega arith
 
 pub loop-line-preserved : goal.loop-line-preserved
 loop-line-preserved c =
     let follows : c.in_ok-show_or_stop.field-0 ≡ true = c.if-not-branch.false in
     let told = subst (TellsLine c.in-Some.line.now c.loop-line.number (standing_of c.loop-line.self) c.show_or_stop.new.self) follows c.in_ok-show_or_stop.ensures in
-    followed_more (standing_of c.args.self.now) (standing_of c.loop-line.self) (standing_of c.show_or_stop.new.self) c.args.moves.now c.loop-line.rest.now c.in-Some.line.now c.in-Some.behind.now c.loop-line.number c.loop-line.invariant c.in-Some.ensures.found told
+    followed_more (standing_of c.args.self.now) (standing_of c.loop-line.self) (standing_of c.show_or_stop.new.self) c.args.moves.now c.loop-line.rest.now c.in-Some.line.now c.in-Some.beyond.now c.loop-line.number c.loop-line.invariant c.in-Some.ensures.found told
 
 pub loop-line-smaller : goal.loop-line-smaller
-loop-line-smaller c = shorter c.loop-line.rest.now c.in-Some.line.now c.in-Some.behind.now c.in-Some.ensures.found.0
+loop-line-smaller c = shorter c.loop-line.rest.now c.in-Some.line.now c.in-Some.beyond.now c.in-Some.ensures.found.0
 
 pub returns-then-branch : goal.returns-then-branch
 returns-then-branch c =

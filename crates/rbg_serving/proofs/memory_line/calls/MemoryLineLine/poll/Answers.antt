@@ -13,7 +13,7 @@ pub returns-then-count-rest-clause-told : goal.returns-then-count-rest-clause-to
 returns-then-count-rest-clause-told c =
     let line = c.args.self.now in
     let give = give_at c.args.self.now.whole Nothing (c.in-Some.ensures.lookup.3.1 Nothing) c.as_slice.ensures.value c.in-Bytes.is in
-    let rest = c.behind-rest.ensures ∙ ap (drop line.offset) c.deref.ensures.value in
+    let rest = c.beyond-rest.ensures ∙ ap (drop line.offset) c.deref.ensures.value in
     λ so_far tells. record {
       record_of = record {
         is =
@@ -30,14 +30,14 @@ returns-then-count-rest-clause-told c =
 pub returns-then-count-rest-clause-gives : goal.returns-then-count-rest-clause-gives
 returns-then-count-rest-clause-gives c =
     let give = give_at c.args.self.now.whole Nothing (c.in-Some.ensures.lookup.3.1 Nothing) c.as_slice.ensures.value c.in-Bytes.is in
-    let rest = c.behind-rest.ensures ∙ ap (drop c.args.self.now.offset) c.deref.ensures.value in
-    only_gives (part_given _ _ _ c.copy-count.result c.copy-count.new.buffer c.behind-rest.result.now _ give refl rest c.copy-count.ensures.most c.copy-count.ensures.copied (omega (arith, c.if-count-rest.true))) refl refl refl refl refl
+    let rest = c.beyond-rest.ensures ∙ ap (drop c.args.self.now.offset) c.deref.ensures.value in
+    only_gives (part_given _ _ _ c.copy-count.result c.copy-count.new.buffer c.beyond-rest.result.now _ give refl rest c.copy-count.ensures.most c.copy-count.ensures.copied (omega (arith, c.if-count-rest.true))) refl refl refl refl refl
 
 pub returns-else-count-rest-clause-gives : goal.returns-else-count-rest-clause-gives
 returns-else-count-rest-clause-gives c =
     let give = give_at c.args.self.now.whole Nothing (c.in-Some.ensures.lookup.3.1 Nothing) c.as_slice.ensures.value c.in-Bytes.is in
-    let rest = c.behind-rest.ensures ∙ ap (drop c.args.self.now.offset) c.deref.ensures.value in
-    only_gives (rest_given _ _ _ c.copy-count.result c.copy-count.new.buffer c.behind-rest.result.now _ give refl rest c.copy-count.ensures.most c.copy-count.ensures.copied c.if-count-rest.false) refl refl refl refl refl
+    let rest = c.beyond-rest.ensures ∙ ap (drop c.args.self.now.offset) c.deref.ensures.value in
+    only_gives (rest_given _ _ _ c.copy-count.result c.copy-count.new.buffer c.beyond-rest.result.now _ give refl rest c.copy-count.ensures.most c.copy-count.ensures.copied c.if-count-rest.false) refl refl refl refl refl
 
 pub returns-in-Nothing-clause-gives : goal.returns-in-Nothing-clause-gives
 returns-in-Nothing-clause-gives c =
