@@ -59,7 +59,7 @@ help:
 	@echo 'make compare  compares ./rbg with the interpreter of tools/slow, on stored cases and N=10000 others of SEED=1 (after make build)'
 	@echo 'make refusals refuses each request for memory in turn, and checks each answer (after make build, with gcc)'
 	@echo 'make doctests runs the examples in the comments of the clients and tools (after make build)'
-	@echo 'make pages    follows the pages: gives each command on them, and compares what it prints (after make build, with rt and gcc)'
+	@echo 'make pages    follows the pages: gives each command on them, and compares what it prints (after make build); PAGES="docs/AUTHORS.md" some, PAGES=--built without rt'
 	@echo 'make links    checks that what the pages link and name is there, and that what make docs makes is up to date'
 	@echo 'make docs     makes the page of all commands, the manual pages and the completions, from the sources'
 	@echo 'make lib      proves the library for programs in C, and leaves librbg.a, librbg.so and rbg.pc beside include/rbg.h (with gcc)'
@@ -69,7 +69,7 @@ help:
 	@echo 'make build    proves the programs and what they use, LANES crates at once, and leaves them as ./rbg and ./rbg_author'
 	@echo 'make bench    takes the figures of docs/COSTS.md by valgrind, and writes tools/bench/RESULTS.md (after make build); SECTIONS="texts search" takes some'
 	@echo 'make test     the gate: every proof from nothing, the must-fail edits, each test and program, and then make parts'
-	@echo 'make parts    refusals, compare, crash, storm, tournament, clients and hall with smaller numbers, doctests and links, with the programs as the gate built them'
+	@echo 'make parts    refusals, compare, crash, storm, tournament, clients, hall, editor and imported with smaller numbers, pages, doctests and links, with the programs as the gate built them'
 	@echo 'make check    proves what changed since the last check, lowest crates first'
 	@echo 'make fmt      lays out the sources and the proofs'
 	@echo 'make clean    removes what was built'
@@ -169,7 +169,7 @@ doctests:
 	$(call needs,./rbg_author)
 	@tools/doctests
 
-# PAGES chooses some.
+# PAGES chooses some, and --built runs the programs in place of rt try.
 PAGES :=
 pages:
 	$(call needs,./rbg)

@@ -1,7 +1,8 @@
 #!/usr/bin/env python3
-"""A player for matches of `rbg serve` and `rbg hall` whose players are programs of a kind: it says the first legal move, moves
-at random (--random), moves that playouts choose (--think), or those of a record (--record), as long as the match goes as the
-record says. If a move is refused, it says so and stops.
+"""A player for matches of `rbg serve` and `rbg hall`, for trials.
+
+It sends the first legal move, random moves (--random), moves that playouts choose (--think), or those of a record
+(--record), as long as the match goes as the record says. If a move is refused, it reports that and stops.
 """
 
 import argparse

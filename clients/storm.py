@@ -85,7 +85,7 @@ def disks(trial: Trial, size: Size) -> dict[str, Make]:
     kinds = [storm_disks.Logged, storm_disks.Synced, storm_disks.Resumed, storm_disks.Hall]
     return {
         "faults": lambda it: storm_disks.fail(it, TOP, kinds, size.runs, size.seed),
-        "kept": lambda it: storm_disks.fail(it, TOP, [storm_disks.Kept], size.runs // 4, size.seed),
+        "kept": lambda it: storm_disks.fail(it, TOP, [storm_disks.Kept, storm_disks.KeptHall], size.runs // 4, size.seed),
         "full_system": storm_full.full_system,
         "file_limit": storm_full.file_limit,
     }

@@ -177,6 +177,30 @@ class Hall(Disk):
         self.log = whole
 
 
+class KeptHall(Hall):
+    """A hall whose records are kept in files, too."""
+
+    def words(self) -> list[str]:
+        return [*super().words(), "--records", str(self.folder)]
+
+    def judge(self, fault: Fault, ended: Ended) -> str:
+        """Each record that is printed is in its file, or standard error names the file, and the status is that of a device."""
+        if not ended.printed.startswith("match "):
+            return super().judge(fault, ended)
+        printed = records(ended.printed)
+        files = {match: self.folder / f"{match}.record" for match in printed}
+        lost = [match for match, file in files.items() if not file.exists()]
+        for match, file in files.items():
+            if match in lost:
+                expect(f"can't write {file}: {fault.reason}" in ended.reported, f"the lost record of match {match} isn't named")
+            else:
+                expect(file.read_text() == printed[match], f"the file of match {match} has another record")
+        expect(ended.status == (3 if lost else 0), "the status doesn't say whether a record is lost")
+        expect(not (lost and fault.is_harmless), "a call had only to be made again")
+        whole = super().judge(fault, ended._replace(status=0))
+        return "device" if lost else whole
+
+
 def chosen(counts: dict[str, int], chance: random.Random) -> Fault:
     """A fault of one of the calls that a run makes."""
     call = chance.choice([it for it in CALLS if counts.get(it)])

@@ -14,6 +14,8 @@ docs/TOURNAMENTS.md describes the plan and the files. It needs nothing but Linux
 """
 
 import argparse
+import os
+import select
 import signal
 import sys
 from pathlib import Path
@@ -21,6 +23,7 @@ from types import FrameType
 from typing import Optional
 
 from tournament_charts import stacked
+from tournament_commands import warnings
 from tournament_files import Fault, write_whole
 from tournament_making import add_plan, add_round, make_plan, merge
 from tournament_match import play_match
@@ -31,7 +34,7 @@ from tournament_processes import Stop, Stopped
 from tournament_result import Result
 from tournament_run import run
 from tournament_standings import table_of
-from tournament_table import table_text, write_results
+from tournament_table import columns_in_words, table_text, write_results
 
 STOPS = (signal.SIGINT, signal.SIGTERM, signal.SIGHUP)  # what asks this program to stop
 
@@ -73,6 +76,7 @@ def words_of() -> argparse.Namespace:
     match.add_argument("--again", action="store_true", help="also if it failed or was lost by default")
     command("next", "adds the next round of a Swiss tournament, if the last one is over")
     table = command("table", "prints the table, and writes results.csv and results.json")
+    table.formatter_class, table.epilog = argparse.RawDescriptionHelpFormatter, columns_in_words()
     table.add_argument("--html", type=Path, metavar="FILE", help="writes the table as a page, too")
     table.add_argument("--svg", type=Path, metavar="FILE", help="writes the charts as a picture")
     table.add_argument("--check", action="store_true", help="looks at each record again, by rbg replay")
@@ -109,6 +113,12 @@ def show_table(folder: Folder, page: Optional[Path], picture: Optional[Path], ch
         write_whole(picture, stacked(charts(table)))
 
 
+def warn(folder: Folder) -> None:
+    """Says which commands aren't there on this machine."""
+    for warning in warnings(Plan.load(folder.path)):
+        print(f"warning: {warning}", file=sys.stderr)
+
+
 def obey(words: argparse.Namespace) -> None:
     if words.command == "openings":
         for line in make_openings(
@@ -123,8 +133,10 @@ def obey(words: argparse.Namespace) -> None:
     folder = Folder(words.folder)
     if words.command == "plan":
         print(f"{make_plan(words.plan, folder)} matches in {folder.jobs}")
+        warn(folder)
     elif words.command == "add":
         print(f"{add_plan(words.plan, folder)} more matches in {folder.jobs}")
+        warn(folder)
     elif words.command == "run":
         run(folder, words.jobs, words.again, words.html)
     elif words.command == "match":
@@ -146,6 +158,16 @@ def stop(number: int, _frame: Optional[FrameType]) -> None:
     sys.exit(128 + number)
 
 
+def is_unread() -> bool:
+    """Whether nobody reads any more what is printed, as after `| head`. Then what is left goes nowhere."""
+    pipe = select.poll()
+    pipe.register(sys.stdout, 0)  # that it has an error is always reported
+    if not pipe.poll(0):
+        return False
+    os.dup2(os.open(os.devnull, os.O_WRONLY), sys.stdout.fileno())
+    return True
+
+
 def main() -> int:
     # so that the programs of a match end with it if it is asked to stop
     for each in STOPS:
@@ -153,13 +175,15 @@ def main() -> int:
             signal.signal(each, stop)
     try:
         obey(words_of())
+        sys.stdout.flush()
     except Stopped:
         return 1
     except Fault as fault:
         print(fault, file=sys.stderr)
         return 1
     except OSError as error:
-        print(f"{error.filename or 'a file'}: {error.strerror}", file=sys.stderr)
+        if not (isinstance(error, BrokenPipeError) and is_unread()):
+            print(f"{error.filename or 'a file'}: {error.strerror}", file=sys.stderr)
         return 1
     return 0
 

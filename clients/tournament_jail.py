@@ -7,9 +7,8 @@ trusted.
 The program finds 127.0.0.1:PORT as ever, but what listens there is this wrapper, in the program's own network namespace.
 It lets one connection in, and carries its bytes to the referee and back. So the program can't connect twice, nor to another
 match, nor to anything else. It has a user namespace of its own too, in which it is the same user. What it may read and
-write isn't narrowed, and it can still end the other processes of its user: bwrap (bubblewrap) does that, as in
-
-    wrapper = "python3 ../tournament_jail.py {port} bwrap --ro-bind / / --dev /dev --proc /proc --tmpfs /tmp --unshare-pid"
+write isn't narrowed, and it can still end the other processes of its user. bwrap (bubblewrap) prevents that, and all
+writing outside of /tmp; `--tmpfs FOLDER` hides a folder that the program shall not read. docs/TOURNAMENTS.md has the line.
 """
 
 import ctypes

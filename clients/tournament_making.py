@@ -34,7 +34,7 @@ def make_plan(file: Path, folder: Folder) -> int:
     """Writes a tournament's folder as PLAN.toml says. Returns how many matches there are."""
     reading, openings = read_plan(file)
     if folder.plan.exists():
-        raise Fault(f"{folder.path} has a plan already: tournament.py add puts more into it")
+        raise Fault(f"{folder.path} has a plan already: tournament.py add puts more into it; what is changed needs a new folder")
     copy_games(reading, openings, folder)
     with changing(folder):
         plan = reading.plan

@@ -1,18 +1,18 @@
 """One match of a tournament: a referee, and a program for each seat."""
 
 import math
-import subprocess
 import time
 from pathlib import Path
 from typing import Optional
 
 from served import free_port
+from tournament_commands import lacking_wrapper
 from tournament_files import Fault, alone, part_of, write_whole
 from tournament_openings import opening_script
 from tournament_plan import Files, Folder, Pairing, Plan
 from tournament_processes import Output, Processes, Stop
 from tournament_records import moves_said
-from tournament_result import Result, good_record, result_of
+from tournament_result import Result, good_record, is_settled, rbg_of, result_of
 from tournament_seating import Intruder, Referee, Seating
 
 TRIES = 5  # how many ports are tried for a match
@@ -101,12 +101,21 @@ class Play:
             self.give_up(f"the referee doesn't listen: {referee.fault()}")
             return "can't listen" not in referee.news()
         if seating.absent:
-            reasons = [f"{self.pairing.seats[seat - 1]} {reason}" for seat, reason in seating.absent.items()]
-            self.result.default(sorted(seating.absent), ", ".join(reasons))
+            self.note_absent(seating)
             self.restore()
         else:
             self.finish(processes, referee)
         return True
+
+    def note_absent(self, seating: Seating) -> None:
+        """Who isn't there has lost, but not if a wrapper is lacking."""
+        names = {seat: self.pairing.seats[seat - 1] for seat in seating.absent}
+        lacking = lacking_wrapper(self.plan, list(names.values()))
+        if lacking is not None:
+            self.give_up(lacking)
+        else:
+            reasons = ", ".join(f"{names[seat]} {reason}" for seat, reason in seating.absent.items())
+            self.result.default(sorted(seating.absent), reasons)
 
     def restore(self) -> None:
         """Takes back what was logged of a match that not all of its programs began."""
@@ -171,14 +180,17 @@ class Play:
         part = part_of(self.files.record)
         part.unlink(missing_ok=True)
         script = self.files.log.read_bytes()
-        words = [self.plan.rbg, "referee", str(self.game), "--record", str(part)]
-        subprocess.run(words, input=script[: script.rfind(b"\n") + 1], capture_output=True)
         probe = Result.of(self.pairing)
         try:
+            rbg_of(self.plan, "referee", self.game, "--record", part, given=script[: script.rfind(b"\n") + 1])
             text = part.read_text()
-            part.unlink()
+        except OSError:
+            return False
+        finally:
+            part.unlink(missing_ok=True)
+        try:
             probe.note(self.plan, text, len(self.opening), adjudged if self.plan.late == "draw" else "")
-        except (OSError, Fault, ValueError, IndexError):
+        except (Fault, ValueError, IndexError):
             return False
         if probe.outcome == "-" and not probe.adjudged:
             return False
@@ -193,7 +205,7 @@ def play_match(folder: Folder, plan: Plan, number: int, pairing: Pairing, stop: 
         known = result_of(plan, folder, number, pairing)
         written = files.result.exists()
         if known is not None and (known.outcome is not None or (written and not again)):
-            if not written:
+            if known.outcome is not None and not is_settled(files):
                 known.save(files.result)
             return known
         result = Play(plan, folder, number, pairing, stop).play()

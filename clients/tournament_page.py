@@ -103,6 +103,18 @@ def charts(table: Table) -> list[str]:
     return drawn
 
 
+def match_head(number: int, result: Result, record: bytes) -> str:
+    """Who played a match for whom, and what it counts, as a page's first line.
+
+    >>> result = Result("g", ["a", "<b>"], outcome="E1 2", scores=[1, 0])
+    >>> match_head(7, result, b"rbg 2\\nplayers red blue\\nstart 9 0\\n5 E1 2\\n")
+    '<p>match 7: red is a, blue is &lt;b&gt;. E1: &lt;b&gt; has lost</p>\\n'
+    """
+    players = record.decode(errors="replace").splitlines()[1].split()[1:]
+    who = ", ".join(f"{player} is {name}" for player, name in zip(players, result.seats))
+    return f"<p>{html.escape(f'match {number}: {who}. {result.verdict()}')}</p>\n"
+
+
 def make_page(plan: Plan, folder: Folder, number: int, result: Optional[Result]) -> Optional[Path]:
     """The page of a match, if `rbg_author page` makes one. It is made once."""
     files = Files(folder, number)
@@ -111,15 +123,14 @@ def make_page(plan: Plan, folder: Folder, number: int, result: Optional[Result])
     try:
         if files.page.exists() and files.page.stat().st_mtime >= files.record.stat().st_mtime:
             return files.page
-        with files.record.open("rb") as record:
-            game = str(folder.game(result.game))
-            made = subprocess.run([plan.author, "page", game], stdin=record, capture_output=True)
+        record = files.record.read_bytes()
+        made = subprocess.run([plan.author, "page", str(folder.game(result.game))], input=record, capture_output=True)
         if made.returncode:
             return None
-        part = part_of(files.page)
-        part.write_bytes(made.stdout)
+        part, head = part_of(files.page), match_head(number, result, record).encode()
+        part.write_bytes(made.stdout.replace(b"<body>\n", b"<body>\n" + head, 1))
         return part.replace(files.page)
-    except OSError:
+    except (OSError, IndexError):
         return None
 
 

@@ -2,12 +2,27 @@
 
 import json
 import shlex
+import subprocess
 import sys
+from contextlib import suppress
 from dataclasses import asdict, dataclass, field
 from pathlib import Path
 from typing import Iterable, Iterator, Optional
 
 from tournament_files import Fault, write_whole
+
+
+def interpreter() -> str:
+    """How jobs.txt names the interpreter: `python3`, or by its path if that would be another one.
+
+    >>> interpreter() in ("python3", sys.executable)
+    True
+    """
+    words = ["python3", "-c", "import sys; print(sys.executable)"]
+    with suppress(OSError):
+        if subprocess.run(words, capture_output=True, text=True).stdout.strip() == sys.executable:
+            return "python3"
+    return sys.executable
 
 
 @dataclass(frozen=True)
@@ -174,7 +189,7 @@ class Folder:
         first = old.count("\n") + 1
         lines = [json.dumps(asdict(pairing)) + "\n" for pairing in pairings]
         program = str(Path(__file__).resolve().with_name("tournament.py"))
-        command = shlex.join([sys.executable, program, "match", str(self.path)])
+        command = shlex.join([interpreter(), program, "match", str(self.path)])
         jobs = "".join(f"{command} {number}\n" for number in range(1, first + len(lines)))
         write_whole(self.jobs, jobs)
         write_whole(self.schedule, old + "".join(lines))

@@ -4,7 +4,6 @@ import json
 import socket
 import subprocess
 import time
-from contextlib import nullcontext
 from dataclasses import dataclass, field
 from pathlib import Path
 from typing import Optional
@@ -12,6 +11,8 @@ from typing import Optional
 from tournament_files import Fault, write_whole
 from tournament_plan import Files, Folder, Pairing, Plan
 from tournament_records import Record, checksum, counted, judge, without
+
+ANSWERS = (0, 1, 2)  # the statuses of rbg that say something of what it was given; the others are faults of the system
 
 
 @dataclass
@@ -64,6 +65,37 @@ class Result:
             return "default" if self.absent else "failed"
         return "adjudged" if self.adjudged else "played"
 
+    @property
+    def late(self) -> Optional[int]:
+        """The seat that has lost by the plan: it took longer for a turn than its program's own `turn`.
+
+        >>> late = Result("g", ["a", "b"], outcome="E0 9 0", scores=[0, 1], adjudged="seat 1 took 40 ms of 40 ms")
+        >>> late.late, Result("g", ["a", "b"], outcome="-", scores=[1, 1], adjudged="3 moves").late
+        (1, None)
+        """
+        return self.scores.index(0) + 1 if self.state == "adjudged" and self.scores and 0 in self.scores else None
+
+    def verdict(self) -> str:
+        """What a match with an outcome counts, by the names of the programs. Only of one that was played to its end the
+        scores are given.
+
+        >>> for end, scores, adjudged in ("E0 9 0", [9, 0], ""), ("E3 1", [0, 1], ""), ("E0 9 0", [0, 1], "seat 1 took 9 ms"):
+        ...     Result("g", ["a", "b"], outcome=end, scores=scores, adjudged=adjudged).verdict()
+        'E0: a 9, b 0'
+        'E3: a has lost'
+        'adjudged: seat 1 took 9 ms: a has lost'
+        >>> [Result("g", ["a", "b"], outcome="E4", scores=scores).verdict() for scores in ([1, 1], None)]
+        ['E4: a draw', 'E4: counts for nobody']
+        """
+        end = self.outcome.split()[0] if self.outcome else ""
+        how = self.in_words() if self.adjudged else end
+        if self.scores is None:
+            return f"{how}: counts for nobody"
+        if end == "E0" and not self.adjudged:
+            return f"{how}: " + ", ".join(f"{name} {score}" for name, score in zip(self.seats, self.scores))
+        lost = [name for name, score in zip(self.seats, self.scores) if score == 0]
+        return f"{how}: {lost[0]} has lost" if lost else f"{how}: a draw"
+
     def in_words(self) -> str:
         """The outcome or the reason in words."""
         if self.outcome is None:
@@ -109,19 +141,40 @@ class Result:
         self.scores = without(len(self.seats), absent) if counts else None
 
 
-def rbg_of(plan: Plan, *words: object, text: Optional[Path] = None) -> str:
-    """What a command of rbg prints. Its standard input is this file, or nothing."""
+def is_settled(files: Files) -> bool:
+    """Whether the result that was written of a match has an outcome."""
+    written = Result.load(files.result)
+    return written is not None and written.outcome is not None
+
+
+def rbg_of(plan: Plan, *words: object, given: bytes = b"") -> str:
+    """What a command of rbg prints. One that was ended before it had its answer, as by Ctrl-C, is a fault."""
     try:
-        with text.open("rb") if text else nullcontext(subprocess.DEVNULL) as given:
-            command = [plan.rbg, *map(str, words)]
-            done = subprocess.run(command, stdin=given, capture_output=True, text=True, errors="replace")
+        done = subprocess.run([plan.rbg, *map(str, words)], input=given, capture_output=True)
     except OSError as error:
         raise Fault(f"{error.filename or plan.rbg}: {error.strerror}") from None
-    return done.stdout
+    if done.returncode not in ANSWERS:
+        how = f"status {done.returncode}" if done.returncode > 0 else f"signal {-done.returncode}"
+        raise Fault(f"{plan.rbg} {words[0]} ended with {how}")
+    return done.stdout.decode(errors="replace")
 
 
 def good_record(plan: Plan, game: Path, record: Path) -> Optional[str]:
-    """The text of a record, if there is one and `rbg replay` calls it good."""
+    """The text of a record, if there is one and `rbg replay` calls it good. If that was ended, nothing is known of it.
+
+    >>> import tempfile
+    >>> with tempfile.TemporaryDirectory() as folder:
+    ...     rbg, record = Path(folder) / "rbg", Path(folder) / "record"
+    ...     for script in ("echo good", "echo form 2; exit 2", "kill -INT $$"):
+    ...         _ = record.write_text("rbg 2\\n"), rbg.write_text(f"#!/bin/sh\\n{script}\\n"), rbg.chmod(0o755)
+    ...         try:
+    ...             print(repr(good_record(Plan(str(rbg), "", {}, {}), Path("g"), record)))
+    ...         except Fault as fault:
+    ...             print(str(fault).removeprefix(folder))
+    'rbg 2\\n'
+    None
+    /rbg replay ended with signal 2
+    """
     try:
         text = record.read_text()
     except (OSError, ValueError):

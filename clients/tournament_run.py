@@ -5,6 +5,7 @@ import sys
 import threading
 import time
 from collections import deque
+from contextlib import suppress
 from pathlib import Path
 from typing import Callable, Optional
 
@@ -14,7 +15,7 @@ from tournament_match import play_match
 from tournament_page import write_page
 from tournament_plan import Files, Folder, Pairing, Plan
 from tournament_processes import Stop, Stopped
-from tournament_result import Result, result_of
+from tournament_result import Result, is_settled, result_of
 from tournament_standings import Table, make_table, repeated_ones, test_of
 from tournament_table import write_results
 
@@ -26,8 +27,8 @@ LOOK = 0.05  # seconds between two looks at what has been played
 def progress(done: int, count: int, played: int, seconds: float, best: list[tuple[str, float]], test: str = "") -> str:
     """How far it is.
 
-    >>> progress(12, 36, 10, 5.0, [("first", 350.4), ("chance", -350.4)])
-    '12 of 36 done, 120 a minute, 12 s left: first 350, chance -350'
+    >>> progress(12, 36, 10, 5.0, [("plain", 350.4), ("chance", -350.4)])
+    '12 of 36 done, 120 a minute, 12 s left: plain 350, chance -350'
     >>> progress(0, 36, 0, 1.0, [])
     '0 of 36 done'
     """
@@ -96,7 +97,9 @@ class Runner:
         has_result = files.result.exists()
         if has_result or files.record.exists():
             result = result_of(self.plan, self.folder, number, pairing)
-        wanted = result is None or not has_result or (self.again and result.outcome is None)
+        wanted = result is None or not has_result
+        if self.again and not wanted:
+            wanted = result.outcome is None or not is_settled(files)
         if wanted and not self.decided:
             self.waiting.append(number)
         elif result is not None:
@@ -184,6 +187,13 @@ class Runner:
         self.take_from_others()
         self.tell("\n")
 
+    def stopped(self) -> str:
+        """What is said of a run that was stopped. On a terminal it begins a line."""
+        with self.lock:
+            left, count = len(self.pairings) - len(self.results), len(self.pairings)
+        begin = "\n" if sys.stderr.isatty() else ""
+        return f"{begin}stopped: {left} of {count} matches are left; the same command goes on with them"
+
     def look_at_test(self) -> None:
         """If the test is decided, no more matches begin."""
         if self.plan.sprt is not None and not self.decided:
@@ -227,7 +237,12 @@ def run(folder: Folder, jobs: Optional[int], again: bool, page: Optional[Path]) 
     processors = len(os.sched_getaffinity(0))
     if runner.jobs > processors:
         print(f"{runner.jobs} matches at once on {processors} processors: who thinks may lose by time", file=sys.stderr)
-    runner.run()
+    try:
+        runner.run()
+    except SystemExit:
+        with suppress(OSError):  # the terminal may be gone
+            print(runner.stopped(), file=sys.stderr)
+        raise
     table = runner.table()
     write_results(folder, table)
     if page is not None:

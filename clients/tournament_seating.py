@@ -2,6 +2,7 @@
 
 import os
 import shlex
+import shutil
 import signal
 from pathlib import Path
 from typing import Optional, Sequence, Union
@@ -112,10 +113,10 @@ class Seating:
         words = command_of(self.plan, self.pairing, seat, port, self.number)
         limits = {"memory": program.memory, "processor": program.processor, "file": program.file}
         said = self.outputs[seat - 1]
+        # where the example programs look for rbg
+        environment = {"RBG": shutil.which(self.plan.rbg) or self.plan.rbg, **program.environment}
         try:
-            return self.processes.start(
-                limited(words, limits), said, folder=program.folder, environment=program.environment
-            )
+            return self.processes.start(limited(words, limits), said, folder=program.folder, environment=environment)
         except OSError as error:
             self.absent[seat] = f"doesn't start: {error.strerror}"
             return None

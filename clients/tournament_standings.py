@@ -147,8 +147,14 @@ def count_result(result: Result, lines: dict[str, Standing], game: GameLine, sco
 
 
 def note_result(result: Result, lines: dict[str, Standing], game: GameLine) -> None:
-    """Counts how a match ended, and the time that it took."""
-    end, *numbers = (result.outcome or "-").split()
+    """Counts how a match ended, and the time that it took. A loss by a program's own `turn` is an E1.
+
+    >>> lines, game = {name: Standing(name) for name in "ab"}, GameLine([])
+    >>> note_result(Result("g", ["a", "b"], outcome="E3 2", scores=[0, 1], adjudged="seat 1 took 9 ms of 9 ms"), lines, game)
+    >>> lines["a"].ends["E1"], lines["b"].ends["E3"], game.adjudged, game.forfeits
+    (1, 0, 1, 0)
+    """
+    end, *numbers = (f"E1 {result.late}" if result.late else result.outcome or "-").split()
     game.matches += 1
     game.heavy += end == "E4"
     game.adjudged += result.state == "adjudged"

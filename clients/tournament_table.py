@@ -116,13 +116,48 @@ def table_text(plan: Plan, table: Table) -> str:
         parts.append("\n".join(remarks(table)))
     last = [summary(table)]
     for number, result in enumerate(table.results, 1):
-        if result is not None and result.state in ("default", "failed"):
-            last.append(f"match {number}, {result.game}, {' - '.join(result.seats)}: {result.state}: {result.reason}")
+        if result is not None and (result.state in ("default", "failed") or result.late):
+            reason = result.adjudged if result.late else result.reason
+            last.append(f"match {number}, {result.game}, {' - '.join(result.seats)}: {result.state}: {reason}")
     return "\n\n".join([*parts, "\n".join(last)])
 
 
-CSV_HEAD = "match game round opening seat program score state outcome adjudged reason moves used_ms most_ms exit seconds"
-CSV_HEAD += " repeated record log faults machine began"
+# the columns of results.csv
+COLUMNS = {
+    "match": "its number, as in jobs.txt",
+    "game": "the file of the game",
+    "round": "from 1 on",
+    "opening": "its line in the openings of the game; 0 without one",
+    "seat": "from 1 on",
+    "program": "who sits there",
+    "score": "what it counts, empty if for nobody; after a forfeit 0 for who lost, and 1",
+    "state": "played, adjudged by the plan, default (somebody didn't come), or failed",
+    "outcome": "of the record: E0 with the scores; E1 (time), E2 (refusals), E3 (left) with the seat that lost; E4; -",
+    "adjudged": "what the plan decided, and not the referee",
+    "reason": "why there is no outcome",
+    "moves": "turns of this seat after the opening, with one that was lost by time",
+    "used_ms": "milliseconds that they took together",
+    "most_ms": "the longest one",
+    "exit": "how the program ended; `ended by the tournament` if it hadn't by itself, which is no fault",
+    "seconds": "how long the match took, with the start of its programs",
+    "repeated": "1 if the match is the same as one before, and so isn't counted",
+    "record": "file of the record",
+    "log": "file of the log",
+    "faults": "what else went wrong, and changed nothing, as output that couldn't be written",
+    "machine": "where it was played",
+    "began": "when",
+}
+
+
+def columns_in_words() -> str:
+    """The columns of results.csv, a line for each.
+
+    >>> print(columns_in_words().splitlines()[1])
+      match     its number, as in jobs.txt
+    """
+    return "columns of results.csv, a row for each seat of each match:\n" + "".join(
+        f"  {name:<9} {reported}\n" for name, reported in COLUMNS.items()
+    )
 
 
 def files_of(folder: Folder, table: Table) -> list[dict[str, str]]:
@@ -137,7 +172,7 @@ def files_of(folder: Folder, table: Table) -> list[dict[str, str]]:
 
 def rows_of_results(table: Table, files: list[dict[str, str]]) -> list[list[object]]:
     """The rows of results.csv: a head, and a row for each seat of each match that was played."""
-    rows: list[list[object]] = [list(CSV_HEAD.split())]
+    rows: list[list[object]] = [list(COLUMNS)]
     for number, result in enumerate(table.results, 1):
         for seat, name in enumerate(result.seats if result else (), 1):
             times = result.times[seat - 1] if result.times else []

@@ -1,13 +1,15 @@
 """Trials of what may go wrong in a tournament: runs that are killed, programs that cheat, matches without an end, faults."""
 
+import os
 import random
 import signal
+import subprocess
 import sys
 import time
 from contextlib import suppress
 from pathlib import Path
 
-from tournament_trying import ROOT
+from tournament_trying import ROOT, TOOL
 from tournament_trying import begin_run, expect, hostile, plan_of, play_all, results_of, steady, tool, wait_for, written
 
 KILLS = 10
@@ -71,6 +73,29 @@ def try_kills(folder: Path) -> None:
     print(f"killed {KILLS} times: the same table")
 
 
+def rbg_script(folder: Path, before: str = "") -> Path:
+    """A script that becomes rbg, after this."""
+    rbg = folder / "rbg"
+    rbg.write_text(f'#!/bin/sh\n{before}\nexec {ROOT}/rbg "$@"\n')
+    rbg.chmod(0o755)
+    return rbg
+
+
+def interrupt(folder: Path) -> None:
+    """Ctrl-C while a record is looked at: that says nothing of its match, and the same command goes on."""
+    mark, before = folder / "looking", written(folder / "t")
+    rbg_script(folder, f'[ "$1" = replay ] && touch {mark} && sleep 60')
+    words = [*TOOL, "run", str(folder / "t"), "--again"]
+    with subprocess.Popen(words, stderr=subprocess.PIPE, text=True, start_new_session=True) as run:
+        wait_for(mark.exists, "a record is looked at")
+        os.killpg(run.pid, signal.SIGINT)  # as a terminal sends it, to all processes of the command
+        said = run.communicate()[1]
+    expect(run.returncode == 128 + signal.SIGINT, "the run is stopped")
+    expect("stopped: 1 of 2 matches are left; the same command goes on" in said, f"and says what is left: {said}")
+    expect(before == written(folder / "t"), "no result is written")
+    rbg_script(folder)
+
+
 def lost_by(match: dict, name: str) -> bool:
     """Whether this program has lost a match of two."""
     seat = match["seats"].index(name)
@@ -96,7 +121,8 @@ def try_cheats(folder: Path) -> None:
 
 def try_limits(folder: Path) -> None:
     """Programs that print a gigabyte, want all memory or all time; environment; matches that the plan ends."""
-    named = f"sh -c 'exec {sys.executable} steady.py {{port}} --seed $SEED --rbg ../../rbg'"
+    # it finds rbg by the variable RBG, which a run sets
+    named = f"sh -c 'exec {sys.executable} steady.py {{port}} --seed $SEED'"
     honest = named.replace("'", '"') + "\nenvironment = { SEED = '7' }"
     loud = play_all(folder / "loud", "tictactoe", {"honest": honest, "loud": hostile("loud")}, "turn = 2000\noutput = 5000")
     sizes = [file.stat().st_size for file in (folder / "loud" / "t" / "matches").iterdir()]
@@ -132,11 +158,9 @@ def try_test(folder: Path) -> None:
 def try_faults(folder: Path) -> None:
     """A file that can't be written is named; what failed is listed by itself, and is played again if that is asked for."""
     programs = {"a": steady(1), "b": steady(2)}
-    rbg = folder / "rbg"
+    rbg = rbg_script(folder)
     plan = plan_of(folder, "tictactoe", programs)
     plan.write_text(plan.read_text().replace(f'"{ROOT}/rbg"', f'"{rbg}"'))
-    rbg.write_text(f'#!/bin/sh\nexec {ROOT}/rbg "$@"\n')
-    rbg.chmod(0o755)
     tool("plan", plan, folder / "t")
     record = folder / "t" / "matches" / "0001.record"
     record.mkdir()
@@ -151,6 +175,25 @@ def try_faults(folder: Path) -> None:
     before = written(folder / "t")
     tool("run", folder / "t")
     expect(before == written(folder / "t"), "what failed isn't played again")
+    interrupt(folder)
     tool("run", folder / "t", "--again")
-    expect("2 of 2 matches played" in tool("table", folder / "t"), "but with --again it is")
-    expect([match["state"] for match in results_of(folder / "t")] == ["played", "played"], "and so it has a result")
+    expect([match["state"] for match in results_of(folder / "t")] == ["played", "played"], "but with --again it is")
+    saved = [(folder / "t" / "matches" / name).read_text() for name in written(folder / "t")]
+    expect(all('"outcome": "E0' in text for text in saved), f"which is written: {saved}")
+    ours, theirs = os.pipe()
+    os.close(ours)
+    done = subprocess.run([*TOOL, "table", str(folder / "t")], stdout=theirs, stderr=subprocess.PIPE)
+    os.close(theirs)
+    expect(not done.stderr, f"a table that nobody reads ends quietly: {done.stderr!r}")
+    lack_wrapper(folder / "lacking")
+
+
+def lack_wrapper(folder: Path) -> None:
+    """A wrapper that isn't there is reported when the plan is made, and is no fault of its program."""
+    folder.mkdir()
+    wrapped = steady(2) + "\nwrapper = 'bwarp --dev /dev'\nmemory = 4000"
+    said = tool("plan", plan_of(folder, "tictactoe", {"a": steady(1), "b": wrapped}), folder / "t")
+    expect("warning: bwarp isn't there: the matches of b would fail" in said, f"the plan says it: {said}")
+    tool("run", folder / "t", status=1)
+    reasons = {match["state"]: match["reason"] for match in results_of(folder / "t")}
+    expect(reasons == {"failed": "the wrapper of b isn't there: bwarp"}, f"the matches fail: {reasons}")

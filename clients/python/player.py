@@ -3,9 +3,11 @@
 
     player.py PORT [MILLISECONDS [SEED [MATCH]]]
 
-It thinks for so long about a move, and no longer than half of what is left of its turn.
+It thinks for MILLISECONDS about a move, and at most for half of what is left of its turn. If neither `./librbg.so` nor
+`./rbg` is there, the variable RBG_LIBRARY or RBG says where one is.
 """
 
+import argparse
 import math
 import random
 import sys
@@ -80,10 +82,13 @@ class Search:
 
 
 def main() -> int:
-    words = sys.argv[1:]
-    port, milliseconds, seed = (int(word) for word in [*words, *["0", "100", "1"][len(words) :]][:3])
-    match = int(words[3]) if len(words) > 3 else None
-    outcome = rbg.play(port, Search(milliseconds / 1000, seed), match=match)
+    parser = argparse.ArgumentParser(description="Plays a match of `rbg serve` or `rbg hall`, and looks ahead by UCT.")
+    parser.add_argument("port", type=int, metavar="PORT", help="the port on 127.0.0.1 on which the match is served")
+    parser.add_argument("milliseconds", type=int, metavar="MILLISECONDS", nargs="?", default=100, help="for a move (100)")
+    parser.add_argument("seed", type=int, metavar="SEED", nargs="?", default=1, help="of its chance (1)")
+    parser.add_argument("match", type=int, metavar="MATCH", nargs="?", help="the match of a hall that it joins")
+    words = parser.parse_args()
+    outcome = rbg.play(words.port, Search(words.milliseconds / 1000, words.seed), match=words.match)
     print(outcome.end or f"refused: {outcome.refused}")
     return 0 if outcome.end else 3
 

@@ -1,10 +1,11 @@
 #!/usr/bin/env python3
-"""Writes the pages and files that are made from the sources: make docs. With --check it says which are stale, and writes nothing.
+"""Writes the pages and files that are made from the sources: make docs. With --check it only says which are stale.
 
     docs/COMMANDS.md              the commands and options of both programs
     share/man/man1                their manual pages
     share/bash-completion, share/zsh, share/fish    completions of their command lines
     docs/ARCHITECTURE.md, docs/PROVED.md    their tables of crates, from crates.txt and the crates' own README.md
+    crates/rbg_games/data/README.md         the table of the games, from docs/games/games.txt
 """
 
 import argparse
@@ -83,7 +84,39 @@ def proved() -> str:
     return "\n".join(lines) + "\n"
 
 
-TABLES = {"holds": held, "proved": proved}
+def rows_of(listed: str) -> list[tuple[str, list[tuple[str, str, str]]]]:
+    """The games of a list, by the headings above them: each with its file, its name, and what it is.
+
+    >>> rows_of("What this is.\\n\\n## Small\\nhex: Hex: a chain.\\n\\n## Large\\n")
+    [('Small', [('hex', 'Hex', 'a chain.')]), ('Large', [])]
+    """
+    found: list[tuple[str, list[tuple[str, str, str]]]] = []
+    for line in listed.splitlines():
+        if line.startswith("## "):
+            found.append((line.removeprefix("## "), []))
+        elif found and line:
+            file, name, what = line.split(": ", 2)
+            found[-1][1].append((file, name, what))
+    return found
+
+
+def games() -> str:
+    """The table of the games. Each game must be in the list, and only they."""
+    groups = rows_of((ROOT / "docs/games/games.txt").read_text())
+    there = {it.stem for it in (ROOT / "crates/rbg_games/data").glob("*.rbg")}
+    strange = there ^ {file for _, rows in groups for file, _, _ in rows}
+    if strange:
+        sys.exit(f"docs/games/games.txt and crates/rbg_games/data differ: {', '.join(sorted(strange))}")
+    lines: list[str] = []
+    for title, rows in groups:
+        lines += [*([""] if lines else []), f"## {title}", "", "| | |", "|---|---|"]
+        for file, name, what in rows:
+            lines.append(f"| ![{name}](../../../docs/games/{file}.svg) | **[{name}]({file}.rbg)**: {what} |")
+    return "\n".join(lines) + "\n"
+
+
+TABLES = {"holds": held, "proved": proved, "games": games}
+PAGES = ["docs/ARCHITECTURE.md", "docs/PROVED.md", "crates/rbg_games/data/README.md"]
 
 
 def made() -> dict[Path, str]:
@@ -96,7 +129,7 @@ def made() -> dict[Path, str]:
         files[share / f"bash-completion/completions/{program.name}"] = completions.for_bash(program)
         files[share / f"zsh/site-functions/_{program.name}"] = completions.for_zsh(program)
         files[share / f"fish/vendor_completions.d/{program.name}.fish"] = completions.for_fish(program)
-    for page in (ROOT / "docs/ARCHITECTURE.md", ROOT / "docs/PROVED.md"):
+    for page in (ROOT / name for name in PAGES):
         files[page] = MADE.sub(lambda it: it[1] + TABLES[it[2]]() + it[3], page.read_text())
     return files
 

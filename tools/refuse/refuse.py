@@ -1,14 +1,14 @@
 #!/usr/bin/env python3
-"""Refuses each request for memory of each named run in turn, and compares what is answered with the answer of ample memory.
+"""Refuses each request for memory of each named run in turn, and compares the answer with that of ample memory.
 
-The runs are the words of crates/rbg_refusals/stdin, each given to that program alone, the whole program rbg on the files
-of `whole_programs`, and a hall over connections in memory, as a case of rbg_cases. For N = 1, 2, .. the Nth request is refused: once, and then once more with each later one. A run
-ends with N above its requests, so that nothing was refused. Of a run with very many requests the first ones are refused,
-and then some that are spread over the rest.
+The runs are the words of crates/rbg_refusals/stdin, each given to that program alone; the whole program rbg on the files
+of `whole_programs`; and a hall over connections in memory, which is a case of rbg_cases. For N = 1, 2, .. the Nth request
+is refused twice: alone, and together with each later one. A run ends when N is above its requests, so that nothing was
+refused. Of a run with very many requests the first ones are refused, and then some that are spread over the rest.
 
 Each answer must be that of ample memory, byte for byte, or say that memory was refused, as `refusals_of` says. A fault of
 the machine, a line on standard error or any other answer is printed, and the status is 1. If each request of `referee` was
-refused in turn, each of its refusals must have been answered: one that says `Memory` and nothing of the match fails.
+refused in turn, each of its refusals must have been answered: if one says `Memory` and nothing of the match, that fails.
 """
 
 import argparse
@@ -47,9 +47,9 @@ RECORD = "rbg 2\nplayers white black\nstart 1000 0\n0 0 0 1\n10 1 0 3 0 4 0 5\n2
 PLAIN_RECORD = "rbg 1\n0 0 1\n1 0 3 0 4 0 5\n2 1 8 1 9\nE0 100 0\n"
 
 WRITTEN_GAME = "".join(f"|{line}\n" for line in GAME.splitlines())
-# A hall of two matches. The connections of one match end after the request for a seat, those of the other stay.
+# A hall of two matches, whose records are kept. The connections of one match end after the request for a seat, those of the other stay.
 HALL_CASE = f"""case a hall
-words hall first.rbg second.rbg --port 4000 --quiet
+words hall first.rbg second.rbg --port 4000 --quiet --records out
 text game
 {WRITTEN_GAME}file first.rbg
 =game
@@ -70,7 +70,7 @@ stream that ends
 """
 
 # What is printed of it, with the seats whose streams end. Its connections and its output are in memory too, so if memory
-# was refused the port can't be listened on, another seat's stream ends, or nothing can be written.
+# was refused the port can't be listened on, another seat's stream ends, a record can't be kept, or nothing can be written.
 HALL_MATCHES = """match 1
 rbg 2
 players white black
@@ -83,9 +83,10 @@ players white black
 start 60000 0
 0 0 0 1
 0 E3 {}
-status 0
+status {}
 """
-HALL_REFUSALS = ["memory\nstatus 4\n", "device\nstatus 3\n", "status 3\n", HALL_MATCHES.format(1, 2), HALL_MATCHES.format(2, 1)]
+HALL_ENDS = [HALL_MATCHES.format(*seats) for seats in ((1, 2, 0), (2, 1, 0), (1, 2, 3), (2, 1, 3), (2, 2, 3))]
+HALL_REFUSALS = ["memory\nstatus 4\n", "device\nstatus 3\n", "status 3\n", *HALL_ENDS]
 
 # What runs over lines print then.
 BEGINNINGS = ["each line took the beginning of what is queued"]

@@ -8,7 +8,7 @@
 //! | `words WORD ..` | the words of the case's command line, with single spaces between them |
 //! | `author` | the case runs `rbg_author`, else it runs `rbg` |
 //! | `news` | what the case tells on standard error is shown too, each line after `news: ` |
-//! | `logs` | what the logs of the case hold is shown too, each line after `log: `, with their game files and the records that are kept, after `game: ` and the record's name; a new log is full at 1,000 bytes |
+//! | `logs` | what the logs of the case hold is shown too, each line after `log: `, with their game files and the records that are kept, after `game: ` and the record's name, and the names of those that are lost, after `lost: `; a new log is full at 1,000 bytes, and a record where there is a file of its name and `.full` |
 //! | `sent` | what each connection of the case was sent is shown too, each line after `sent NUMBER: `; a zero byte, which ends a line too, is shown as `\0` |
 //! | `clock MOMENT ..` | each clock of the case tells these moments, with single spaces between them, and then the last one again and again; without this line it tells 0 |
 //! | `last COUNT` | of what the case prints only this many lines are shown, the last ones |

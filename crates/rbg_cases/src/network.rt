@@ -1,7 +1,7 @@
 //! A network in memory. A stream never waits.
 
 use crate::cases::{Stream, Text, bytes_named};
-use rbg_cli::{Clock, Log, LogFailure, Network, News, Pause};
+use rbg_cli::{Archive, Clock, Log, LogFailure, Network, News, Pause};
 use std::alloc::{AllocError, Global};
 use std::cell::RefCell;
 use std::io::{self, ErrorKind, Read, Write};
@@ -36,8 +36,9 @@ pub struct MemoryNetwork<'a> {
     logs: Vec<Channel>,
     /// The game files that were written, one after the other.
     games: Vec<u8>,
-    /// The records that were kept, each line after the name of its file.
-    kept: Vec<u8>,
+    /// What was kept in each archive, in the order in which they were opened: each line of a record after the name of its
+    /// file.
+    archives: Vec<Channel>,
     /// What the streams of the case were sent, in the order in which they were connected.
     sent: Vec<Channel>,
     /// What each clock tells, one after the other.
@@ -62,7 +63,7 @@ impl<'a> MemoryNetwork<'a> {
             files,
             logs: Vec::new(alloc),
             games: Vec::new(alloc),
-            kept: Vec::new(alloc),
+            archives: Vec::new(alloc),
             sent: Vec::new(alloc),
             moments,
         }
@@ -81,18 +82,18 @@ impl<'a> MemoryNetwork<'a> {
                 push_lines(b"log: ", bytes.as_slice(), output)?;
             }
         }
-        output.extend_from_slice(self.kept.as_slice())
+        for archive in &self.archives {
+            if let Ok(bytes) = archive.try_borrow() {
+                output.extend_from_slice(bytes.as_slice())?;
+            }
+        }
+        Ok(())
     }
 
     /// The bytes of a file of the case that lies beside another one.
     fn beside(&self, name: &str, ending: &str) -> io::Result<Option<&[u8]>> {
         let name = format!(in self.alloc; "{name}.{ending}")?;
         Ok(bytes_named(self.files, name.as_bytes()))
-    }
-
-    /// The name of a record.
-    fn record_name(&self, directory: &str, number: u64) -> Result<String, AllocError> {
-        format!(in self.alloc; "{directory}/{number}.record")
     }
 
     /// Appends what each connection was sent, each line after `sent` and its number.
@@ -169,6 +170,8 @@ impl<'a> Network for MemoryNetwork<'a> {
     type Clock = CaseClock<'a>;
 
     type Log = MemoryLog;
+
+    type Archive = MemoryArchive<'a>;
 
     fn listen(&mut self, port: u16) -> io::Result<u16> {
         self.listens = true;
@@ -249,25 +252,15 @@ impl<'a> Network for MemoryNetwork<'a> {
         Ok(())
     }
 
-    fn begin_record(&mut self, directory: &str, number: u64, goes_on: bool) -> io::Result<()> {
-        let name = self.record_name(directory, number)?;
-        if !goes_on && bytes_named(self.files, name.as_bytes()).is_some() {
-            return Err(io::Error::from(ErrorKind::AlreadyExists));
-        }
-        Ok(())
-    }
-
-    fn keep_record(&mut self, directory: &str, number: u64, record: &[u8]) -> io::Result<()> {
-        let name = self.record_name(directory, number)?;
-        match bytes_named(self.files, name.as_bytes()) {
-            Some(bytes) if bytes == record => Ok(()),
-            Some(_) => Err(io::Error::from(ErrorKind::AlreadyExists)),
-            None => {
-                let head = format!(in self.alloc; "{name}: ")?;
-                push_lines(head.as_bytes(), record, &mut self.kept)?;
-                Ok(())
-            }
-        }
+    fn open_archive(&mut self, directory: &str) -> io::Result<MemoryArchive<'a>> {
+        let kept = self.new_channel()?;
+        self.archives.push(kept.clone()?)?;
+        Ok(MemoryArchive {
+            alloc: self.alloc,
+            directory: String::from_str(self.alloc, directory)?,
+            files: self.files,
+            kept,
+        })
     }
 
     fn tell(&mut self, news: &News<'_>) {
@@ -352,6 +345,92 @@ impl Log for MemoryLog {
         match bytes.extend_from_slice(added) {
             Ok(()) => Ok(()),
             Err(_) => Err(LogFailure),
+        }
+    }
+}
+
+/// An archive in memory, in which the files of the case may lie.
+#[derive(Drop)]
+pub struct MemoryArchive<'a> {
+    alloc: Global,
+    directory: String,
+    files: &'a [Text<'a>],
+    /// The records that were kept, each line after the name of its file.
+    kept: Channel,
+}
+
+impl MemoryArchive<'_> {
+    /// The name of a record.
+    fn name_of(&self, number: u64) -> Result<String, AllocError> {
+        let directory = self.directory.as_str();
+        format!(in self.alloc; "{directory}/{number}.record")
+    }
+
+    /// Whether there is no room for a record: the case has a file of its name and `.full`.
+    fn is_full(&self, name: &str) -> io::Result<bool> {
+        let full = format!(in self.alloc; "{name}.full")?;
+        Ok(bytes_named(self.files, full.as_bytes()).is_some())
+    }
+
+    /// Keeps a record, unless another one lies there, or there is no room.
+    fn write(&self, number: u64, bytes: &[u8]) -> io::Result<()> {
+        let name = self.name_of(number)?;
+        if self.is_full(name.as_str())? {
+            return Err(io::Error::from(ErrorKind::StorageFull));
+        }
+        match bytes_named(self.files, name.as_bytes()) {
+            Some(there) if there == bytes => Ok(()),
+            Some(_) => Err(io::Error::from(ErrorKind::AlreadyExists)),
+            None => {
+                let head = format!(in self.alloc; "{name}: ")?;
+                self.add(head.as_bytes(), bytes)
+            }
+        }
+    }
+
+    /// Appends lines to what was kept, each after this head.
+    fn add(&self, head: &[u8], lines: &[u8]) -> io::Result<()> {
+        let Ok(mut kept) = self.kept.try_borrow_mut() else {
+            return Err(io::Error::from(ErrorKind::WouldBlock));
+        };
+        push_lines(head, lines, &mut kept)?;
+        Ok(())
+    }
+}
+
+impl Archive for MemoryArchive<'_> {
+    ghost use Rattle.std.specs.Prelude.{true};
+
+    ghost handed = { λ _ _. Unit {0} };
+
+    ghost wants = { λ _. true };
+
+    fn wants_records(&self) -> bool {
+        true
+    }
+
+    fn begin(&mut self, number: u64, goes_on: bool) -> io::Result<()> {
+        let name = self.name_of(number)?;
+        if !goes_on && bytes_named(self.files, name.as_bytes()).is_some() {
+            return Err(io::Error::from(ErrorKind::AlreadyExists));
+        }
+        Ok(())
+    }
+
+    fn keep(&mut self, number: u64, bytes: &[u8]) -> bool {
+        match self.write(number, bytes) {
+            Ok(()) => true,
+            Err(_) => {
+                self.lose(number);
+                false
+            }
+        }
+    }
+
+    fn lose(&mut self, number: u64) {
+        if let Ok(name) = self.name_of(number) {
+            let _said = self.add(b"lost: ", name.as_bytes());
+            let _ended = self.add(b"", b"\n");
         }
     }
 }

@@ -1,7 +1,8 @@
-//! A first-choice player at its end of a stream.
+//! A player of this process, at its end of a stream.
 
+use crate::choice::Choice;
 use rbg_network::{ClientError, News, is_nothing_yet};
-use rbg_player::{FirstChooser, Heard, Player};
+use rbg_player::{Heard, Player};
 use rbg_wire::{Message, cut_at, read_message};
 use std::alloc::{AllocError, Global};
 use std::io::{Read, Write};
@@ -10,11 +11,12 @@ use std::str;
 /// The most bytes that are read at once.
 const PIECE: usize = 4_096;
 
-/// A player that says the first of at most 64 legal moves, at its end of a stream.
+/// A player that says one of at most 64 legal moves, at its end of a stream.
 #[derive(Drop)]
 pub struct Client<S: Read + Write + Drop> {
     stream: S,
     player: Player,
+    choice: Choice,
     /// What has come up to the end of the piece that ended the first message, which names the player.
     first: Vec<u8>,
     /// What the player has said and the stream has not taken yet.
@@ -23,22 +25,24 @@ pub struct Client<S: Read + Write + Drop> {
 
 impl<S: Read + Write + Drop> Client<S> {
     /// A player that has heard nothing yet.
-    pub fn new(alloc: Global, stream: S) -> Client<S> {
+    pub fn new(alloc: Global, stream: S, choice: Choice) -> Client<S> {
         Client {
             stream,
             player: Player::new(alloc),
+            choice,
             first: Vec::new(alloc),
             unsent: Vec::new(alloc),
         }
     }
 
-    /// A player that has heard nothing yet, and asks for a seat in this match of a hall.
+    /// A player that has heard nothing yet, asks for a seat in this match of a hall, and says the first move.
     pub fn join(alloc: Global, stream: S, table: u64) -> Result<Client<S>, AllocError> {
         let mut unsent = Vec::new(alloc);
         let player = Player::join(alloc, table, &mut unsent)?;
         Ok(Client {
             stream,
             player,
+            choice: Choice::First,
             first: Vec::new(alloc),
             unsent,
         })
@@ -121,10 +125,7 @@ impl<S: Read + Write + Drop> Client<S> {
 
     fn hear_piece(&mut self, piece: &[u8]) -> Result<Heard, ClientError> {
         self.keep_first(piece)?;
-        Ok(
-            self.player
-                .hear(piece, &mut FirstChooser, &mut self.unsent)?,
-        )
+        Ok(self.player.hear(piece, &mut self.choice, &mut self.unsent)?)
     }
 
     fn send(&mut self) -> Result<(), ClientError> {

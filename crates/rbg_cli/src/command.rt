@@ -70,19 +70,17 @@ pub enum Command<'a> {
     },
 }
 
-/// A match of the file's game that is served at the port.
+/// A match of the file's game that is served at a port.
 #[derive(Clone, Copy)]
 pub struct ServedMatch<'a> {
     pub file: &'a str,
-    pub port: u16,
     pub serving: Serving<'a>,
 }
 
-/// A match of each file's game, all served at the port.
+/// A match of each file's game, all served at a port.
 #[derive(Drop)]
 pub struct ServedHall<'a> {
     pub names: Vec<&'a str>,
-    pub port: u16,
     pub serving: Serving<'a>,
 }
 
@@ -94,12 +92,14 @@ pub struct Seat {
     pub bound: Bound,
 }
 
-/// How a match is served.
+/// How a match between players of this process is served.
 #[derive(Clone, Copy)]
 pub struct Service {
     pub config: Config,
     /// The most rounds.
     pub rounds: u64,
+    /// By which seed the players choose their moves. Without one each makes its first one.
+    pub seed: Option<u64>,
 }
 
 /// How long a player goes on.

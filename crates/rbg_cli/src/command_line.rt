@@ -167,7 +167,18 @@ const DEMO: CommandWords = CommandWords {
     name: "demo",
     about: "Referee a match between players of its own, and print its record",
     example: "Example: rbg demo game.rbg > record",
-    arguments: &[GAME, TURN, REFUSALS, ROUNDS],
+    arguments: &[
+        GAME,
+        Argument {
+            name: "random",
+            kind: Kind::Named("SEED", None),
+            value: Value::AnyNumber,
+            help: "Choose each move by chance; a SEED, 0 to 18446744073709551615, always gives the same match",
+        },
+        TURN,
+        REFUSALS,
+        ROUNDS,
+    ],
 };
 
 const SERVE: CommandWords = CommandWords {

@@ -1,6 +1,7 @@
 //! Connections to players of this process.
 ghost use Rattle.std.specs.Prelude.{◌≡◌, length, IfOk};
 
+use crate::choice::Choice;
 use crate::client::Client;
 use crate::played_line::PlayedLine;
 use rbg_network::{GatherError, Network, News, StreamLine, is_nothing_yet};
@@ -8,16 +9,18 @@ use rbg_serving::{Clock, Pause};
 use std::alloc::Global;
 use std::io::{self, ErrorKind};
 
-/// Lines to that many players of this process, each connected to a listener of its own.
+/// Lines to that many players of this process, all connected to a listener of their own. With a seed they choose their moves by
+/// chance.
 pub fn connect_players<N: Network>(
     alloc: Global,
     network: &mut N,
     players: usize,
+    seed: Option<u64>,
 ) -> Result<Vec<PlayedLine<N::Stream>>, GatherError>
     ensures { IfOk result (λ lines. length lines.items ≡ players) }
 {
     let mut listener = network.listen(0)?;
-    connect_lines(alloc, network, &mut listener, players)
+    connect_lines(alloc, network, &mut listener, players, seed)
 }
 
 fn connect_lines<N: Network>(
@@ -25,13 +28,15 @@ fn connect_lines<N: Network>(
     network: &mut N,
     listener: &mut N::Listener,
     players: usize,
+    seed: Option<u64>,
 ) -> Result<Vec<PlayedLine<N::Stream>>, GatherError>
     ensures { IfOk result (λ lines. length lines.items ≡ players) }
 {
     let port = network.port_of(listener)?;
     let mut lines = Vec::with_capacity(alloc, players)?;
-    for _ in 0..players {
-        lines.push(connect_line(alloc, network, port, listener)?)?;
+    for index in 0..players {
+        let choice = Choice::of_seat(seed, index as u64 + 1);
+        lines.push(connect_line(alloc, network, port, listener, choice)?)?;
     }
     Ok(lines)
 }
@@ -42,8 +47,9 @@ fn connect_line<N: Network>(
     network: &mut N,
     port: u16,
     listener: &mut N::Listener,
+    choice: Choice,
 ) -> io::Result<PlayedLine<N::Stream>> {
-    let client = Client::new(alloc, network.connect(port)?);
+    let client = Client::new(alloc, network.connect(port)?, choice);
     let line = StreamLine::new(accept_made(network, listener)?);
     Ok(PlayedLine::new(line, client))
 }

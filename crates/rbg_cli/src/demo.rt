@@ -54,12 +54,13 @@ fn demo_text<N: Network>(
     ensures { IfOk result (λ played. IsPlayedMatch text.now played) }
 {
     let game = load(alloc, text)?;
-    let mut lines = connect_players(alloc, network, game.players())?;
+    let mut lines = connect_players(alloc, network, game.players(), service.seed)?;
     let serving = Serving {
         config: service.config,
         rounds: service.rounds,
         keeping: NOTHING_KEPT,
         hosting: Hosting {
+            port: 0,
             wait: None,
             quiet: true,
         },

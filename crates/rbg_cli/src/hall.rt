@@ -32,7 +32,6 @@ fn serve_hall<F: Files, N: Network, R, W>(
         served.names.as_slice(),
         &mut devices.files,
         &mut devices.network,
-        served.port,
         &served.serving,
     )?;
     Ok(answer)

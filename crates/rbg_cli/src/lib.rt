@@ -3,6 +3,7 @@
 #![tactic(auto)]
 
 mod ask;
+mod choice;
 mod client;
 mod command;
 mod command_line;
@@ -25,5 +26,5 @@ mod words;
 pub use devices::Devices;
 pub use program::run;
 pub use rbg_console::{Files, Input, Note, Status};
-pub use rbg_network::{Network, News, SystemClock, SystemNetwork};
+pub use rbg_network::{Archive, Network, News, SystemClock, SystemNetwork};
 pub use rbg_serving::{Clock, Log, LogFailure, Pause};

@@ -25,7 +25,6 @@ pub fn read_command<'a>(alloc: Global, words: &'a [String]) -> Result<Command<'a
     match command {
         "hall" => Ok(Command::Hall(ServedHall {
             names: names_of(alloc, words)?,
-            port: port_of(words),
             serving: serving_of(words),
         })),
         "hallscript" => Ok(Command::HallScript {
@@ -62,7 +61,6 @@ fn command_of<'a>(command: &str, words: &ArgMatches<'a>) -> Command<'a> {
         },
         "serve" => Command::Serve(ServedMatch {
             file: text_of(words, "FILE"),
-            port: port_of(words),
             serving: serving_of(words),
         }),
         "play" => Command::Play(Seat {
@@ -124,16 +122,16 @@ fn rounds_of(words: &ArgMatches<'_>) -> u64 {
 
 fn hosting_of(words: &ArgMatches<'_>) -> Hosting {
     Hosting {
+        port: port_of(words),
         wait: words.get_one("wait"),
         quiet: words.get_flag("quiet"),
     }
 }
 
 fn serving_of<'a>(words: &ArgMatches<'a>) -> Serving<'a> {
-    let service = service_of(words);
     Serving {
-        config: service.config,
-        rounds: service.rounds,
+        config: config_of(words),
+        rounds: rounds_of(words),
         keeping: keeping_of(words),
         hosting: hosting_of(words),
     }
@@ -151,12 +149,16 @@ fn keeping_of<'a>(words: &ArgMatches<'a>) -> Keeping<'a> {
 }
 
 fn service_of(words: &ArgMatches<'_>) -> Service {
-    let config = Config {
+    Service {
+        config: config_of(words),
+        rounds: rounds_of(words),
+        seed: words.get_one("random"),
+    }
+}
+
+fn config_of(words: &ArgMatches<'_>) -> Config {
+    Config {
         turn_ms: words.get_one("turn").unwrap_or(USUAL_TURN),
         refusals: words.get_one("refusals").unwrap_or(USUAL_REFUSALS),
-    };
-    Service {
-        config,
-        rounds: rounds_of(words),
     }
 }

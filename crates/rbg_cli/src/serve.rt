@@ -43,7 +43,6 @@ fn serve_file<F: Files, N: Network, R, W>(
         text.as_slice(),
         &mut devices.files,
         &mut devices.network,
-        served.port,
         &served.serving,
     )?;
     let told = record_match(alloc, &played)?;

@@ -1,6 +1,10 @@
 -- Lemmas, by topic.
+mod AnswerLemmas
+mod ArchiveLaws
 mod HallLemmas
+mod HandingLemmas
 mod PrintedLemmas
 mod RecordLemmas
 mod RecordedLemmas
+mod StandingLemmas
 mod TableLemmas

@@ -35,7 +35,7 @@ match_so table start None old new works appends = ([], not_begun, appends ∙ sy
 match_so table start (Some playing) old new works appends =
     let known = works playing refl in
     let adds = appends known.0 in
-    (match_line table ++ adds.told, begun playing adds.told adds.spells (subst (λ game. IsRightRecord game adds.told) known.1 adds.right), adds.adds)
+    (match_line table ++ adds.told, begun playing adds.told (record { spells = adds.spells; right = subst (λ game. IsRightRecord game adds.told) known.1 adds.right }), adds.adds)
 
 -- the first items, and one more
 taken_more : {A : Type 0} (items : List A) (index : ℕ) (item : A) → slice_get items index ≡ Some item → take index items ++ item ∷ [] ≡ take (index + 1) items

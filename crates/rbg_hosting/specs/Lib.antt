@@ -2,10 +2,13 @@
 pub mod Played
 pub mod Runs
 pub mod Answers
+pub mod Archives
 pub mod Errors
 pub mod Halls
+pub mod Laws
 pub mod Printed
 pub mod Records
 pub mod Scripts
+pub mod Served
 pub mod Tables
 pub mod internal

@@ -10,21 +10,26 @@ use Rattle.rbg_match.specs.declared.config.Config.{Config}
 use Rattle.rbg_record.specs.OfMatch.{record_of}
 use Rattle.rbg_record.specs.Records.{timed, Spells}
 use Rattle.rbg_record.specs.Right.{IsRightRecord}
+use Rattle.rbg_rules.specs.Meaning.{AbstractGame}
 use Rattle.rbg_hosting.specs.Tables.{AreTablesOf}
 
 -- the line that stands before the record of the match of this number
 abbrev pub match_line : (table : ℕ) → List ℕ
 match_line table = codes "match " ++ decimal table ++ codes "\n"
 
+-- The bytes are the record of version 2 of this match of the game, and it is right.
+pub record IsRecordOf (game : AbstractGame) (playing : MatchState) (bytes : List ℕ) : Type 0 where
+  pub spells : Spells bytes (timed (record_of playing))
+  pub right : IsRightRecord game bytes
+
 -- What is printed of the match of a table.
 --   not_begun: nothing, as long as it has not begun.
---   begun: its line, and its record of version 2, which is right.
+--   begun: its line, and its record.
 pub data IsPrintedMatch (table : ℕ) (start : AbstractTable) : Option MatchState → (printed : List ℕ) → Type 0 where
   not_begun : IsPrintedMatch table start None []
-  begun : (playing : MatchState) (told : List ℕ)
-      → Spells told (timed (record_of playing))
-      → IsRightRecord start.game told
-      → IsPrintedMatch table start (Some playing) (match_line table ++ told)
+  begun : (playing : MatchState) (bytes : List ℕ)
+      → IsRecordOf start.game playing bytes
+      → IsPrintedMatch table start (Some playing) (match_line table ++ bytes)
 
 -- The matches of the first tables as they are printed, and then that of one more. Tables are numbered from 1.
 pub data ArePrintedMatches : List AbstractTable → List TableState → (printed : List ℕ) → Type 0 where

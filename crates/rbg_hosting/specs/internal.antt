@@ -1,4 +1,5 @@
 -- Definitions that only this crate's proofs use.
 pub mod Loading
+pub mod Prepared
 pub mod Recorded
 pub mod Writing

@@ -20,7 +20,6 @@ pub(crate) fn serve_text<N: Network>(
     alloc: Global,
     text: &[u8],
     network: &mut N,
-    port: u16,
     serving: &Serving<'_>,
 ) -> Result<Match, ServingFault>
     ensures { IfOk result (λ played. IsPlayedMatch text.now played) }
@@ -28,7 +27,7 @@ pub(crate) fn serve_text<N: Network>(
     let game = load(alloc, text)?;
     begin_record(network, &serving.keeping)?;
     let log = create_log(alloc, text, network, &serving.keeping)?;
-    let mut lines = accept_players(alloc, network, port, game.players(), serving)?;
+    let mut lines = accept_players(alloc, network, game.players(), serving)?;
     tell_names(network, serving, &None);
     serving.hosting.tell(network, &News::Begins);
     let played = serve_lines(

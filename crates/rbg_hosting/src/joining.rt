@@ -9,12 +9,12 @@ use std::alloc::Global;
 pub(crate) fn accept_players<N: Network>(
     alloc: Global,
     network: &mut N,
-    port: u16,
     players: usize,
     serving: &Serving<'_>,
 ) -> Result<Vec<StreamLine<N::Stream>>, ServingFault>
     ensures { IfOk result (λ lines. length lines.items ≡ players) }
 {
+    let port = serving.hosting.port;
     let mut listener = network.listen(port)?;
     serving.hosting.tell(network, &News::Listening { port });
     serving.hosting.tell(network, &most_of(serving));

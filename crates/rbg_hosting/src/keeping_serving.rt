@@ -17,14 +17,13 @@ pub fn serve_match<F: Files, N: Network>(
     text: &[u8],
     files: &mut F,
     network: &mut N,
-    port: u16,
     serving: &Serving<'_>,
 ) -> Result<Match, ServingFault>
     ensures { IfOk result (λ played. IsPlayedMatch text.now played) }
 {
     let played = match serving.keeping.resume {
-        Some(log) => resume_text(alloc, text, files, log, network, port, serving),
-        None => serve_text(alloc, text, network, port, serving),
+        Some(log) => resume_text(alloc, text, files, log, network, serving),
+        None => serve_text(alloc, text, network, serving),
     };
     tell_end(network, serving, &played);
     played

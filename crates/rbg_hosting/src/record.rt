@@ -1,7 +1,8 @@
 //! The record of a match in a file of its own.
 
+use crate::archive::open_archive;
 use crate::{Keeping, ServingFault};
-use rbg_network::Network;
+use rbg_network::{Archive, Network};
 
 /// The number of a match that is served alone.
 const NUMBER: u64 = 1;
@@ -11,12 +12,9 @@ pub(crate) fn begin_record<N: Network>(
     network: &mut N,
     keeping: &Keeping<'_>,
 ) -> Result<(), ServingFault> {
-    match keeping.records {
-        Some(directory) => {
-            Ok(network.begin_record(directory, NUMBER, keeping.resume.is_some())?)
-        }
-        None => Ok(()),
-    }
+    let mut archive = open_archive(network, keeping)?;
+    archive.begin(NUMBER, keeping.resume.is_some())?;
+    Ok(())
 }
 
 /// Keeps the record of a match that has ended, if that is wanted.
@@ -25,8 +23,10 @@ pub fn keep_record<N: Network>(
     keeping: &Keeping<'_>,
     record: &[u8],
 ) -> Result<(), ServingFault> {
-    match keeping.records {
-        Some(directory) => Ok(network.keep_record(directory, NUMBER, record)?),
-        None => Ok(()),
+    let mut archive = open_archive(network, keeping)?;
+    if archive.keep(NUMBER, record) {
+        Ok(())
+    } else {
+        Err(ServingFault::Device)
     }
 }

@@ -38,7 +38,6 @@ pub(crate) fn resume_text<F: Files, N: Network>(
     files: &mut F,
     name: &str,
     network: &mut N,
-    port: u16,
     serving: &Serving<'_>,
 ) -> Result<Match, ServingFault>
     ensures { IfOk result (λ played. IsPlayedMatch text.now played) }
@@ -57,7 +56,7 @@ pub(crate) fn resume_text<F: Files, N: Network>(
         script,
         names,
     };
-    resume_stopped(alloc, text, stopped, name, network, port, serving)
+    resume_stopped(alloc, text, stopped, name, network, serving)
 }
 
 /// The script that a log holds, which may be of any size. A last line that isn't whole is left out.
@@ -83,7 +82,6 @@ fn resume_stopped<N: Network>(
     stopped: Stopped,
     name: &str,
     network: &mut N,
-    port: u16,
     serving: &Serving<'_>,
 ) -> Result<Match, ServingFault>
     ensures { IfOk result (λ played. IsPlayedMatch text.now played) }
@@ -96,9 +94,7 @@ fn resume_stopped<N: Network>(
     } = stopped;
     cut_stumps(seats, moment, &mut script.events)?;
     let (logged, outbox) = begin_again(alloc, text, &script, name, network, serving)?;
-    go_on(
-        alloc, network, port, serving, logged, outbox, moment, &names,
-    )
+    go_on(alloc, network, serving, logged, outbox, moment, &names)
 }
 
 /// The match of a script, with a log that replaces the old one.
@@ -125,7 +121,6 @@ fn begin_again<N: Network>(
 fn go_on<N: Network, W: Log>(
     alloc: Global,
     network: &mut N,
-    port: u16,
     serving: &Serving<'_>,
     logged: LoggedMatch<W>,
     outbox: Outbox,
@@ -137,7 +132,7 @@ fn go_on<N: Network, W: Log>(
         IfOk result (λ played. IsPlayedMatch text played) }
 {
     let players = logged.played().players();
-    let mut lines = accept_players(alloc, network, port, players, serving)?;
+    let mut lines = accept_players(alloc, network, players, serving)?;
     tell_names(network, serving, names);
     serving.hosting.tell(network, &News::GoesOn);
     let mut outbox = outbox;

@@ -2,6 +2,7 @@
 
 use crate::Serving;
 use crate::answer::answer_hall;
+use crate::archive::open_archive;
 use crate::fault::ServingFault;
 use crate::reading::{read_all, whole_texts};
 use crate::serving::serve_hall;
@@ -62,14 +63,25 @@ pub fn serve_files<F: Files, N: Network>(
     names: &[&str],
     files: &mut F,
     network: &mut N,
-    port: u16,
     serving: &Serving<'_>,
 ) -> Result<Answer, ServingFault> {
     let Some(descriptions) = read_all(alloc, names, files)? else {
         return Err(ServingFault::Device);
     };
     match whole_texts(alloc, descriptions)? {
-        Ok(texts) => serve_hall(alloc, texts.as_slice(), network, port, serving),
+        Ok(texts) => serve_texts(alloc, texts.as_slice(), network, serving),
         Err(error) => Err(ServingFault::from(error)),
     }
+}
+
+/// Plays a match of each description's game at once, with an archive if records are to be kept.
+fn serve_texts<N: Network>(
+    alloc: Global,
+    descriptions: &[Vec<u8>],
+    network: &mut N,
+    serving: &Serving<'_>,
+) -> Result<Answer, ServingFault> {
+    let archive = open_archive(network, &serving.keeping)?;
+    let (answer, _archive) = serve_hall(alloc, descriptions, network, serving, archive);
+    answer
 }

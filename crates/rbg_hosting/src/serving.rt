@@ -1,136 +1,93 @@
 //! A hall over connections: its players are waited for, its matches are played at once, and their records are given.
-ghost use Rattle.std.specs.Prelude.{◌≡◌, ◌≤◌, [], List, length, IfOk, OnOk};
+ghost use Rattle.std.specs.Prelude.{◌≡◌, ◌≤◌, ℕ, Bool, [], List, length, IfOk, OnOk};
 ghost use Rattle.rbg_hall.specs.Halls.{AbstractTable, begun_at};
-ghost use Rattle.rbg_hall.specs.Openings.{AreLoaded, IsNewHall, starts_of};
+ghost use Rattle.rbg_hall.specs.Openings.{IsNewHall};
 ghost use Rattle.rbg_hall.specs.TableLimits.{lines_in_all};
 ghost use Rattle.rbg_hosting.specs.Records.{AreHallsRecords, ArePrintedMatches, HasEnded};
+ghost use Rattle.rbg_hosting.specs.Served.{HasOutcome, status_for};
 ghost use Rattle.rbg_hosting.specs.Tables.{texts_of};
+ghost use Rattle.rbg_hosting.specs.internal.Prepared.{IsPrepared};
+ghost use Rattle.rbg_hosting.specs.internal.Recorded.{AnswersRecords, AnswersServed, IsFresh, PrintsRecords, RunEnds};
 ghost use Rattle.rbg_hosting.specs.internal.Writing.{AppendsMatch, AppendsRecord};
 ghost use Rattle.rbg_match.specs.Matches.{HasHistory};
+ghost use Rattle.rbg_match.specs.declared.config.Config.{Config};
 
-use crate::archive::{Archive, RecordFiles, begin_records};
 use crate::fault::ServingFault;
-use crate::joining::most_of;
+use crate::preparing::{Prepared, prepare};
 use crate::recorded_hall::RecordedHall;
-use crate::tables::tables_of;
+use crate::recorder::Recorder;
 use crate::task::{Keeping, Serving};
 use rbg_console::Status;
-use rbg_hall::{Hall, HallError, HallOut, LINES, Table};
+use rbg_hall::{Hall, HallOut};
 use rbg_match::Match;
-use rbg_network::{Hosting, Network, News, StreamLine, gather};
+use rbg_network::{Archive, Hosting, Network, News, StreamLine};
 use rbg_record::write_record;
 use rbg_referee::Answer;
 use rbg_serving::{Clock, Log, serve_engine};
 use std::alloc::{AllocError, Global};
 use std::io::{Read, Write};
 
-/// Plays a match of each description's game between the players that connect to the port and join it. Returns the line
-/// `match <k>` and the record of each match, and a status that says whether each record that is to be kept in a file was. The
-/// logs are made before players are waited for.
-pub fn serve_hall<N: Network>(
+/// Plays a match of each description's game between the players that connect to a port and join it, and hands each record to
+/// the archive as soon as its match has ended. Returns the archive with the line `match <k>` and the record of each match, and
+/// a status that says whether each record that is wanted is kept. The logs are made before players are waited for.
+pub fn serve_hall<N: Network, A: Archive>(
     alloc: Global,
     descriptions: &[Vec<u8>],
     network: &mut N,
-    port: u16,
     serving: &Serving<'_>,
-) -> Result<Answer, ServingFault>
-    ensures { IfOk result (λ answer.
+    archive: A,
+) -> (Result<Answer, ServingFault>, A)
+    ensures printed { IfOk result.0 (λ answer.
         AreHallsRecords serving.now.config (texts_of descriptions.now) answer.text.items) }
+    ensures archived { A.handed archive [] → HasOutcome A.handed serving.now.config (texts_of descriptions.now)
+        (A.wants archive) result.1 result.0 }
 {
-    let tables = tables_of(alloc, descriptions, serving.config)?;
-    let count = tables.len();
-    let players = players_of(tables.as_slice());
-    begin_records(network, &serving.keeping, count)?;
-    let (mut hall, mut out) = open_hall(alloc, tables)?;
-    keep_logs(alloc, network, &mut hall, count, &serving.keeping)?;
-    let mut lines = accept_lines(alloc, network, port, players, serving)?;
-    let mut clock = network.start_clock()?;
-    let (ended, lost) = play_hall(
-        alloc,
-        network,
+    let mut archive = archive;
+    match prepare(alloc, descriptions, network, serving, &mut archive) {
+        Ok(prepared) => play(alloc, network, prepared, archive, serving),
+        Err(fault) => (Err(fault), archive),
+    }
+}
+
+/// Plays the matches of a hall, and returns what is answered, with the archive.
+fn play<N: Network, A: Archive>(
+    alloc: Global,
+    network: &mut N,
+    prepared: Prepared<N>,
+    archive: A,
+    serving: &Serving<'_>,
+) -> (Result<Answer, ServingFault>, A)
+    requires lines { length prepared.lines.items ≤ lines_in_all }
+    requires clock { N.Clock.told prepared.clock [] }
+    ensures printed { (config : Config) (descriptions : List (List ℕ)) (wants : Bool) →
+        IsPrepared config descriptions wants prepared.hall prepared.out prepared.matches prepared.noted.items →
+        IfOk result.0 (λ answer. AreHallsRecords config descriptions answer.text.items) }
+    ensures archived { (config : Config) (descriptions : List (List ℕ)) (wants : Bool) →
+        IsPrepared config descriptions wants prepared.hall prepared.out prepared.matches prepared.noted.items →
+        A.handed archive [] →
+        HasOutcome A.handed config descriptions wants result.1 result.0 }
+{
+    let Prepared {
         hall,
+        mut out,
+        mut lines,
+        mut clock,
+        matches,
+        noted,
+    } = prepared;
+    let recorder = Recorder::new(archive, noted);
+    let mut recorded = RecordedHall::new(hall, recorder, end_of(&serving.keeping));
+    let served = run_hall(
+        alloc,
+        &mut recorded,
         lines.as_mut_slice(),
         &mut out,
         &mut clock,
-        count,
-        serving,
-    )?;
+        rounds_of(serving),
+    );
     tell_stalled(network, serving.hosting, lines.as_slice());
-    let text = records_of(alloc, &ended, count)?;
-    Ok(Answer {
-        text,
-        status: status_of(lost),
-    })
-}
-
-/// The status of a hall whose matches have ended, by whether a record couldn't be kept.
-fn status_of(lost: bool) -> Status {
-    if lost {
-        Status::Device
-    } else {
-        Status::Success
-    }
-}
-
-/// A new hall of these tables.
-fn open_hall<W: Log>(alloc: Global, tables: Vec<Table>) -> Result<(Hall<W>, HallOut), ServingFault>
-    requires { AreLoaded tables.items }
-    ensures { IfOk result (λ made. IsNewHall (starts_of tables.items) made.0 made.1) }
-{
-    match Hall::new(alloc, tables) {
-        Ok(made) => Ok(made),
-        Err(HallError::Tables) => Err(ServingFault::Config),
-        Err(HallError::Config { .. }) => Err(ServingFault::Config),
-        Err(HallError::Memory) => Err(ServingFault::Memory(AllocError)),
-    }
-}
-
-/// Begins the logs of that many matches, if they are wanted: each is a new file with the name given, a point and the
-/// match's number.
-fn keep_logs<N: Network>(
-    alloc: Global,
-    network: &mut N,
-    hall: &mut Hall<N::Log>,
-    tables: usize,
-    keeping: &Keeping<'_>,
-) -> Result<(), ServingFault>
-    ensures state { hall.new.state ≡ hall.old.state }
-    ensures failed { hall.new.failed ≡ hall.old.failed }
-{
-    let Some(name) = keeping.log else {
-        return Ok(());
-    };
-    for index in 0..tables {
-        let table = index as u64 + 1;
-        let file = format!(in alloc; "{name}.{table}")?;
-        hall.keep(table, network.create_log(file.as_str(), keeping.sync)?);
-    }
-    Ok(())
-}
-
-/// Serves the matches over the lines until all have ended, and keeps the record of each. Returns the hall, and whether a
-/// record couldn't be kept.
-fn play_hall<N: Network, C: Clock>(
-    alloc: Global,
-    network: &mut N,
-    hall: Hall<N::Log>,
-    lines: &mut [StreamLine<N::Stream>],
-    out: &mut HallOut,
-    clock: &mut C,
-    matches: usize,
-    serving: &Serving<'_>,
-) -> Result<(Hall<N::Log>, bool), ServingFault>
-    requires lines { length lines.old ≤ lines_in_all }
-    requires clock { C.told clock.old [] }
-    ensures { IfOk result (λ made. (starts : List AbstractTable) →
-        IsNewHall starts hall out.old →
-        HasEnded starts made.0.state) }
-{
-    let files = RecordFiles::new(network, serving.keeping.records);
-    let until = end_of(&serving.keeping);
-    let mut recorded = RecordedHall::new(alloc, hall, files, matches, until)?;
-    run_hall(alloc, &mut recorded, lines, out, clock, rounds_of(serving))?;
-    Ok(recorded.into_parts())
+    let answer = answer_of(alloc, &recorded, matches, served);
+    (answer, recorded.into_archive())
 }
 
 /// The moment at which the time for the matches is over, if it is bounded.
@@ -160,9 +117,13 @@ fn run_hall<S: Read + Write + Drop, C: Clock, W: Log, A: Archive>(
 ) -> Result<(), ServingFault>
     requires lines { length lines.old ≤ lines_in_all }
     requires clock { C.told clock.old [] }
-    ensures { OnOk result ((starts : List AbstractTable) →
+    ensures ended { OnOk result ((starts : List AbstractTable) →
         IsNewHall starts recorded.old.hall out.old →
         HasEnded starts recorded.new.hall.state) }
+    ensures archived { (starts : List AbstractTable) →
+        IsNewHall starts recorded.old.hall out.old →
+        IsFresh A.handed recorded.old.recorder →
+        RunEnds A.handed starts recorded.old.recorder recorded.new result }
 {
     // The outbox has a queue for each of a hall's lines.
     let _lines = out.lines();
@@ -172,38 +133,47 @@ fn run_hall<S: Read + Write + Drop, C: Clock, W: Log, A: Archive>(
     }
 }
 
-/// How many players the tables have together.
-fn players_of(tables: &[Table]) -> usize {
-    let mut players: usize = 0;
-    for table in tables {
-        players = players.saturating_add(table.game.players());
+/// What is answered where a hall with so many matches was served with this result.
+fn answer_of<W: Log, A: Archive>(
+    alloc: Global,
+    recorded: &RecordedHall<W, A>,
+    matches: usize,
+    served: Result<(), ServingFault>,
+) -> Result<Answer, ServingFault>
+    ensures { AnswersServed (AnswersRecords matches recorded.now) recorded.now.recorder.lost served result }
+{
+    match served {
+        Ok(()) => print_records(alloc, recorded, matches),
+        Err(fault) => Err(fault),
     }
-    players
 }
 
-/// Waits until that many players have connected to the port, of which a hall has lines for 128.
-fn accept_lines<N: Network>(
+/// The records of a hall with so many matches, all of which have ended.
+fn print_records<W: Log, A: Archive>(
     alloc: Global,
-    network: &mut N,
-    port: u16,
-    players: usize,
-    serving: &Serving<'_>,
-) -> Result<Vec<StreamLine<N::Stream>>, ServingFault>
-    ensures { IfOk result (λ lines. length lines.items ≤ lines_in_all) }
+    recorded: &RecordedHall<W, A>,
+    matches: usize,
+) -> Result<Answer, ServingFault>
+    ensures { PrintsRecords (AnswersRecords matches recorded.now) recorded.now.recorder.lost result }
 {
-    if players > LINES {
-        return Err(ServingFault::Config);
+    match records_of(alloc, recorded.hall(), matches) {
+        Ok(text) => Ok(Answer {
+            text,
+            status: status_of(recorded.has_lost()),
+        }),
+        Err(_) => Err(recorded.fault_of_memory()),
     }
-    let hosting = serving.hosting;
-    let mut listener = network.listen(port)?;
-    hosting.tell(network, &News::Listening { port });
-    hosting.tell(network, &most_of(serving));
-    // who connects has a line, and no seat yet: so this isn't told
-    let silent = Hosting {
-        wait: hosting.wait,
-        quiet: true,
-    };
-    Ok(gather(alloc, network, &mut listener, players, silent)?)
+}
+
+/// The status of a hall whose matches have ended, by whether a record is lost.
+fn status_of(lost: bool) -> Status
+    ensures { result ≡ status_for lost }
+{
+    if lost {
+        Status::Device
+    } else {
+        Status::Success
+    }
 }
 
 /// Reports which connections took nothing of what was left for them after the end. Connections are numbered from 1.

@@ -1,4 +1,5 @@
 -- Lines over connections.
+pub mod Archives
 pub mod GameFiles
 pub mod Moments
 pub mod Passing

@@ -25,6 +25,8 @@ pub enum GatherError {
 /// How an organiser wants players to be waited for.
 #[derive(Clone, Copy)]
 pub struct Hosting {
+    /// To which port they connect.
+    pub port: u16,
     /// In how many seconds all have to come, if there is a bound.
     pub wait: Option<u64>,
     /// Whether no news is told.

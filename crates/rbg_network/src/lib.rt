@@ -2,6 +2,7 @@
 //! how its players are waited for, what is kept of it, and what its organiser is told.
 #![tactic(auto)]
 
+mod archive;
 mod client_error;
 mod game_file;
 mod gathering;
@@ -13,6 +14,7 @@ mod news;
 mod passing;
 mod readiness;
 mod stream_line;
+mod system_archive;
 mod system_clock;
 mod system_file;
 mod system_log;
@@ -20,6 +22,7 @@ mod system_network;
 mod system_stream;
 mod watch;
 
+pub use archive::Archive;
 pub use client_error::ClientError;
 pub use game_file::{Naming, read_game, spell_game};
 pub use gathering::{GatherError, Hosting, gather};
@@ -27,6 +30,7 @@ pub use named_log::{Named, begin_log, take_log};
 pub use network::{Network, is_nothing_yet};
 pub use news::{MatchNews, News};
 pub use stream_line::StreamLine;
+pub use system_archive::SystemArchive;
 pub use system_clock::SystemClock;
 pub use system_log::SystemLog;
 pub use system_network::{SystemListener, SystemNetwork};

@@ -2,7 +2,7 @@
 //! that are played over them.
 ghost use Rattle.std.specs.Prelude.{[], IfOk};
 
-use crate::News;
+use crate::{Archive, News};
 use rbg_serving::{Clock, Log};
 use std::io::{self, ErrorKind, Read, Write};
 
@@ -19,6 +19,8 @@ pub trait Network {
     type Clock: Clock + Drop;
 
     type Log: Log;
+
+    type Archive: Archive;
 
     /// Listens on a port; where it is 0, on one that the system chooses.
     fn listen(&mut self, port: u16) -> io::Result<Self::Listener>;
@@ -62,13 +64,9 @@ pub trait Network {
     /// Writes the game file beside a log, in place of one that is left there. It is on the disk then.
     fn write_game(&mut self, log: &str, text: &[u8]) -> io::Result<()>;
 
-    /// Makes the directory for the record of the match with this number, if there is none. A record of that number that is
-    /// there already is an error, unless the match goes on.
-    fn begin_record(&mut self, directory: &str, number: u64, goes_on: bool) -> io::Result<()>;
-
-    /// Writes the record of the match with this number. It is there whole then, and on the disk, or isn't there. Where there
-    /// is one of that number, it is an error, unless it is the same.
-    fn keep_record(&mut self, directory: &str, number: u64, record: &[u8]) -> io::Result<()>;
+    /// The archive in a directory, which is made when the first record of it is begun. What can't be done there is reported.
+    fn open_archive(&mut self, directory: &str) -> io::Result<Self::Archive>
+        ensures unused { IfOk result (λ archive. Self.Archive.handed archive []) };
 
     /// Tells news, apart from the program's answer. Where that can't be told, nothing is.
     fn tell(&mut self, news: &News<'_>);

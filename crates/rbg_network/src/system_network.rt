@@ -5,7 +5,7 @@ use crate::readiness::Readiness;
 use crate::system_file::{guard_streams, lock, name_beside, open_locked, write_whole};
 use crate::system_log::say_log_failure;
 use crate::watch::{Mark, Watch};
-use crate::{News, SystemClock, SystemLog, SystemStream};
+use crate::{News, SystemArchive, SystemClock, SystemLog, SystemStream};
 use mio::net::{TcpListener, TcpStream};
 use std::alloc::AllocError;
 use std::fs::{self, File};
@@ -118,30 +118,6 @@ impl<'a> SystemNetwork<'a> {
         }
     }
 
-    /// Begins the record of this path, unless there is one.
-    fn begin_at(&self, directory: &str, path: &str, goes_on: bool) -> io::Result<()> {
-        fs::create_dir_all(self.rt, directory)?;
-        if !goes_on && fs::exists(self.rt, path)? {
-            return Err(io::Error::from(ErrorKind::AlreadyExists));
-        }
-        Ok(())
-    }
-
-    /// Writes the record of this path, unless it is there.
-    fn keep_at(&self, path: &str, record: &[u8]) -> io::Result<()> {
-        match fs::read(self.rt, path) {
-            Ok(there) => {
-                if there.as_slice() == record {
-                    Ok(())
-                } else {
-                    Err(io::Error::from(ErrorKind::AlreadyExists))
-                }
-            }
-            Err(error) if error.kind() == ErrorKind::NotFound => write_whole(self.rt, path, record),
-            Err(error) => Err(error),
-        }
-    }
-
     /// The result of what was done with a file. Where that failed, this is said.
     fn said<T>(&self, deed: &str, path: &str, done: io::Result<T>) -> io::Result<T> {
         if let Err(error) = &done {
@@ -163,11 +139,6 @@ fn game_beside(rt: &HostRuntime, log: &str) -> Result<String, AllocError> {
     format!(in rt.alloc(); "{log}.game")
 }
 
-/// The name of the record of a match in a directory.
-fn record_in(rt: &HostRuntime, directory: &str, number: u64) -> Result<String, AllocError> {
-    format!(in rt.alloc(); "{directory}/{number}.record")
-}
-
 /// A port of 127.0.0.1.
 fn port_here(port: u16) -> SocketAddr {
     SocketAddr::from((Ipv4Addr::LOCALHOST, port))
@@ -186,6 +157,8 @@ impl<'a> Network for SystemNetwork<'a> {
     type Clock = SystemClock<'a>;
 
     type Log = SystemLog<'a>;
+
+    type Archive = SystemArchive<'a>;
 
     fn listen(&mut self, port: u16) -> io::Result<SystemListener> {
         let listener = self.bind(port);
@@ -267,16 +240,9 @@ impl<'a> Network for SystemNetwork<'a> {
         self.said("write", path.as_str(), written)
     }
 
-    fn begin_record(&mut self, directory: &str, number: u64, goes_on: bool) -> io::Result<()> {
-        let path = record_in(self.rt, directory, number)?;
-        let begun = self.begin_at(directory, path.as_str(), goes_on);
-        self.said("write", path.as_str(), begun)
-    }
-
-    fn keep_record(&mut self, directory: &str, number: u64, record: &[u8]) -> io::Result<()> {
-        let path = record_in(self.rt, directory, number)?;
-        let kept = self.keep_at(path.as_str(), record);
-        self.said("write", path.as_str(), kept)
+    fn open_archive(&mut self, directory: &str) -> io::Result<SystemArchive<'a>> {
+        let directory = String::from_str(self.rt.alloc(), directory)?;
+        Ok(SystemArchive::new(self.rt, directory))
     }
 
     fn tell(&mut self, news: &News<'_>) {

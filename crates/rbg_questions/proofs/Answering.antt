@@ -3,15 +3,16 @@ use Rattle.std.proofs.Common.{◌≡◌, ℕ, ◌-◌, ◌<◌, ◌≤◌, List,
 use Rattle.rbg_rules.specs.Meaning.{AbstractGame, AbstractPlace, Legal}
 use Rattle.rbg_moves.specs.Listing.{IsListed}
 use Rattle.rbg_questions.specs.declared.question.Question.{Question}
-use Rattle.rbg_questions.specs.declared.question.Question.TheVariants.{Moves, Make, Back, Heard, Place, State, Key, Values, Board, Names, Random, Quit}
+use Rattle.rbg_questions.specs.declared.question.Question.TheVariants.{Moves, Make, Back, Heard, Place, State, Key, Values, Board, Names, Shape, Random, Quit}
 use Rattle.rbg_questions.specs.declared.refusal.Refusal.{Refusal}
 use Rattle.rbg_questions.specs.Questions.{SpellsQuestion}
-use Rattle.rbg_questions.specs.Answers.{Answer, moves, to_move, state, key, values, board, names, by_chance, farewell, answer_text, refusal_text}
+use Rattle.rbg_questions.specs.Answers.{Answer, moves, to_move, state, key, values, board, names, shape, by_chance, farewell, answer_text, refusal_text}
 use Rattle.rbg_questions.specs.Chance.{AreTallied, Counted}
 use Rattle.rbg_questions.specs.Keys.{key_of}
 use Rattle.rbg_questions.specs.Sessions.{AbstractSession, Leads}
-use Rattle.rbg_questions.specs.Answering.{AnswersIn, GoesBack, HasMoves, StandsAt, goes_on, lists, lists_all, makes, undoes, hears, heard_to, tells, tells_state, tells_key, tells_values, tells_board, tells_names, plays, ends, moved_to, undone, Hears, answered, refused_line, IsLineRefused, refused, IsRefused}
+use Rattle.rbg_questions.specs.Answering.{AnswersIn, GoesBack, HasMoves, StandsAt, goes_on, lists, lists_all, makes, undoes, hears, heard_to, tells, tells_state, tells_key, tells_values, tells_board, tells_names, tells_shape, plays, ends, moved_to, undone, Hears, answered, refused_line, IsLineRefused, refused, IsRefused}
 use Rattle.rbg_questions.specs.internal.Places.{AreReached}
+use Rattle.rbg_questions.specs.internal.Shaping.{WritesShape}
 use Rattle.rbg_questions.proofs.Places.{led_before, not_finished, place_at}
 
 -- legal moves
@@ -77,6 +78,11 @@ tells_pieces session before after shown same told =
 pub tells_the_names : (session : AbstractSession) (before after : List ℕ) (game : AbstractGame) → game ≡ session.game → after ≡ before ++ answer_text (names game.players game.pieces game.variables) → AnswersIn session Names session before after
 tells_the_names session before after game same told =
     record { answer = names session.game.players session.game.pieces session.game.variables; answers = tells_names; told = subst (λ (g : AbstractGame). after ≡ before ++ answer_text (names g.players g.pieces g.variables)) same told }
+
+pub tells_the_shape : (session : AbstractSession) (before after : List ℕ) (game : AbstractGame) → game ≡ session.game → WritesShape game before after → AnswersIn session Shape session before after
+tells_the_shape session before after game same written =
+    let is : WritesShape session.game before after = subst (λ (g : AbstractGame). WritesShape g before after) same written in
+    record { answer = shape session.game is.actions; answers = tells_shape is.are; told = is.told }
 
 pub ends_quietly : (session : AbstractSession) (bytes : List ℕ) → answer_text farewell ≡ [] → AnswersIn session Quit session bytes bytes
 ends_quietly session bytes none = record { answer = farewell; answers = ends; told = sym (ap (λ t. bytes ++ t) none ∙ append-nil bytes) }

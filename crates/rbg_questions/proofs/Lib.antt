@@ -16,3 +16,6 @@ mod CountSums
 mod Totals
 mod Lines
 mod PlayoutBeginning
+mod Shaping
+mod Searched
+mod Sampled

@@ -1,18 +1,20 @@
 -- What a session answers to a question, and why it refuses one.
 use Rattle.std.specs.Prelude.{◌≡◌, ◌≢◌, ℕ, ◌+◌, ◌<◌, ◌≤◌, List, [], ◌∷◌, ◌++◌, length, take, All, AllPairs, Contains, Bool, false, Option, Some, None}
-use Rattle.rbg_rules.specs.Meaning.{AbstractGame, AbstractPlace, IsLegal, Legal, Finished, list_moves, IsHeavyToFind, IsHeavyToTry, IsTooHard}
+use Rattle.rbg_rules.specs.Meaning.{AbstractGame, AbstractPlace, AbstractAction, IsLegal, Legal, Finished, list_moves, IsHeavyToFind, IsHeavyToTry, IsTooHard}
 use Rattle.rbg_moves.specs.Listing.{IsListed}
 use Rattle.rbg_moves.specs.Settling.{IsEndless, MeetsHeavy}
 use Rattle.rbg_questions.specs.declared.question.Question.{Question}
-use Rattle.rbg_questions.specs.declared.question.Question.TheVariants.{Moves, Make, Back, Heard, Place, State, Key, Values, Board, Names, Random, Quit}
+use Rattle.rbg_questions.specs.declared.question.Question.TheVariants.{Moves, Make, Back, Heard, Place, State, Key, Values, Board, Names, Shape, Random, Search, Sample, Quit}
 use Rattle.rbg_questions.specs.declared.refusal.Refusal.{Refusal}
 use Rattle.rbg_questions.specs.declared.refusal.Refusal.TheVariants.{Long, Form, Illegal, Start, Over, Keeper, Memory}
 use Rattle.rbg_questions.specs.Limits.{longest_line}
 use Rattle.rbg_questions.specs.Questions.{SpellsQuestion}
 use Rattle.rbg_questions.specs.Keys.{key_of}
-use Rattle.rbg_questions.specs.Answers.{Answer, moves, to_move, finished, state, key, values, board, names, by_chance, farewell, answer_text, refusal_text}
+use Rattle.rbg_questions.specs.Answers.{Answer, moves, to_move, finished, state, key, values, board, names, shape, by_chance, searched, sampled, farewell, answer_text, refusal_text}
 use Rattle.rbg_questions.specs.Sessions.{AbstractSession, Leads}
 use Rattle.rbg_questions.specs.Chance.{Counted, AreTallied, IsUnplayed}
+use Rattle.rbg_questions.specs.Searching.{AreSearched, IsSampled, IsUnsampled, IsUnsearched, Searched}
+use Rattle.rbg_questions.specs.Shapes.{AreActions}
 
 -- How play stands at the place.
 --   goes_on: there is a legal move, and this player is to move.
@@ -61,7 +63,10 @@ undone (Some many) = many
 --   tells_key: the key of the place.
 --   tells_values, tells_board: what the variables hold, and what stands on the vertices.
 --   tells_names: the names of the game's players, pieces and variables.
+--   tells_shape: how much of each thing the game has, its bounds, directions and edges, and the actions by position.
 --   plays: so many matches were played by chance, and how many of them ended in which way.
+--   searches: so many matches were played after each legal move, and how they ended.
+--   samples: one match was played by chance, of at most so many moves; its moves, and how play stands after them.
 --   ends: nothing.
 pub data Answers (old : AbstractSession) : Question → (new : AbstractSession) → Answer → Type 0 where
   lists : {max : ℕ} {all : List (List (ℕ × ℕ))} {cut : Bool} →
@@ -97,9 +102,19 @@ pub data Answers (old : AbstractSession) : Question → (new : AbstractSession) 
       Answers old Board old (board old.place.state.pieces)
   tells_names :
       Answers old Names old (names old.game.players old.game.pieces old.game.variables)
+  tells_shape : {actions : List AbstractAction} →
+      AreActions old.game.rules actions →
+      Answers old Shape old (shape old.game actions)
   plays : {seed count : ℕ} {counted : List Counted} →
       AreTallied old.game old.place count counted →
       Answers old (Random seed count) old (by_chance count counted)
+  searches : {seed count : ℕ} {all : List Searched} →
+      AreSearched old.game old.place count all →
+      Answers old (Search seed count) old (searched (length old.game.players) all)
+  samples : {seed most : ℕ} {moves : List (List (ℕ × ℕ))} {to : AbstractPlace} {standing : Answer} →
+      IsSampled old.game old.place most moves to →
+      StandsAt old.game to standing →
+      Answers old (Sample seed most) old (sampled moves standing)
   ends :
       Answers old Quit old farewell
 
@@ -116,6 +131,8 @@ pub data Answers (old : AbstractSession) : Question → (new : AbstractSession) 
 --   heavy_to_list, heavy_to_count: the question for the legal moves is above the limits.
 --   heavy_to_find: the question whether play is finished is above the limits.
 --   unplayed: a match by chance isn't played to its end.
+--   unsearched: the matches after each move aren't all played.
+--   unsampled: the match isn't played, or how play stands after it isn't told.
 --   no_memory: it says nothing of the question.
 pub data IsRefused (session : AbstractSession) : Question → Refusal → Type 0 where
   illegal : {pairs : List (ℕ × ℕ)} →
@@ -161,6 +178,12 @@ pub data IsRefused (session : AbstractSession) : Question → Refusal → Type 0
   unplayed : {seed count : ℕ} {refusal : Refusal} →
       IsUnplayed session.game session.place refusal →
       IsRefused session (Random seed count) refusal
+  unsearched : {seed count : ℕ} {refusal : Refusal} →
+      IsUnsearched session.game session.place refusal →
+      IsRefused session (Search seed count) refusal
+  unsampled : {seed most : ℕ} {refusal : Refusal} →
+      IsUnsampled session.game session.place most refusal →
+      IsRefused session (Sample seed most) refusal
   no_memory : {question : Question} →
       IsRefused session question Memory
 

@@ -6,7 +6,11 @@ use Rattle.rbg_wire.specs.Lines.{line_of}
 use Rattle.rbg_wire.specs.Messages.{pairs_text}
 use Rattle.rbg_questions.specs.declared.refusal.Refusal.{Refusal}
 use Rattle.rbg_questions.specs.declared.refusal.Refusal.TheVariants.{Long, Form, Illegal, Start, Over, Keeper, Memory}
+use Rattle.rbg_rules.specs.Meaning.{AbstractAction, AbstractGame}
 use Rattle.rbg_questions.specs.Chance.{Counted}
+pub use Rattle.rbg_questions.specs.Fields.{names_text, numbers_text}
+use Rattle.rbg_questions.specs.Searching.{Searched, searched_line}
+use Rattle.rbg_questions.specs.Shapes.{action_line, layout_text}
 use Rattle.rbg_questions.specs.declared.standing.Standing.{Standing}
 use Rattle.rbg_questions.specs.declared.standing.Standing.TheVariants.{ToMove, Finished}
 
@@ -19,7 +23,10 @@ use Rattle.rbg_questions.specs.declared.standing.Standing.TheVariants.{ToMove, F
 --   values: what the variables hold.
 --   board: the pieces on the vertices.
 --   names: the names of the players, of the pieces and of the variables.
+--   shape: how much of each thing the game has, its bounds, directions and edges, and the actions by position.
 --   by_chance: so many matches were played, and how many of them ended in which way.
+--   searched: each legal move, with how matches after it ended, and for how many players.
+--   sampled: the moves of a match, and how play stands after them.
 --   farewell: nothing, at the end of a session.
 pub data Answer : Type 0 where
   moves : (all : List (List (ℕ × ℕ))) → (cut : Bool) → Answer
@@ -29,15 +36,11 @@ pub data Answer : Type 0 where
   key : ℕ → Answer
   values board : List ℕ → Answer
   names : (players pieces variables : List (List ℕ)) → Answer
+  shape : (game : AbstractGame) → (actions : List AbstractAction) → Answer
   by_chance : (matches : ℕ) → (counted : List Counted) → Answer
+  searched : (players : ℕ) → (all : List Searched) → Answer
+  sampled : (made : List (List (ℕ × ℕ))) → (standing : Answer) → Answer
   farewell : Answer
-
--- each number, or each name, with a space before it
-abbrev pub numbers_text : List ℕ → List ℕ
-numbers_text numbers = flat_map (λ number. codes " " ++ decimal number) numbers
-
-abbrev pub names_text : List (List ℕ) → List ℕ
-names_text listed = flat_map (λ name. codes " " ++ name) listed
 
 abbrev pub cut_text : Bool → List ℕ
 cut_text true = codes " cut"
@@ -76,6 +79,10 @@ answer_text (names players pieces variables) =
     ++ line_of (codes "pieces" ++ names_text pieces)
     ++ line_of (codes "variables" ++ names_text variables)
 answer_text (by_chance matches counted) = line_of (codes "random " ++ decimal matches) ++ flat_map counted_text counted
+answer_text (shape game actions) = layout_text game ++ flat_map action_line actions
+answer_text (searched players all) = line_of (codes "search " ++ decimal (length all)) ++ flat_map (searched_line players) all
+answer_text (sampled made standing) =
+    line_of (codes "sample " ++ decimal (length made)) ++ flat_map (λ pairs. line_of (pairs_text pairs)) made ++ answer_text standing
 answer_text farewell = []
 
 -- the word of a refusal

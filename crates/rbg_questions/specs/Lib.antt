@@ -4,12 +4,15 @@ pub mod Keys
 pub mod Questions
 pub mod Sessions
 pub mod Chance
+pub mod Fields
+pub mod Shapes
+pub mod Summary
+pub mod Counting
+pub mod Searching
 pub mod Answers
 pub mod Answering
 pub mod internal
--- What is counted. Why it is not.
-pub mod Counting
+-- Why sequences of moves are not counted.
 pub mod Refusals
 -- What is told of matches that were played by chance. Such matches from the beginning of play.
-pub mod Summary
 pub mod Playing

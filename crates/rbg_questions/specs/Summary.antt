@@ -2,7 +2,7 @@
 use Rattle.std.specs.Prelude.{ℕ, zero, suc, ◌*◌, ◌/◌, ◌%◌, List, [], ◌++◌, length, get_or, Option, Some, None, codes, decimal}
 use Rattle.std.specs.List.{flat_map, sum_by}
 use Rattle.rbg_wire.specs.Lines.{line_of}
-use Rattle.rbg_questions.specs.Answers.{numbers_text}
+use Rattle.rbg_questions.specs.Fields.{numbers_text}
 use Rattle.rbg_questions.specs.Chance.{Counted}
 
 -- how many of these matches are finished, and how many were stopped, where all of them have one ending

@@ -6,6 +6,8 @@ pub mod Ordering
 pub mod Places
 pub mod Reading
 pub mod Refusing
+pub mod Shaping
+pub mod Searching
 pub mod Telling
 pub mod CountRefusing
 pub mod Bounds

@@ -89,6 +89,23 @@ pub fn write_matches(count: u64, tallies: &[Tally], out: &mut Vec<u8>) -> Result
     all_or_nothing(written, len, out)
 }
 
+/// Appends the lines of a match of so many moves, of which the lines are given, and of how play stands after them. On an
+/// error the bytes are unchanged.
+pub(crate) fn write_sampled(
+    made: u64,
+    lines: &[u8],
+    standing: &Standing,
+    out: &mut Vec<u8>,
+) -> Result<(), Memory>
+    ensures { AppendsAll out.old.items out.new.items
+        (line_of (codes "sample " ++ decimal made) ++ lines.now
+        ++ answer_text (standing_answer standing.now)) result }
+{
+    let len = out.len();
+    let written = put_sampled(made, lines, standing, out);
+    all_or_nothing(written, len, out)
+}
+
 /// Appends the line of a refusal. On an error the bytes are unchanged.
 #[tactic(auto, unfolding(crate::specs::Answers::refusal_text))]
 pub fn write_refusal(refusal: Refusal, out: &mut Vec<u8>) -> Result<(), Memory>
@@ -143,7 +160,7 @@ fn put_lent_lines(moves: &[&[Pair]], out: &mut Vec<u8>) -> Result<(), Memory>
     Ok(())
 }
 
-fn put_move_line(pairs: &[Pair], out: &mut Vec<u8>) -> Result<(), Memory>
+pub(crate) fn put_move_line(pairs: &[Pair], out: &mut Vec<u8>) -> Result<(), Memory>
     ensures { Appends out.old.items out.new.items (line_of (pairs_text pairs.now)) result }
 {
     write_pairs(pairs, out)?;
@@ -207,6 +224,29 @@ fn put_state_head(count: u64, key: u64, out: &mut Vec<u8>) -> Result<(), Memory>
     out.extend_from_slice(b"\n")
 }
 
+fn put_sampled(
+    made: u64,
+    lines: &[u8],
+    standing: &Standing,
+    out: &mut Vec<u8>,
+) -> Result<(), Memory>
+    ensures { Appends out.old.items out.new.items
+        (line_of (codes "sample " ++ decimal made) ++ lines.now
+        ++ answer_text (standing_answer standing.now)) result }
+{
+    put_head(b"sample ", made, out)?;
+    out.extend_from_slice(lines)?;
+    put_standing(standing, out)
+}
+
+/// Appends the line of a word and a number.
+pub(crate) fn put_head(word: &[u8], number: u64, out: &mut Vec<u8>) -> Result<(), Memory>
+    ensures { Appends out.old.items out.new.items (line_of (word.now ++ decimal number)) result }
+{
+    put_number(word, number, out)?;
+    out.extend_from_slice(b"\n")
+}
+
 #[tactic(auto, unfolding(crate::specs::Answers::answer_text))]
 fn put_key(key: u64, out: &mut Vec<u8>) -> Result<(), Memory>
     ensures { Appends out.old.items out.new.items (answer_text (key_answer key)) result }
@@ -242,7 +282,7 @@ fn put_board(pieces: &[Piece], out: &mut Vec<u8>) -> Result<(), Memory>
     out.extend_from_slice(b"\n")
 }
 
-fn put_pieces(pieces: &[Piece], out: &mut Vec<u8>) -> Result<(), Memory>
+pub(crate) fn put_pieces(pieces: &[Piece], out: &mut Vec<u8>) -> Result<(), Memory>
     ensures { Appends out.old.items out.new.items (numbers_text pieces.now) result }
 {
     for piece in pieces {

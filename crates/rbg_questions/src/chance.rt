@@ -119,7 +119,7 @@ fn move_on(
 }
 
 /// A number below another one, by chance.
-fn choose(count: usize, chance: &mut Pcg32) -> usize
+pub(crate) fn choose(count: usize, chance: &mut Pcg32) -> usize
     requires { 0 < count }
     ensures { result < count }
 {

@@ -24,7 +24,7 @@ pub(crate) fn write_in_order(
 }
 
 /// The moves of a list, in order.
-fn in_order(alloc: Global, moves: &MoveList) -> Result<Vec<&[Pair]>, Memory>
+pub(crate) fn in_order(alloc: Global, moves: &MoveList) -> Result<Vec<&[Pair]>, Memory>
     requires { AllPairs (λ a b. a ≢ b) moves.now }
     ensures { IfOk result (λ lent. IsInOrder moves.now (map (λ m. m.now) lent.items)) }
 {

@@ -29,8 +29,14 @@ pub enum Question {
     Board,
     /// `names`: the names of the players, of the pieces and of the variables.
     Names,
+    /// `shape`: how much of each thing the game has, the bounds of the variables, the directions, the edges and the actions.
+    Shape,
     /// `random <seed> <matches>`: plays so many matches by chance from here, and tells how they end.
     Random { seed: u64, count: u64 },
+    /// `search <seed> <matches>`: plays so many matches by chance after each legal move, and tells how they end.
+    Search { seed: u64, count: u64 },
+    /// `sample <seed> <moves>`: plays one match of at most so many moves by chance from here, and tells the moves.
+    Sample { seed: u64, most: u64 },
     /// `quit`: ends the session.
     Quit,
 }

@@ -11,7 +11,7 @@ use crate::question::{MAX_COUNT, Question};
 use rbg_base::{Move, number_of_decimal};
 use rbg_wire::{after_text, cut_at, read_pairs};
 
-/// With what matches by chance begin, and how many they are.
+/// With what matches by chance begin, and how many matches or moves they are.
 #[derive(Clone, Copy)]
 struct Chance {
     seed: u64,
@@ -36,10 +36,22 @@ pub fn read_question(line: &[u8]) -> Option<Question>
     if let Some(moves) = count_after(b"back ", line) {
         return Some(Question::Back { moves: Some(moves) });
     }
-    if let Some(chance) = chance_after(line) {
+    if let Some(chance) = chance_after(b"random ", line) {
         return Some(Question::Random {
             seed: chance.seed,
             count: chance.count,
+        });
+    }
+    if let Some(chance) = chance_after(b"search ", line) {
+        return Some(Question::Search {
+            seed: chance.seed,
+            count: chance.count,
+        });
+    }
+    if let Some(chance) = chance_after(b"sample ", line) {
+        return Some(Question::Sample {
+            seed: chance.seed,
+            most: chance.count,
         });
     }
     if let Some(pairs) = pairs_after(b"heard ", line) {
@@ -74,6 +86,8 @@ fn plain_question(line: &[u8]) -> Option<Question>
         Some(Question::Board)
     } else if line == b"names".as_slice() {
         Some(Question::Names)
+    } else if line == b"shape".as_slice() {
+        Some(Question::Shape)
     } else if line == b"quit".as_slice() {
         Some(Question::Quit)
     } else {
@@ -98,12 +112,14 @@ fn count_after(word: &[u8], line: &[u8]) -> Option<u64>
     Some(count)
 }
 
-/// The seed and the number of matches after `random`.
-fn chance_after(line: &[u8]) -> Option<Chance>
-    ensures found { IfSome result (λ chance. SpellsChance line.now chance.seed chance.count) }
-    ensures none { IfNone result ((seed count : ℕ) → ¬ SpellsChance line.now seed count) }
+/// The seed and the number of matches or moves after a word.
+fn chance_after(word: &[u8], line: &[u8]) -> Option<Chance>
+    ensures found { IfSome result (λ chance.
+        SpellsChance word.now line.now chance.seed chance.count) }
+    ensures none { IfNone result ((seed count : ℕ)
+        → ¬ SpellsChance word.now line.now seed count) }
 {
-    let fields = after_text(b"random ", line)?;
+    let fields = after_text(word, line)?;
     let (seed, count) = cut_at(b' ', fields)?;
     let seed = number_of_decimal(seed)?;
     let count = count_after(b"", count)?;

@@ -22,11 +22,14 @@ use crate::ordering::write_in_order;
 use crate::question::Question;
 use crate::question_reader::read_question;
 use crate::refusal::Refusal;
+use crate::sampling::write_sample;
+use crate::searching::write_search;
+use crate::shape_writer::write_shape;
 use crate::standing::Standing;
 use crate::stepping::{
-    count_at, follow, lead, moves_at, pieces_at, standing_at, standing_of, values_at,
+    count_at, follow, is_in_memory, lead, moves_at, pieces_at, standing_at, standing_of, values_at,
 };
-use rbg_base::{Memory, Move, MoveList, Player};
+use rbg_base::{Memory, Move, Player};
 use rbg_moves::{Place, PlayedGame, Unsettled, Workspace};
 use rbg_rules::Game;
 use std::alloc::Global;
@@ -167,7 +170,10 @@ impl Session {
             Question::Values => self.tell_values(out),
             Question::Board => self.tell_board(out),
             Question::Names => self.tell_names(out),
+            Question::Shape => self.tell_shape(out),
             Question::Random { seed, count } => self.play_by_chance(*seed, *count, out),
+            Question::Search { seed, count } => self.search_moves(*seed, *count, out),
+            Question::Sample { seed, most } => self.play_sample(*seed, *most, out),
             Question::Quit => Ok(()),
         }
     }
@@ -343,6 +349,52 @@ impl Session {
         Ok(())
     }
 
+    #[tactic(auto, using(crate::proofs::OutOfMemory::memory_refused))]
+    fn tell_shape(&self, out: &mut Vec<u8>) -> Result<(), Refusal>
+        ensures { Tells self.now questions.Shape out.old.items out.new.items result }
+    {
+        write_shape(self.game.as_game(), out)?;
+        Ok(())
+    }
+
+    /// Plays matches by chance after each legal move.
+    fn search_moves(&mut self, seed: u64, count: u64, out: &mut Vec<u8>) -> Result<(), Refusal>
+        requires { QuestionHasSpelling (questions.Search seed count) }
+        ensures answers { OnOk result (AnswersIn self.old (questions.Search seed count) self.new
+            out.old.items out.new.items) }
+        ensures refused { IfErr result (IsRefused self.old (questions.Search seed count)) }
+        ensures kept { self.new ≡ self.old }
+        ensures out { OnErr result (out.new.items ≡ out.old.items) }
+    {
+        write_search(
+            &self.game,
+            &self.place,
+            seed,
+            count,
+            &mut self.workspace,
+            out,
+        )
+    }
+
+    /// Plays one match by chance from where play stands.
+    fn play_sample(&mut self, seed: u64, most: u64, out: &mut Vec<u8>) -> Result<(), Refusal>
+        requires { QuestionHasSpelling (questions.Sample seed most) }
+        ensures answers { OnOk result (AnswersIn self.old (questions.Sample seed most) self.new
+            out.old.items out.new.items) }
+        ensures refused { IfErr result (IsRefused self.old (questions.Sample seed most)) }
+        ensures kept { self.new ≡ self.old }
+        ensures out { OnErr result (out.new.items ≡ out.old.items) }
+    {
+        write_sample(
+            &self.game,
+            &self.place,
+            seed,
+            most,
+            &mut self.workspace,
+            out,
+        )
+    }
+
     /// Plays matches by chance from where play stands.
     #[tactic(auto, using(crate::proofs::OutOfMemory::memory_refused))]
     fn play_by_chance(&mut self, seed: u64, count: u64, out: &mut Vec<u8>) -> Result<(), Refusal>
@@ -396,12 +448,4 @@ fn limit_of(max: Option<u64>) -> usize
         Some(most) => most as usize,
         None => usize::MAX,
     }
-}
-
-/// For proofs alone: no list in memory is so long that it is cut at the greatest length. It does nothing.
-#[inline(always)]
-fn is_in_memory(moves: &MoveList)
-    ensures { length moves.now < 2 ^ 63 }
-{
-    let _count = moves.len();
 }

@@ -1,15 +1,16 @@
 //! From one place of a session to the next, and how play stands there.
-ghost use Rattle.std.specs.Prelude.{◌≡◌, ◌<◌, IfErr, IfOk};
-ghost use Rattle.rbg_rules.specs.Meaning.{IsPlaceOf, Legal};
+ghost use Rattle.std.specs.Prelude.{◌≡◌, ◌<◌, ◌^◌, length, IfErr, IfOk};
+ghost use Rattle.rbg_rules.specs.Meaning.{IsLegal, IsPlaceOf, Legal};
 ghost use Rattle.rbg_moves.specs.Listing.{IsGathered};
 ghost use Rattle.rbg_questions.specs.Answers.{standing_answer};
 ghost use Rattle.rbg_questions.specs.Answering.{HasMoves, StandsAt};
+ghost use Rattle.rbg_questions.specs.Chance.{IsUnmoved};
 ghost use Rattle.rbg_questions.specs.Sessions.{Leads};
 ghost use Rattle.rbg_questions.specs.internal.Places.{IsUnfollowed, IsUnlisted, IsUnmade, IsUntold};
 
 use crate::refusal::Refusal;
 use crate::standing::Standing;
-use rbg_base::{Memory, Move, Piece, Variable};
+use rbg_base::{Memory, Move, MoveList, Pair, Piece, Variable};
 use rbg_moves::{Gathered, Place, PlayedGame, Workspace};
 use std::alloc::Global;
 
@@ -48,6 +49,33 @@ pub(crate) fn follow(
         return Err(Refusal::Illegal);
     };
     Ok(to)
+}
+
+/// As `lead`, of a move that is known to be legal. Only moves of the keeper are searched for.
+pub(crate) fn step(
+    game: &PlayedGame,
+    place: &Place,
+    pairs: &[Pair],
+    workspace: &mut Workspace,
+) -> Result<Place, Refusal>
+    requires place { IsPlaceOf game.now place.now }
+    requires legal { IsLegal game.now place.now pairs.now }
+    ensures leads { IfOk result (Leads game.now place.now pairs.now) }
+    ensures in_game { IfOk result (IsPlaceOf game.now) }
+    ensures unmoved { IfErr result (IsUnmoved game.now place.now) }
+{
+    let mut to = workspace.copy_of(place)?;
+    game.make_move(&mut to, pairs)?;
+    game.settle(&mut to, workspace)?;
+    Ok(to)
+}
+
+/// For proofs alone: no list in memory is so long that it is cut at the greatest length. It does nothing.
+#[inline(always)]
+pub(crate) fn is_in_memory(moves: &MoveList)
+    ensures { length moves.now < 2 ^ 63 }
+{
+    let _count = moves.len();
 }
 
 /// The legal moves of a place, at most `max` of them, in a list that `Workspace::keep_moves` takes back.

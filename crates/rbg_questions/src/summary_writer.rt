@@ -89,7 +89,7 @@ fn put_mean_line(name: &str, total: u128, finished: u64, out: &mut Vec<u8>) -> R
 }
 
 /// Appends the mean of a total over so many matches.
-fn put_mean(total: u128, finished: u64, out: &mut Vec<u8>) -> Result<(), Memory>
+pub(crate) fn put_mean(total: u128, finished: u64, out: &mut Vec<u8>) -> Result<(), Memory>
     requires few { finished ≤ most_counted }
     requires small { total ≤ highest * finished }
     ensures { Appends out.old.items out.new.items (mean_text total finished) result }

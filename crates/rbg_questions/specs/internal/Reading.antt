@@ -2,7 +2,7 @@
 use Rattle.std.specs.Prelude.{◌≡◌, ℕ, ◌++◌, List, codes, decimal, Some}
 use Rattle.rbg_questions.specs.Limits.{IsCount, IsSeed}
 use Rattle.rbg_questions.specs.declared.question.Question.{Question}
-use Rattle.rbg_questions.specs.declared.question.Question.TheVariants.{Moves, Make, Back, Heard, Random}
+use Rattle.rbg_questions.specs.declared.question.Question.TheVariants.{Moves, Make, Back, Heard, Random, Search, Sample}
 
 -- the question is a single word
 abbrev pub IsPlain : Question → Type 0
@@ -11,10 +11,12 @@ IsPlain (Make pairs) = ⊥
 IsPlain (Back (Some moves)) = ⊥
 IsPlain (Heard pairs) = ⊥
 IsPlain (Random seed count) = ⊥
+IsPlain (Search seed count) = ⊥
+IsPlain (Sample seed most) = ⊥
 IsPlain _ = Unit {0}
 
--- the text is the question for so many matches by chance, which begins with this seed
-pub record SpellsChance (text : List ℕ) (seed count : ℕ) : Type 0 where
+-- the text is the word, and then the seed with which chance begins, and how many matches or moves are played
+pub record SpellsChance (word text : List ℕ) (seed count : ℕ) : Type 0 where
   pub seeded : IsSeed seed
   pub counted : IsCount count
-  pub is : text ≡ codes "random " ++ decimal seed ++ codes " " ++ decimal count
+  pub is : text ≡ word ++ decimal seed ++ codes " " ++ decimal count

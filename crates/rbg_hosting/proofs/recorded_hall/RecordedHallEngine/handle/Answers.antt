@@ -1,12 +1,19 @@
--- The hall hears what comes in time.
+-- The hall hears what comes in time, and then hands over what is to be handed over.
 use Rattle.rbg_base.proofs.Common.{subst}
 use Rattle.rbg_hall.proofs.Common.{HallHears, HeldHall, hall_event}
 use Rattle.rbg_match.specs.Inputs.{event_of}
-use Rattle.rbg_hosting.proofs.RecordedLemmas.{heard_so}
+use Rattle.rbg_hosting.specs.declared.recorder.Recorder.{Recorder}
+use Rattle.rbg_hosting.specs.internal.Recorded.{HandsOver}
+use Rattle.rbg_hosting.proofs.StandingLemmas.{hall_stands}
 use Rattle.rbg_hosting.proofs.recorded_hall.RecordedHallEngine.handle.Goals as goal
 
 pub returns-clause-ok : goal.returns-clause-ok
 returns-clause-ok g c =
     let event = event_of c.args.event in
-    subst (λ (one : HeldHall _). HallHears one.state (hall_event event) c.note_ends.new.self.hall.state c.args.outbox.now c.handle.new.outbox) c.note_late.ensures
-    (heard_so c.note_late.new.self c.note_ends.new.self c.handle.new.self event c.args.outbox.now c.handle.new.outbox c.note_ends.ensures c.in_ok-handle.ensures.ok.0.hears)
+    let hears : HallHears c.args.self.now.hall.state (hall_event event) c.handle.new.self.state c.args.outbox.now c.handle.new.outbox =
+    subst (λ (one : HeldHall _). HallHears one.state (hall_event event) c.handle.new.self.state c.args.outbox.now c.handle.new.outbox) c.note_late.ensures.hall
+    c.in_ok-handle.ensures.ok.0.hears in (
+      hears,
+      subst (λ (recorder : Recorder _). HandsOver g.A.Archive.handed recorder c.hand_over.new.self c.args.self.now.hall.state.tables c.handle.new.self.state.tables) c.note_late.ensures.recorder
+          (c.hand_over.ensures c.args.self.now.hall.state.tables (hall_stands hears)),
+    )

@@ -1,0 +1,42 @@
+//! How a player of this process chooses its moves.
+ghost use Rattle.std.specs.Prelude.{◌<◌};
+
+use rand_core::Rng;
+use rand_pcg::Pcg32;
+use rbg_player::Chooser;
+
+/// How a player of this process chooses its moves.
+#[derive(Drop)]
+pub enum Choice {
+    /// The first of them.
+    First,
+    /// By chance.
+    Random(Pcg32),
+}
+
+impl Choice {
+    /// How the player of a seat chooses: by chance, if there is a seed for it. A seed gives each seat other numbers.
+    pub fn of_seat(seed: Option<u64>, seat: u64) -> Choice {
+        match seed {
+            Some(seed) => Choice::Random(Pcg32::new(seed, seat)),
+            None => Choice::First,
+        }
+    }
+}
+
+impl Chooser for Choice {
+    fn choose(&mut self, n: usize) -> usize {
+        match self {
+            Choice::First => 0,
+            Choice::Random(chance) => below(n, chance),
+        }
+    }
+}
+
+/// A number below another one, by chance.
+fn below(n: usize, chance: &mut Pcg32) -> usize
+    requires { 0 < n }
+    ensures { result < n }
+{
+    (chance.next_u64() % n as u64) as usize
+}

@@ -1,0 +1,2 @@
+-- Texts within a drawing or a page.
+pub mod Texts

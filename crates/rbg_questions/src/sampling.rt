@@ -1,0 +1,97 @@
+//! One match that is played by chance, with its moves.
+ghost use Rattle.std.specs.Prelude.{◌≡◌, ◌++◌, IfErr, IfOk, OnErr, OnOk, codes, decimal, []};
+ghost use Rattle.rbg_rules.specs.Meaning.{IsPlaceOf};
+ghost use Rattle.rbg_wire.specs.Lines.{line_of};
+ghost use Rattle.rbg_wire.specs.Writing.{AppendsAll};
+ghost use Rattle.rbg_questions.specs.Answers.{answer_text, standing_answer};
+ghost use Rattle.rbg_questions.specs.Chance.{IsUnmoved};
+ghost use Rattle.rbg_questions.specs.Searching.{IsUnsampled};
+ghost use Rattle.rbg_questions.specs.internal.Searching.{IsMade, TellsMove, WritesSample};
+
+use crate::answer_writer::{put_move_line, write_sampled};
+use crate::chance::choose;
+use crate::refusal::Refusal;
+use crate::stepping::standing_at;
+use rand_core::SeedableRng;
+use rand_pcg::Pcg32;
+use rbg_moves::{Place, PlayedGame, Workspace};
+
+/// Plays a match of at most so many moves by chance from a place, and appends the lines of its moves and of how play
+/// stands after them. On an error the bytes are unchanged.
+pub(crate) fn write_sample(
+    game: &PlayedGame,
+    from: &Place,
+    seed: u64,
+    most: u64,
+    workspace: &mut Workspace,
+    out: &mut Vec<u8>,
+) -> Result<(), Refusal>
+    requires { IsPlaceOf game.now from.now }
+    ensures sampled { OnOk result (WritesSample game.now from.now most out.old.items out.new.items) }
+    ensures unsampled { IfErr result (IsUnsampled game.now from.now most) }
+    ensures kept { OnErr result (out.new.items ≡ out.old.items) }
+{
+    let mut lines = Vec::new(*out.allocator());
+    let mut place = workspace.copy_of(from)?;
+    let made = make_moves(game, &mut place, seed, most, &mut lines, workspace)?;
+    let standing = standing_at(game, &place, workspace)?;
+    workspace.keep(place);
+    write_sampled(made, lines.as_slice(), &standing, out)?;
+    Ok(())
+}
+
+/// Makes at most so many moves by chance, and appends a line for each. Returns how many were made: fewer only where play
+/// is finished.
+fn make_moves(
+    game: &PlayedGame,
+    place: &mut Place,
+    seed: u64,
+    most: u64,
+    lines: &mut Vec<u8>,
+    workspace: &mut Workspace,
+) -> Result<u64, Refusal>
+    requires place { IsPlaceOf game.now place.old }
+    requires none { lines.old.items ≡ [] }
+    ensures made { IfOk result (λ made.
+        IsMade game.now place.old most made place.new lines.new.items) }
+    ensures in_game { OnOk result (IsPlaceOf game.now place.new) }
+    ensures unsampled { IfErr result (IsUnsampled game.now place.old most) }
+{
+    let mut chance = Pcg32::seed_from_u64(seed);
+    for made in 0..most {
+        if !make_one(game, place, &mut chance, lines, workspace)? {
+            return Ok(made);
+        }
+    }
+    Ok(most)
+}
+
+/// Makes a move by chance, and the keeper's moves after it, and appends the line of the move. False where there is no
+/// legal move.
+fn make_one(
+    game: &PlayedGame,
+    place: &mut Place,
+    chance: &mut Pcg32,
+    lines: &mut Vec<u8>,
+    workspace: &mut Workspace,
+) -> Result<bool, Refusal>
+    requires { IsPlaceOf game.now place.old }
+    ensures moves { IfOk result (λ moved.
+        TellsMove game.now place.old lines.old.items moved place.new lines.new.items) }
+    ensures in_game { OnOk result (IsPlaceOf game.now place.new) }
+    ensures unmoved { IfErr result (IsUnmoved game.now place.old) }
+{
+    let gathered = game.gather_moves(place, usize::MAX, workspace)?;
+    let moves = gathered.moves;
+    let count = moves.len();
+    if count == 0 {
+        return Ok(false);
+    }
+    let index = choose(count, chance);
+    let pairs = moves.get(index);
+    game.make_move(place, pairs)?;
+    put_move_line(pairs, lines)?;
+    game.settle(place, workspace)?;
+    workspace.keep_moves(moves);
+    Ok(true)
+}
