@@ -6,7 +6,6 @@ use crate::page::{TOO_LONG, refused};
 use crate::report::Report;
 use rbg_base::{Move, Pair, Piece, Vertex};
 use rbg_console::{Files, Input, Status, read_record};
-use rbg_drawing::push_square;
 use rbg_game::{Layout, LoadedGame};
 use rbg_moves::{Over, Place, PlayedGame, Unsettled};
 use rbg_record::place_after;
@@ -193,7 +192,7 @@ fn over(alloc: Global) -> Result<Report, AllocError> {
 struct MoveWriter<'a> {
     game: &'a Game,
     layout: &'a Layout,
-    /// What is on the vertices.
+    /// What stands on the vertices.
     pieces: &'a [Piece],
 }
 
@@ -227,7 +226,7 @@ impl MoveWriter<'_> {
         })
     }
 
-    /// Writes the squares whose piece a move changes, and its pairs: `a1 . > w (36 7 36 8)`.
+    /// Writes the squares whose piece a move changes, and its pairs: `36 . > w (36 7 36 8)`.
     fn push_move(&self, pairs: &[Pair], text: &mut Vec<u8>) -> Result<(), AllocError> {
         let from = text.len();
         for (index, pair) in pairs.iter().enumerate() {
@@ -244,7 +243,7 @@ impl MoveWriter<'_> {
         text.extend_from_slice(b")\n")
     }
 
-    /// Writes what becomes of the piece of a vertex, if another one is there then.
+    /// Writes what becomes of the piece of a vertex, if another one stands there then.
     fn push_change(&self, pair: &Pair, from: usize, text: &mut Vec<u8>) -> Result<(), AllocError> {
         let Some(new) = put_by(self.game, pair) else {
             return Ok(());
@@ -260,7 +259,7 @@ impl MoveWriter<'_> {
         if text.len() > from {
             text.extend_from_slice(b", ")?;
         }
-        push_square(self.layout, pair.vertex as usize, text)?;
+        self.push_vertex(pair.vertex, text)?;
         text.extend_from_slice(b" ")?;
         self.push_piece(old, text)?;
         text.extend_from_slice(b" > ")?;
@@ -271,9 +270,19 @@ impl MoveWriter<'_> {
     fn push_place(&self, pairs: &[Pair], text: &mut Vec<u8>) -> Result<(), AllocError> {
         text.extend_from_slice(b"at ")?;
         match pairs.first() {
-            Some(pair) => push_square(self.layout, pair.vertex as usize, text),
+            Some(pair) => self.push_vertex(pair.vertex, text),
             None => Ok(()),
         }
+    }
+
+    /// Writes a vertex: its name in a graph, else its number.
+    fn push_vertex(&self, vertex: Vertex, text: &mut Vec<u8>) -> Result<(), AllocError> {
+        if let Layout::Graph { names } = self.layout
+            && let Some(name) = names.get(vertex as usize)
+        {
+            return text.extend_from_slice(name);
+        }
+        write_number(u64::from(vertex), text)
     }
 
     /// Writes the name of a piece, or a point for the empty one.

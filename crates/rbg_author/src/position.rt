@@ -13,7 +13,7 @@ use rbg_position::{PositionError, position};
 use rbg_rules::Game;
 use std::alloc::{AllocError, Global};
 
-/// The description of a file with the board as it is after the moves of the record of another file. Both are read
+/// The description of a file with the board as it stands after the moves of the record of another file. Both are read
 /// before either is looked into.
 pub(crate) fn position_file<F: Files>(
     alloc: Global,

@@ -1,5 +1,4 @@
-//! Runs of what reads a description: `load`, `expand`, and the two forms of the automaton. The runs of `show` and of the picture
-//! of a board are here too.
+//! Runs of what reads a description: `load`, `expand`, and the two forms of the automaton. The run of `show` is here too.
 
 use crate::games::{GAME, MACROS, SCRIPT, WALK};
 use crate::limits;
@@ -7,7 +6,6 @@ use crate::stop::Stop;
 use crate::telling::Telling;
 use rbg_auto::{Expr, Steps, compact, compile};
 use rbg_base::Position;
-use rbg_drawing::push_picture;
 use rbg_game::{Game, load, load_with_layout};
 use rbg_macro::{MacroError, Section, Source, Tokens, expand, tokens};
 use rbg_view::show;
@@ -33,7 +31,6 @@ pub fn run<W: Write>(alloc: Global, name: &str, told: &mut Telling<W>) -> Result
         "compile" => tell_automaton(alloc, false, told),
         "compact" => tell_automaton(alloc, true, told),
         "show" => show_moves(alloc, told),
-        "picture" => draw_board(alloc, told),
         _ => limits::run(alloc, name, told),
     }
 }
@@ -157,18 +154,8 @@ fn show_game<W: Write>(
     told: &mut Telling<W>,
 ) -> Result<(), Stop> {
     let loaded = load_with_layout(alloc, tokens)?;
-    let shown = show(alloc, loaded, GAME, SCRIPT, false)?;
+    let shown = show(alloc, loaded, SCRIPT, false)?;
     told.bytes(shown.text.as_slice());
     told.truth("whole", shown.is_whole);
-    Ok(())
-}
-
-/// Draws the empty board of the small game.
-fn draw_board<W: Write>(alloc: Global, told: &mut Telling<W>) -> Result<(), Stop> {
-    let tokens = tokens(alloc, GAME)?;
-    let loaded = load_with_layout(alloc, &tokens)?;
-    let mut picture = Vec::new(alloc);
-    push_picture(alloc, &loaded, GAME, &mut picture)?;
-    told.bytes(picture.as_slice());
     Ok(())
 }

@@ -8,8 +8,7 @@ use Rattle.rbg_view.specs.declared.head.TheConstants.{HEAD}
 use Rattle.rbg_view.specs.declared.tail.TheConstants.{STYLES, SCRIPTS, END}
 use Rattle.rbg_view.specs.declared.style.TheConstants.{BOARD_STYLE}
 use Rattle.rbg_view.specs.declared.script.TheConstants.{BOARD_SCRIPT}
-use Rattle.rbg_drawing.specs.Texts.{escaped}
-use Rattle.rbg_view.specs.Texts.{field_text, names_text, values_text}
+use Rattle.rbg_view.specs.Texts.{escaped, field_text, names_text, values_text}
 use Rattle.rbg_view.specs.Boards.{spot_text, mark_text, vertex_text, size_text, frame_text, widest, vertices_text, labels_text, rows_text, graph_text, drawing_text}
 use Rattle.rbg_view.specs.Telling.{Told}
 use Rattle.rbg_view.specs.Pages.{values_part, names_part, place_part, lines_part, tail_text, page_text}

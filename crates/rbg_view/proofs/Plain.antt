@@ -1,7 +1,7 @@
 -- Texts in a page have no byte that begins or ends a tag or an attribute.
 use Rattle.rbg_base.proofs.Common.{◌≡◌, ℕ, Bool, true, false, ◌&&◌, ◌||◌, not, List, [], ◌∷◌, codes, if◌then◌else◌, refl, ap, ◌∙◌, ◌==◌, list_all}
 use Rattle.std.proofs.lemmas.List.Folds.{list_all-append}
-use Rattle.rbg_drawing.specs.Texts.{entity, escaped}
+use Rattle.rbg_view.specs.Texts.{entity, escaped}
 use Rattle.rbg_view.specs.Laws.{is_plain}
 
 plain_by : (amp lt gt quot apos : Bool) (byte : ℕ) → is_plain byte ≡ not (lt || gt || quot || apos) → list_all is_plain (if amp then codes "&amp;" else (if lt then codes "&lt;" else (if gt then codes "&gt;" else (if quot then codes "&quot;" else (if apos then codes "&#39;" else byte ∷ []))))) ≡ true

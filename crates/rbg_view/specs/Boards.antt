@@ -7,8 +7,7 @@ use Rattle.rbg_game.specs.NameTables.{bytes_of}
 use Rattle.rbg_game.specs.declared.layout.Layout.{Layout}
 use Rattle.rbg_game.specs.declared.layout.Layout.TheVariants.{Rectangle, Hexagon, Graph}
 use Rattle.rbg_view.specs.declared.drawing.Spot.{Spot}
-use Rattle.rbg_drawing.specs.Texts.{escaped}
-use Rattle.rbg_view.specs.Texts.{field_text}
+use Rattle.rbg_view.specs.Texts.{escaped, field_text}
 
 -- the spot of a vertex in rows of these lengths, the first of which has this number
 abbrev pub spot_from : (row : ℕ) → (lengths : List ℕ) → (vertex : ℕ) → Spot

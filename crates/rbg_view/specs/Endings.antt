@@ -37,7 +37,7 @@ unfoldable pub reason_text : Playing → Stop → List ℕ
 reason_text at NotLegal = codes ": no legal move of " ++ mover_text at ++ codes "\n"
 reason_text at NoMove = codes " isn't a move\n"
 reason_text at Mark = codes " begins with a byte order mark\n"
-reason_text at AfterEnd = codes " is after the end of the record\n"
+reason_text at AfterEnd = codes " stands behind the end of the record\n"
 reason_text at HeavyQuestion = codes ": a question is above the limits\n"
 reason_text at Keeper = codes ": the keeper made 1,000 moves in a row\n"
 reason_text at Memory = codes ""

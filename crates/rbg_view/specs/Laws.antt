@@ -2,7 +2,7 @@
 use Rattle.std.specs.Prelude.{◌≡◌, ℕ, Bool, true, ◌==◌, ◌||◌, not, List, length}
 use Rattle.std.specs.List.{list_all}
 use Rattle.rbg_view.specs.Places.{changed, changes_from}
-use Rattle.rbg_drawing.specs.Texts.{escaped}
+use Rattle.rbg_view.specs.Texts.{escaped}
 
 -- a byte that is none of `<`, `>`, `"` and `'`
 abbrev pub is_plain : ℕ → Bool

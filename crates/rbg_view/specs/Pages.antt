@@ -9,8 +9,7 @@ use Rattle.rbg_view.specs.declared.head.TheConstants.{HEAD}
 use Rattle.rbg_view.specs.declared.tail.TheConstants.{STYLES, SCRIPTS, END}
 use Rattle.rbg_view.specs.declared.style.TheConstants.{BOARD_STYLE}
 use Rattle.rbg_view.specs.declared.script.TheConstants.{BOARD_SCRIPT}
-use Rattle.rbg_drawing.specs.Texts.{escaped}
-use Rattle.rbg_view.specs.Texts.{names_text, values_text}
+use Rattle.rbg_view.specs.Texts.{escaped, names_text, values_text}
 use Rattle.rbg_view.specs.Boards.{drawing_text}
 use Rattle.rbg_view.specs.Telling.{Told, Tells}
 

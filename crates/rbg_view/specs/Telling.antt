@@ -11,7 +11,7 @@ use Rattle.rbg_record.specs.NextLine.{BeginsWith}
 use Rattle.rbg_record.specs.Lines.{Reached, version_next, players_next, start_next, entry_next, nothing_next, Leads}
 use Rattle.rbg_record.specs.Reaching.{place_in}
 use Rattle.rbg_record.specs.Right.{IsRightRecord}
-use Rattle.rbg_drawing.specs.Texts.{escaped}
+use Rattle.rbg_view.specs.Texts.{escaped}
 use Rattle.rbg_view.specs.Places.{place_text, whole_text}
 
 -- The text of a line of a record, and after it the place to which it leads from the one before, if it leads to one.

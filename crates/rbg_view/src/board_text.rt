@@ -1,15 +1,15 @@
 //! Boards as text.
 
-use crate::signs::{Signs, characters_in};
+use crate::signs::Signs;
 use rbg_base::Piece;
-use rbg_drawing::push_square;
 use rbg_game::Layout;
+use rbg_wire::write_number;
 use std::alloc::{AllocError, Global};
 
 /// About how many bytes a line of a graph's vertices has.
 const GRAPH_LINE: usize = 72;
 
-/// How many characters a cell of a row has, and by how many a row is shifted for each cell that it has less than the longest.
+/// How many bytes a cell of a row has, and by how many a row is shifted for each cell that it has less than the longest.
 #[derive(Clone, Copy)]
 struct RowForm {
     cell: usize,
@@ -25,7 +25,7 @@ pub(crate) struct Drawing<'a> {
 }
 
 impl Drawing<'_> {
-    /// Draws the pieces of all vertices in order. A row begins with the number and the name of its first vertex.
+    /// Draws the pieces of all vertices in order. A row begins with the number of its first vertex.
     pub(crate) fn push_board(
         &self,
         output: &mut Vec<u8>,
@@ -40,7 +40,7 @@ impl Drawing<'_> {
                 self.push_rows(output, pieces, rows, form)
             }
             Layout::Hexagon { rows } => {
-                // half a cell is a whole number of characters
+                // half a cell is a whole number of bytes
                 let half = self.signs.width() / 2 + 1;
                 let form = RowForm {
                     cell: half.saturating_mul(2),
@@ -72,22 +72,10 @@ impl Drawing<'_> {
         Ok(())
     }
 
-    /// Writes the number and the name of the first vertex of a row. That of the first row is the longest.
+    /// Writes the number of the first vertex of a row.
     fn push_label(&self, output: &mut Vec<u8>, first: usize) -> Result<(), AllocError> {
-        let label = format!(in self.alloc; "{first:>4} ")?;
-        output.extend_from_slice(label.as_bytes())?;
-        let start = output.len();
-        self.push_vertex(output, first)?;
-        let length = output.len().saturating_sub(start);
-        push_spaces(output, self.longest_name()?.saturating_sub(length))?;
-        output.extend_from_slice(b" |")
-    }
-
-    /// How many bytes the name of the first vertex has.
-    fn longest_name(&self) -> Result<usize, AllocError> {
-        let mut name = Vec::new(self.alloc);
-        self.push_vertex(&mut name, 0)?;
-        Ok(name.len())
+        let label = format!(in self.alloc; "{first:>4} |")?;
+        output.extend_from_slice(label.as_bytes())
     }
 
     /// Draws the cells of a row. There are no spaces at its end.
@@ -102,7 +90,7 @@ impl Drawing<'_> {
             let sign = self.signs.sign(*piece);
             push_spaces(output, gap)?;
             output.extend_from_slice(sign)?;
-            gap = cell.saturating_sub(characters_in(sign));
+            gap = cell.saturating_sub(sign.len());
         }
         output.push(b'\n')?;
         Ok(())
@@ -135,12 +123,21 @@ impl Drawing<'_> {
         output.extend_from_slice(self.signs.sign(piece))
     }
 
-    /// Writes the name of a vertex.
-    fn push_vertex(&self, output: &mut Vec<u8>, vertex: usize) -> Result<(), AllocError> {
-        push_square(self.layout, vertex, output)
+    /// Writes a vertex: its name in a graph, else its number.
+    pub(crate) fn push_vertex(
+        &self,
+        output: &mut Vec<u8>,
+        vertex: usize,
+    ) -> Result<(), AllocError> {
+        if let Layout::Graph { names } = self.layout
+            && let Some(name) = names.get(vertex)
+        {
+            return output.extend_from_slice(name);
+        }
+        write_number(vertex as u64, output)
     }
 
-    /// Writes what is different on the board: `b2 . > x`, and so on.
+    /// Writes what is different on the board: `4 . > x`, and so on.
     pub(crate) fn push_changes(
         &self,
         output: &mut Vec<u8>,

@@ -3,9 +3,8 @@ ghost use Rattle.std.specs.Prelude.{◌≡◌, ◌<◌, ◌++◌, OnOk, All, len
 ghost use Rattle.rbg_game.specs.NameTables.{bytes_of};
 ghost use Rattle.rbg_view.specs.Boards.{drawing_text, frame_text, graph_text, is_marked, label_text, labels_text, mark_text, rows_text, size_text, spot_from, spot_text, vertex_text, vertices_text, widest};
 
-use crate::texts::put_field;
+use crate::texts::{put_escaped, put_field};
 use rbg_base::{Memory, Pair, Piece};
-use rbg_drawing::put_escaped;
 use rbg_game::Layout;
 use rbg_rules::Game;
 

@@ -78,7 +78,7 @@ fn put_reason(play: &Playthrough<'_>, stop: Stop, out: &mut Vec<u8>) -> Result<(
         Stop::NotLegal => put_mover(b": no legal move of ", play, b"\n", out),
         Stop::NoMove => out.extend_from_slice(b" isn't a move\n"),
         Stop::Mark => out.extend_from_slice(b" begins with a byte order mark\n"),
-        Stop::AfterEnd => out.extend_from_slice(b" is after the end of the record\n"),
+        Stop::AfterEnd => out.extend_from_slice(b" stands behind the end of the record\n"),
         Stop::Heavy => out.extend_from_slice(b": a question is above the limits\n"),
         Stop::Keeper => out.extend_from_slice(b": the keeper made 1,000 moves in a row\n"),
         Stop::Memory => Err(Memory),

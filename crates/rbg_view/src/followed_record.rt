@@ -6,13 +6,13 @@ ghost use Rattle.rbg_record.specs.ByLine.{IsReachedIn, reached_of};
 ghost use Rattle.rbg_record.specs.Judged.{IsMisfit};
 ghost use Rattle.rbg_record.specs.Lines.{Reached as AnyReached, next_of};
 ghost use Rattle.rbg_wire.specs.Lines.{line_of};
-ghost use Rattle.rbg_drawing.specs.Texts.{escaped};
+ghost use Rattle.rbg_view.specs.Texts.{escaped};
 ghost use Rattle.rbg_view.specs.Places.{place_text, whole_text};
 ghost use Rattle.rbg_view.specs.Telling.{IsByPlayer, IsMoveIn, IsTelling, line_text};
 
 use crate::places::{put_place, put_whole, values_at};
+use crate::texts::put_escaped;
 use rbg_base::{Memory, Move, Pair};
-use rbg_drawing::put_escaped;
 use rbg_moves::{Place, PlayedGame};
 use rbg_record::{Content, Entry, Misfit, Reached, RecordLine, RecordReader, Timed, judge_line};
 use std::alloc::Global;

@@ -1,7 +1,7 @@
 //! Laws of pages. The contract of each function is a law; its body does nothing.
 ghost use Rattle.rbg_view.specs.Laws.{ChangesLeadOn, EscapedIsPlain};
 
-/// No text can begin or end a tag or an attribute of the page in which it is.
+/// No text can begin or end a tag or an attribute of the page in which it stands.
 pub fn escaped_is_plain()
     ensures { EscapedIsPlain }
 {}

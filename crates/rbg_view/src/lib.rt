@@ -1,6 +1,7 @@
 //! A match to look at: a game followed on its board as text, and a page with the board after each move of a record.
 #![tactic(auto)]
 
+mod board_lines;
 mod board_text;
 mod drawing;
 mod ending;

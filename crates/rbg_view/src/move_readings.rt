@@ -9,7 +9,7 @@ use rbg_record::Version;
 use rbg_wire::{after_text, cut_number, read_pairs};
 use std::alloc::{AllocError, Global};
 
-/// What is before the pairs of a move.
+/// What stands before the pairs of a move.
 #[derive(Clone, Copy)]
 pub(crate) enum Lead {
     Nothing,
@@ -18,7 +18,7 @@ pub(crate) enum Lead {
 }
 
 impl Lead {
-    /// What is before the pairs of a move in a record of a version.
+    /// What stands before the pairs of a move in a record of a version.
     pub(crate) fn of_version(version: Version) -> Lead
         ensures { result ≡ lead_of version }
     {
@@ -93,7 +93,7 @@ pub(crate) fn said_readings(
     }
 }
 
-/// The moves that a text may mean, where `lead` is before the pairs, or where nobody has said what is.
+/// The moves that a text may mean, where `lead` stands before the pairs, or where nobody has said what does.
 pub(crate) fn readings(
     alloc: Global,
     text: &[u8],
@@ -125,7 +125,7 @@ fn untold_readings(alloc: Global, text: &[u8]) -> Result<Vec<Reading>, AllocErro
     Ok(readings)
 }
 
-/// Appends the move that a text means where so much is before the pairs, if it is one.
+/// Appends the move that a text means where so much stands before the pairs, if it is one.
 fn push_meaning(lead: Lead, text: &[u8], readings: &mut Vec<Reading>) -> Result<(), AllocError>
     ensures { OnOk result (AddsMeaning text.now lead readings.old.items readings.new.items) }
 {

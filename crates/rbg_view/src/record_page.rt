@@ -11,9 +11,8 @@ use crate::places::values_at;
 use crate::script::BOARD_SCRIPT;
 use crate::style::BOARD_STYLE;
 use crate::tail::{END, SCRIPTS, STYLES};
-use crate::texts::{put_pieces, put_players, put_values, put_variables};
+use crate::texts::{put_escaped, put_pieces, put_players, put_values, put_variables};
 use rbg_base::{Memory, Pair};
-use rbg_drawing::put_escaped;
 use rbg_game::Layout;
 use rbg_moves::{Place, PlayedGame};
 use rbg_record::Misfit;
@@ -21,7 +20,7 @@ use rbg_rules::Game;
 use std::alloc::Global;
 
 /// The page of a record, of either version: a file for a browser, with nothing from elsewhere. A game is laid out as its
-/// description writes it. What is described is in the page as it is, for the script that draws the board: the lines
+/// description writes it. What is described stands in the page as it is, for the script that draws the board: the lines
 /// of `push_game` of rbg_view.
 ///
 /// A record that isn't right has no page. The lines are judged as `check_record` does.

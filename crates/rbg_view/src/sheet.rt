@@ -8,7 +8,6 @@ use crate::ending::{put_end, put_stop, put_who};
 use crate::signs::Signs;
 use crate::stop::Stop;
 use rbg_base::{Piece, Player, Variable};
-use rbg_drawing::Wishes;
 use rbg_game::{Game, Layout};
 use rbg_moves::Playthrough;
 use rbg_wire::{Outcome, write_number};
@@ -37,10 +36,9 @@ impl<'a> Sheet<'a> {
         alloc: Global,
         game: &'a Game,
         layout: &'a Layout,
-        wishes: &Wishes<'_>,
         only_last: bool,
     ) -> Result<Sheet<'a>, AllocError> {
-        let signs = Signs::of(alloc, game, wishes)?;
+        let signs = Signs::of(alloc, game)?;
         let mut text = Vec::new(alloc);
         signs.push_legend(&mut text)?;
         let kept = text.len();
@@ -70,7 +68,7 @@ impl<'a> Sheet<'a> {
         Ok(())
     }
 
-    /// Keeps what is on the board before a move. Before a move of a player the board is drawn.
+    /// Keeps what stands on the board before a move. Before a move of a player the board is drawn.
     pub(crate) fn begin_move(&mut self, play: &Playthrough<'_>) -> Result<(), AllocError> {
         if play.player() != 0 {
             self.draw(play)?;

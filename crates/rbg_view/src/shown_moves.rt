@@ -12,7 +12,6 @@ use crate::move_readings::{Lead, readings, said_readings};
 use crate::scene::Scene;
 use crate::sheet::Sheet;
 use crate::stop::Stop;
-use rbg_drawing::Wishes;
 use rbg_game::LoadedGame;
 use rbg_moves::{PlayedGame, Playthrough, Unsettled};
 use rbg_wire::{Outcome, cut_at};
@@ -32,8 +31,7 @@ pub struct ShownMoves {
 }
 
 /// Shows the moves of a list on the board of a game: for each of them what it changes, and the board after it with the
-/// values of the variables. With `only_last` only the last of a player's moves is shown. Pieces have the signs that the
-/// comment lines of the game's text give them.
+/// values of the variables. With `only_last` only the last of a player's moves is shown.
 ///
 /// A move is a line: its pairs, perhaps after a player, or after a moment and a player, or a message of a script.
 /// The other lines of records and scripts are passed over, and the end of a record is written at the end. Where the keeper
@@ -43,7 +41,6 @@ pub struct ShownMoves {
 pub fn show(
     alloc: Global,
     loaded: LoadedGame,
-    text: &[u8],
     moves: &[u8],
     only_last: bool,
 ) -> Result<ShownMoves, AllocError>
@@ -51,8 +48,7 @@ pub fn show(
 {
     let LoadedGame { game, layout } = loaded;
     let game = PlayedGame::new(alloc, game)?;
-    let wishes = Wishes::read(alloc, text)?;
-    let sheet = Sheet::new(alloc, game.as_game(), &layout, &wishes, only_last)?;
+    let sheet = Sheet::new(alloc, game.as_game(), &layout, only_last)?;
     let play = Playthrough::start(alloc, &game)?;
     let mut showing = Showing {
         alloc,
@@ -69,14 +65,14 @@ pub fn show(
 struct Showing<'a> {
     alloc: Global,
     scene: Scene<'a>,
-    /// What is before the pairs of a move, once the first line of a record has shown it.
+    /// What stands before the pairs of a move, once the first line of a record has shown it.
     lead: Option<Lead>,
     /// How the record ends, once its last line has shown it.
     end: Option<RecordEnd>,
 }
 
 impl Showing<'_> {
-    /// Shows the moves of a list, and what is at its end. Returns whether all went well.
+    /// Shows the moves of a list, and what stands at its end. Returns whether all went well.
     fn show_list(&mut self, moves: &[u8]) -> Result<bool, AllocError>
         ensures { IfOk result (TellsList moves.now (standing_of self.old) self.new.scene) }
     {
@@ -109,7 +105,7 @@ impl Showing<'_> {
         }
     }
 
-    /// Shows the move of a line, if it has one. After the end of a record only lines without a meaning may be.
+    /// Shows the move of a line, if it has one. After the end of a record only lines without a meaning may stand.
     fn show_line(&mut self, line: &[u8], number: usize) -> Result<(), Stop>
         ensures follows { IfOk result (λ _.
             Follows line.now (standing_of self.old) (standing_of self.new)) }

@@ -13,9 +13,9 @@ pub(crate) enum Stop {
     NotLegal,
     /// The line is no move.
     NoMove,
-    /// The line is no move, since a byte order mark is before it.
+    /// The line is no move, since a byte order mark stands before it.
     Mark,
-    /// The line is after the last line of a record.
+    /// The line stands after the last line of a record.
     AfterEnd,
     /// A question is above the limits.
     Heavy,

@@ -1,11 +1,11 @@
 //! The tail of each page, with its scripts.
 
-/// What is before the style that draws boards.
+/// What stands before the style that draws boards.
 pub(crate) const STYLES: &[u8] = b"</pre></details>
 <style>
 ";
 
-/// What is before the script that draws boards.
+/// What stands before the script that draws boards.
 pub(crate) const SCRIPTS: &[u8] = b"</style>
 <script>
 ";
@@ -34,7 +34,7 @@ pub(crate) const END: &[u8] = b"(() => {
     return after;
   };
 
-  /* A step is the start or a player's move, with the keeper's moves after it. */
+  /* A step is the start or a player's move, with the keeper's moves behind it. */
   let [board, values] = start.split('|').map(items);
   const steps = [];
   for (const line of lines) {
@@ -65,14 +65,14 @@ pub(crate) const END: &[u8] = b"(() => {
   for (const step of steps) drawing.learn(step.mover, step.changed);
 
   const seconds = step => step.moment === undefined ? '' : ((step.moment - began) / 1000).toFixed(1) + ' s';
-  const spelt = (step, at) => at === 0 ? 'start' : at + ' ' + name(step.mover) + ': ' + (RbgBoard.spell(game, drawing, step.changed) || drawing.layout.names[step.pairs[0]]);
+  const told = (step, at) => at === 0 ? 'start' : at + ' ' + name(step.mover) + ': ' + (RbgBoard.spell(game, drawing, step.changed) || drawing.layout.names[step.pairs[0]]);
 
   get('play').innerHTML = '<div id=controls><button title=first>&laquo;</button><button title=back>&lsaquo;</button><input type=range min=0 aria-label=move><button title=on>&rsaquo;</button><button title=last>&raquo;</button><button title=smaller>-</button><button title=larger>+</button></div><p id=now></p><ol id=moves></ol>';
   const slider = document.querySelector('#controls input');
   slider.max = steps.length - 1;
   steps.forEach((step, at) => {
     const item = document.createElement('li');
-    item.textContent = spelt(step, at);
+    item.textContent = told(step, at);
     item.append(Object.assign(document.createElement('span'), { textContent: seconds(step) }));
     item.onclick = () => go(at);
     get('moves').append(item);

@@ -1,11 +1,40 @@
 //! The calls that write texts within a page at the end of a list of bytes.
 ghost use Rattle.std.specs.Prelude.{◌≡◌, ◌++◌, OnOk};
-ghost use Rattle.rbg_view.specs.Texts.{field_text, name_item, value_item, names_text, values_text};
+ghost use Rattle.rbg_view.specs.Texts.{entity, escaped, field_text, name_item, value_item, names_text, values_text};
 
 use rbg_base::{Memory, Piece, Player, Variable};
-use rbg_drawing::put_escaped;
 use rbg_rules::Game;
 use rbg_wire::write_number;
+
+/// Appends a text, in which entities stand for the bytes that the language of pages reads.
+pub(crate) fn put_escaped(text: &[u8], out: &mut Vec<u8>) -> Result<(), Memory>
+    ensures { OnOk result (out.new.items ≡ out.old.items ++ escaped text.now) }
+{
+    for byte in text {
+        put_entity(*byte, out)?;
+    }
+    Ok(())
+}
+
+#[tactic(auto, unfolding(crate::specs::Texts::entity))]
+fn put_entity(byte: u8, out: &mut Vec<u8>) -> Result<(), Memory>
+    ensures { OnOk result (out.new.items ≡ out.old.items ++ entity byte) }
+{
+    if byte == b'&' {
+        out.extend_from_slice(b"&amp;")
+    } else if byte == b'<' {
+        out.extend_from_slice(b"&lt;")
+    } else if byte == b'>' {
+        out.extend_from_slice(b"&gt;")
+    } else if byte == b'"' {
+        out.extend_from_slice(b"&quot;")
+    } else if byte == b'\'' {
+        out.extend_from_slice(b"&#39;")
+    } else {
+        out.push(byte)?;
+        Ok(())
+    }
+}
 
 #[tactic(auto, unfolding(crate::specs::Texts::name_item))]
 fn put_name_item(name: &str, out: &mut Vec<u8>) -> Result<(), Memory>

@@ -57,7 +57,7 @@ impl ContentType {
     }
 }
 
-/// What is before the text of an answer.
+/// What stands before the text of an answer.
 #[derive(Clone, Copy)]
 pub(crate) struct Reply {
     pub status: HttpStatus,
@@ -82,11 +82,11 @@ impl Reply {
     }
 }
 
-/// What each answer says: that the connection ends, and that a page takes nothing from elsewhere and is in no other.
+/// What each answer says: that the connection ends, and that a page takes nothing from elsewhere and stands in no other.
 const SAID: &[u8] =
     b"Connection: close\r\nCache-Control: no-store\r\nX-Content-Type-Options: nosniff\r\nCross-Origin-Resource-Policy: same-origin\r\nReferrer-Policy: no-referrer\r\nContent-Security-Policy: default-src 'none'; script-src 'unsafe-inline'; style-src 'unsafe-inline'; connect-src 'self'; img-src data: blob:; frame-ancestors 'none'\r\n\r\n";
 
-/// Appends an answer with this text. Where the text is missing, the line of the status is in its place.
+/// Appends an answer with this text. Where the text is missing, the line of the status stands in its place.
 pub(crate) fn push_answer(reply: Reply, text: &[u8], out: &mut Vec<u8>) -> Result<(), AllocError> {
     let line = reply.status.line();
     let kind = reply.content.name();

@@ -245,7 +245,7 @@ fn begin(alloc: Global, loaded: LoadedGame) -> Result<Result<Session, &'static [
     }
 }
 
-/// The path without what is after a `?`.
+/// The path without what stands after a `?`.
 fn path_of(path: &str) -> &str {
     match path.split_once('?') {
         Some((front, _)) => front,

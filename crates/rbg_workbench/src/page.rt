@@ -1,6 +1,6 @@
 //! The page on which a game is played by hand: its head, its style and its body.
 
-/// What is before the style of boards.
+/// What stands before the style of boards.
 pub(crate) const HEAD: &[u8] = b"<!DOCTYPE html>
 <html lang='en'>
 <head>
@@ -11,7 +11,7 @@ pub(crate) const HEAD: &[u8] = b"<!DOCTYPE html>
 <style>
 ";
 
-/// What is after it, up to the script of boards.
+/// What stands after it, up to the script of boards.
 pub(crate) const BODY: &[u8] = b"
 * { box-sizing: border-box; }
 body { margin: 0 auto; padding: .8rem 1rem; max-width: 76rem; background: var(--page); color: var(--ink); font: 1rem/1.4 system-ui, sans-serif; }
@@ -81,7 +81,7 @@ details { color: var(--soft); }
 <script>
 ";
 
-/// What is after the scripts.
+/// What stands after the scripts.
 pub(crate) const END: &[u8] = b"</script>
 </body>
 </html>

@@ -14,7 +14,7 @@ const RbgPlay = (() => {
   let drawing = null;
   let isRefused = false;
 
-  /* The line of play: steps[k] is the place after k moves. Only the present step has its legal moves. */
+  /* The line of play: steps[k] is what stands after k moves. Only the present step has its legal moves. */
   let steps = [];
   let at = 0;
   let legal = [];
@@ -44,7 +44,7 @@ const RbgPlay = (() => {
     throw new Error('another page plays');
   };
 
-  /* Brings the server to where this page is. */
+  /* Brings the server to where this page stands. */
   const follow = async () => {
     const state = await stateOf();
     stamp = state.stamp;
@@ -91,7 +91,7 @@ const RbgPlay = (() => {
     pairs, mover, standing: standingOf(lines.line()), board: lines.numbers(), values: lines.numbers(),
   });
 
-  /* What a move changes by itself, and what the keeper changes after it. */
+  /* What a move changes by itself, and what the keeper changes behind it. */
   const tell = (before, step) => {
     step.changed = RbgBoard.changes(game, before.board, step.pairs);
     const own = before.board.slice();
@@ -399,7 +399,7 @@ const RbgPlay = (() => {
     drawing.svg.style.width = 'min(' + (100 * zoom).toFixed(0) + '%, ' + (78 * zoom * shape).toFixed(1) + 'vh)';
   };
 
-  /* Sides: a person, random, or playouts. */
+  /* Sides: a person, chance, or playouts. */
   const isPerson = player => { const side = get('side-' + player); return !side || side.value === 'person'; };
   const showSides = () => {
     const kept = Array.from(get('sides').querySelectorAll('select')).map(side => side.value);
@@ -407,7 +407,7 @@ const RbgPlay = (() => {
       const label = document.createElement('label');
       const side = document.createElement('select');
       side.id = 'side-' + (index + 1);
-      for (const [value, text] of [['person', 'a person'], ['random', 'random'], ['think', 'playouts']]) side.append(new Option(text, value));
+      for (const [value, text] of [['person', 'a person'], ['random', 'chance'], ['think', 'playouts']]) side.append(new Option(text, value));
       side.value = kept[index] || 'person';
       side.onchange = () => { thinking += 1; chosen = []; show(); goOn(); };
       label.append(name + ' ', side);

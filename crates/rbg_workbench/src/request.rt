@@ -25,7 +25,7 @@ pub(crate) enum Method {
 #[derive(Clone, Copy)]
 pub(crate) struct Request<'a> {
     pub method: Method,
-    /// The path, with what is after a `?`.
+    /// The path, with what stands after a `?`.
     pub path: &'a str,
     pub body: &'a [u8],
 }

@@ -18,7 +18,7 @@ const LOOK: u64 = 1_000;
 
 /// What answers requests.
 pub(crate) trait Site {
-    /// Answers a request: appends the text of the answer, and returns what is before it.
+    /// Answers a request: appends the text of the answer, and returns what stands before it.
     fn answer(&mut self, request: &Request<'_>, text: &mut Vec<u8>) -> Result<Reply, AllocError>;
 
     /// Is called about once a second.

@@ -1,6 +1,6 @@
 -- The parts of the text, one after the other.
 use Rattle.std.proofs.Common.{codes}
-use Rattle.rbg_drawing.specs.Texts.{escaped}
+use Rattle.rbg_view.specs.Texts.{escaped}
 use Rattle.rbg_view.specs.Boards.{mark_text, spot_text}
 use Rattle.rbg_view.proofs.Parts.{vertex_is}
 use Rattle.rbg_view.proofs.Writing.{joined6}

@@ -1,6 +1,6 @@
 -- The parts of the text, one after the other.
 use Rattle.std.proofs.Common.{codes}
-use Rattle.rbg_drawing.specs.Texts.{escaped}
+use Rattle.rbg_view.specs.Texts.{escaped}
 use Rattle.rbg_view.proofs.Parts.{lines_are}
 use Rattle.rbg_view.proofs.Writing.{joined4}
 use Rattle.rbg_view.proofs.record_page.put_lines_part.Goals as goal

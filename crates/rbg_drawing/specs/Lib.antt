@@ -1,2 +1,0 @@
--- Texts within a drawing or a page.
-pub mod Texts
