@@ -29,8 +29,8 @@ pub struct DeadEnd {
 
 impl Paths {
     /// How many candidates the inside of a pattern has at a vertex, and whether a word may end, where the first leaps lead
-    /// only to ons and comparisons that don't hold. This needs no sets. It is looked for only where the first leaps lead
-    /// to several positions, at one vertex each; else it is None.
+    /// nowhere, or only to ons and comparisons that don't hold. This needs no sets. It is looked for only where the first
+    /// leaps lead to one vertex at each position; else it is None.
     #[inline(always)]
     pub fn dead_end(
         &self,
@@ -47,7 +47,7 @@ impl Paths {
         ensures { IfSome result (λ dead. IsDeadEnd game.now (at_vertex state.now.state vertex)
             (beginning (inside pattern)) dead.many dead.ends) }
     {
-        if !self.branches(pattern) {
+        if !self.is_narrow(pattern) {
             return None;
         }
         let origin = Origin::Begin(Expr::Inside(pattern));

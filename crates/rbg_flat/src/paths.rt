@@ -54,10 +54,10 @@ pub(crate) struct Facts {
 pub struct Paths {
     pub(crate) leaps: Leaps,
     pub(crate) facts: Vec<Facts>,
-    /// Whether a pattern stands at each position, from 0 on, whose inside begins with leaps to several positions, to one
-    /// vertex at each, as far as was looked. It only tells where to look for a dead end: nothing rests on it. It is kept
+    /// Whether a pattern stands at each position, from 0 on, whose inside begins with leaps to one vertex at each position,
+    /// or with none, as far as was looked. It only tells where to look for a dead end: nothing rests on it. It is kept
     /// apart, so that the facts of a position stay one word.
-    branches: Vec<bool>,
+    narrow: Vec<bool>,
     /// What comes next after each position, from 0 on, where it is one modifier alone.
     pub(crate) onward: Vec<Onward>,
 }
@@ -68,7 +68,7 @@ impl Drop for Paths {
         let Paths {
             leaps: _,
             facts: _,
-            branches: _,
+            narrow: _,
             onward: _,
         } = self;
     }
@@ -85,12 +85,12 @@ impl Paths {
             return Ok(None);
         };
         let facts = all_facts(alloc, game, steps)?;
-        let branches = all_branches(alloc, game, &leaps)?;
+        let narrow = all_narrow(alloc, game, &leaps)?;
         let onward = all_onward(alloc, game, steps)?;
         Ok(Some(Paths {
             leaps,
             facts,
-            branches,
+            narrow,
             onward,
         }))
     }
@@ -119,9 +119,9 @@ impl Paths {
 
     /// Whether to look for a dead end in the pattern at a position.
     #[inline(always)]
-    pub(crate) fn branches(&self, position: Position) -> bool {
-        match self.branches.get(position as usize) {
-            Some(branches) => *branches,
+    pub(crate) fn is_narrow(&self, position: Position) -> bool {
+        match self.narrow.get(position as usize) {
+            Some(narrow) => *narrow,
             None => false,
         }
     }
@@ -144,28 +144,28 @@ fn all_facts<S: Steps>(alloc: Global, game: &Game, steps: &S) -> Result<Vec<Fact
     Ok(facts)
 }
 
-/// Whether the inside of a pattern branches at its beginning, for each position, from 0 on.
-fn all_branches(alloc: Global, game: &Game, leaps: &Leaps) -> Result<Vec<bool>, Memory> {
+/// Whether the inside of a pattern is narrow at its beginning, for each position, from 0 on.
+fn all_narrow(alloc: Global, game: &Game, leaps: &Leaps) -> Result<Vec<bool>, Memory> {
     let count = game.positions() + 1;
-    let mut branches = vec![in alloc; false; count]?;
+    let mut narrow = vec![in alloc; false; count]?;
     for index in 1..count {
         let position = index as Position;
-        branches[index] = game.is_pattern(position) && branches_inside(game, leaps, position);
+        narrow[index] = game.is_pattern(position) && is_narrow_inside(game, leaps, position);
     }
-    Ok(branches)
+    Ok(narrow)
 }
 
-/// Whether the inside of a pattern begins with leaps to several positions, to one vertex at each. The first vertex is
-/// looked at from which there are several.
-fn branches_inside(game: &Game, leaps: &Leaps, pattern: Position) -> bool {
+/// Whether the inside of a pattern begins with leaps to one vertex at each position, or with none. The first vertex is
+/// looked at from which there are some.
+fn is_narrow_inside(game: &Game, leaps: &Leaps, pattern: Position) -> bool {
     let origin = Origin::Begin(Expr::Inside(pattern));
     for vertex in 0..game.board().len() {
         let (targets, _) = leaps.leads(origin, vertex as Vertex);
-        if targets.len() > 1 {
+        if !targets.is_empty() {
             return are_single(targets);
         }
     }
-    false
+    true
 }
 
 /// Whether each target has one vertex.

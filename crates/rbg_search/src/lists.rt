@@ -7,6 +7,7 @@ use rbg_flat::Modifiers;
 
 impl<'a, S: Steps> Search<'a, S> {
     /// A list to lend to `reach_into` or `reach_flat`: one that was kept, where there is one. What it holds is of no use.
+    #[inline(always)]
     pub fn take_list(&mut self) -> Modifiers
         ensures { self.new ≡ self.old }
     {
@@ -17,6 +18,7 @@ impl<'a, S: Steps> Search<'a, S> {
     }
 
     /// Keeps a list that is no longer needed.
+    #[inline(always)]
     pub fn keep_list(&mut self, list: Modifiers)
         ensures { self.new ≡ self.old }
     {

@@ -418,8 +418,8 @@ impl<'a, S: Steps> Search<'a, S> {
         is_valid(self.rules.game(), position, runs)
     }
 
-    /// Scans along the inside of a pattern at a vertex, where that is a straight line. Where nothing goes on from its
-    /// beginning, its leaps tell what a scan would find.
+    /// Looks at a pattern at a vertex without a flat part: where nothing goes on from its beginning, its leaps tell what is
+    /// met, and where its inside is a straight line, a scan does.
     fn scan(&self, state: &SemiState, vertex: Vertex, position: Position) -> Option<PatternScan>
         requires fits { IsStateOf self.now.game state.now.state }
         requires vertex { vertex < length state.now.state.pieces }
@@ -427,16 +427,16 @@ impl<'a, S: Steps> Search<'a, S> {
         ensures { IfSome result (λ scan. IsTold self.now.game (at_vertex state.now.state vertex)
             (beginning (inside position)) scan.ends scan.pairs) }
     {
-        let shifts = self.rules.paths().is_none();
-        if let Some(scan) = scan_inside(&self.rules, state, vertex, position, shifts) {
-            return Some(scan);
+        let Some(paths) = self.rules.paths() else {
+            return scan_inside(&self.rules, state, vertex, position, true);
+        };
+        if let Some(dead) = paths.dead_end(self.rules.game(), state, position, vertex) {
+            return Some(PatternScan {
+                ends: dead.ends,
+                pairs: dead.many,
+            });
         }
-        let paths = self.rules.paths()?;
-        let dead = paths.dead_end(self.rules.game(), state, position, vertex)?;
-        Some(PatternScan {
-            ends: dead.ends,
-            pairs: dead.many,
-        })
+        scan_inside(&self.rules, state, vertex, position, false)
     }
 
     /// What is reached, in a list that is lent, and whether a word may end with no modifier more. Patterns nest at most
