@@ -18,7 +18,7 @@ use Rattle.rbg_auto.specs.internal.Tables.{IsSpan, IsNextWithin, IsFirstWithin, 
 use Rattle.rbg_auto.specs.internal.Building.{laid_in, Extends, AddsList, LaysAt, LaysTree, LaysBefore, LaysSequence, LaysLevel}
 use Rattle.rbg_auto.proofs.LayTreeLemmas.{plain_laid, pattern_laid, BeginsTree, act_laid, pattern_laid_whole, then_laid, or_laid, star_laid, SumLaid, sum_laid_none, sum_laid_more, sum_laid_all, SequenceOwed, sequence_owed_all, sequence_owed_fewer, sequence_owed_none, resized}
 
--- Lists stay where they are while the array grows.
+-- Lists keep their places while the array grows.
 pub Grows-trans : (a b c : List ℕ) → Grows a b → Grows b c → Grows a c
 Grows-trans a b c one other = record { more = one.more ++ other.more; is = other.is ∙ ap (λ (xs : List ℕ). xs ++ other.more) one.is ∙ append_assoc a one.more other.more }
 
@@ -61,7 +61,7 @@ Extends-trans a b c one other = record { entries = Grows-trans a.entries.items b
 pub AddsList-refl : (t : Table) → AddsList t t
 AddsList-refl t = record { extends = Extends-refl t; same = λ q. refl }
 
--- What holds of each member of a list, and of what stands in for members that it hasn't, holds at each index.
+-- What holds of each member of a list, and of the default for indices past its end, holds at each index.
 all_or : {X : Type 0} (P : X → Type 0) (xs : List X) (i : ℕ) (d : X) → All P xs → P d → P (get_or xs i d)
 all_or P [] i d all one = one
 all_or P (x ∷ xs) zero d all one = All-head P x xs all

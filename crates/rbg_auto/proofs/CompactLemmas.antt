@@ -70,7 +70,7 @@ has_each tree positions count same old new opening blank lays =
     let size : length new.nodes.items ≡ positions + 1 = lays.extends.size ∙ ap (λ (ns : List Node). length ns) blank.nodes ∙ length-replicate (positions + 1) in
     omega (arith, size, same)
 
--- The walk tells of no action.
+-- The walk records no glance of any action.
 pub untold : (rules : Expression) (tree : Rule) (old new : Table) (opening : Opening) (n : ℕ) → IsBlank old n → LaysLevel old new tree opening → (p : ℕ) → IsGlance rules p (told_in new p)
 untold rules tree old new opening n blank lays p =
     let none : told_in old p ≡ Unknown = ap (λ (ns : List Node). told_at ns p) blank.nodes ∙ ap (λ (node : Node). node.glance) (get_or-replicate no_node n p) in
@@ -80,7 +80,7 @@ untold rules tree old new opening n blank lays p =
 abbrev StepsBy : Expression → List ℕ → Bool → (ℕ → Laid) → Type 0
 StepsBy rules first may at = AreStepsOf rules (first_at first at) (λ i. (at i).next) (λ i. (at i).may_end) (empty_at may at)
 
--- To tell what is right keeps the steps.
+-- Recording a right glance keeps the steps right.
 pub tells_right : (old new : Compact) (rules : Expression) (p : ℕ) (glance : Glance) → new.rules ≡ old.rules → new.prepared ≡ old.prepared → Tells old.table new.table p glance → IsGlance rules p glance → IsCompactOf old rules → IsCompactOf new rules
 tells_right old new rules p glance opening prepared tells right is = record {
   steps =

@@ -1,4 +1,4 @@
--- Where a position stands in a word of a star.
+-- Where a position is in a word of a star.
 use Rattle.std.proofs.Common.{◌≡◌, ℕ, List, ◌∷◌, ◌++◌, sym, subst}
 use Rattle.rbg_rules.specs.Meaning.{Expression, Word, Repeats, done, again}
 use Rattle.rbg_rules.proofs.CutLemmas.{in_first, in_second, cut_at, not_empty}

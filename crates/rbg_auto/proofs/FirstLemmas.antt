@@ -1,4 +1,4 @@
--- Where words begin, against what is read off the expression.
+-- Where words begin, compared with the positions that are read off the expression.
 use Rattle.std.proofs.Common.{◌≡◌, ℕ, List, [], ◌∷◌, ◌++◌, refl, sym, ap, subst, inl, inr, ◌⊎◌, Bool, true, false, ◌&&◌, ◌||◌, if◌then◌else◌}
 use Rattle.std.proofs.lemmas.List.{append-nil}
 use Rattle.rbg_rules.specs.Meaning.{Expression, act, skip, sequence, fail, choice, star, positions_of, HasNoEmptySum, Word, Repeats, done, again}
@@ -38,7 +38,7 @@ nothing_left : (u v : List ℕ) → [] ≡ u ++ v → (u ≡ []) × (v ≡ [])
 nothing_left [] v e = (refl, sym e)
 nothing_left (a ∷ u) v e = absurd (cc e)
 
--- The empty list is a word exactly where the expression may be empty.
+-- The empty list is a word exactly if the expression may be empty.
 pub empty_word : (x : Expression) → may_be_empty x ≡ true → Word x []
 empty_word (act p a) e = absurd (cc e)
 empty_word skip e = refl

@@ -7,7 +7,7 @@ use Rattle.rbg_auto.specs.internal.Firsts.{firsts}
 use Rattle.rbg_auto.specs.internal.Laying.{Laid, ComesBefore, IsLaid, IsLaidInside, IsLawful, Lays}
 use Rattle.rbg_auto.proofs.OrderLemmas.{Ascends_left, Ascends_right, Ascends_apart}
 
--- What is laid stays laid where its positions keep what they have.
+-- What is laid stays laid if its positions keep what they have.
 mutual
   pub laid_on : (f g : ℕ → Laid) (x : Expression) (k : List ℕ) (end : Bool) → ((q : ℕ) → Among q (positions_of x) → g q ≡ f q) → IsLaid f x k end → IsLaid g x k end
   laid_on f g (act p a) k end same (is_next, is_end, within) =

@@ -22,7 +22,7 @@ Ascends_across (z ∷ xs) ys (first, h) x y (inr left) right = Ascends_across xs
 pub Ascends_apart : (xs ys : List ℕ) → Ascends (xs ++ ys) → (x : ℕ) → Among x xs → ¬ Among x ys
 Ascends_apart xs ys h x left right = let less : x < x = Ascends_across xs ys h x x left right in absurd (omega (arith, less))
 
--- Two lists in order are in order one after the other, where each member of the first is less than each of the second.
+-- Two lists in order are in order one after the other, if each member of the first is less than each of the second.
 pub Ascends_append : (xs ys : List ℕ) → Ascends xs → Ascends ys → ((x y : ℕ) → Among x xs → Among y ys → x < y) → Ascends (xs ++ ys)
 Ascends_append [] ys left right across = right
 Ascends_append (x ∷ xs) ys (first, left) right across = (above, Ascends_append xs ys left right (λ a b h k. across a b (inr h) k))

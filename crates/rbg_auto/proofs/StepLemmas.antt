@@ -20,11 +20,11 @@ Neighbours x i j = (u : List ℕ) × (v : List ℕ) × Word x (u ++ i ∷ j ∷ 
 abbrev pub EndsWith : Expression → ℕ → Type 0
 EndsWith x i = (u : List ℕ) × Word x (u ++ i ∷ [])
 
--- What comes after i where k comes after the expression.
+-- What comes after i if k comes after the expression.
 abbrev ComesAfter : Expression → List ℕ → ℕ → ℕ → Type 0
 ComesAfter x k i j = Neighbours x i j ⊎ (EndsWith x i × Among j k)
 
--- The answer at i is what the words say.
+-- The answer at i is right for the words.
 pub record IsRight (laid : Laid) (x : Expression) (k : List ℕ) (end : Bool) (i : ℕ) : Type 0 where
   pub order : Ascends laid.next
   pub to : (j : ℕ) → Among j laid.next → ComesAfter x k i j
@@ -187,7 +187,7 @@ right_right laid x y k end i none apart right = record {
     down j (inl pair) = inl (neighbours_of_right x y i apart j pair)
     down j (inr (ends_both, there)) = inr (ends_of_right x y i apart ends_both, there)
 
--- What is right for a part is right for the whole, where the words through a position are those of the part.
+-- What is right for a part is right for the whole, if the words through a position are those of the part.
 right_of_part : (laid : Laid) (whole part : Expression) (k : List ℕ) (end : Bool) (i : ℕ) → ((w : List ℕ) → Word part w → Word whole w) → ((u v : List ℕ) → Word whole (u ++ i ∷ v) → Word part (u ++ i ∷ v)) → IsRight laid part k end i → IsRight laid whole k end i
 right_of_part laid whole part k end i into back right = record {
   order = right.order;

@@ -25,7 +25,7 @@ decide x (y ∷ xs) = elim (decide x xs) [
   ]
 ]
 
--- An action stands at each position.
+-- An action is at each position.
 mutual
   some_action : (x : Expression) (p : ℕ) → Among p (positions_of x) → (a : AbstractAction) × HasAction x p a
   some_action (act q b) p (inl e) = (b, inl (e, refl))
@@ -75,7 +75,7 @@ module _ (at : ℕ → Laid) where
     inside_laid q (negative x) none order (_, _, laid) p b h = action_laid x none order [] true laid p b h
     inside_laid q _ none order within p b h = absurd h
 
--- The expression of a level is laid, and its words begin as `first` and `may` say.
+-- The expression of a level is laid, and its words begin as `first` and `may` have it.
 record IsLevelLaid (at : ℕ → Laid) (x : Expression) (first : List ℕ) (may : Bool) : Type 0 where
   begins : first ≡ firsts x
   empty : may ≡ may_be_empty x
@@ -103,7 +103,7 @@ module _ (rules : Expression) (numbered : IsNumbered rules) (none : HasNoEmptySu
       let within : IsLaidInside at p (negative x) = one.within in
       record { begins = within.0; empty = within.1; none = one.none; order = one.order; laid = within.2 }
 
-  -- Where a position has something laid, it belongs to a level, and what is laid is right.
+  -- If something is laid at a position, the position belongs to a level, and what is laid is right.
   right_in : (level : Level) (x : Expression) → IsLevel rules level x → (i : ℕ) (a : AbstractAction) → HasOwnAction x i a → IsRight (at i) x [] true i
   right_in level x is i a own =
       let there = level_laid level x is in

@@ -7,12 +7,12 @@ abbrev pub IsChain : Expression → ℕ → List ℕ → Type 0
 IsChain rules i [] = Unit {0}
 IsChain rules i (j ∷ later) = Follows rules (after i) (j ∷ []) × IsChain rules j later
 
--- Words may end at the last position of the list, or at i where the list is empty.
+-- Words may end at the last position of the list, or at i if the list is empty.
 abbrev pub EndsAtLast : Expression → ℕ → List ℕ → Type 0
 EndsAtLast rules i [] = Ends rules (after i) []
 EndsAtLast rules i (j ∷ later) = EndsAtLast rules j later
 
--- A non-empty list is a word of a level exactly where words of the level begin with its first position, each further
+-- A non-empty list is a word of a level exactly if words of the level begin with its first position, each further
 -- position comes directly after the one before, and words may end at its last.
 abbrev pub NeighbourLaw : Type 0
 NeighbourLaw =
@@ -20,7 +20,7 @@ NeighbourLaw =
     WordOf rules level (j ∷ later) ↔
     (Follows rules (beginning level) (j ∷ []) × IsChain rules j later × EndsAtLast rules j later)
 
--- A non-empty list follows from a place exactly where its first position does and the others are a chain.
+-- A non-empty list follows from a place exactly if its first position does and the others are a chain.
 abbrev pub ChainLaw : Type 0
 ChainLaw =
     (rules : Expression) → IsNumbered rules → (f : Start) (j : ℕ) (later : List ℕ) →

@@ -33,7 +33,7 @@ pub record AreStepsOf (rules : Expression) (first : Level → List ℕ) (next : 
   pub ends : (i : ℕ) → IsTrue (may_end i) ↔ Ends rules (after i) []
   pub empty : (level : Level) → IsTrue (may_be_empty level) ↔ Ends rules (beginning level) []
 
--- What is told of the action at position p is right.
+-- The glance of the action at position p is right.
 abbrev pub IsGlance : Expression → ℕ → Glance → Type 0
 IsGlance rules p Unknown = Unit {0}
 IsGlance rules p (Shift d) = HasAction rules p (shift d)

@@ -9,18 +9,17 @@ use crate::table::Table;
 use rbg_base::Position;
 
 /// The steps of a game's rules, with all lists in one array. Equal lists are in it once, and positions after which the
-/// rules go on in the same way share one from the start. What `compact` makes has, beside what was laid at each
-/// position, a record of what a search reads of it: where its list is, and what is told at once of its action. These
-/// records are lent.
+/// rules continue in the same way share one from the start. `compact` also makes a record for each position: where its
+/// list is, and what is known at once of its action. A search borrows these records.
 pub struct Compact {
     pub(crate) table: Table,
     pub(crate) rules: Opening,
-    /// What is lent of each position, where it was prepared.
+    /// The records of the positions, if they were made.
     pub(crate) prepared: Option<Vec<Step>>,
     ghost begins: { IsSpan (length table.entries.items) rules.first },
 }
 
-/// Written out, so that letting an automaton go is one call in the proofs of those who hold one, not a step for each part.
+/// Written by hand: dropping an automaton is then one call in the proofs of its owners, not a step for each part.
 impl Drop for Compact {
     fn drop(self) {
         let Compact {

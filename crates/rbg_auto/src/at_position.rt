@@ -3,7 +3,7 @@ ghost use Rattle.std.specs.Prelude.{◌≡◌, slice_index_or};
 
 use rbg_base::Position;
 
-/// What a list has at a position, or `none` where it ends before.
+/// What a list has at a position, or `none` if it ends before.
 #[inline(always)]
 pub fn at_or<T: Copy>(items: &[T], position: Position, none: T) -> T
     ensures { result ≡ slice_index_or items.now position none }

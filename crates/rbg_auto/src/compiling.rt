@@ -119,8 +119,8 @@ fn fill_sum(
     Ok(())
 }
 
-/// The plain automaton of a tree with that many positions, whatever actions stand at them, where the positions are
-/// numbered and no sum is empty.
+/// The plain automaton of a tree with that many positions, whatever actions are at them, if the positions are numbered
+/// and no sum is empty.
 pub fn compile_tree(alloc: Global, tree: &Rule, positions: usize) -> Result<Automaton, Memory>
     requires { positions < 2 ^ 32 }
     ensures { IfOk result (λ automaton.
@@ -141,8 +141,8 @@ pub fn compile_tree(alloc: Global, tree: &Rule, positions: usize) -> Result<Auto
     })
 }
 
-/// The plain automaton of the game: slower to make than `compact`'s and of more memory, and the same to ask, except
-/// that it tells of no action.
+/// The plain automaton of the game. It takes longer to make than that of `compact`, and more memory. Its answers are
+/// the same, except that it knows nothing of the actions.
 pub fn compile(alloc: Global, game: &Game) -> Result<Automaton, Memory>
     ensures { IfOk result (λ automaton. ⟦<Automaton as Steps>⟧.of_rules automaton game.now.rules) }
 {

@@ -8,20 +8,20 @@ ghost use Rattle.rbg_auto.specs.LentSteps.{HasAnswer, IsLentOf};
 use crate::steps::Glance;
 use rbg_base::Position;
 
-/// What comes after a position, and what is told at once of its action, as it is lent. A search reads many of them, so
-/// a step is small.
+/// What comes after a position, and what is known at once of its action. A search reads many of them, so a step is
+/// small.
 #[derive(Clone, Copy, Drop)]
 pub(crate) struct Step {
     /// Where the list of what may come next starts among the entries.
     pub start: usize,
     /// How many positions it has.
     pub len: usize,
-    /// What is told of the action: nothing where words may end.
+    /// What is known of the action: `Unknown` if words may end.
     pub glance: Glance,
 }
 
 /// What an automaton answers of its positions, lent as slices. A loop that asks for many positions keeps it as a local,
-/// so that what it needs stays at hand.
+/// so that the slices need not be looked up at each step.
 #[derive(Clone, Copy, Drop)]
 pub struct LentSteps<'a> {
     pub(crate) steps: &'a [Step],
@@ -29,8 +29,8 @@ pub struct LentSteps<'a> {
 }
 
 impl<'a> LentSteps<'a> {
-    /// What is told at once of the action at a position. Nothing is told where words may end, so a search that is told
-    /// something need not ask for that.
+    /// What is known at once of the action at a position. It is `Unknown` if words may end there, so a search that
+    /// learns something need not ask for that.
     #[inline(always)]
     pub fn glance(&self, position: Position) -> Glance
         requires { HasAnswer self.now position }

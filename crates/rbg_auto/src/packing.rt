@@ -12,8 +12,8 @@ use rbg_base::{Memory, Piece, Position};
 use rbg_rules::{Action, Game, Rule};
 use std::alloc::Global;
 
-/// The automaton of a tree with that many positions, whatever actions stand at them, where the positions are numbered
-/// and no sum is empty. It tells of no action, and lends nothing.
+/// The automaton of a tree with that many positions, whatever actions are at them, if the positions are numbered and no
+/// sum is empty. It knows nothing of the actions, and lends no slices.
 pub fn compact_tree(alloc: Global, tree: &Rule, positions: usize) -> Result<Compact, Memory>
     requires { positions < 2 ^ 32 }
     ensures { IfOk result (λ automaton.
@@ -28,7 +28,7 @@ pub fn compact_tree(alloc: Global, tree: &Rule, positions: usize) -> Result<Comp
     })
 }
 
-/// What is told of an on: its pieces, where there are one or two.
+/// What is known of an on: its pieces, if there are one or two.
 fn glance_of_on(pieces: &[Piece]) -> Glance
     ensures { (rules : Expression) (p : ℕ) → HasAction rules p (on pieces.now)
         → IsGlance rules p result }
@@ -40,7 +40,7 @@ fn glance_of_on(pieces: &[Piece]) -> Glance
     }
 }
 
-/// What is told of an action.
+/// What is known of an action.
 fn glance_of(action: &Action) -> Glance
     ensures { (rules : Expression) (p : ℕ) → Stands rules p action.now → IsGlance rules p result }
 {
@@ -54,7 +54,7 @@ fn glance_of(action: &Action) -> Glance
     }
 }
 
-/// Tells of the action at each position of the game.
+/// Records what is known of the action at each position of the game.
 fn tell_all(automaton: &mut Compact, game: &Game)
     requires { ⟦<Compact as Steps>⟧.of_rules automaton.old game.now.rules }
     ensures { ⟦<Compact as Steps>⟧.of_rules automaton.new game.now.rules }
@@ -66,8 +66,8 @@ fn tell_all(automaton: &mut Compact, game: &Game)
     }
 }
 
-/// The automaton of the game. It tells at a glance of shifts, ons of one or two pieces, offs, switches and patterns, and
-/// it lends its answers.
+/// The automaton of the game. It knows shifts, ons of one or two pieces, offs, switches and patterns at once, and it
+/// lends its answers.
 pub fn compact(alloc: Global, game: &Game) -> Result<Compact, Memory>
     ensures { IfOk result (λ automaton. ⟦<Compact as Steps>⟧.of_rules automaton game.now.rules) }
 {

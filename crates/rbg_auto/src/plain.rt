@@ -13,16 +13,16 @@ pub(crate) struct PlainNode {
     pub may_be_empty: bool,
 }
 
-/// The steps of a game's rules, with lists of its own for each position. `Compact` answers the same in less memory, and
-/// also tells of actions at a glance. This form tells of none.
+/// The steps of a game's rules, with lists of its own for each position. `Compact` gives the same answers in less
+/// memory, and also knows the kinds of the actions. This form doesn't.
 pub struct Automaton {
-    /// By position. Nothing is laid at position 0.
+    /// The node of each position. Nothing is laid at position 0.
     pub(crate) nodes: Vec<PlainNode>,
     pub(crate) first: Vec<Position>,
     pub(crate) may_be_empty: bool,
 }
 
-/// Written out, so that letting an automaton go is one call in the proofs of those who hold one, not a step for each part.
+/// Written by hand: dropping an automaton is then one call in the proofs of its owners, not a step for each part.
 impl Drop for Automaton {
     fn drop(self) {
         let Automaton {

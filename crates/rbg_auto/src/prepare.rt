@@ -1,4 +1,4 @@
-//! What is lent of each position, made once of the nodes.
+//! The records of positions that an automaton lends, made once from its nodes.
 ghost use Rattle.std.specs.Prelude.{◌≡◌, ◌≤◌, map, IfOk};
 ghost use Rattle.rbg_auto.specs.internal.Prepared.{step_of_node};
 
@@ -9,7 +9,7 @@ use crate::table::Table;
 use rbg_base::Memory;
 use std::alloc::Global;
 
-/// What is lent of a node. Nothing is told where words may end.
+/// The record of a node. Its glance is `Unknown` if words may end.
 fn step_of(node: Node) -> Step
     requires { node.next.start ≤ node.next.end }
     ensures { result ≡ step_of_node node }
@@ -26,7 +26,7 @@ fn step_of(node: Node) -> Step
     }
 }
 
-/// What is lent of each node of the table.
+/// The record of each node of the table.
 pub(crate) fn prepare(alloc: Global, table: &Table) -> Result<Vec<Step>, Memory>
     ensures { IfOk result (λ steps. steps.items ≡ map step_of_node table.now.nodes.items) }
 {

@@ -1,4 +1,4 @@
-//! What comes after a part of the rules, and from it what comes before the part.
+//! What comes after a part of the rules, and what then comes before the part.
 ghost use Rattle.std.specs.Prelude.{◌≡◌, IfOk};
 ghost use Rattle.rbg_auto.specs.internal.Trees.{IsBefore, IsAgain};
 
@@ -15,7 +15,7 @@ pub(crate) struct Rest {
     pub may_end: bool,
 }
 
-/// What comes before a part, where the rest comes after it.
+/// What comes before a part, if the rest comes after it.
 pub(crate) fn before(alloc: Global, part: &Rule, rest: &Rest) -> Result<Rest, Memory>
     ensures { IfOk result (λ before.
         IsBefore part.now rest.now.positions.items rest.now.may_end before.positions.items
@@ -34,7 +34,7 @@ pub(crate) fn before(alloc: Global, part: &Rule, rest: &Rest) -> Result<Rest, Me
     })
 }
 
-/// What comes after each turn of a star of the part, where the rest comes after the star: the part again, or the rest.
+/// What comes after each turn of a star of the part, if the rest comes after the star: the part again, or the rest.
 pub(crate) fn again(alloc: Global, part: &Rule, rest: &Rest) -> Result<Rest, Memory>
     ensures positions { IfOk result (λ again.
         IsAgain part.now rest.now.positions.items again.positions.items) }

@@ -16,7 +16,7 @@ pub(crate) struct Opening {
     pub may_be_empty: bool,
 }
 
-/// What comes after a position, and what is told at once of its action.
+/// What comes after a position, and what is known at once of its action.
 #[derive(Clone, Copy, Drop)]
 pub(crate) struct Node {
     pub next: Span,
@@ -29,7 +29,7 @@ impl Span {
 }
 
 impl Opening {
-    /// Of a position without a pattern, whose inside has no words.
+    /// The opening of a position without a pattern: its inside has no words.
     pub(crate) const NONE: Opening = Opening {
         first: Span::EMPTY,
         may_be_empty: false,
@@ -37,7 +37,7 @@ impl Opening {
 }
 
 impl Node {
-    /// Of a position that doesn't stand in the rules.
+    /// The node of a position that isn't in the rules.
     pub(crate) const NONE: Node = Node {
         next: Span::EMPTY,
         may_end: false,

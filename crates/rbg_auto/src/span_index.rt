@@ -8,8 +8,8 @@ use rbg_base::{Memory, Position};
 use std::alloc::Global;
 use std::collections::HashMap;
 
-/// Where the lists in the table are, by the hash of each. Of two lists with one hash only the later one is known, so the
-/// earlier one would be kept twice.
+/// Where the lists in the table are, by the hash of each. If two lists have one hash, only the later one is found, so
+/// the earlier one may be stored twice.
 #[derive(Drop)]
 pub(crate) struct SpanIndex {
     spans: HashMap<u64, Span>,
@@ -25,14 +25,15 @@ pub(crate) fn hash_of(positions: &[Position]) -> u64 {
 }
 
 impl SpanIndex {
-    /// With no list.
+    /// An index of no list.
     pub(crate) fn new(alloc: Global) -> SpanIndex {
         SpanIndex {
             spans: HashMap::new(alloc),
         }
     }
 
-    /// Where a list is that equals the positions, if the list with their hash does.
+    /// Where a list is that equals these positions. Returns None if the list with their hash is another one, or there
+    /// is none.
     pub(crate) fn find(&self, table: &Table, hash: u64, positions: &[Position]) -> Option<Span>
         ensures { IfSome result (λ span. Keeps table.now.entries.items span positions.now) }
     {
@@ -44,7 +45,7 @@ impl SpanIndex {
         }
     }
 
-    /// Notes where a list with that hash is.
+    /// Records where a list with that hash is.
     pub(crate) fn store(&mut self, hash: u64, span: Span) -> Result<(), Memory> {
         self.spans.insert(hash, span)?;
         Ok(())

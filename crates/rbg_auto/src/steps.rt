@@ -14,12 +14,12 @@ pub enum Expr {
     Inside(Position),
 }
 
-/// What an automaton tells at once of the action at a position, so that the game need not be asked. What `compact` makes
-/// tells of every action but assignments, comparisons, and ons of no piece or of more than two. What it lends tells of
-/// the same actions, but of none where words may end.
+/// What an automaton knows at once of the action at a position, so that the game need not be asked. The automaton of
+/// `compact` knows every action but assignments, comparisons, and ons of no piece or of more than two. The slices that
+/// it lends know the same actions, but none if words may end there.
 #[derive(Clone, Copy, PartialEq, Eq, Drop)]
 pub enum Glance {
-    /// Nothing is told.
+    /// Nothing is known.
     Unknown,
     /// It is a shift in this direction.
     Shift(Direction),
@@ -35,8 +35,8 @@ pub enum Glance {
 
 /// The steps of the rules: where words begin, what comes directly after a position in them, and where they end.
 ///
-/// Every position may be asked for: one that doesn't stand in the rules has nothing after it, and nothing is told of
-/// it. The inside of a position without a pattern has no words. An answer takes no memory.
+/// Every position may be asked for. One that isn't in the rules has nothing after it, and nothing is known of it. The
+/// inside of a position without a pattern has no words. No call allocates.
 pub trait Steps {
     /// These are the steps of the rules.
     ghost of_rules: { Self → Expression → Type 0 };
@@ -56,12 +56,12 @@ pub trait Steps {
         ensures { (rules : Expression) → of_rules self.now rules
             → IsTrue result ↔ Ends rules (after position) [] };
 
-    /// What is told at once of the action at the position. It may be nothing, whatever the action is.
+    /// What is known at once of the action at the position. It may be `Unknown` for any action.
     fn glance(&self, position: Position) -> Glance
         ensures { (rules : Expression) → of_rules self.now rules → IsGlance rules position result };
 
-    /// The answers by position as slices, where they were prepared so. What is lent tells nothing of an action where
-    /// words may end, whatever `glance` tells.
+    /// The answers by position as slices, if they were prepared. For a position where words may end they have
+    /// `Unknown`, whatever `glance` returns.
     fn lend(&self) -> Option<LentSteps<'_>>
         ensures { (rules : Expression) → of_rules self.now rules → IfSome result (IsLentOf rules) };
 

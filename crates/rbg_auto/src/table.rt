@@ -9,8 +9,8 @@ use crate::steps::Glance;
 use rbg_base::{Memory, Position};
 use std::alloc::Global;
 
-/// The array, and what was laid at each position: a node, and in a list beside the nodes how the words of its inside
-/// begin. Nothing is laid at position 0.
+/// The array, and what was laid at each position: a node, and the opening of its inside in a list of its own. Nothing
+/// is laid at position 0.
 pub(crate) struct Table {
     pub entries: Vec<Position>,
     pub nodes: Vec<Node>,
@@ -20,7 +20,7 @@ pub(crate) struct Table {
     ghost beside: { length insides.items ≡ length nodes.items },
 }
 
-/// Written out, so that letting a table go is one call in the proofs of those who hold one, not a step for each part.
+/// Written by hand: dropping a table is then one call in the proofs of its owners, not a step for each part.
 impl Drop for Table {
     fn drop(self) {
         let Table {
@@ -97,7 +97,7 @@ impl Table {
         }
     }
 
-    /// Tells of the action at a position, if the table has it.
+    /// Records what is known of the action at a position, if the table has it.
     pub(crate) fn tell(&mut self, position: Position, glance: Glance)
         ensures { Tells self.old self.new position glance }
     {

@@ -16,8 +16,8 @@ use std::alloc::Global;
 
 /// The table as far as it is laid.
 ///
-/// A list goes into the table when the first action asks for it. Positions after which the rules go on in the same way
-/// share it from then on: `kept` says where it is.
+/// A list goes into the table when the first action asks for it. Positions after which the rules continue in the same
+/// way share it from then on: `kept` is where it is.
 #[derive(Drop)]
 pub(crate) struct TableBuilder {
     alloc: Global,
@@ -26,7 +26,7 @@ pub(crate) struct TableBuilder {
 }
 
 impl TableBuilder {
-    /// With nothing laid, at that many positions with position 0.
+    /// A builder for this many nodes, that of position 0 included, with nothing laid.
     pub(crate) fn new(alloc: Global, positions: usize) -> Result<TableBuilder, Memory>
         ensures nodes { IfOk result (λ builder. builder.table.nodes.items ≡ replicate positions no_node) }
         ensures insides { IfOk result (λ builder.
@@ -40,7 +40,7 @@ impl TableBuilder {
         })
     }
 
-    /// Where the list of positions is in the table.
+    /// Puts the list of positions into the table, unless it is there, and returns where it is.
     fn intern(&mut self, positions: &[Position]) -> Result<Span, Memory>
         ensures adds { IfOk result (λ _. AddsList self.old.table self.new.table) }
         ensures keeps { IfOk result (λ span.
@@ -55,7 +55,7 @@ impl TableBuilder {
         Ok(span)
     }
 
-    /// Where the list of what comes next is in the table.
+    /// Puts the list of what comes next into the table, unless `kept` has it, and returns where it is.
     fn keep(&mut self, rest: &Rest, kept: &mut Option<Span>) -> Result<Span, Memory>
         requires { IsKeptOf self.old.table kept.old rest.now }
         ensures adds { IfOk result (λ _. AddsList self.old.table self.new.table) }

@@ -5,8 +5,8 @@ ghost use Rattle.rbg_auto.specs.internal.Trees.{GivesFirsts, GivesFirstsOfSequen
 use rbg_base::{Memory, Position};
 use rbg_rules::Rule;
 
-/// Appends the positions with which words of the rule begin, in order of text, and returns whether the empty list is
-/// one of its words.
+/// Appends the positions with which words of the rule begin, in order of text. Returns whether the empty list is one of
+/// its words.
 #[cycle(first)]
 pub(crate) fn push_first(rule: &Rule, first: &mut Vec<Position>) -> Result<bool, Memory>
     ensures { IfOk result (λ empty. GivesFirsts rule.now first.old.items first.new.items empty) }

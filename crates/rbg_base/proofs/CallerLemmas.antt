@@ -1,22 +1,22 @@
--- What the crates above may cite, where std has no such lemma.
+-- What the crates above may cite, if std has no such lemma.
 use Rattle.rbg_base.proofs.Common.{◌≡◌, ℕ, zero, suc, ◌+◌, ◌<◌, ◌≤◌, ◌^◌, true, false, Option, Some, None, IfSome, IfNone, List, [], ◌∷◌, ◌++◌, length, get_or, take, drop, map, decimal, arith, refl, ap, subst, sym, ◌∙◌, and_parts, digits_decimal, digits_value-decimal, decimal_injective, slice_get, Contains, is_some, option_map, list_all, AllZip, slice_get-map, slice_get_within, get_or_from_slice_get, slice_get_read}
 use Rattle.std.proofs.lemmas.Str.Parse.{digits_value_short}
 use Rattle.std.proofs.lemmas.List.{get_or-append-add, length-append, take_more, map-append}
 use Rattle.rbg_base.specs.Names.{is_name, is_name_start, is_name_part}
 use Rattle.rbg_base.proofs.Numerals.{digits}
 
--- the byte that begins a name may go on with it
+-- the byte that begins a name may also be a later byte of it
 pub start_is_part : (byte : ℕ) → is_name_start byte ≡ true → is_name_part byte ≡ true
 start_is_part byte start = rw start refl
 
--- every byte of a name is one that goes on with a name
+-- every byte of a name may be a later byte of a name
 pub name_parts : (bytes : List ℕ) → is_name bytes ≡ true → list_all is_name_part bytes ≡ true
 name_parts [] name = refl
 name_parts (byte ∷ bytes) name =
     let parts = and_parts (is_name_start byte) (list_all is_name_part bytes) name in
     rw (start_is_part byte parts.0, parts.1) refl
 
--- a decimal form of at most so many digits is that of a number below that power of ten
+-- a decimal form of at most this many digits is that of a number below that power of ten
 pub short_from_length : (n count : ℕ) → n < 2 ^ 64 → length (decimal n) ≤ count → n < 10 ^ count
 short_from_length n count small short = subst (λ k. k < 10 ^ count) (digits_value-decimal digits n small) (digits_value_short digits (decimal n) count (digits_decimal digits n small) short)
 

@@ -1,4 +1,4 @@
--- Lists that stand one after another in one list.
+-- Lists that come one after another in one list.
 use Rattle.rbg_base.proofs.Common.{◌≡◌, ℕ, suc, ◌-◌, ◌<◌, ◌≤◌, List, [], ◌∷◌, ◌++◌, length, take, drop, get_or, Some, refl, sym, ap, ◌∙◌, subst, arith, length-append, length-drop, All, map, slice_get, slice_range, slice_get-get_or}
 use Rattle.std.proofs.lemmas.List.{append_assoc, drop-append-le, take-append-le, drop_at, take_all, map_push, length-map, length-take-le}
 use Rattle.rbg_base.proofs.CallerLemmas.{slice_get-map_at}
@@ -28,7 +28,7 @@ pub lists_count : (xs : List (ℕ × ℕ)) (spans : List Span) → length (lists
 unfolding lists_at
 lists_count xs spans = length-map spans (λ (s : Span). slice_range xs s.start s.end)
 
--- the lists stay where more is appended
+-- the lists stay the same if more is appended
 pub lists_grow : (xs more : List (ℕ × ℕ)) (spans : List Span) → All (IsSpan (length xs)) spans → lists_at (xs ++ more) spans ≡ lists_at xs spans
 unfolding lists_at
 lists_grow xs more [] all = refl
@@ -39,7 +39,7 @@ lists_grow xs more (span ∷ spans) all =
     let rest : map (λ (s : Span). slice_range (xs ++ more) s.start s.end) spans ≡ map (λ (s : Span). slice_range xs s.start s.end) spans = lists_grow xs more spans (λ i d under. all (suc i) d (omega (arith, under))) in
     ap (λ (l : List (ℕ × ℕ)). l ∷ map (λ (s : Span). slice_range (xs ++ more) s.start s.end) spans) first ∙ ap (λ (ls : List (List (ℕ × ℕ))). slice_range xs span.start span.end ∷ ls) rest
 
--- the lists stay where the spans do and more stands after them
+-- the lists stay the same if the spans do and more is appended
 pub lists_kept : (xs ys more : List (ℕ × ℕ)) (spans spans' : List Span) → All (IsSpan (length xs)) spans → ys ≡ xs ++ more → spans' ≡ spans → lists_at ys spans' ≡ lists_at xs spans
 lists_kept xs ys more spans spans' all grown same =
     ap (λ (zs : List (ℕ × ℕ)). lists_at zs spans') grown

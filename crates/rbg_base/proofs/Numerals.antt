@@ -108,7 +108,7 @@ decimal_of_number text n first some =
     let alone : get_or text 0 0 ≡ 48 → length text ≡ 1 = λ zero. elim (cases_lt 1 (length text)) [ inl more ↦ absurd (first more zero) | inr one ↦ omega (arith, is_number.some) ] in
     sym (decimal-digits_value digits text is_number.each is_number.some alone (subst (λ m. m < 2 ^ 64) (sym is_number.value) is_number.fits)) ∙ ap decimal is_number.value
 
--- what reading digits says of the number whose decimal form they are
+-- what reading digits returns for the number whose decimal form they are
 pub decimal_found : (text : List ℕ) (read : Option ℕ) → (1 < length text → get_or text 0 0 ≢ 48) → read ≡ number_of_digits text → IfSome read (λ n. (n < 2 ^ 64) × (text ≡ decimal n))
 decimal_found text None first is = tt
 decimal_found text (Some n) first is = ((number_some text n (sym is)).fits, decimal_of_number text n first (sym is))

@@ -1,4 +1,4 @@
--- Lists of pairs that stand one after another in one list.
+-- Lists of pairs that come one after another in one list.
 use Rattle.std.specs.Prelude.{ℕ, ◌+◌, ◌<◌, ◌≤◌, List, map, slice_range}
 use Rattle.rbg_base.specs.Move.{most_pairs}
 use Rattle.rbg_base.specs.declared.list.Span.{Span}
@@ -9,6 +9,6 @@ pub record IsSpan (size : ℕ) (span : Span) : Type 0 where
   pub few : span.end ≤ span.start + most_pairs
   pub within : span.end ≤ size
 
--- the lists that stand at the spans
+-- the lists at the spans
 unfoldable pub lists_at : List (ℕ × ℕ) → List Span → List (List (ℕ × ℕ))
 lists_at pairs spans = map (λ (span : Span). slice_range pairs span.start span.end) spans

@@ -1,7 +1,7 @@
 -- How long a move may be.
 use Rattle.std.specs.Prelude.{ℕ, ◌<◌, ◌≤◌}
 
--- the most pairs that a move has
+-- the maximum number of pairs of a move
 abbrev pub most_pairs : ℕ
 most_pairs = 200
 

@@ -7,11 +7,11 @@ use Rattle.std.specs.Char.{is_ascii_alphabetic, is_ascii_digit}
 abbrev pub is_name_start : ℕ → Bool
 is_name_start byte = is_ascii_alphabetic byte || byte == 95
 
--- and goes on with letters, digits and `_`
+-- and continues with letters, digits and `_`
 abbrev pub is_name_part : ℕ → Bool
 is_name_part byte = is_name_start byte || is_ascii_digit byte
 
--- a name: the bytes that begin it and go on with it, at least one
+-- a name: one byte that may begin it, then bytes that may continue it
 abbrev pub is_name : List ℕ → Bool
 is_name [] = false
 is_name (byte ∷ bytes) = is_name_start byte && list_all is_name_part bytes

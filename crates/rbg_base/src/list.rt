@@ -7,12 +7,12 @@ use crate::{Memory, Pair};
 use std::alloc::Global;
 use std::marker::Model;
 
-/// Moves in the order in which they were added. Their pairs stand one after another in one buffer. Contracts see the
-/// list of the moves, each as the list of its pairs.
+/// Moves in the order in which they were added. Their pairs are one after another in one buffer. Contracts see the list
+/// of the moves, each as the list of its pairs.
 #[derive(Debug, Drop)]
 pub struct MoveList {
     pairs: Vec<Pair>,
-    /// Where each move stands among the pairs.
+    /// For each move, where its pairs are in `pairs`.
     spans: Vec<Span>,
 }
 
@@ -45,7 +45,7 @@ impl MoveList {
         }
     }
 
-    /// Appends the move of these pairs and one more. Where there is no memory for it, the list stays as it is.
+    /// Appends the move of these pairs and one more. On an error the list is unchanged.
     pub fn push(&mut self, front: &[Pair], last: Pair) -> Result<(), Memory>
         requires { length front.now < most_pairs }
         ensures { MatchResult result

@@ -7,7 +7,7 @@ use arrayvec::ArrayVec;
 use std::marker::Model;
 use std::slice;
 
-/// The most pairs that a move has.
+/// The maximum number of pairs of a move.
 pub const MAX_PAIRS: usize = 200;
 
 /// The pairs of a move, 1 to 200, in order. They are stored in the value itself. Contracts see the list.

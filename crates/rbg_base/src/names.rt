@@ -26,7 +26,7 @@ pub fn is_name_start(byte: u8) -> bool
     byte.is_ascii_alphabetic() || byte == b'_'
 }
 
-/// Whether a name may go on with the byte.
+/// Whether the byte may come later in a name.
 pub fn is_name_part(byte: u8) -> bool
     ensures { result ≡ is_name_part byte }
 {

@@ -8,7 +8,7 @@ same_option None None there back = refl
 same_option None (Some u) there back = back u refl
 same_option (Some u) b there back = sym (there u refl)
 
--- two graphs of one set of edges lead alike
+-- two graphs of one set of edges lead to the same vertices
 pub same_next : (a b : Graph) (first : List ℕ) (Edge : ℕ → ℕ → ℕ → Type 0) → IsGraphOf a first Edge → IsGraphOf b first Edge → (v d : ℕ) → next a v d ≡ next b v d
 same_next a b first Edge is_a is_b v d = same_option (next a v d) (next b v d) (λ u leads. (is_b.edges v d u).1 ((is_a.edges v d u).0 leads)) (λ u leads. (is_a.edges v d u).1 ((is_b.edges v d u).0 leads))
 
@@ -25,7 +25,7 @@ same_row a b width v row wide_a wide_b within_a within_b leads =
     ∙ ap (λ r. get_or r d None) (get_or_default b v [] row within_b)
     ∙ get_or_default (get_or b v row) d None e (omega (arith, inside, long_a, long_b)))
 
--- two graphs of one width with the same first pieces that lead alike are equal
+-- two graphs of one width with the same first pieces that lead to the same vertices are equal
 pub same_graph : (a b : Graph) (width : ℕ) → HasWidth width a → HasWidth width b → a.first ≡ b.first → ((v d : ℕ) → next a v d ≡ next b v d) → a ≡ b
 unfolding next
 same_graph a b width wide_a wide_b first leads =

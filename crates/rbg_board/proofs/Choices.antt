@@ -27,7 +27,7 @@ choose_some (k ∷ ks) (vertex ∷ vertices) d u some = elim (cases_eq d k) [
       record { place = suc rest.place; within = omega (arith, rest.within); direction = rest.direction; vertex = rest.vertex }
 ]
 
--- where the directions differ, each chooses the vertex at its own place
+-- if the directions differ, each chooses the vertex at its own place
 pub choose_at : (ks : List ℕ) (vertices : List (Option ℕ)) (place : ℕ) → AreDifferent ks → place < length ks → place < length vertices → choose ks vertices (get_or ks place 0) ≡ get_or vertices place None
 unfolding AreDifferent
 choose_at [] vertices place different within within' = absurd (omega arith)

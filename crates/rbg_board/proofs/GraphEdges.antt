@@ -98,7 +98,7 @@ refusal_of_edges vertices index v w UnknownVertex is_index is_vertex there refus
 refusal_of_edges vertices index v w SameVertex is_index is_vertex there refused = refused
 refusal_of_edges vertices index v w Memory is_index is_vertex there refused = refused
 
--- where nothing is wrong that is looked for earlier, what is wrong with the edges is the refusal
+-- if nothing is wrong that is looked for earlier, the refusal names what is wrong with the edges
 pub refusal_of_wiring : (vertices : List Written) (error : BoardError) → HasCount vertices → AreDifferent (names_of vertices) → DirectionsDiffer vertices
     → WiringRefusal vertices error → GraphRefusal vertices error
 unfolding WiringRefusal GraphRefusal

@@ -53,7 +53,7 @@ above_is rows zero k next = absurd (omega arith)
 above_is rows (suc r) k next = let same : r ≡ k = omega arith in ap (cells_in rows) same
 
 module _ (rows : Rows) (lawful : GrowsThenShrinks rows) where
-  -- where the next row has a cell it is longer or shorter by one
+  -- if the next row has a cell, it is longer or shorter by one
   grows_or_shrinks : (r c : ℕ) → IsCell rows (r + 1) c → Grows rows r ⊎ Shrinks rows r
   grows_or_shrinks r c is_cell =
       let is_row : suc r < length rows = omega (arith, row_of_cell rows (r + 1) c is_cell) in
@@ -84,7 +84,7 @@ module _ (rows : Rows) (lawful : GrowsThenShrinks rows) where
       | inr (shorter, here) ↦ in_row_below _ c u here (λ there. inr (shrinks r c there shorter, refl))
     ]
 
-    -- the cell itself lies in the row after the one above
+    -- the cell itself is in the row after the one above
     cell_below_above : (k : ℕ) → r ≡ k + 1 → IsCell rows (k + 1) c
     cell_below_above k next = subst (λ m. IsCell rows m c) next is_cell
 
@@ -146,7 +146,7 @@ module _ (rows : Rows) (r c r' c' : ℕ) (is_to_cell : IsCell rows r' c') where
         | inr shrunk ↦ ap vertex (right_shorter (site_at rows r c) (cells_in rows (r + 1)) (omega (arith, shrunk.0))) ∙ ap vertex (sym shrunk.1) ∙ at_below rows r c r' c' is_to_cell step.0
       ]
 
-  -- the row above is not longer where it grows, and longer where it shrinks
+  -- the row above is not longer than a row after which the rows grow, and longer than one after which they shrink
   not_longer : r ≡ r' + 1 → Grows rows r' → cells_above rows r ≤ cells_in rows r
   not_longer next grown = omega (arith, above_is rows r r' next, ap (cells_in rows) next, grown)
 

@@ -1,4 +1,4 @@
--- What the table of a board of rows says at each cell.
+-- What the table of a board of rows has at each cell.
 use Rattle.rbg_base.proofs.Common.{◌≡◌, ℕ, zero, suc, ◌+◌, ◌*◌, ◌<◌, ◌≤◌, List, [], ◌∷◌, ◌++◌, Option, Some, None, IfSome, length, get_or, take, refl, sym, ap, ◌∙◌, subst, inl, inr, arith, add-one, length-append, flat_map, concat, take-length, cases_lt, flat_map-append, same_Some}
 use Rattle.std.proofs.lemmas.List.{get_or_append_left, get_or-append-add, length-take-le}
 use Rattle.std.proofs.lemmas.List.Concat.{get_or-flat_map}

@@ -1,4 +1,4 @@
--- Which vertex lies at a cell of a site's own row, of the row above and of the row below.
+-- Which vertex is at a cell of a site's own row, of the row above and of the row below.
 use Rattle.rbg_base.proofs.Common.{◌≡◌, ℕ, zero, suc, ◌+◌, ◌-◌, ◌<◌, Option, Some, None, if◌then◌else◌, nat_lt, refl, sym, ap, ◌∙◌, subst, inl, inr, arith, add-one, same_Some}
 use Rattle.std.proofs.lemmas.Bool.{cases_lt, lt-ltb, le-ltb, cond-true, cond-false}
 use Rattle.rbg_board.proofs.Common.{Rows, cells_in, IsCell, number_along, site_at, vertex_above, vertex_here, vertex_below, cell_before, at_cell}
@@ -71,7 +71,7 @@ some_above rows (suc r) place k c below is_cell =
     let same : r ≡ k = omega arith in
     some_within c (cells_in rows r) (start_of rows (suc r) - cells_in rows r) (rw same is_cell) ∙ ap (λ n. Some (n + c)) (start_above rows r) ∙ ap (λ m. Some (start_of rows m + c)) same
 
--- and the vertex of a cell that is known to lie below, beside or above
+-- and the vertex of a cell that is known to be below, beside or above
 module _ (rows : Rows) (r c r' c' : ℕ) (is_to_cell : IsCell rows r' c') where
   pub at_below : r' ≡ r + 1 → vertex_below (site_at rows r c) c' ≡ Some (number_along rows r' c')
   at_below next = some_below rows r c c' (subst (λ m. IsCell rows m c') next is_to_cell) ∙ ap (λ m. Some (number_along rows m c')) (sym next)

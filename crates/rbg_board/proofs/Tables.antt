@@ -1,4 +1,4 @@
--- What a flat table says of the graph that it keeps.
+-- What a flat table means for the graph that it stores.
 use Rattle.rbg_base.proofs.Common.{◌≡◌, ℕ, zero, suc, ◌+◌, ◌*◌, ◌/◌, ◌%◌, ◌<◌, ◌≤◌, List, [], Option, Some, None, IfSome, All, length, get_or, map, take, drop, refl, sym, ◌∙◌, subst, inl, inr, arith, get_or-drop, get_or-take, length-take, length-drop, ap, range_with_len, cases_lt}
 use Rattle.std.proofs.lemmas.List.{get_or_past, get_or_default, length-take-le}
 use Rattle.std.proofs.lemmas.List.FromFn.{get_or-map-range_with_len, length-map-range_with_len}
@@ -11,12 +11,12 @@ module _ (first : List ℕ) (width : ℕ) (table : List (Option ℕ)) where
   unfolding rows_of_table
   row_at v is_vertex = get_or-map-range_with_len (λ k. take width (drop (k * width) table)) 0 (length first) v v [] is_vertex (omega arith)
 
-  -- a direction leads where the row of its vertex says
+  -- a direction leads where the entry in the row of its vertex leads
   pub next_row : (v d : ℕ) → v < length first → next (graph_of_table first width table) v d ≡ get_or (take width (drop (v * width) table)) d None
   unfolding next
   next_row v d is_vertex = rw (row_at v is_vertex) refl
 
-  -- a direction of the table leads where its entry says
+  -- a direction of the table leads where its entry leads
   pub next_within : (v d : ℕ) → v < length first → d < width → next (graph_of_table first width table) v d ≡ get_or table (v * width + d) None
   unfolding next
   next_within v d is_vertex is_direction = rw (row_at v is_vertex) (get_or-take width (drop (v * width) table) d None is_direction ∙ get_or-drop (v * width) table d None)

@@ -24,7 +24,7 @@ width_covers directions k d within = omega (arith, max_bounds width_of past refl
 pub width_limit : (directions : List ℕ) (limit : ℕ) → All (λ d. d < limit) directions → width_of directions ≤ limit
 width_limit directions limit below = max_least width_of past refl (λ x xs. refl) directions 0 limit (λ k within. omega (arith, below k 0 within))
 
--- the width of two lists of directions is the greater of their widths
+-- the width of two lists of directions is the larger of their widths
 pub width_append : (first second : List ℕ) → width_of (first ++ second) ≡ max (width_of first) (width_of second)
 width_append [] second = omega arith
 width_append (direction ∷ first) second = omega (arith, width_append first second)

@@ -17,7 +17,7 @@ pub record FillsRow (index : ℕ → Option ℕ) (width : ℕ) (edges : List (�
   pub edge_of_entry : (d u : ℕ) → get_or new (length old + d) None ≡ Some u → (k : ℕ) × (k < count) × ((get_or edges k (0, 0)).0 ≡ d) × (index (get_or edges k (0, 0)).1 ≡ Some u)
   pub entry_of_edge : (k : ℕ) → k < count → get_or new (length old + (get_or edges k (0, 0)).0) None ≡ index (get_or edges k (0, 0)).1
 
--- edges of different directions stand at different places
+-- edges of different directions are at different places
 apart : (edges : List Edge) (j k : ℕ) → AreDifferent (map (λ edge. edge.0) edges) → j < k → k < length edges → (edge_at edges j).0 ≢ (edge_at edges k).0
 unfolding AreDifferent
 apart edges j k different before within same =

@@ -9,7 +9,7 @@ Rows = List (List ℕ)
 abbrev pub rows_of : {Z : Type 0} → List (Vec ℕ Z) → Rows
 rows_of rows = map (λ row. row.items) rows
 
--- how many cells the row r has: none, where there is no such row
+-- how many cells the row r has: none if there is no such row
 abbrev pub cells_in : Rows → ℕ → ℕ
 cells_in rows r = length (slice_index_or rows r [])
 
@@ -17,11 +17,11 @@ cells_in rows r = length (slice_index_or rows r [])
 abbrev pub IsCell : Rows → ℕ → ℕ → Type 0
 IsCell rows r c = c < cells_in rows r
 
--- the number of the cell c of the row r, where the cells are numbered along the rows
+-- the number of the cell c of the row r, if the cells are numbered along the rows
 abbrev pub number_along : Rows → ℕ → ℕ → ℕ
 number_along rows r c = length (concat (take r rows)) + c
 
--- how many directions there are up to the greatest of a list: none, where the list is empty
+-- the number of directions up to the maximum of a list: none if the list is empty
 abbrev pub width_of : List ℕ → ℕ
 width_of [] = 0
 width_of (direction ∷ directions) = max (direction + 1) (width_of directions)

@@ -35,11 +35,11 @@ Grows rows r = cells_in rows (r + 1) ≡ cells_in rows r + 1
 abbrev pub Shrinks : Rows → ℕ → Type 0
 Shrinks rows r = cells_in rows r ≡ cells_in rows (r + 1) + 1
 
--- South-west of the cell c lies the cell c of a longer next row, and the cell c - 1 of a shorter one.
+-- South-west of the cell c is the cell c of a longer next row, and the cell c - 1 of a shorter one.
 abbrev pub SouthWestStep : Rows → ℕ → ℕ → ℕ → ℕ → Type 0
 SouthWestStep rows r c r' c' = (r' ≡ r + 1) × ((Grows rows r × (c' ≡ c)) ⊎ (Shrinks rows r × (c ≡ c' + 1)))
 
--- South-east of the cell c lies the cell c + 1 of a longer next row, and the cell c of a shorter one.
+-- South-east of the cell c is the cell c + 1 of a longer next row, and the cell c of a shorter one.
 abbrev pub SouthEastStep : Rows → ℕ → ℕ → ℕ → ℕ → Type 0
 SouthEastStep rows r c r' c' = (r' ≡ r + 1) × ((Grows rows r × (c' ≡ c + 1)) ⊎ (Shrinks rows r × (c' ≡ c)))
 
@@ -64,7 +64,7 @@ IsHexagon directions rows board = IsGraphOf board (concat rows) (HexagonEdge dir
 abbrev pub NoneShrinksBefore : Rows → ℕ → Type 0
 NoneShrinksBefore rows r = (k : ℕ) → k < r → cells_in rows k ≤ cells_in rows (k + 1)
 
--- the row r fits the rows above it: it is shorter by one cell than the row before it, or longer by one cell where no
+-- the row r fits the rows above it: it is shorter by one cell than the row before it, or longer by one cell if no
 -- earlier row was longer than the row after it
 abbrev pub FitsAbove : Rows → ℕ → Type 0
 FitsAbove rows zero = Unit {0}
@@ -93,6 +93,6 @@ pub record IsFirstMisfit (rows : Rows) (r : ℕ) : Type 0 where
 abbrev pub MakesHexagon : List ℕ → Rows → Type 0
 MakesHexagon = MakesRows HasCells GrowsThenShrinks
 
--- what a refusal says of the arguments
+-- what each refusal means for the arguments
 abbrev pub HexagonRefusal : List ℕ → Rows → BoardError → Type 0
 HexagonRefusal = RowsRefusal HasCells LacksCell GrowsThenShrinks IsFirstMisfit

@@ -10,7 +10,7 @@ use Rattle.rbg_board.specs.Written.{Written, WrittenEdge, MakesGraph}
 abbrev pub LeadsOneWay : (ℕ → ℕ → ℕ → Type 0) → Type 0
 LeadsOneWay Edge = (v d u w : ℕ) → Edge v d u → Edge v d w → u ≡ w
 
--- the same of boards of rows with so many directions
+-- the same of boards of rows with this many directions
 abbrev pub RowsLeadOneWay : ℕ → (List ℕ → Rows → Type 0) → (List ℕ → Rows → ℕ → ℕ → ℕ → Type 0) → Type 0
 RowsLeadOneWay count Makes Edge =
     (directions : List ℕ) (rows : Rows)
@@ -27,8 +27,8 @@ HexagonsLeadOneWay = RowsLeadOneWay 6 MakesHexagon HexagonEdge
 abbrev pub GraphsLeadOneWay : Type 0
 GraphsLeadOneWay = (vertices : List Written) → MakesGraph vertices → LeadsOneWay (WrittenEdge vertices)
 
--- Every edge of a board of rows has its way back: where d is the direction of a way and b that of the opposite one, an edge
--- in the direction d from v to u has one in the direction b from u to v.
+-- Every edge of a board of rows has a way back. If d is the direction of a way and b that of the opposite one, each
+-- edge in the direction d from v to u has one in the direction b from u to v.
 abbrev pub RowsLeadBack : {Way : Type 0} → List Way → (Way → Way) → (List ℕ → Rows → ℕ → ℕ → ℕ → Type 0) → Type 0
 RowsLeadBack {Way} ways opposite Edge =
     (directions : List ℕ) → length directions ≡ length ways → AreDifferent directions

@@ -1,6 +1,6 @@
 -- The limits of a board.
 use Rattle.std.specs.Prelude.{ℕ}
 
--- how many vertices a board may have
+-- the maximum number of vertices of a board
 abbrev pub most_vertices : ℕ
 most_vertices = 4096

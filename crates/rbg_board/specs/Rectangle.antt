@@ -60,6 +60,6 @@ LacksFirstCell rows = cells_in rows 0 ≡ 0
 abbrev pub MakesRectangle : List ℕ → Rows → Type 0
 MakesRectangle = MakesRows HasFirstCell IsEven
 
--- what a refusal says of the arguments
+-- what each refusal means for the arguments
 abbrev pub RectangleRefusal : List ℕ → Rows → BoardError → Type 0
 RectangleRefusal = RowsRefusal HasFirstCell LacksFirstCell IsEven IsFirstUneven

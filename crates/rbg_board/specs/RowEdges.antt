@@ -3,7 +3,7 @@ use Rattle.std.specs.Prelude.{◌≡◌, ℕ, List, Some, slice_get}
 use Rattle.rbg_board.specs.Cells.{Rows}
 use Rattle.rbg_board.specs.Steps.{IsStep}
 
--- d is the direction of the way: the directions stand in the order of the ways, and these two have one place.
+-- d is the direction of the way: the directions are in the order of the ways, and these two are at one place.
 pub record IsDirectionOf {Way : Type 0} (ways : List Way) (directions : List ℕ) (way : Way) (d : ℕ) : Type 0 where
   pub place : ℕ
   pub is_way : slice_get ways place ≡ Some way

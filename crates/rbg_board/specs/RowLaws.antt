@@ -1,6 +1,6 @@
--- What a board of rows asks of its rows and directions, and what it refuses them for. `Cells` says that no cell is
--- missing that has to be there, `Lacks` that one is. `Lawful` says that the lengths of the rows are right, and `IsMisfit`
--- which row is the first whose length isn't.
+-- What a board of rows needs of its rows and directions, and what it refuses them for. `Cells` means that no cell is
+-- missing that has to be there, and `Lacks` that one is. `Lawful` means that the lengths of the rows are right, and
+-- `IsMisfit` that a row is the first whose length is wrong.
 use Rattle.std.specs.Prelude.{◌<◌, ◌≤◌, ℕ, List, length}
 use Rattle.std.specs.List.{concat}
 use Rattle.rbg_board.specs.Cells.{Rows, HasTwice, AreDifferent}
@@ -15,8 +15,8 @@ pub record MakesRows (Cells Lawful : Rows → Type 0) (directions : List ℕ) (r
   pub fits : length (concat rows) ≤ most_vertices
   pub different : AreDifferent directions
 
--- What a refusal says of the arguments: they have the fault that it names, and no fault that is looked for earlier.
--- `Memory` is returned only for arguments without a fault.
+-- What each refusal means for the arguments: they have the fault that it names, and no fault that is looked for
+-- earlier. `Memory` is returned only for arguments without a fault.
 unfoldable pub RowsRefusal :
     (Cells Lacks Lawful : Rows → Type 0)
     → (Rows → ℕ → Type 0)

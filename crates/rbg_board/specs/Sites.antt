@@ -5,7 +5,7 @@ use Rattle.rbg_board.specs.Graph.{Graph, next}
 use Rattle.rbg_board.specs.Cells.{Rows, cells_in, IsCell, number_along}
 use Rattle.rbg_board.specs.declared.rows.Site.{Site}
 
--- how many cells the row before the row r has: none, where there is no such row
+-- how many cells the row before the row r has: none if there is no such row
 abbrev pub cells_above : Rows → ℕ → ℕ
 cells_above rows zero = 0
 cells_above rows (suc r) = cells_in rows r
@@ -30,7 +30,7 @@ pub record IsSite (site : Site) (limit : ℕ) : Type 0 where
   pub row : IsRow site limit
   pub cell_here : site.cell < site.here
 
--- the vertex of a cell, if it is there, in a row that begins at a vertex and has so many cells
+-- the vertex of a cell, if it is there, in a row that begins at a vertex and has this many cells
 abbrev pub vertex_in : (start cells : ℕ) → ℕ → Option ℕ
 vertex_in start cells c = if nat_lt c cells then Some (start + c) else None
 
@@ -52,7 +52,7 @@ ways_from leads width site = map (λ d. leads site d) (range_with_len 0 width)
 abbrev pub sites_along : Site → ℕ → List Site
 sites_along row cells = map (λ c. record row { cell = c }) (range_with_len 0 cells)
 
--- the board of the rows where each direction leads as it does from each site
+-- the board of the rows on which each direction leads from each site as `leads` has it
 pub record IsLaidOut (leads : Site → ℕ → Option ℕ) (width : ℕ) (rows : Rows) (board : Graph) : Type 0 where
   pub first_pieces : board.first ≡ concat rows
   pub ways : (r c d : ℕ)

@@ -2,7 +2,7 @@
 use Rattle.std.specs.Prelude.{◌≡◌, ℕ}
 use Rattle.rbg_board.specs.Cells.{Rows, IsCell}
 
--- A step leads from the cell of the vertex v to that of the vertex u, where `number` tells the vertex of a row and a cell.
+-- A step leads from the cell of the vertex v to that of the vertex u, where `number` is the vertex of a row and a cell.
 pub record IsStep (rows : Rows) (Step : ℕ → ℕ → ℕ → ℕ → Type 0) (number : ℕ → ℕ → ℕ) (v u : ℕ) : Type 0 where
   pub row : ℕ
   pub cell : ℕ

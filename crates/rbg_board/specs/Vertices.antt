@@ -1,4 +1,4 @@
--- What the cells that are handed in say.
+-- The vertices that the given cells write.
 use Rattle.std.specs.Prelude.{List, map}
 use Rattle.rbg_board.specs.declared.graphs.Cell.{Cell}
 use Rattle.rbg_board.specs.Written.{Written}

@@ -35,7 +35,7 @@ pub record AddsRow
   pub added : new ≡ old ++ row
   pub is_row : IsRowOf index width edges row
 
--- what a refusal of edges says: an edge leads to a name that the index lacks, or memory runs out
+-- what each refusal of edges means: an edge leads to a name that the index lacks, or memory runs out
 unfoldable pub EdgesRefusal : (ℕ → Option ℕ) → List (ℕ × ℕ) → BoardError → Type 0
 EdgesRefusal index edges NoCell = ⊥
 EdgesRefusal index edges (RowLength row) = ⊥
@@ -45,7 +45,7 @@ EdgesRefusal index edges UnknownVertex = Any (λ edge. index edge.1 ≡ None) ed
 EdgesRefusal index edges SameVertex = ⊥
 EdgesRefusal index edges Memory = Unit {0}
 
--- what a refusal of a written graph's edges says: some edge leads to a name that no vertex has, or memory runs out
+-- what each refusal of a written graph's edges means: some edge leads to a name that no vertex has, or memory runs out
 unfoldable pub WiringRefusal : List Written → BoardError → Type 0
 WiringRefusal vertices NoCell = ⊥
 WiringRefusal vertices (RowLength row) = ⊥

@@ -67,7 +67,7 @@ pub record MakesGraph (vertices : List Written) : Type 0 where
   pub directions_differ : DirectionsDiffer vertices
   pub targets_known : TargetsKnown vertices
 
--- What a refusal says of the vertices: they have the fault that it names, and no fault that is looked for earlier.
+-- What each refusal means for the vertices: they have the fault that it names, and no fault that is looked for earlier.
 -- `Memory` is returned only for a number of vertices that is allowed.
 unfoldable pub GraphRefusal : List Written → BoardError → Type 0
 GraphRefusal vertices NoCell = length vertices ≡ 0

@@ -7,7 +7,7 @@ ghost use Rattle.rbg_board.specs.Table.{graph_of_table, IsTable};
 use rbg_base::{Direction, Piece, Vertex};
 use std::marker::Model;
 
-/// The most vertices that a board has.
+/// The maximum number of vertices of a board.
 pub const MAX_VERTICES: usize = 4096;
 
 /// A board: a graph whose vertices are numbered from 0, each with its first piece.
@@ -32,7 +32,7 @@ impl Model for Board {
     ghost invariant = { λ b. IsTable (length b.first.items) b.width b.table.items };
 }
 
-/// Written out, so that letting a board go is one call in the proofs of those who hold one, not a step for each part.
+/// Written by hand: dropping a board is then one call in the proofs of its owners, not a step for each part.
 impl Drop for Board {
     fn drop(self) {
         let Board {
@@ -97,8 +97,8 @@ impl Board {
     }
 }
 
-/// A board that is lent as slices. A loop that takes many steps keeps it as a local, so that what it needs stays at
-/// hand.
+/// A board that is lent as slices. A loop that takes many steps keeps it as a local, so that the slices need not be
+/// looked up at each step.
 #[derive(Drop)]
 pub struct LentBoard<'a> {
     first: &'a [Piece],
@@ -120,7 +120,7 @@ impl<'a> Model for LentBoard<'a> {
 }
 
 impl<'a> LentBoard<'a> {
-    /// How many directions each vertex has an entry for: those below this number.
+    /// The number of directions for which each vertex has an entry: those below this number.
     #[inline(always)]
     pub fn width(&self) -> usize
         ensures width { HasWidth result self.now }
@@ -142,7 +142,7 @@ impl<'a> LentBoard<'a> {
         }
     }
 
-    /// As `step`, where there is an entry for the direction.
+    /// As `step`, for a direction below the width, which has an entry.
     #[inline(always)]
     pub fn step_within(&self, vertex: Vertex, direction: Direction) -> Option<Vertex>
         requires vertex { vertex < length self.now.first }

@@ -25,7 +25,7 @@ pub enum BoardError {
     Memory,
 }
 
-/// Whatever says that memory is refused, as a failed allocation does.
+/// An error of a refused allocation becomes `Memory`.
 impl<E: Into<OutOfMemory> + Drop> From<E> for BoardError {
     ghost from_gives = { λ _ error. error ≡ Memory };
 

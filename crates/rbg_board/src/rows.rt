@@ -56,7 +56,7 @@ impl Site {
     }
 }
 
-/// The vertex of a cell of a row that begins at a vertex and has so many cells.
+/// The vertex of a cell of a row that begins at a vertex and has this many cells.
 fn vertex_in(start: usize, cells: usize, cell: usize) -> Option<Vertex>
     requires { start + cells ≤ most_vertices }
     ensures { result ≡ vertex_in start cells cell }
@@ -68,7 +68,7 @@ fn vertex_in(start: usize, cells: usize, cell: usize) -> Option<Vertex>
     }
 }
 
-/// Where the directions of a board of rows lead.
+/// The directions of a board of rows, and where each of them leads.
 pub(crate) trait Shape {
     ghost leads: { Self → Site → ℕ → Option ℕ };
 
@@ -120,7 +120,7 @@ fn push_row<S: Shape>(
     Ok(())
 }
 
-/// The number of cells, where a board may have that many vertices.
+/// The number of cells. Returns an error if there are more than a board's vertices.
 pub(crate) fn count_cells(rows: &[Vec<Piece>]) -> Result<usize, BoardError>
     ensures count { IfOk result (λ count. count ≡ length (concat (rows_of rows.now))) }
     ensures fits { OnOk result (length (concat (rows_of rows.now)) ≤ most_vertices) }
@@ -147,7 +147,7 @@ pub(crate) fn cells_in(rows: &[Vec<Piece>], row: usize) -> usize
     }
 }
 
-/// The board of the rows, where each direction below the width leads as in the shape.
+/// The board of the rows: each direction below the width leads as the shape has it.
 pub(crate) fn lay_out<S: Shape>(
     alloc: Global,
     shape: &S,

@@ -7,7 +7,7 @@ use thiserror::Error;
 /// Why a list of cases is not read.
 #[derive(Clone, Copy, Debug, PartialEq, Eq, Error)]
 pub enum CasesError {
-    /// The first line that is not of its form, numbered from 1; 0 where the input can't be read.
+    /// The first line that is not of its form, numbered from 1; 0 if the input can't be read.
     #[error("cases {0}")]
     Line(usize),
     #[error("memory")]
@@ -63,7 +63,7 @@ pub struct Case<'a> {
     pub program: Program,
     /// How many of the lines are shown, from the end.
     pub shown: usize,
-    /// Whether what is told on standard error is shown too.
+    /// Whether the lines that it prints on standard error are shown too.
     pub news: bool,
     /// The file that the case makes, if it is to be shown.
     pub made: Option<String>,
@@ -76,7 +76,7 @@ pub struct Case<'a> {
     /// The files for which there is no memory.
     pub lacking: Vec<&'a [u8]>,
     pub streams: Vec<Stream>,
-    /// What each of its clocks tells, one after the other.
+    /// The moments that each of its clocks shows, one after the other.
     pub moments: Vec<u64>,
     pub input: Vec<u8>,
     pub after: After,
@@ -89,7 +89,7 @@ pub struct Case<'a> {
 enum Setting {
     /// It is one of the author's program.
     Author,
-    /// What it is told on standard error is shown.
+    /// The lines that it prints on standard error are shown.
     News,
     /// What its logs hold is shown.
     Logs,
@@ -103,7 +103,7 @@ enum Setting {
     Last(usize),
 }
 
-/// What the bytes are of that lines add.
+/// The part to which the bytes of lines belong.
 #[derive(Clone, Copy)]
 enum Target<'a> {
     Nothing,
@@ -140,7 +140,7 @@ pub fn read_cases(alloc: Global, bytes: &[u8]) -> Result<Vec<Case<'_>>, CasesErr
 }
 
 impl<'a> Reader<'a> {
-    /// Reads a line. False where it is not of its form.
+    /// Reads a line. Returns false if it is not of its form.
     fn read_line(&mut self, alloc: Global, line: &'a [u8]) -> Result<bool, AllocError> {
         match line.split_first() {
             None | Some((b';', _)) => {}
@@ -157,7 +157,7 @@ impl<'a> Reader<'a> {
         Ok(true)
     }
 
-    /// Reads the line with which a text, a case or a part of a case begins, or one that says how a case is run or shown.
+    /// Reads a line that begins a text, a case or a part of a case, or that sets how a case is run or shown.
     fn read_head(&mut self, alloc: Global, line: &'a [u8]) -> Result<bool, AllocError> {
         if let Some(words) = line.strip_prefix(b"words ") {
             return self.add_words(alloc, words);
@@ -191,7 +191,7 @@ impl<'a> Reader<'a> {
         Ok(true)
     }
 
-    /// A case begins, and its standard input.
+    /// Begins a case, and its standard input.
     fn begin_case(&mut self, alloc: Global, name: &'a [u8]) -> Result<(), AllocError> {
         self.cases.push(Case {
             name,
@@ -214,7 +214,7 @@ impl<'a> Reader<'a> {
         Ok(())
     }
 
-    /// Gives the bytes of the part that was read to the text or the case that it belongs to.
+    /// Adds the bytes of the part that was read to its text or its case.
     fn end_part(&mut self, alloc: Global) -> Result<(), AllocError> {
         let bytes = mem::replace(&mut self.bytes, Vec::new(alloc));
         match (self.target, self.cases.last_mut()) {
@@ -227,7 +227,7 @@ impl<'a> Reader<'a> {
         Ok(())
     }
 
-    /// The case is run or shown so.
+    /// Applies a setting to the case. Returns false if there is no case.
     fn set(&mut self, setting: Setting) -> bool {
         let Some(case) = self.cases.last_mut() else {
             return false;
@@ -244,7 +244,7 @@ impl<'a> Reader<'a> {
         true
     }
 
-    /// The file that the case makes by this name is shown.
+    /// Sets that the file which the case makes by this name is shown.
     fn show_made(&mut self, alloc: Global, name: &[u8]) -> Result<bool, AllocError> {
         match (self.cases.last_mut(), str::from_utf8(name)) {
             (Some(case), Ok(name)) => {
@@ -255,7 +255,7 @@ impl<'a> Reader<'a> {
         }
     }
 
-    /// There is no memory for the file of this name.
+    /// Sets that there is no memory for the file of this name.
     fn refuse_file(&mut self, name: &'a [u8]) -> Result<bool, AllocError> {
         match self.cases.last_mut() {
             Some(case) => {
@@ -266,7 +266,7 @@ impl<'a> Reader<'a> {
         }
     }
 
-    /// The clocks of the case tell these moments, which have single spaces between them.
+    /// Sets the moments that the clocks of the case show. They have single spaces between them.
     fn add_moments(&mut self, moments: &[u8]) -> Result<bool, AllocError> {
         let Some(case) = self.cases.last_mut() else {
             return Ok(false);
@@ -331,7 +331,7 @@ impl<'a> Reader<'a> {
     }
 }
 
-/// What a line says of how a case is run or shown, if it says that.
+/// The setting of a line, if it has one.
 fn setting_of(line: &[u8]) -> Option<Setting> {
     if let Some(count) = line.strip_prefix(b"last ") {
         return Some(Setting::Last(read_count(count)?));
@@ -348,7 +348,7 @@ fn setting_of(line: &[u8]) -> Option<Setting> {
     }
 }
 
-/// What stands before the first space, and what stands after it.
+/// The parts before and after the first space.
 fn cut_at_space(fields: &[u8]) -> Option<(&[u8], &[u8])> {
     for (index, byte) in fields.iter().enumerate() {
         if *byte == b' ' {

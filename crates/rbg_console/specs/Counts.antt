@@ -1,4 +1,4 @@
--- The line that says how many of each thing a game has.
+-- The line that has how many of each thing a game has.
 use Rattle.std.specs.Prelude.{ℕ, List, ◌++◌, codes, length}
 use Rattle.std.specs.Fmt.{decimal}
 use Rattle.rbg_rules.specs.Meaning.{positions_of, AbstractGame}

@@ -1,4 +1,4 @@
--- What is written, and the status that is given back.
+-- What is written, and the status that is returned.
 use Rattle.std.specs.Prelude.{◌≡◌, ℕ, List, take}
 use Rattle.std.specs.Io.KnownBytes.{Appends}
 use Rattle.std.specs.declared.option.Option.{Option}

@@ -21,9 +21,9 @@ pub enum Kind {
     Free,
     /// From 1 to 16 words.
     Several,
-    /// An option without a value, and the option beside which it may not stand.
+    /// An option without a value, and the option with which it may not be combined.
     Flag(Option<&'static str>),
-    /// An option with a value of this name, and the option beside which it may not stand.
+    /// An option with a value of this name, and the option with which it may not be combined.
     Named(&'static str, Option<&'static str>),
     /// An option that is required, with a value of this name.
     NeededNamed(&'static str),
@@ -32,7 +32,7 @@ pub enum Kind {
 /// What the value of an argument may be.
 #[derive(Clone, Copy)]
 pub enum Value {
-    /// Any text. A flag, which has no value, is told so too.
+    /// Any text. A flag, which has no value, also has this.
     Text,
     /// A port, which is read as a `u16`.
     Port,
@@ -62,7 +62,7 @@ pub const RECORD: Argument = Argument {
     help: "The record of a match",
 };
 
-/// The argument that is told of.
+/// The argument for clap.
 pub(crate) fn argument_of<'a>(alloc: Global, told: Argument) -> Result<Arg<'a>, AllocError> {
     let argument = with_value(Arg::new(alloc, told.name).help(told.help), told.value);
     match told.kind {
@@ -75,7 +75,7 @@ pub(crate) fn argument_of<'a>(alloc: Global, told: Argument) -> Result<Arg<'a>, 
     }
 }
 
-/// An option that may not stand beside the other one.
+/// An option that may not be combined with the other one.
 fn apart<'a>(option: Arg<'a>, other: Option<&'static str>) -> Result<Arg<'a>, AllocError> {
     match other {
         Some(other) => option.conflicts_with(other),

@@ -1,4 +1,4 @@
-//! How the words of a command line are read, and what is said of words that name no task.
+//! How the words of a command line are read, and the answer to words that name no task.
 ghost use Rattle.std.specs.Prelude.{◌≡◌};
 ghost use Rattle.rbg_console.specs.Files.{KeepsFiles};
 ghost use Rattle.rbg_console.specs.WrongWords.{AnswersWords};
@@ -19,7 +19,7 @@ pub enum WordsError {
     /// They ask for help or for the version, which is this text.
     #[error("{0}")]
     Shown(String),
-    /// They are not those of a command, as this text says.
+    /// They are not those of a command, for the reason in this text.
     #[error("{0}")]
     Wrong(String),
     #[error("memory")]
@@ -50,8 +50,8 @@ fn refusal_of(alloc: Global, error: &clap::Error) -> Result<WordsError, AllocErr
     }
 }
 
-/// Answers words that name no task. Help and the version are written, and so is the line that says that memory ran out.
-/// What is wrong with words is told, and nothing is written.
+/// Answers words that name no task. Help, the version and the line that reports that memory ran out are written to the
+/// output. A message on wrong words goes to the notes of `files`, and nothing is written.
 pub fn write_words<F: Files, W: Write>(
     files: &mut F,
     output: &mut W,

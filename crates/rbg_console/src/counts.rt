@@ -1,11 +1,12 @@
-//! The line that says how many of each thing a game has.
+//! The line that has how many of each thing a game has.
 ghost use Rattle.std.specs.Prelude.{◌≡◌, IfOk, string_bytes};
 ghost use Rattle.rbg_console.specs.Counts.{counts, counts_of};
 
 use rbg_game::Game;
 use std::alloc::{AllocError, Global};
 
-/// The counts of a game as `players 2 pieces 3 variables 2 directions 4 vertices 2 positions 10`, without a line feed.
+/// The counts of a game, such as `players 2 pieces 3 variables 2 directions 4 vertices 2 positions 10`, without a line
+/// feed.
 pub fn count_line(alloc: Global, game: &Game) -> Result<String, AllocError>
     ensures { IfOk result (λ line. string_bytes line ≡ counts_of game.now) }
 {

@@ -9,12 +9,12 @@ use crate::output::write_and_flush;
 use std::alloc::{AllocError, Global};
 use std::io::{self, Write};
 
-/// Where a program reads named files, and creates new ones, and where it tells what is no part of its answer.
+/// The files of a program: it reads them by name, creates new ones, and sends its notes here.
 pub trait Files {
     /// A file that was created. What is written to it is appended.
     type NewFile: Write + Drop;
 
-    /// The bytes of each file by its name, where they are known. What the system's files hold isn't.
+    /// The bytes of each file by its name, if they are known. Those of the system's files aren't.
     ghost told: { Self → (name : List ℕ) → Option (List ℕ) } = { λ _ _. None };
 
     /// Whether the bytes of created files are known. What is written to the system's files isn't.
@@ -25,19 +25,19 @@ pub trait Files {
         ensures read { IfOk result (IsFileReading limit (told self.old name.now)) }
         ensures kept { KeepsFiles (told self.old) (told self.new) };
 
-    /// Creates an empty file. Where there is one of this name, that is an error, and the file stays as it is.
+    /// Creates an empty file. Returns an error if there is a file of this name, which stays as it is.
     fn create_file(&mut self, alloc: Global, name: &str) -> io::Result<Self::NewFile>
         ensures absent { OnOk result (told self.old name.now ≡ None) }
         ensures empty { IfOk result (λ file. tells_new → Self.NewFile.contents file ≡ Some []) }
         ensures kept { KeepsFiles (told self.old) (told self.new) };
 
-    /// Ends the writing to a file that was created by this name. Where that fails, each file has the bytes that it had.
+    /// Finishes a file that was created by this name. On an error each file has the bytes that it had.
     fn close_file(&mut self, alloc: Global, name: &str, file: Self::NewFile) -> io::Result<()>
         ensures closed { OnOk result (tells_new → told self.new name.now ≡ Self.NewFile.contents file) }
         ensures failed { OnErr result (KeepsFiles (told self.old) (told self.new)) }
         ensures others { KeepsOthers name.now (told self.old) (told self.new) };
 
-    /// Tells whoever runs the program what is no part of its answer. A failure to tell is passed over.
+    /// Sends a note to whoever runs the program. A failure to write it is ignored.
     fn tell(&mut self, note: &Note<'_>)
         ensures kept { KeepsFiles (told self.old) (told self.new) };
 }
@@ -54,7 +54,7 @@ pub fn read_bytes(alloc: Global, bytes: &[u8], limit: usize) -> Result<Input, Al
     Ok(Input::Whole(Vec::from_slice(alloc, bytes)?))
 }
 
-/// Writes bytes to a file that was created by this name, and closes it. Where that fails, each file has the bytes that it
+/// Writes bytes to a file that was created by this name, and closes it. On an error each file has the bytes that it
 /// had.
 pub fn fill_file<F: Files>(
     alloc: Global,

@@ -5,16 +5,16 @@ ghost use Rattle.rbg_console.specs.Inputs.{IsReading};
 use std::alloc::{AllocError, Global};
 use std::io::{ErrorKind, Read};
 
-/// The most bytes of standard input.
+/// The maximum number of bytes of standard input.
 pub const MAX_INPUT: usize = 16_777_216;
 
-/// A reading ends as a fault of the device after this many reads.
+/// After this many reads a reading ends with a fault of the device.
 const MAX_READS: u32 = 20_000_000;
 
-/// How many bytes are asked for at once.
+/// How many bytes one read asks for.
 const CHUNK: usize = 65_536;
 
-/// What a reading gives.
+/// The result of a reading.
 #[derive(Drop)]
 pub enum Input {
     /// All the bytes that there are.
@@ -33,7 +33,7 @@ pub fn read_input<R: Read>(alloc: Global, reader: &mut R, limit: usize) -> Resul
     read_chunks(alloc, reader, chunk.as_mut_slice(), limit)
 }
 
-/// Reads as much at once as the room holds.
+/// Reads in chunks, each as large as the free room of the buffer.
 fn read_chunks<R: Read>(
     alloc: Global,
     reader: &mut R,

@@ -26,7 +26,7 @@ impl MemoryFiles {
         }
     }
 
-    /// Puts a file in place of the one with this name, if there is one. Where there is no memory, the files stay as they are.
+    /// Puts a file in place of the one with this name, if there is one. On an error the files are unchanged.
     pub fn put(&mut self, name: String, bytes: Vec<u8>) -> Result<(), AllocError>
         ensures put { OnOk result (bytes_in self.new (string_bytes name) ≡ Some bytes.items) }
         ensures refused { OnErr result (KeepsFiles (bytes_in self.old) (bytes_in self.new)) }
@@ -54,7 +54,7 @@ impl Files for MemoryFiles {
 
     ghost tells_new = { Unit {0} };
 
-    /// Reads a file. Only one that is not there can't be read.
+    /// Reads a file. Returns `Input::Device` only if there is none of this name.
     fn read_file(&mut self, alloc: Global, name: &str, limit: usize) -> Result<Input, AllocError>
         ensures whole { IfOk result (IsMemoryFileReading limit (bytes_in self.old name.now)) }
         ensures read { IfOk result (IsFileReading limit (bytes_in self.old name.now)) }
@@ -66,7 +66,7 @@ impl Files for MemoryFiles {
         }
     }
 
-    /// Creates an empty file. It is an error only where there is one of this name.
+    /// Creates an empty file. Returns an error only if there is a file of this name.
     fn create_file(&mut self, alloc: Global, name: &str) -> io::Result<Vec<u8>>
         ensures there { OnErr result (bytes_in self.old name.now ≢ None) }
         ensures absent { OnOk result (bytes_in self.old name.now ≡ None) }
@@ -84,6 +84,6 @@ impl Files for MemoryFiles {
         Ok(())
     }
 
-    /// Nobody hears it.
+    /// Drops the note.
     fn tell(&mut self, _note: &Note<'_>) {}
 }

@@ -1,13 +1,13 @@
-//! What a program tells apart from its answer.
+//! Notes: what a program prints apart from its answer.
 
 use std::fmt::{self, Formatter};
 
-/// What is told to whoever runs a program, beside the answer: one or more lines, without the last line feed.
+/// A note for whoever runs a program, apart from the answer: one or more lines, without the last line feed.
 #[derive(Clone, Copy)]
 pub enum Note<'a> {
     /// Lines of what was read by this name end in CR LF.
     LineEnds { name: &'a str },
-    /// The words of the command line are wrong, as this text says.
+    /// The words of the command line are wrong, for the reason in this text.
     Words { text: &'a str },
 }
 

@@ -1,4 +1,4 @@
-//! Writing what a program says.
+//! Writing the text of an answer.
 ghost use Rattle.std.specs.Prelude.{OnErr, OnOk};
 ghost use Rattle.std.specs.Io.KnownBytes.{Appends};
 ghost use Rattle.rbg_console.specs.Outputs.{AppendsFront, IsWritten};
@@ -6,7 +6,7 @@ ghost use Rattle.rbg_console.specs.Outputs.{AppendsFront, IsWritten};
 use crate::status::Status;
 use std::io::{self, ErrorKind, Write};
 
-/// A writing ends as a fault of the device after this many writes.
+/// After this many writes a writing ends with a fault of the device.
 const MAX_WRITES: u32 = 20_000_000;
 
 /// Writes the text and returns the status, or `Status::Device` if the output fails.
@@ -19,7 +19,7 @@ pub fn write_text<W: Write>(output: &mut W, text: &[u8], status: Status) -> Stat
     }
 }
 
-/// Writes the text. Where that fails, a front part of it may be written.
+/// Writes the text. On an error a front part of it may be written.
 pub(crate) fn write_and_flush<W: Write>(output: &mut W, text: &[u8]) -> io::Result<()>
     ensures ok { OnOk result (Appends (W.contents output.old) (W.contents output.new) text.now) }
     ensures err { OnErr result (AppendsFront (W.contents output.old) (W.contents output.new) text.now) }
@@ -28,7 +28,7 @@ pub(crate) fn write_and_flush<W: Write>(output: &mut W, text: &[u8]) -> io::Resu
     output.flush()
 }
 
-/// Writes the text. Where a write fails, the front part before it stays written.
+/// Writes the text. On an error the front part that was written stays.
 fn write_whole<W: Write>(output: &mut W, text: &[u8]) -> io::Result<()>
     ensures ok { OnOk result (Appends (W.contents output.old) (W.contents output.new) text.now) }
     ensures err { OnErr result (AppendsFront (W.contents output.old) (W.contents output.new) text.now) }

@@ -9,7 +9,7 @@ use crate::note::Note;
 use std::alloc::{AllocError, Global};
 use std::io::Read;
 
-/// Reads a file, up to as many bytes as an input may have. If lines of it end in CR LF, that is told.
+/// Reads a file, up to as many bytes as an input may have. If lines of it end in CR LF, a note reports it.
 pub fn read_record<F: Files>(alloc: Global, files: &mut F, name: &str) -> Result<Input, AllocError>
     ensures read { IfOk result (IsFileReading most_input (F.told files.old name.now)) }
     ensures kept { KeepsFiles (F.told files.old) (F.told files.new) }
@@ -19,7 +19,7 @@ pub fn read_record<F: Files>(alloc: Global, files: &mut F, name: &str) -> Result
     Ok(read)
 }
 
-/// Reads standard input. If lines of it end in CR LF, that is told.
+/// Reads standard input. If lines of it end in CR LF, a note reports it.
 pub fn read_record_input<F: Files, R: Read>(
     alloc: Global,
     files: &mut F,
@@ -33,7 +33,7 @@ pub fn read_record_input<F: Files, R: Read>(
     Ok(read)
 }
 
-/// Tells that lines of what was read end in CR LF, where they do.
+/// Sends a note if lines of what was read end in CR LF.
 fn tell_line_ends<F: Files>(files: &mut F, name: &str, read: &Input)
     ensures { KeepsFiles (F.told files.old) (F.told files.new) }
 {
@@ -42,7 +42,7 @@ fn tell_line_ends<F: Files>(files: &mut F, name: &str, read: &Input)
     }
 }
 
-/// Whether a carriage return stands before a line feed.
+/// Whether a carriage return comes directly before a line feed.
 fn has_cr_lf(read: &Input) -> bool {
     match read {
         Input::Whole(bytes) => bytes

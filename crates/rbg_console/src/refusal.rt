@@ -17,7 +17,7 @@ use rbg_macro::{MacroError, TextError};
 use rbg_syntax::SyntaxError;
 use std::fmt::{self, Formatter};
 
-/// A refusal. Its text is `<layer> <number> <name>`, and then the place or thing where there is one.
+/// A refusal. Its text is `<layer> <number> <name>`, and then the place or thing if there is one.
 #[derive(Clone, Copy, Debug)]
 pub struct Refusal(pub LoadError);
 

@@ -1,8 +1,8 @@
-//! How the programs end, as the number that they give the system.
+//! The statuses with which the programs end.
 ghost use Rattle.std.specs.Prelude.{◌≡◌};
 ghost use Rattle.rbg_console.specs.Statuses.{status_code};
 
-/// How a program ends.
+/// The status with which a program ends.
 #[derive(Clone, Copy, Debug, PartialEq, Eq)]
 pub enum Status {
     /// All that was asked for is done.
@@ -20,7 +20,7 @@ pub enum Status {
 }
 
 impl Status {
-    /// The number that the system is given.
+    /// The number for the system.
     #[tactic(auto, unfolding(crate::specs::Statuses::status_code))]
     pub fn code(self) -> u8
         ensures { result ≡ status_code self }

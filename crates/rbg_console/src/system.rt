@@ -1,4 +1,4 @@
-//! The files and the words of the system. What fails is said on standard error.
+//! The files and the words of the system. Failures are reported on standard error.
 ghost use Rattle.std.specs.Prelude.{IfOk, None};
 ghost use Rattle.rbg_console.specs.Files.{IsFileReading};
 
@@ -23,12 +23,12 @@ impl<'a> SystemFiles<'a> {
         SystemFiles { rt }
     }
 
-    /// Says what can't be done with a file, and why. Where that can't be said, nothing is.
+    /// Prints on standard error what can't be done with a file, and why. A failure to print is ignored.
     fn say_failure(&self, deed: &str, name: &str, error: &io::Error) {
         let _said = eprintln!(self.rt; "can't {deed} {name}: {error}");
     }
 
-    /// Reads an open file. If that fails, one more read tells why.
+    /// Reads an open file. If that fails, one more read gets the reason.
     fn read_open(
         &self,
         alloc: Global,

@@ -54,7 +54,7 @@ unknown_piece_fails b (rectangle names rows) name stands unknown is = unnumbered
 unknown_piece_fails b (hexagon names rows) name stands unknown is = unnumbered_rows b.pieces rows name is.cells stands unknown is.named
 unknown_piece_fails b (graph vertices) name stands unknown is = unnumbered_vertex b vertices name stands unknown is
 
--- where two numbers are equal, the names are not different
+-- if two numbers are equal, the names are not different
 twice_fails : (names : List SpeltName) (numbers : List ℕ) → length numbers ≡ length names
     → ((i j : ℕ) → i < length names → j < length names → (slice_index numbers i ≡ slice_index numbers j) ↔ HaveOneName names i j)
     → HasTwice numbers → ¬ AreDifferentNames (texts_of names)
@@ -67,7 +67,7 @@ twice_fails names numbers long numbered t differ =
     let one = differ.one_number t.earlier t.later (get_or names t.later none).text (same ∙ at) at in
     omega (arith, one, t.apart)
 
--- Where rows by numbers are refused, there is no board by these names: rows that lack cells don't have them all, and rows
+-- If rows by numbers are refused, there is no board by these names: rows that lack cells don't have them all, and rows
 -- of which one doesn't fit aren't lawful.
 rows_fail : (Cells Lacks Lawful : Rows → Type 0) (IsMisfit : Rows → ℕ → Type 0) → ((cells : Rows) → Lacks cells → ¬ Cells cells) → ((cells : Rows) (row : ℕ) → IsMisfit cells row → ¬ Lawful cells)
     → (Edge : List ℕ → Rows → ℕ → ℕ → ℕ → Type 0) (numbers : List ℕ) (b : NamedBoard) (names : List SpeltName) (rows : List (List SpeltName)) (error : BoardError) → AreDifferentNames b.pieces

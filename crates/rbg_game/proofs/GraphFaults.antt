@@ -9,7 +9,7 @@ use Rattle.rbg_rules.specs.Meaning.{AreDifferentNames}
 use Rattle.rbg_game.proofs.Common.{NamedBoard, EdgeIs, VertexIs, vertex_names, IsGraphBoard, StandsTwice, HasGraphFault, no_vertex, many_vertices, same_vertex, same_direction, unknown_vertex}
 use Rattle.rbg_game.proofs.Lists.{AllZip-at, fellow}
 
--- different names stand once
+-- different names occur once
 once : (names : List (List ℕ)) → StandsTwice names → ¬ AreDifferentNames names
 once names h differ = absurd (omega (arith, h.before, differ.one_number h.i h.j h.text h.first h.second))
 

@@ -98,7 +98,7 @@ one_more_numbered names numbers old new name n h joins =
 
 -- Order of first use.
 
--- what was used before another name is still, where one more name is used
+-- what was used before another name still is, if one more name is used
 module _ (used old : List (List ℕ)) (text : List ℕ) (order : IsOrderOfFirstUse used old) where
   used_before : (i j k : ℕ) (earlier later : List ℕ) → slice_get old i ≡ Some earlier → slice_get old j ≡ Some later → i < j → slice_get (used ++ text ∷ []) k ≡ Some later
       → (m : ℕ) × (m < k) × (slice_get (used ++ text ∷ []) m ≡ Some earlier)

@@ -1,4 +1,5 @@
--- Entries of lists: where they stand in a front, in a list made of another and in a list after another; lists that go together.
+-- Entries of lists: where they are in a front, in a list made of another and in a list after another; lists that go
+-- together.
 use Rattle.rbg_base.proofs.Common.{◌≡◌, ℕ, zero, suc, ◌+◌, ◌<◌, List, [], ◌∷◌, ◌++◌, Some, length, get_or, take, drop, map, flat_map, refl, sym, ap, ◌∙◌, subst, arith, slice_get, Contains, AllZip, Contains-append_left, Contains-append_right, slice_get_within, slice_get_read}
 use Rattle.std.proofs.lemmas.List.{get_or-map, length-map, length-take, take-append-drop}
 use Rattle.std.proofs.lemmas.Slice.Zip.{all_zipped_more}
@@ -17,7 +18,7 @@ slice_get-map_read f xs i x below is = slice_get-map_at f xs i x (slice_get_read
 pub Contains-map_read : {A B : Type 0} (f : A → B) (xs : List A) (i : ℕ) (x : A) → i < length xs → x ≡ get_or xs i x → Contains (map f xs) (f x)
 Contains-map_read f xs i x below is = (i, omega (arith, length-map xs f), get_or-map f xs i x (f x) below ∙ ap f (sym is))
 
--- What stands in a list that is made of another is made of an entry of that.
+-- What is in a list that is made of another is made of an entry of that.
 pub map_entry : {A B : Type 0} (f : A → B) (xs : List A) (i : ℕ) (y : B) → slice_get (map f xs) i ≡ Some y → (x : A) × (slice_get xs i ≡ Some x) × (f x ≡ y)
 map_entry f [] i y there = cc
 map_entry f (x ∷ xs) zero y there = (x, refl, cc)
@@ -27,14 +28,14 @@ pub slice_get-last : {A : Type 0} (xs : List A) (x : A) → slice_get (xs ++ x �
 slice_get-last [] x = refl
 slice_get-last (y ∷ xs) x = slice_get-last xs x
 
--- An entry of a front stands in the list, before the front's end.
+-- An entry of a front is in the list, before the front's end.
 pub entry_of_front : {A : Type 0} (k : ℕ) (xs : List A) (i : ℕ) (x : A) → slice_get (take k xs) i ≡ Some x → (slice_get xs i ≡ Some x) × (i < k)
 entry_of_front {A} k xs i x there =
     let within : i < length (take k xs) = slice_get_within (take k xs) i x there in
     let P : List A → Type 0 = λ l. slice_get l i ≡ Some x in
     (subst P (take-append-drop k xs) (slice_get-append_left (take k xs) (drop k xs) i x there), omega (arith, length-take k xs))
 
--- An element of a list stands in what many lists make together.
+-- An element of a list is in what many lists make together.
 pub Contains-flat_map : {A B : Type 0} (f : A → List B) (xs : List A) (x : A) (y : B) → Contains xs x → Contains (f x) y → Contains (flat_map f xs) y
 Contains-flat_map f [] x y list here = absurd (omega (arith, list.1))
 Contains-flat_map f (z ∷ zs) x y (zero, within, is) here = Contains-append_left (f z) (flat_map f zs) y (subst (λ l. Contains (f l) y) (sym is) here)
@@ -70,7 +71,7 @@ fellow P xs ys x h has =
     let there = get_from-Contains xs x has in
     fellow_at P xs ys there.0 x h there.1
 
--- Where two relations give an element one fellow, they give a list one list of fellows.
+-- If two relations give an element one fellow, they give a list one list of fellows.
 pub AllZip-once : {A B : Type 0} (P Q : A → B → Type 0) → ((x : A) (y z : B) → P x y → Q x z → y ≡ z) → (xs : List A) (ys zs : List B) → AllZip P xs ys → AllZip Q xs zs → ys ≡ zs
 AllZip-once P Q once [] [] [] left right = refl
 AllZip-once P Q once [] [] (z ∷ zs) left right = absurd right

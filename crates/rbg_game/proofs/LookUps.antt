@@ -21,7 +21,7 @@ look_up_one known name names error stands = look_up_within known (name ∷ []) n
 pub same_name_alone : (table : List (List ℕ)) (name : SpeltName) → Contains table name.text → HasNameFault table (name ∷ []) (SameName name.at)
 same_name_alone table name had = same_name (record { k = 0; name = name; stands = refl; again = subst (λ l. Contains l name.text) (sym (append-nil table)) had; place = refl })
 
--- a name that is added alone and stands again is in the table
+-- a name that is added alone and occurs again is in the table
 pub again_alone : (table : List (List ℕ)) (name : SpeltName) (at : ℕ) → StandsAfter table (name ∷ []) at → Contains table name.text × (name.at ≡ at)
 again_alone table name at h = at_place h.k h.name h.stands h.again h.place
   where

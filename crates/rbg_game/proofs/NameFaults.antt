@@ -38,7 +38,7 @@ holder_fault_in_loop earlier table holders k holder error within is before =
     let same = ap (λ (l : List SpeltBounded). earlier ++ holder_names l) (sym (take-map bounded_of k holders)) in
     holder_fault_at earlier table (map bounded_of holders) k (bounded_of holder) error (slice_get-map_read bounded_of holders k holder within is) (before ∙ same)
 
--- Names that stand again after others stand twice in the whole list.
+-- Names that occur again after others occur twice in the whole list.
 pub again_in_all : (before names after : List SpeltName) (at : ℕ) → StandsAfter (texts_of before) names at → StandsAgain ((before ++ names) ++ after) at
 again_in_all before names after at h =
     let whole = (before ++ names) ++ after in

@@ -12,7 +12,7 @@ use Rattle.rbg_game.proofs.Lists.{AllZip-at}
 
 -- Lists that go together.
 
--- two that go together, where the second has a property of its own
+-- two that go together, if the second has a property of its own
 AllZip-and : {A B : Type 0} (R S : A → B → Type 0) (Q : B → Type 0) → ((x : A) (y : B) → R x y → Q y → S x y) → (xs : List A) (ys : List B) → AllZip R xs ys → All Q ys → AllZip S xs ys
 AllZip-and R S Q both [] [] all each = tt
 AllZip-and R S Q both [] (y ∷ ys) all each = absurd all
@@ -36,7 +36,7 @@ AllZip-both_maps f g R S holds [] (y ∷ ys) all = absurd all
 AllZip-both_maps f g R S holds (x ∷ xs) [] all = absurd all
 AllZip-both_maps f g R S holds (x ∷ xs) (y ∷ ys) all = (holds x y all.0, AllZip-both_maps f g R S holds xs ys all.1)
 
--- where one of the second list has a property, it goes with one of the first
+-- if one of the second list has a property, it goes with one of the first
 partner : {A B : Type 0} (R : A → B → Type 0) (Q : B → Type 0) (xs : List A) (ys : List B) → AllZip R xs ys → Any Q ys → (x : A) × (y : B) × Contains xs x × R x y × Q y
 partner R Q [] ys all (k, y, within, at, holds) = absurd (let long = AllZip-long R [] ys all in omega (arith, long, within))
 partner {A} R Q (x ∷ xs) ys all (k, y, within, at, holds) =
@@ -47,7 +47,7 @@ partner {A} R Q (x ∷ xs) ys all (k, y, within, at, holds) =
 abbrev AreNumbered : List (List ℕ) → List (List ℕ) → List ℕ → Type 0
 AreNumbered known texts numbers = AllZip (λ text n. slice_get known n ≡ Some text) texts numbers
 
--- where a number stands twice, so does a text
+-- if a number occurs twice, so does a text
 twice_named : (known texts : List (List ℕ)) (numbers : List ℕ) → AreNumbered known texts numbers → HasTwice numbers → StandsTwice texts
 twice_named known texts numbers named t =
     let long = AllZip-long (λ text n. slice_get known n ≡ Some text) texts numbers named in

@@ -22,7 +22,7 @@ use Rattle.rbg_game.proofs.BoardNames.{rows_below}
 text_at : (names : List SpeltName) (i : ℕ) (d : SpeltName) → i < length names → slice_get (texts_of names) i ≡ Some (get_or names i d).text
 text_at names i d within = slice_get-get_or (texts_of names) i d.text (omega (arith, length-map names (λ (name : SpeltName). name.text))) ∙ ap Some (get_or-map (λ (name : SpeltName). name.text) names i d d.text within)
 
--- numbers are equal exactly where the names are
+-- numbers are equal exactly if the names are
 numbers_agree : (table : List (List ℕ)) (names : List SpeltName) (numbers : List ℕ) → AreDifferentNames table → AllZip (IsNumberOf table) names numbers → (i j : ℕ) → i < length names → j < length names → (slice_index numbers i ≡ slice_index numbers j) ↔ (slice_get (texts_of names) i ≡ slice_get (texts_of names) j)
 numbers_agree table names numbers differ named i j i_within j_within =
     let none : SpeltName = record { text = []; at = 0 } in

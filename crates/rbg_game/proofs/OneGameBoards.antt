@@ -67,7 +67,7 @@ graph_once a b vertices differ same left right =
           (subst (λ ws. IsGraphOf b.board (pieces_of ws) (WrittenEdge ws)) (sym written) right.board);
     }
 
--- At most one board is spelt, where the pieces have different names.
+-- At most one board is spelt, if the pieces have different names.
 pub board_once : (board : SpeltBoard) (a b : NamedBoard) → AreDifferentNames a.pieces → a.pieces ≡ b.pieces → BoardIs a board → BoardIs b board → IsSameBoard a b
 board_once (rectangle names rows) a b differ same left right = rows_board_once MakesRectangle RectangleEdge (0 ∷ 1 ∷ 2 ∷ 3 ∷ []) a b names rows differ same left right
 board_once (hexagon names rows) a b differ same left right = rows_board_once MakesHexagon HexagonEdge (0 ∷ 1 ∷ 2 ∷ 3 ∷ 4 ∷ 5 ∷ []) a b names rows differ same left right

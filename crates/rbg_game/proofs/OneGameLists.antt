@@ -4,7 +4,7 @@ use Rattle.rbg_rules.specs.Meaning.{AreDifferentNames}
 use Rattle.rbg_game.specs.Descriptions.{IsOrderOfFirstUse}
 use Rattle.rbg_base.proofs.CallerLemmas.{Contains-from_get, get_from-Contains}
 
--- the first of two lists in one has no name twice, where the whole has none
+-- the first of two lists in one has no name twice, if the whole has none
 pub front_differs : (xs ys : List (List ℕ)) → AreDifferentNames (xs ++ ys) → AreDifferentNames xs
 front_differs xs ys differ = record { one_number = λ i j name at_i at_j. differ.one_number i j name (in_front xs i name at_i) (in_front xs j name at_j) }
   where
@@ -13,11 +13,11 @@ front_differs xs ys differ = record { one_number = λ i j name at_i at_j. differ
     in_front (z ∷ zs) zero name at = at
     in_front (z ∷ zs) (suc i) name at = in_front zs i name at
 
--- the name stands in the list
+-- the name is in the list
 abbrev Stands : List (List ℕ) → List ℕ → Type 0
 Stands xs x = (i : ℕ) × (slice_get xs i ≡ Some x)
 
--- wherever the later name is used, the earlier was used before
+-- if the later name is used at a place, the earlier one was used before
 abbrev IsUsedBefore : List (List ℕ) → List ℕ → List ℕ → Type 0
 IsUsedBefore used earlier later = (k : ℕ) → slice_get used k ≡ Some later → (m : ℕ) × (m < k) × (slice_get used m ≡ Some earlier)
 
@@ -62,7 +62,7 @@ first_once used x y xs ys left right there back = elim (first_or_later y ys x th
   ]
 ]
 
--- what stands after the first of one list stands after that of the other
+-- what comes after the first of one list comes after that of the other
 beyond_first : (used : List (List ℕ)) (x y : List ℕ) (xs ys : List (List ℕ)) → IsInOrder used (x ∷ xs) → x ≡ y → ((z : List ℕ) → Stands (x ∷ xs) z → Stands (y ∷ ys) z) → (z : List ℕ) → Stands xs z → Stands ys z
 beyond_first used x y xs ys order same there z (i, at) = elim (first_or_later y ys z (there z (suc i, at))) [
   | inl is ↦

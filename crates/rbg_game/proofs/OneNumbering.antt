@@ -1,5 +1,5 @@
--- The rules of a description are at most one expression: where names differ their numbers are determined, and so are positions that are
--- counted in order of text.
+-- The rules of a description are at most one expression: if names differ their numbers are determined, and so are
+-- positions that are counted in order of text.
 use Rattle.rbg_base.proofs.Common.{◌≡◌, ℕ, zero, suc, ◌+◌, List, [], ◌∷◌, ◌++◌, inl, inr, Some, None, length, refl, sym, ap, ◌∙◌, subst, range_with_len, same_Some}
 use Rattle.rbg_grammar.specs.Tree.{SpeltExpression, SpeltOperands, no_operands, more_operands, SpeltRule, SpeltRules, no_rules, more_rules, SpeltAction}
 use Rattle.rbg_rules.specs.Meaning.{AbstractArithmetic, number, variable, piece_count, negated, AbstractAction, shift, on, off, assignment, comparison, switch, positive, negative, Expression, act, skip, sequence, fail, choice, star, positions_of, positions_inside, IsNumbered, operated}

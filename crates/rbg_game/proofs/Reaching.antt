@@ -1,8 +1,8 @@
--- What goes on from an expression to its parts reaches the actions that stand in it.
+-- What passes from an expression to its parts reaches the actions in it.
 use Rattle.std.proofs.Common.{◌≡◌, ℕ, suc, ◌≤◌, inl, inr, sym, subst, arith}
 use Rattle.rbg_rules.specs.Meaning.{AbstractAction, positive, negative, Expression, act, skip, sequence, fail, choice, star, HasAction, HasInside}
 
--- `Holds` is said of an expression in which so many patterns may be opened, and `HoldsOf` of an action.
+-- `Holds` is about an expression in which `left` patterns may be opened, and `HoldsOf` about an action.
 module _ (Holds : ℕ → Expression → Type 0) (HoldsOf : ℕ → AbstractAction → Type 0)
     (of_act : (left p : ℕ) (a : AbstractAction) → Holds left (act p a) → HoldsOf left a)
     (of_sequence : (left : ℕ) (x y : Expression) → Holds left (sequence x y) → Holds left x × Holds left y)
@@ -11,7 +11,7 @@ module _ (Holds : ℕ → Expression → Type 0) (HoldsOf : ℕ → AbstractActi
     (of_positive : (left : ℕ) (x : Expression) → HoldsOf left (positive x) → (below : ℕ) × (left ≡ suc below) × Holds below x)
     (of_negative : (left : ℕ) (x : Expression) → HoldsOf left (negative x) → (below : ℕ) × (left ≡ suc below) × Holds below x) where
   mutual
-    -- where an action stands, fewer patterns may be opened, or as many
+    -- at an action no more patterns may be opened than around it
     pub reaches : (left p : ℕ) (x : Expression) (a : AbstractAction) → Holds left x → HasAction x p a → (below : ℕ) × (below ≤ left) × HoldsOf below a
     reaches left p (act q c) a h (inl (at, same)) = (left, omega arith, subst (HoldsOf left) (sym same) (of_act left q c h))
     reaches left p (act q c) a h (inr has) = reaches_inside left p c a (of_act left q c h) has

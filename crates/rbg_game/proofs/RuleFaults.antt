@@ -1,4 +1,4 @@
--- Where a rule has a fault there are no rules by numbers.
+-- A rule with a fault has no rules by numbers.
 use Rattle.rbg_base.proofs.Common.{◌≡◌, ◌≢◌, ℕ, suc, ◌+◌, ◌≤◌, refl, List, [], ◌∷◌, ◌++◌, Option, Some, None, ◌⊎◌, inl, inr, length, get_or, ap, sym, ◌∙◌, subst, arith, Contains, AllZip}
 use Rattle.std.proofs.lemmas.List.{length-append}
 use Rattle.rbg_grammar.specs.Tree.{SpeltName, SpeltExpression, SpeltOperands, no_operands, SpeltRule, SpeltRules, no_rules, more_rules, SpeltAction}
@@ -170,7 +170,7 @@ too_deep names _ _ at limit x (in_one_more {r = r} {inside = inside} {outer = ou
     let (less, more, nested) = pattern_nests below there.action there.rule there.is_pattern within in
     too_deep names inside outer at less there.rule deeper (omega arith) nested there.is_rule
 
--- Where the fault that is named stands there are no rules by numbers.
+-- A rule with the fault that is named has no rules by numbers.
 pub rule_fault_fails : (names : Names) (r : SpeltRule) (error : NumberingError) (x : Expression) → HasRuleFault names r error → error ≢ Memory → length (positions_of x) ≤ most_positions → NestsWithin most_nested_patterns x → HasNoSwitchInPattern x → ¬ RuleIs names r x
 rule_fault_fails names r _ x (unknown_use {action = s} {purpose = purpose} {used = used} {at = at} stands uses h) other few nests apart is =
     let (p, b, named, has) = action_in_rule names r x s stands is in
@@ -194,7 +194,7 @@ IsAmong few all = (name : List ℕ) → Contains few name → Contains all name
 pub among_same : (few all : List (List ℕ)) → few ≡ all → IsAmong few all
 among_same few all same name has = subst (λ l. Contains l name) same has
 
--- what is wrong with an expression or a rule is wrong with it where there are no further names
+-- what is wrong with an expression or a rule is also wrong if there are no further names
 arithmetic_fault_by : (few all : Names) (e : SpeltExpression) (error : NumberingError) → ((purpose : Purpose) → IsAmong (names_for few purpose) (names_for all purpose)) → HasArithmeticFault all e error → HasArithmeticFault few e error
 arithmetic_fault_by few all e _ among (unknown_value h) =
     unknown_value (record {

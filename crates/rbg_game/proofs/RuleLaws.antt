@@ -167,7 +167,7 @@ no_switch_in_pattern x h p y (inr level) q n has =
     let (below, few, (m, fewer, lawful)) = lawful_at most_nested_patterns p x (negative y) h level in
     no_switch m y (omega arith) lawful q n has
 
--- The whole rules, which nothing stands before.
+-- The whole rules, with nothing before them.
 module _ (names : Names) (r : SpeltRule) (new : List Action) (x : Rule) (formed : is_formed r ≡ true) (h : AddsRule names most_nested_patterns r [] new x) where
   counted : length (positions_of (expression_of new x)) ≡ actions_in r
   counted = ap length h.numbers.positions ∙ length-range_with_len (0 + 1) (actions_in r)

@@ -119,7 +119,7 @@ module _ (names : Names) (left : ℕ) (make : Expression → Expression → Expr
       let f : 0 + actions_in_list rs ≡ actions_in_all (rules_after no_rules rs) = omega arith in
       subst (λ n. Numbers (Is (rules_after no_rules rs)) left before n (fold make y xs)) f (put_together no_rules rs before 0 y xs none (subst (λ n. AreNumbered names left rs n xs) e all))
 
-  -- the parts, where the tree of the whole is made from `none`, the value of no parts
+  -- the parts, if the tree of the whole is made from `none`, the value of no parts
   parts_added : (none : Expression) → ((before : ℕ) → Numbers (Is no_rules) left before 0 none) → (rs : List SpeltRule) (old new : List Action) (xs : List Rule) → AddsParts names left rs old new xs → (r : SpeltRule) (x : Rule)
       → actions_in r ≡ actions_in_all (rules_after no_rules rs) → IsWithin (length new) x → expression_of new x ≡ fold make none (map (expression_of new) xs) → ((e : Expression) → Is (rules_after no_rules rs) e → RuleIs names r e) → AddsRule names left r old new x
   parts_added none begun rs old new xs h r x size within tree means =

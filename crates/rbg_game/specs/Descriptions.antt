@@ -29,9 +29,9 @@ pub record NamedBoard : Type 0 where
 abbrev pub board_in : AbstractGame → NamedBoard
 board_in game = record { directions = game.directions; pieces = game.pieces; board = game.board }
 
--- The board is that of these rows: its directions are the names in order, all different, which have these numbers, and
--- its cells the pieces named. It keeps a way, or none, for each of its vertices and each direction. `Makes` says that
--- directions and cells have no fault, and `Edge` where the directions lead.
+-- The board is that of these rows. Its directions are the names in order, all different, which have these numbers, and
+-- its cells the pieces named. It has an entry, a vertex or None, for each of its vertices and each direction. `Makes`
+-- means that directions and cells have no fault, and `Edge` has where the directions lead.
 pub record IsRowsBoard
     (Makes : List ℕ → Rows → Type 0)
     (Edge : List ℕ → Rows → ℕ → ℕ → ℕ → Type 0)
@@ -73,7 +73,7 @@ vertex_names vertices = map (λ vertex. vertex.name.text) vertices
 abbrev pub directions_named : List SpeltVertex → List (List ℕ)
 directions_named vertices = flat_map (λ vertex. map (λ edge. edge.direction.text) vertex.edges) vertices
 
--- the names, each where it is first used, and no name twice
+-- the names in order of first use, and no name twice
 pub record IsOrderOfFirstUse (used names : List (List ℕ)) : Type 0 where
   pub differ : AreDifferentNames names
   pub all : (name : List ℕ) → Contains used name → Contains names name
@@ -119,8 +119,8 @@ AreBounds = AllZip (λ holder bound. holder.bound.value ≡ Some bound)
 -- The game is that of the description.
 --   players, variables, pieces: the names in order of text; a player is a variable too
 --   bounds: the numbers of the players and variables
---   board, rules: by numbers, with the actions numbered in order of text (which every game keeps)
---   lawful: what every game keeps, as lawful names and the limits
+--   board, rules: by numbers, with the actions numbered in order of text (which holds of every game)
+--   lawful: what holds of every game, such as lawful names and the limits
 pub record IsGameOf (d : SpeltDescription) (game : AbstractGame) : Type 0 where
   pub players : game.players ≡ holder_names d.players
   pub variables : game.variables ≡ holder_names (holders_of d)

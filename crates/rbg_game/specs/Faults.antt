@@ -19,7 +19,7 @@ use Rattle.rbg_game.specs.RuleFaults.{HasUnknown, HasRuleFault}
 use Rattle.rbg_game.specs.GameErrors.{game_error_of}
 use Rattle.rbg_game.specs.Descriptions.{holder_names, holders_of, vertex_names, directions_named, IsOrderOfFirstUse}
 
--- The name stands in the list at this offset, and before it the same name.
+-- The name is in the list at this offset, and the same name is before it.
 pub record StandsAgain (list : List SpeltName) (at : ℕ) : Type 0 where
   pub i : ℕ
   pub j : ℕ
@@ -31,11 +31,11 @@ pub record StandsAgain (list : List SpeltName) (at : ℕ) : Type 0 where
   pub same : earlier.text ≡ later.text
   pub place : later.at ≡ at
 
--- The number is too great for a bound.
+-- The number is too large for a bound.
 abbrev pub IsNoBound : SpeltNumber → Type 0
 IsNoBound n = (bound : ℕ) → n.value ≡ Some bound → greatest_bound < bound
 
--- One of the bounds, at this offset, is too great.
+-- One of the bounds, at this offset, is too large.
 pub record HasGreatBound (holders : List SpeltBounded) (at : ℕ) : Type 0 where
   pub holder : SpeltBounded
   pub stands : Contains holders holder
@@ -59,8 +59,9 @@ board_pieces (graph vertices) = map (λ vertex. vertex.piece) vertices
 abbrev pub HaveOneName : List SpeltName → ℕ → ℕ → Type 0
 HaveOneName names i j = slice_get (texts_of names) i ≡ slice_get (texts_of names) j
 
--- The rows by the numbers of the pieces, and the directions by numbers that are equal exactly where the names are, are
--- refused so: for a fault, and not because memory ran out. `Refusal` says what the generator of the rows refuses.
+-- The rows by the numbers of the pieces, and the directions by numbers that are equal exactly if the names are, are
+-- refused with this error: for a fault, and not because memory ran out. `Refusal` has what the generator of the rows
+-- refuses.
 pub record HasRowsFault
     (Refusal : List ℕ → Rows → BoardError → Type 0)
     (pieces : List (List ℕ))
@@ -80,7 +81,7 @@ pub record HasRowsFault
   pub refused : Refusal directions cells error
   pub is_fault : error ≢ board_errors.Memory
 
--- One text stands twice in the list.
+-- One text is twice in the list.
 pub record StandsTwice (list : List (List ℕ)) : Type 0 where
   pub i : ℕ
   pub j : ℕ
@@ -111,7 +112,7 @@ pub data HasGraphFault (vertices : List SpeltVertex) : BoardError → Type 0 whe
       → ¬ Contains (vertex_names vertices) edge.target.text
       → HasGraphFault vertices board_errors.UnknownVertex
 
--- What is wrong with a board, where these are the pieces. (Only a graph can have too many directions.)
+-- What is wrong with a board, if these are the pieces. (Only a graph can have too many directions.)
 pub data HasBoardFault (pieces : List (List ℕ)) : SpeltBoard → GameError → Type 0 where
   unknown_piece : {board : SpeltBoard} {at : ℕ}
       → HasUnknown pieces (board_pieces board) at

@@ -1,4 +1,4 @@
--- What a refusal of names or of rules is called as a refusal of the description.
+-- The refusal of a description for each refusal of its names or of its rules.
 use Rattle.rbg_game.specs.declared.numbering_error.NumberingError.{NumberingError}
 use Rattle.rbg_game.specs.declared.numbering_error.NumberingError.TheVariants as causes
 use Rattle.rbg_game.specs.declared.game_error.GameError.{GameError}

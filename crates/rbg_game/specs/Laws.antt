@@ -8,7 +8,7 @@ use Rattle.rbg_game.specs.NameNumbers.{Names, HasDifferentNames}
 use Rattle.rbg_game.specs.RuleFaults.{HasRuleFault}
 use Rattle.rbg_game.specs.Numbered.{IsRuleByNumbers}
 
--- Where names differ, a rule is at most one expression by numbers.
+-- If names differ, a rule is at most one expression by numbers.
 abbrev pub OneNumberingLaw : Type 0
 OneNumberingLaw =
     (names : Names) (rule : SpeltRule) (x y : Expression)

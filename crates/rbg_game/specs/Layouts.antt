@@ -1,4 +1,4 @@
--- How the vertices of a board lie, as its description writes them.
+-- The layout of a board, as its description writes it.
 use Rattle.std.specs.Prelude.{◌≡◌, ℕ, List, Vec, map, length}
 use Rattle.std.specs.Global.{Global}
 use Rattle.rbg_grammar.specs.Tree.{SpeltName, SpeltVertex, SpeltBoard, rectangle, hexagon, graph, SpeltDescription}

@@ -58,7 +58,7 @@ IsMemory (errors.Macro error) = error ≡ MacroMemory
 IsMemory (errors.Syntax error) = error ≡ SyntaxMemory
 IsMemory (errors.Game error) = error ≡ GameMemory
 
--- The text has the fault, and is no game's. Where memory ran out nothing is said.
+-- The text has the fault, and is no game's. If memory ran out, nothing is claimed.
 pub record IsRefused (text : List ℕ) (error : LoadError) : Type 0 where
   pub fault : HasLoadFault text error
   pub no_game : (¬ IsMemory error) → (game : AbstractGame) → ¬ Loads text game

@@ -19,7 +19,7 @@ pub data HasLookUpFault (known : List (List ℕ)) (names : List SpeltName) : Num
   no_memory :
       HasLookUpFault known names Memory
 
--- A name of the list stands at this offset, and the same name before it, in the list or among the earlier texts.
+-- A name of the list is at this offset, and the same name is before it, in the list or among the earlier texts.
 pub record StandsAfter (earlier : List (List ℕ)) (names : List SpeltName) (at : ℕ) : Type 0 where
   pub k : ℕ
   pub name : SpeltName

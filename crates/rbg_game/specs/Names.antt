@@ -1,4 +1,4 @@
--- What a refusal calls the things of which there are too many.
+-- The names that a refusal has for things of which there are too many.
 use Rattle.std.specs.Prelude.{ℕ, List, codes}
 use Rattle.rbg_game.specs.declared.game_error.Thing.{Thing}
 use Rattle.rbg_game.specs.declared.game_error.Thing.TheVariants as things

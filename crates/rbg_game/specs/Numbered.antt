@@ -1,4 +1,4 @@
--- The rules of a description by numbers, with all that every game keeps of its rules.
+-- The rules of a description by numbers, with all that holds of the rules of every game.
 use Rattle.std.specs.Prelude.{◌≡◌, ℕ, ◌≤◌, length}
 use Rattle.rbg_grammar.specs.Tree.{SpeltRule}
 use Rattle.rbg_rules.specs.Meaning.{AbstractAction, switch, Expression, HasNoEmptySum, NestsWithin, IsActionOf, HasAction, positions_of, IsNumbered, IsLevel, inside, AbstractGame, rules_of, most_players, most_variables, most_pieces, most_directions, most_positions, most_nested_patterns}
@@ -40,7 +40,7 @@ HasActionsOf names x =
     → HasAction x p a
     → IsActionOf game a
 
--- no switch stands in a pattern
+-- no switch is in a pattern
 abbrev pub HasNoSwitchInPattern : Expression → Type 0
 HasNoSwitchInPattern x =
     (p : ℕ) (y : Expression)
@@ -48,7 +48,7 @@ HasNoSwitchInPattern x =
     → (q n : ℕ)
     → ¬ HasAction y q (switch n)
 
--- The expression is the rule by numbers, and has what every game asks of its rules.
+-- The expression is the rule by numbers, and meets the conditions on the rules of every game.
 pub record IsRuleByNumbers (names : Names) (rule : SpeltRule) (x : Expression) : Type 0 where
   pub is_rule : RuleIs names rule x
   pub numbered : IsNumbered x

@@ -44,7 +44,7 @@ pub data Uses : SpeltAction → Purpose → List SpeltName → Type 0 where
 
 -- Arithmetic.
 
--- The part is the expression itself, or stands in it.
+-- The part is the expression itself, or is inside it.
 mutual
   pub data HasPart : SpeltExpression → SpeltExpression → Type 0 where
     itself : {e : SpeltExpression}
@@ -79,7 +79,7 @@ pub record HasGreatNumber (e : SpeltExpression) (at : ℕ) : Type 0 where
   pub too_great : (value : ℕ) → number.value ≡ Some value → 2 ^ 63 ≤ value
   pub place : number.at ≡ at
 
--- What is wrong with an expression, where these are the names.
+-- What is wrong with an expression, if these are the names.
 pub data HasArithmeticFault (names : Names) (e : SpeltExpression) : NumberingError → Type 0 where
   unknown_value : {at : ℕ}
       → HasUnknownValue names e at
@@ -143,7 +143,7 @@ pub record HasPattern (r : SpeltRule) (at : ℕ) (inside : SpeltRule) : Type 0 w
   pub stands : HasSpeltAction r action
   pub is_pattern : IsSpeltPattern action at inside
 
--- The pattern at this offset stands inside so many other patterns of the rule, or inside more.
+-- The pattern at this offset is inside `outer` other patterns of the rule, or inside more.
 pub data HasPatternInside : SpeltRule → (outer : ℕ) → (at : ℕ) → Type 0 where
   in_none : {r inside : SpeltRule} {at : ℕ}
       → HasPattern r at inside
@@ -175,11 +175,11 @@ abbrev mutual
   actions_of (SpeltAction.negative at r) = suc (actions_in r)
   actions_of _ = 1
 
--- What is wrong with a rule, where these are the names.
+-- What is wrong with a rule, if these are the names.
 --   unknown_use: an action uses a name that isn't there
 --   in_arithmetic: an action has an expression with a fault
 --   switch_in_pattern: a pattern has a switch inside
---   deep_pattern: a pattern stands inside too many others
+--   deep_pattern: a pattern is inside too many others
 --   many_positions: there are too many actions
 pub data HasRuleFault (names : Names) (rule : SpeltRule) : NumberingError → Type 0 where
   unknown_use : {action : SpeltAction} {purpose : Purpose} {used : List SpeltName} {at : ℕ}

@@ -22,8 +22,8 @@ abbrev mutual
   ArithmeticIs names (SpeltExpression.negated e) a = (b : AbstractArithmetic) × ArithmeticIs names e b × (a ≡ negated b)
   ArithmeticIs names (SpeltExpression.chain operands) a = ChainIs names operands a
 
-  -- A sum or a product from the left: its first operand, or what stands before the last one, combined with the last one by
-  -- its operator.
+  -- A sum or a product from the left: its first operand, or what comes before the last one, combined with the last one
+  -- by its operator.
   pub ChainIs : Names → SpeltOperands → AbstractArithmetic → Type 0
   ChainIs names no_operands a = ⊥
   ChainIs names (more_operands operands operator e) a =
@@ -64,7 +64,7 @@ abbrev mutual
   RuleIs names (SpeltRule.choice parts) x = PartsAre names choice fail parts x
   RuleIs names (SpeltRule.star r) x = (y : Expression) × RuleIs names r y × (x ≡ star y)
 
-  -- The parts of a sequence or a sum, from the left: `joined` puts what stands before the last one and the last one
+  -- The parts of a sequence or a sum, from the left: `joined` puts what comes before the last one and the last one
   -- together, and `none` is the expression of no parts.
   pub PartsAre : Names → (joined : Expression → Expression → Expression) → (none : Expression) → SpeltRules → Expression → Type 0
   PartsAre names joined none no_rules x = x ≡ none

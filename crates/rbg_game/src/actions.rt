@@ -18,7 +18,7 @@ use rbg_rules::Action;
 use rbg_rules::limits::{MAX_NESTED_PATTERNS, MAX_POSITIONS};
 use std::alloc::Global;
 
-/// Adds an action that is no pattern, and returns its position. So many patterns may still be opened where it stands.
+/// Adds an action that is no pattern, and returns its position. `patterns_left` patterns may still be opened around it.
 pub(crate) fn add_action(
     alloc: Global,
     names: &NameTables<'_>,
@@ -45,7 +45,8 @@ pub(crate) fn add_action(
     Ok(actions.len() as u32)
 }
 
-/// Adds a pattern, whose brace is at this offset, and returns its position. So many patterns may still be opened.
+/// Adds a pattern, whose brace is at this offset, and returns its position. `patterns_left` patterns may still be
+/// opened.
 pub(crate) fn open_pattern(
     patterns_left: usize,
     at: usize,

@@ -101,7 +101,7 @@ fn number_number(number: Number) -> Result<Arithmetic, NumberingError>
     }
 }
 
-/// The variable of a name, or else the piece.
+/// The variable with a name, or else the piece with it.
 fn number_name(names: &NameTables<'_>, name: &Name<'_>) -> Result<Arithmetic, NumberingError>
     requires { IsWithinLimits (names_of names.now) }
     ensures value { IfOk result (λ a.

@@ -19,7 +19,7 @@ pub enum GameError {
     /// The name at this offset was given before to a player, a variable or a piece.
     #[error("the name at byte {at} was given before")]
     SameName { at: usize },
-    /// The number at this offset is greater than the greatest bound, or in arithmetic greater than 2^63 - 1.
+    /// The number at this offset is above the maximum of a bound, or in arithmetic above 2^63 - 1.
     #[error("the number at byte {at} is too great")]
     Bound { at: usize },
     /// The switch at this offset is in a pattern.
@@ -38,7 +38,7 @@ pub enum GameError {
     Board { error: BoardError },
 }
 
-/// What there may be too many of.
+/// The things of which there may be too many.
 #[derive(Clone, Copy, Debug, PartialEq, Eq)]
 pub enum Thing {
     Players,
@@ -49,7 +49,7 @@ pub enum Thing {
 }
 
 impl Thing {
-    /// Its name in a refusal, as `pieces`.
+    /// Its name in a refusal, such as `pieces`.
     #[tactic(auto, unfolding(crate::specs::Names::thing_name))]
     pub fn name(self) -> &'static str
         ensures { result.now ≡ thing_name self }

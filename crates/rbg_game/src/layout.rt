@@ -1,4 +1,4 @@
-//! How the vertices of a board lie, as its description writes them.
+//! The layout of a board: rows, or named vertices, as its description writes them.
 ghost use Rattle.std.specs.Prelude.{◌≡◌, map, length, IfOk};
 ghost use Rattle.rbg_grammar.specs.Views.{names_of, vertex_of, board_of};
 ghost use Rattle.rbg_game.specs.NameTables.{bytes_of};
@@ -8,7 +8,7 @@ ghost use Rattle.rbg_game.specs.Layouts.{IsLayoutOf};
 use rbg_grammar::{Board, Name, Vertex};
 use std::alloc::{AllocError, Global};
 
-/// How the vertices of a board lie, as its description writes them. Vertices are numbered in this order.
+/// The layout of a board, as its description writes it. Vertices are numbered in this order.
 pub enum Layout {
     /// Rows of squares from top to bottom, each with its length.
     Rectangle { rows: Vec<usize> },
@@ -18,7 +18,7 @@ pub enum Layout {
     Graph { names: Vec<Vec<u8>> },
 }
 
-/// Written out, so that letting a layout go is one call in the proofs of those who hold one, not a step for each part.
+/// Written by hand: dropping a layout is then one call in the proofs of its owners, not a step for each part.
 impl Drop for Layout {
     fn drop(self) {
         match self {

@@ -18,7 +18,7 @@ use rbg_rules::Game;
 use rbg_syntax::parse;
 use std::alloc::Global;
 
-/// A game, and how its description writes its board.
+/// A game, and the layout of its board.
 #[derive(Drop)]
 pub struct LoadedGame {
     pub game: Game,

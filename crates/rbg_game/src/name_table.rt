@@ -35,7 +35,7 @@ impl Model for NameTable {
     ghost invariant = { λ table. IsTable (bytes_of table.names.items) table.numbers };
 }
 
-/// Written out, so that letting a table go is one call in the proofs of those who hold one, not a step for each part.
+/// Written by hand: dropping a table is then one call in the proofs of its owners, not a step for each part.
 impl Drop for NameTable {
     fn drop(self) {
         let NameTable {

@@ -14,7 +14,7 @@ pub enum NumberingError {
     /// The name at this offset is in the table to which it is added.
     #[error("the name at byte {at} was given before")]
     SameName { at: usize },
-    /// The number at this offset is greater than 2^63 - 1.
+    /// The number at this offset is above 2^63 - 1.
     #[error("the number at byte {at} is too great")]
     NumberTooGreat { at: usize },
     /// The switch at this offset is in a pattern.
@@ -30,7 +30,7 @@ pub enum NumberingError {
     Memory,
 }
 
-/// Whatever says that memory is refused, as a failed allocation does.
+/// An error of a refused allocation becomes `Memory`.
 impl<E: Into<Memory> + Drop> From<E> for NumberingError {
     ghost from_gives = { λ _ e. e ≡ numbering_errors.Memory };
 

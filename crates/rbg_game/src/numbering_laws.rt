@@ -1,7 +1,7 @@
 //! Laws of the definitions of rules by numbers. Each function does nothing: its contract is the law.
 ghost use Rattle.rbg_game.specs.Laws.{OneNumberingLaw, NoNumbersWithFaultLaw};
 
-/// Where names differ, a rule is at most one expression by numbers.
+/// If names differ, a rule is at most one expression by numbers.
 pub fn rules_are_numbered_one_way()
     ensures { OneNumberingLaw }
 {}

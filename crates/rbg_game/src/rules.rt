@@ -30,7 +30,7 @@ pub fn number_rules(
     Ok(Rules { tree, actions })
 }
 
-/// A rule by numbers. Its actions go into the table. So many patterns may still be opened where it stands.
+/// A rule by numbers. Its actions go into the table. `patterns_left` patterns may still be opened around it.
 #[cycle(numbering)]
 fn number_rule(
     alloc: Global,

@@ -8,7 +8,7 @@ use std::alloc::{AllocError, Global};
 use std::fs::File;
 use std::io;
 
-/// The files of the system, where `GAME.PLACE.board` stands for the description of `GAME.rbg` with that file's board.
+/// The files of the system. The name `GAME.PLACE.board` means the description of `GAME.rbg` with that file's board.
 #[derive(Drop)]
 pub struct GameFiles<'a> {
     files: SystemFiles<'a>,
@@ -71,7 +71,7 @@ impl Files for GameFiles<'_> {
     }
 }
 
-/// The description with this text in place of its section `#board`. A section begins where a line begins with `#`.
+/// The description with this text in place of its section `#board`. A section begins at each line that begins with `#`.
 fn with_board(alloc: Global, description: &[u8], board: &[u8]) -> Result<Vec<u8>, AllocError> {
     let mut text = Vec::new(alloc);
     let mut replaced = false;

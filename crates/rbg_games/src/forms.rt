@@ -10,15 +10,14 @@ fn same_first(one: &impl Steps, other: &impl Steps, expr: Expr) -> bool {
     one.first(expr) == other.first(expr) && one.may_be_empty(expr) == other.may_be_empty(expr)
 }
 
-/// Whether two automata give the same answers for the position, and for the pattern that may stand there.
+/// Whether two automata give the same answers for the position, and for a pattern at it.
 fn same_at(one: &impl Steps, other: &impl Steps, position: Position) -> bool {
     one.next(position) == other.next(position)
         && one.may_end(position) == other.may_end(position)
         && same_first(one, other, Expr::Inside(position))
 }
 
-/// Whether two automata give the same answers for the rules, and for each position to the last and for one on either
-/// side.
+/// Whether two automata give the same answers for the rules, and for each position from 0 to the one after the last.
 fn agree(one: &impl Steps, other: &impl Steps, last: Position) -> bool {
     let mut same = same_first(one, other, Expr::Rules);
     for position in 0..=last.saturating_add(1) {

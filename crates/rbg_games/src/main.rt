@@ -36,7 +36,7 @@ enum Program {
     RbgAuthor,
 }
 
-/// Runs a program with these words and this input, and says whether all went well.
+/// Runs a program with these words and this input. Returns whether all went well.
 fn run(
     rt: &HostRuntime,
     program: Program,
@@ -64,7 +64,7 @@ fn run(
     Ok(status == Status::Success)
 }
 
-/// Checks the game, counts its moves up to the depth, and says whether all went well.
+/// Checks the game, and counts its moves up to the depth. Returns whether all went well.
 fn check_and_count(
     rt: &HostRuntime,
     name: &str,
@@ -75,7 +75,7 @@ fn check_and_count(
     Ok(is_game && run(rt, Program::RbgAuthor, &["perft", name, depth], &[], output)?)
 }
 
-/// Follows the match that a file has, and says whether all went well.
+/// Follows the match that a file has. Returns whether all went well.
 fn follow_match(
     rt: &HostRuntime,
     name: &str,
@@ -99,7 +99,7 @@ fn follow_match(
     }
 }
 
-/// Compares both forms of the automaton of the game, and says whether they give the same answers.
+/// Compares both forms of the automaton of the game. Returns whether they give the same answers.
 fn compare_forms(rt: &HostRuntime, name: &str, output: &mut Vec<u8>) -> Result<bool, AllocError> {
     let Input::Whole(text) = GameFiles::new(rt).read_file(rt.alloc(), name, MAX_INPUT)? else {
         return Ok(false);
@@ -118,7 +118,7 @@ fn compare_forms(rt: &HostRuntime, name: &str, output: &mut Vec<u8>) -> Result<b
     Ok(agree)
 }
 
-/// Does the task of a line, and says whether all went well.
+/// Does the task of a line. Returns whether all went well.
 fn do_line(rt: &HostRuntime, line: &[u8], output: &mut Vec<u8>) -> Result<bool, AllocError> {
     let Ok(line) = str::from_utf8(line) else {
         return Ok(false);
@@ -139,7 +139,7 @@ fn do_line(rt: &HostRuntime, line: &[u8], output: &mut Vec<u8>) -> Result<bool, 
     }
 }
 
-/// Does the tasks of the lines, and says whether all went well.
+/// Does the tasks of the lines. Returns whether all went well.
 fn do_lines(rt: &HostRuntime, lines: &[u8], output: &mut Vec<u8>) -> Result<bool, AllocError> {
     let mut went_well = true;
     for line in lines.split(|byte| *byte == b'\n') {
@@ -150,7 +150,7 @@ fn do_lines(rt: &HostRuntime, lines: &[u8], output: &mut Vec<u8>) -> Result<bool
     Ok(went_well)
 }
 
-/// Writes what was found, and says whether all went well.
+/// Writes what was found. Returns whether all went well.
 fn write_all<W: Write>(output: &mut W, lines: &[u8], went_well: bool) -> bool {
     let written = output.write_all(lines).is_ok() && output.flush().is_ok();
     written && went_well

@@ -57,7 +57,7 @@ deep_place n at ts e = go (rules_at n ts) refl e
         let same : b ≡ at = cc in
         subst (λ j. Deep (AreRules (suc n)) n j ts) same (outcome_of n ts (Err (too_deep b)) is)
 
--- a bracket that is one too many is the first that is opened where 128 are open, and rules may go on with it
+-- a bracket that is one too many is the first that is opened while 128 are open, and rules may continue with it
 pub too_deep_here : (at : ℕ) (ts : List Lexeme) → whole_at (rules_at 128) ts ≡ Err (too_deep at) → IsTooDeep ts at
 too_deep_here at ts e = from 128 refl (deep_place 128 at ts e)
   where
@@ -71,7 +71,8 @@ too_deep_here at ts e = from 128 refl (deep_place 128 at ts e)
       fits = (suc n, (d.value, d.spells []));
     }
 
--- two lists with a bracket after each front, where the fronts leave the same number of brackets open and neither leaves more before
+-- two lists with a bracket after each front, if the fronts leave the same number of brackets open and neither leaves
+-- more before
 one_bracket : (m n : ℕ) (xs ys : List Lexeme) (x y : Lexeme) (us vs : List Lexeme) → xs ++ x ∷ us ≡ ys ++ y ∷ vs → opens x.kind ≡ true → opens y.kind ≡ true → open_after n xs ≡ m → open_after n ys ≡ m
     → ((front rest : List Lexeme) → xs ≡ front ++ rest → open_after n front ≤ m) → ((front rest : List Lexeme) → ys ≡ front ++ rest → open_after n front ≤ m) → x ≡ y
 one_bracket m n [] [] x y us vs same is_x is_y depth_x depth_y first_x first_y = cc
@@ -97,7 +98,7 @@ one_too_deep ts a b one other =
     let same = one_bracket 128 0 one.here.before other.here.before one.here.token other.here.token one.here.beyond other.here.beyond (sym one.here.whole ∙ other.here.whole) one.is_bracket other.is_bracket one.depth other.depth one.first other.first in
     sym one.here.place ∙ ap (λ (t : Lexeme). t.at) same ∙ other.here.place
 
--- where a bracket is opened too deep nothing is spelt within the depth
+-- if a bracket is opened too deep, nothing is spelt within the depth
 no_bracket_above : (n : ℕ) (ts before : List Lexeme) (bracket : Lexeme) (beyond : List Lexeme) (r : SpeltRule) → ts ≡ before ++ bracket ∷ beyond → opens bracket.kind ≡ true → open_after 0 before ≡ n → AreRules n ts r [] → ⊥
 no_bracket_above n ts before bracket beyond r whole is depth d =
     let piece : Piece (AreRules (suc n)) n ts r [] = (outcome_of n ts (Ok (r, [])) ((rules_read n).complete ts r [] d nothing_ends_rules)).1 in

@@ -78,7 +78,7 @@ chain-formed rank e (o ∷ os) h k =
     both (of_some_rank rank (operands_after no_operands ((first_of rank, e) ∷ o ∷ os)) (chain-after rank (more_operands (more_operands no_operands (first_of rank) e) o.0 o.1) os two (All-tail (IsFormedOperand rank) o os k)))
     (operands-formed rank no_operands ((first_of rank, e) ∷ o ∷ os) refl (All-cons (IsFormedOperand rank) (first_of rank, e) (o ∷ os) (record { formed = h; of_rank = first.1 }) k))
 
--- what a token that is an operator of the rank stands for
+-- what a token that is an operator of the rank means
 operator_of_rank : (rank : Rank) (k : TokenKind) (o : Operator) → operator_of rank k ≡ Some o → is_of_rank rank o ≡ true
 operator_of_rank rank kinds.Name o e = cc
 operator_of_rank rank kinds.Number o e = cc
@@ -149,7 +149,7 @@ open_atom_formed (moves d) = refl
 open_atom_formed (switches d e) = refl
 open_atom_formed (keeps d) = refl
 
--- atoms and what is made of them, by what stands in their brackets
+-- atoms and what is made of them, by what is in their brackets
 module _ (Sum : List Lexeme → SpeltExpression → List Lexeme → Type 0) (sum' : (ts : List Lexeme) (e : SpeltExpression) (rest : List Lexeme) → Sum ts e rest → IsFormedExpression e) where
   comparison_formed : (ts : List Lexeme) (r : SpeltRule) (rest : List Lexeme) → IsComparison Sum ts r rest → IsFormedRule r
   comparison_formed ts s rest (comparison {t1 = t1} {t2 = t2} {e = e} {f = f} d relation k) = both (sum' ts e t1 d) (sum' t2 f rest k)

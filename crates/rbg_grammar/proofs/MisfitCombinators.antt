@@ -13,7 +13,7 @@ use Rattle.rbg_grammar.proofs.Misfits.{Begun, Judged, Judges, Beyond, seen, give
 use Rattle.rbg_grammar.proofs.Readers.{kind_of-is_symbol, kind_of-is_name, kind_of-is_number}
 use Rattle.rbg_grammar.proofs.Turns.{after_some, within_enough}
 
--- what is read of one token that is in a table, where there is such a token
+-- what is read of one token that is in a table, if there is such a token
 module _ {A : Type 0} (table : TokenKind → Option A) (sample : Lexeme) (value : A) (is : table sample.kind ≡ Some value) where
   may_begin_one : Begun (IsOneOf table) []
   may_begin_one = record { other = sample ∷ []; value = value; spells = λ tail. one_of is }
@@ -136,7 +136,7 @@ pub within_judged : {A : Type 0} {P : List Lexeme → A → List Lexeme → Type
 unfolding within_at
 within_judged {A} {P} {read} o c j = bind (symbol_judged o) (λ at. closed_at c read at.1) (λ at u d. seen (λ ts x rest k. closed_as k (λ mid end e f. within (d ts) e f)) (closed_judged c j))
 
--- what stands before a closing bracket, as what is made of it with the opening one
+-- what comes before a closing bracket, as what is made of it with the opening one
 pub made_judged : {A B : Type 0} {o c : Symbol} {P : List Lexeme → A → List Lexeme → Type 0} {read : List Lexeme → Reading A} {at : ℕ} (R : List Lexeme → B → List Lexeme → Type 0) (u : List Lexeme) (make : A → B)
     → ((ts : List Lexeme) (x : A) (rest : List Lexeme) → Within o c P ts x rest → R ts (make x) rest) → ((tail : List Lexeme) → IsSymbol o (u ++ tail) at tail)
     → Judges P read → Judges (Beyond u R) (λ us. closed_at c read us >>= λ x. Ok (make x.0, x.1))

@@ -9,7 +9,7 @@ pub record Begun {A : Type 0} (P : List Lexeme → A → List Lexeme → Type 0)
   pub value : A
   pub spells : (tail : List Lexeme) → P (ts ++ (other ++ tail)) value tail
 
--- The tokens used are such a phrase, whatever follows. They are read in the same way where the next token is the same.
+-- The tokens used are such a phrase, whatever follows. They are read in the same way if the next token is the same.
 pub record Taken {A : Type 0} (P : List Lexeme → A → List Lexeme → Type 0) (read : List Lexeme → Reading A) (ts : List Lexeme) (x : A) (rest : List Lexeme) : Type 0 where
   pub used : List Lexeme
   pub whole : ts ≡ used ++ rest
@@ -105,7 +105,7 @@ module _ {A C : Type 0} (P : List Lexeme → A → List Lexeme → Type 0) (R : 
   joined : List Lexeme → Reading C
   joined ts = read ts >>= next
 
-  -- a first reading that may go on
+  -- a first reading that may continue
   begun_first : (before : List Lexeme) (b : Begun P before) → Judged (Beyond (before ++ b.other) R) (λ us. next (b.value, us)) [] (next (b.value, [])) → Begun R before
   begun_first before b j =
       let rest = begun_here (Beyond (before ++ b.other) R) (λ us. next (b.value, us)) (next (b.value, [])) j in
@@ -116,7 +116,7 @@ module _ {A C : Type 0} (P : List Lexeme → A → List Lexeme → Type 0) (R : 
             subst (λ us. R us rest.value tail) same (rest.spells tail);
       }
 
-  -- a second reading that may go on, after a first one
+  -- a second reading that may continue, after a first one
   begun_second : (used before : List Lexeme) → Begun (Beyond used R) before → Begun R (used ++ before)
   begun_second used before b = record { other = b.other; value = b.value; spells = λ tail. subst (λ us. R us b.value tail) (sym (append_assoc used before (b.other ++ tail))) (b.spells tail) }
 

@@ -4,7 +4,7 @@ use Rattle.rbg_macro.proofs.TextCommon.{Lexeme, opens, closes}
 use Rattle.rbg_macro.specs.declared.token.TokenKind.{TokenKind}
 use Rattle.rbg_grammar.specs.Spells.{open_with, open_after}
 
--- each opening bracket among the tokens stands where fewer than so many are open, if this many are open before them
+-- each opening bracket among the tokens comes while fewer than `limit` are open, if this many are open before them
 abbrev pub Fits : ℕ → ℕ → List Lexeme → Type 0
 Fits limit n [] = Unit {0}
 Fits limit n (t ∷ ts) = (opens t.kind ≡ true → n < limit) × Fits limit (open_with n t.kind) ts
@@ -30,7 +30,7 @@ closed n k no_opening e = rw (no_opening, e) (omega arith)
 pub passed : (n : ℕ) (k : TokenKind) → opens k ≡ false → closes k ≡ false → open_with n k ≡ n
 passed n k no_opening no_closing = rw (no_opening, no_closing)
 
--- where each opening bracket fits, no more are open at any place
+-- if each opening bracket fits, no more than the limit are open at any place
 pub front_fits : (limit n : ℕ) (front rest : List Lexeme) → n ≤ limit → Fits limit n (front ++ rest) → open_after n front ≤ limit
 front_fits limit n [] rest few f = few
 front_fits limit n (t ∷ front) rest few f = front_fits limit (open_with n t.kind) front rest (after (opens t.kind) (closes t.kind) f.0) f.1

@@ -25,7 +25,7 @@ places (a ∷ xs) (b ∷ ys) x y us vs e =
     let tails : xs ++ x ∷ us ≡ ys ++ y ∷ vs = cc in
     beyond_both a b xs ys x y head (places xs ys x y us vs tails)
 
--- tokens that can go on could go on before their last ones were there
+-- tokens that can continue could continue before their last ones were there
 could_go_on : (kind : SectionKind) (xs : List Lexeme) (x : Lexeme) (mid ts : List Lexeme) → ts ≡ xs ++ x ∷ mid → CanGoOn kind ts → CanGoOn kind (xs ++ x ∷ [])
 could_go_on kind xs x mid ts is goes =
     let same : ts ++ goes.0 ≡ (xs ++ x ∷ []) ++ (mid ++ goes.0) = ap (λ us. us ++ goes.0) is ∙ append_assoc xs (x ∷ mid) goes.0 ∙ sym (append_assoc xs (x ∷ []) (mid ++ goes.0)) in

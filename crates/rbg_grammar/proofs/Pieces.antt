@@ -6,7 +6,7 @@ use Rattle.rbg_macro.specs.declared.token.TokenKind.TheVariants as kinds
 use Rattle.rbg_grammar.proofs.Common.{IsSymbol, symbol, open_with, open_after, misfit, too_deep, Reading, ◌>>=◌}
 use Rattle.rbg_grammar.proofs.Nesting.{Fits, open_after-append, fits_append, opened, closed, passed, plain_fits}
 
--- The tokens of a phrase spell it whatever follows them. Their brackets match, and at most so many are open at once.
+-- The tokens of a phrase spell it whatever follows them. Their brackets match, and at most n are open at once.
 pub record Piece {A : Type 0} (P : List Lexeme → A → List Lexeme → Type 0) (n : ℕ) (ts : List Lexeme) (x : A) (rest : List Lexeme) : Type 0 where
   pub used : List Lexeme
   pub whole : ts ≡ used ++ rest
@@ -14,7 +14,8 @@ pub record Piece {A : Type 0} (P : List Lexeme → A → List Lexeme → Type 0)
   pub balanced : (k : ℕ) → open_after k used ≡ k
   pub fits : (k : ℕ) → Fits (k + n) k used
 
--- The bracket at this place is the first that is opened where so many are open, and with other tokens after it there is a phrase.
+-- The bracket at this place is the first that is opened while n are open, and with other tokens after it there is a
+-- phrase.
 pub record Deep {A : Type 0} (P : List Lexeme → A → List Lexeme → Type 0) (n at : ℕ) (ts : List Lexeme) : Type 0 where
   pub before : List Lexeme
   pub bracket : Lexeme
@@ -34,7 +35,7 @@ pub record Sample {A : Type 0} (P : List Lexeme → A → List Lexeme → Type 0
   pub value : A
   pub spells : (tail : List Lexeme) → P (tokens ++ tail) value tail
 
--- What was read with so many brackets, against what is read with one more: the same, unless a bracket was one too many.
+-- What was read with n brackets, compared with what is read with one more: the same, unless a bracket was one too many.
 abbrev pub Outcome : {A : Type 0} → (List Lexeme → A → List Lexeme → Type 0) → ℕ → List Lexeme → Reading A → Reading A → Type 0
 Outcome P n ts (Ok q) r = (r ≡ Ok q) × Piece P n ts q.0 q.1
 Outcome P n ts (Err (misfit place)) r = r ≡ Err (misfit place)

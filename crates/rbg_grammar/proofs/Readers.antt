@@ -13,7 +13,7 @@ pub bind_ok : {A B : Type 0} (r : Result A Fault) (f : A → Result B Fault) (y 
 bind_ok (Ok x) f y e = (x, refl, e)
 bind_ok (Err d) f y e = cc
 
--- Each phrase has at least so many tokens, and is read where what follows may follow.
+-- Each phrase has at least this many tokens, and is read if what follows may follow.
 pub record IsReadBy {A : Type 0} (least : ℕ) (P : List Lexeme → A → List Lexeme → Type 0) (Follow : List Lexeme → Type 0) (read : List Lexeme → Reading A) : Type 0 where
   pub sound : (ts : List Lexeme) (x : A) (rest : List Lexeme) → read ts ≡ Ok (x, rest) → P ts x rest
   pub complete : (ts : List Lexeme) (x : A) (rest : List Lexeme) → P ts x rest → Follow rest → read ts ≡ Ok (x, rest)
@@ -136,7 +136,7 @@ module _ {A : Type 0} (table : TokenKind → Option A) where
   pub one_of_read : IsReadBy 1 (IsOneOf table) Always (one_of_at table)
   one_of_read = record { sound = one_of_sound; complete = λ ts x rest d f. one_of_complete d; shorter = λ ts x rest d. one_of_shorter d }
 
-  -- what a test says of its token
+  -- what a test returns for its token
   pub one_of_next : {ts rest : List Lexeme} {x : A} → IsOneOf table ts x rest → next_is (is_in table) ts ≡ true
   one_of_next (one_of k) = rw k
 
@@ -155,7 +155,7 @@ name_next_at (name k) = rw k
 pub name_next : (ts : List Lexeme) (n : SpeltName) (rest : List Lexeme) → IsName ts n rest → next_is is_name_kind ts ≡ true
 name_next ts n rest d = name_next_at d
 
--- what any test says where the next token is a symbol, or a name
+-- what any test returns if the next token is a symbol, or a name
 pub next_test-symbol : (s : Symbol) (test : TokenKind → Bool) (ts : List Lexeme) → next_is (is_symbol s) ts ≡ true → next_is test ts ≡ test (kinds.Symbol s)
 next_test-symbol s test [] e = cc
 next_test-symbol s test (t ∷ ts) e = ap test (kind_of-is_symbol s t.kind e)

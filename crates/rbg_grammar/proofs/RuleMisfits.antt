@@ -52,7 +52,7 @@ module _ (Primary : List Lexeme → SpeltExpression → List Lexeme → Type 0) 
   sum_over_judged : TakesSome (further_operand_at ranks.Product (operand_at ranks.Product primary)) → TakesSome (further_operand_at ranks.Sum (operand_at ranks.Sum primary)) → Judges (IsSumOver Primary) (sum_over_at primary)
   sum_over_judged some_factor some_term = chain_judged ranks.Sum (chain_judged ranks.Product factor_judged some_factor) some_term
 
--- where no bracket may be opened
+-- if no bracket may be opened
 deep_at : {A : Type 0} (P : List Lexeme → A → List Lexeme → Type 0) (test : TokenKind → Bool) (ts : List Lexeme) → next_is test ts ≡ true → Judged P too_deep_at ts (too_deep_at ts)
 deep_at P test [] e = cc
 deep_at P test (t ∷ ts) e = λ none. cc

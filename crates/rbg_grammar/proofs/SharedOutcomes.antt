@@ -49,14 +49,14 @@ module _ {A B C : Type 0} (P : List Lexeme → A → List Lexeme → Type 0) (Q 
   later ts x mid p (Err (misfit place)) r' o = ap (λ u. u >>= λ q. Ok (f x q.0, q.1)) o
   later ts x mid p (Err (too_deep at)) r' o = second_deep P Q R f join n ts x mid at p o
 
-  -- two readings, where the second one may be of no tokens or of those of the sample
+  -- two readings, if the second one may be of no tokens or of those of the sample
   pub both_outcome : Sample Q → (ts : List Lexeme) (r r' : Reading A) (next next' : List Lexeme → Reading B) → Outcome P n ts r r' → ((us : List Lexeme) → Outcome Q n us (next us) (next' us))
       → Outcome R n ts (r >>= λ q. next q.1 >>= λ s. Ok (f q.0 s.0, s.1)) (r' >>= λ q. next' q.1 >>= λ s. Ok (f q.0 s.0, s.1))
   both_outcome some ts r r' next next' o seconds =
       bind P R n ts ts r r' (λ q. next q.1 >>= λ s. Ok (f q.0 s.0, s.1)) (λ q. next' q.1 >>= λ s. Ok (f q.0 s.0, s.1)) o
       (λ q p. later ts q.0 q.1 p (next q.1) (next' q.1) (seconds q.1)) (λ at d. first_deep P Q R f join n ts at d some)
 
--- the same, where the second value is that of both
+-- the same, if the second value is that of both
 later_alone : {A B : Type 0} (P : List Lexeme → A → List Lexeme → Type 0) (Q R : List Lexeme → B → List Lexeme → Type 0)
     (join : (ts : List Lexeme) (x : A) (mid : List Lexeme) (y : B) (rest : List Lexeme) → P ts x mid → Q mid y rest → R ts y rest) (n : ℕ)
     (ts : List Lexeme) (x : A) (mid : List Lexeme) → Piece P n ts x mid → (r r' : Reading B) → Outcome Q n mid r r' → Outcome R n ts r r'

@@ -12,7 +12,7 @@ use Rattle.rbg_grammar.specs.Grammar.{operator_of, IsOperator, IsFurtherOperand,
 use Rattle.rbg_grammar.proofs.Readers.{bind_ok, ok_one, IsReadBy, Always, symbol_next, name_read, number_read, one_of_read, one_of_next, next_test-symbol}
 use Rattle.rbg_grammar.proofs.Combinators.{FirstThen, first_then, both_read, repeated_read, Begins, Stops, after_read, within_read, may_follow}
 
--- what any test says of the first token of a phrase
+-- what any test returns for the first token of a phrase
 pub symbol_test : {s : Symbol} {ts rest : List Lexeme} {at : ℕ} → IsSymbol s ts at rest → (test : TokenKind → Bool) → next_is test ts ≡ test (kinds.Symbol s)
 symbol_test (symbol k) test = ap test k
 

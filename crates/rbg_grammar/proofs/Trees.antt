@@ -1,4 +1,4 @@
--- What the trees of the code stand for, level by level.
+-- What the trees of the code mean, level by level.
 use Rattle.rbg_base.proofs.Common.{◌≡◌, ◌∙◌, ℕ, List, [], ◌∷◌, Option, length, map, option_map, rules, refl, arith, Vec, vec_len, length-map, Global, Box}
 use Rattle.rbg_grammar.proofs.Common.{in_sequence, in_choice, SpeltExpression, SpeltRule, SpeltAction, no_rules, no_operands, rules_after, operands_after, in_chain, name_of, number_of, expression_of, operand_of, action_of, rule_of, Name, Number, Expression, Operand, Rule, Action}
 use Rattle.rbg_grammar.specs.declared.expression.Expression as expressions
@@ -82,7 +82,7 @@ pub ruleset stars = (rule_of-Star)
 -- expressions without parts that are lists
 pub ruleset leaves = (expression_of-Number, expression_of-Name, expression_of-Negated)
 
--- two functions of a list that are the same where it doesn't have one item
+-- two functions of a list that are the same if it doesn't have one item
 not_one : {A B : Type 0} (f g : List A → B) → f [] ≡ g [] → ((x y : A) (xs : List A) → f (x ∷ y ∷ xs) ≡ g (x ∷ y ∷ xs)) → (xs : List A) → (length xs ≡ 1 → ⊥) → f xs ≡ g xs
 not_one f g none several [] other = none
 not_one f g none several (x ∷ []) other = absurd (other refl)

@@ -15,7 +15,7 @@ after_at-taken s read (t ∷ ts) e = rw e
 abbrev pub prepend : {A : Type 0} → List A → Reading (List A) → Reading (List A)
 prepend xs r = r >>= λ m. Ok (xs ++ m.0, m.1)
 
--- Of tokens a first part and so many turns are read where these were read before, and the rest from these tokens on.
+-- Reading further parts from one place gives the parts `before`, and then those that are read from `rest` on.
 abbrev pub ReadsOn : {A : Type 0} → A → (TokenKind → Bool) → (List Lexeme → Reading A) → List Lexeme → List A → List Lexeme → Type 0
 ReadsOn first test read from before rest = further_at first test read from ≡ prepend before (repeated_at test read rest)
 
@@ -123,7 +123,7 @@ module _ {A : Type 0} (read : List Lexeme → Reading A) (read_some : TakesSome 
 pub map-push : {A B : Type 0} (f : A → B) (xs ys : List A) (x : A) → ys ≡ xs ++ x ∷ [] → map f ys ≡ map f xs ++ f x ∷ []
 map-push f xs ys x e = ap (map f) e ∙ map-append f xs (x ∷ [])
 
--- what was left where the next token was the symbol, and where it was not
+-- what was left if the next token was the symbol, and if it was not
 pub taken : {s : Symbol} {flag : Bool} {old new : List Lexeme} → Takes s flag old new → flag ≡ true → (next_is (is_symbol s) old ≡ true) × (new ≡ drop 1 old)
 taken {s} {flag} {old} {new} h e = (h.found ∙ e, h.rest ∙ ap (λ b. cond b (drop 1 old) old) e)
 

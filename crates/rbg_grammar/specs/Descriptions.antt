@@ -1,4 +1,4 @@
--- The spelt description that a description of the code stands for.
+-- The spelt description that a description of the code means.
 use Rattle.rbg_grammar.specs.Tree.{SpeltDescription}
 use Rattle.rbg_grammar.specs.Views.{spelt}
 use Rattle.rbg_grammar.specs.declared.description.Description.{Description}

@@ -54,11 +54,11 @@ StarredAssignments =
     (act (assign (letter_name 97 2) (named 98 4)))) (act (assign (letter_name 99 6) (named 100 8))))))
     []
 
--- this symbol so many times, at places that follow one another
+-- this symbol this many times, at places that follow one another
 abbrev pub signs : Symbol → (at count : ℕ) → List Lexeme
 signs s at count = map (sign s) (range_with_len at count)
 
--- so many opening parentheses, the name a, and as many closing ones
+-- n opening parentheses, the name a, and as many closing ones
 abbrev pub in_parentheses : ℕ → List Lexeme
 in_parentheses n = signs symbols.OpenParenthesis 0 n ++ letter 97 n ∷ signs symbols.CloseParenthesis (n + 1) n
 
@@ -66,17 +66,17 @@ in_parentheses n = signs symbols.OpenParenthesis 0 n ++ letter 97 n ∷ signs sy
 abbrev pub DeepestBrackets : Type 0
 DeepestBrackets = AreRules max_brackets (in_parentheses 128) (act (shift (letter_name 97 128))) []
 
--- In 129 it is nothing.
+-- In 129 it is no rule.
 abbrev pub TooManyBrackets : Type 0
 TooManyBrackets = (r : SpeltRule) → AreRules max_brackets (in_parentheses 129) r [] → ⊥
 
--- a** is nothing, at any depth of brackets.
+-- a** is no rule, at any depth of brackets.
 abbrev pub TwoStars : Type 0
 TwoStars =
     (brackets : ℕ) (r : SpeltRule)
     → AreRules brackets (letter 97 0 ∷ sign symbols.Star 1 ∷ sign symbols.Star 2 ∷ []) r [] → ⊥
 
--- --a is nothing, at any depth of brackets.
+-- --a is no sum, at any depth of brackets.
 abbrev pub TwoMinuses : Type 0
 TwoMinuses =
     (brackets : ℕ) (e : SpeltExpression)
@@ -93,7 +93,7 @@ pub record TooDeepAlone : Type 0 where
 abbrev pub closing_first : List Lexeme
 closing_first = sign symbols.CloseParenthesis 0 ∷ signs symbols.OpenParenthesis 1 129
 
--- It spells nothing at any depth, and no bracket of it is too deep, since no rules begin so.
+-- It spells nothing at any depth, and no bracket of it is too deep, since no rules begin like this.
 pub record MisspeltAlone : Type 0 where
   pub spells_nothing : (brackets : ℕ) (r : SpeltRule) → AreRules brackets closing_first r [] → ⊥
   pub not_deep : (at : ℕ) → IsTooDeep closing_first at → ⊥

@@ -1,4 +1,4 @@
--- What is read from the front of a list of tokens, phrase by phrase: a value and the tokens after it, or why there is
+-- The reading of a list of tokens from the front, phrase by phrase: a value and the tokens after it, or why there is
 -- none.
 use Rattle.std.specs.Prelude.{◌≡◌, ◌<◌, ◌&&◌, ℕ, zero, suc, List, [], ◌∷◌, Bool, false, codes, drop, length, Option, Some, None, is_some, Result, Ok, Err, if◌then◌else◌}
 use Rattle.std.specs.Str.{bytes_eq}
@@ -12,7 +12,7 @@ use Rattle.rbg_base.specs.Decimals.{number_of_digits}
 use Rattle.rbg_macro.specs.Kinds.{is_name_kind, is_number_kind, is_symbol}
 
 -- Why a piece isn't read: the token at this place doesn't fit, or the tokens end; or the bracket at this place is
--- opened where none may be.
+-- opened though none may be.
 pub data Fault : Type 0 where
   misfit : Option ℕ → Fault
   too_deep : ℕ → Fault
@@ -56,7 +56,7 @@ symbol_at s ts = do
   t ← token_at (is_symbol s) ts
   Ok (t.0.at, t.1)
 
--- the front token was passed if it is this symbol, and the flag says so
+-- the front token was passed if it is this symbol, and the flag is set exactly then
 pub record Takes (s : Symbol) (taken : Bool) (old new : List Lexeme) : Type 0 where
   pub found : next_is (is_symbol s) old ≡ taken
   pub rest : new ≡ (if taken then drop 1 old else old)
@@ -125,7 +125,7 @@ separated_at s read ts = do
   more ← repeated_at (is_symbol s) (after_at s read) first.1
   Ok (first.0 ∷ more.0, more.1)
 
--- a list that may be empty: there is a part where the next token passes the test
+-- a list that may be empty: there is a part if the next token passes the test
 unfoldable pub listed_at :
     {A : Type 0} → (TokenKind → Bool) → (List Lexeme → Reading A) → List Lexeme → Reading (List A)
 listed_at test read ts = if next_is test ts then separated_at Comma read ts else Ok ([], ts)
@@ -214,7 +214,7 @@ board_at ts =
     else (if next_word (codes "hexagon") ts then generated_at (codes "hexagon") hexagon_at ts
     else generated_at (codes "graph") graph_at ts)
 
--- a value, where no token is left
+-- a value, if no token is left
 abbrev pub ended_at : {A : Type 0} → A → List Lexeme → Result A Fault
 ended_at x [] = Ok x
 ended_at x (t ∷ ts) = Err (misfit (Some t.at))
@@ -225,7 +225,7 @@ whole_at read ts = do
   x ← read ts
   ended_at x.0 x.1
 
--- the variables, by the sections that are theirs: none where there is no section
+-- the variables, by the sections that are theirs: none if there is no section
 unfoldable pub variables_at : List SectionTokens → Result (List SpeltBounded) Fault
 variables_at [] = Ok []
 variables_at (s ∷ ss) = whole_at (listed_at is_name_kind bounded_at) s.tokens

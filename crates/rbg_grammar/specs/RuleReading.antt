@@ -92,7 +92,7 @@ abbrev pub in_choice : List SpeltRule → SpeltRule
 in_choice [] = choice no_rules
 in_choice (r ∷ rs) = choice_of r rs
 
--- the place of a pattern and the rules in it, where this sign is after its brace
+-- the place of a pattern and the rules in it, if this sign is after its brace
 unfoldable pub pattern_at : Symbol → (List Lexeme → Reading SpeltRule) → List Lexeme → Reading (ℕ × SpeltRule)
 pattern_at sign rules ts = do
   at ← symbol_at OpenBrace ts

@@ -15,11 +15,11 @@ sections_of kind sections = filter (λ s. same_kind s.kind kind) sections
 abbrev pub count_of : SectionKind → List SectionTokens → ℕ
 count_of kind sections = length (sections_of kind sections)
 
--- no section stands twice
+-- no kind of section occurs twice
 abbrev pub AreDifferent : List SectionTokens → Type 0
 AreDifferent sections = (kind : SectionKind) → count_of kind sections ≤ 1
 
--- the first section that stands a second time, in order of the text, is of this kind
+-- the first section that occurs a second time, in order of the text, is of this kind
 pub record IsFirstTwice (sections : List SectionTokens) (kind : SectionKind) : Type 0 where
   pub before : List SectionTokens
   pub again : SectionTokens

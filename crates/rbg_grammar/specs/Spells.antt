@@ -61,7 +61,7 @@ pub record TokenAt (ts : List Lexeme) (at : ℕ) : Type 0 where
   pub whole : ts ≡ before ++ token ∷ beyond
   pub place : token.at ≡ at
 
--- The token at this place is the first that doesn't fit: the tokens before it can go on, and with it they can't.
+-- The token at this place is the first that doesn't fit: the tokens before it can continue, and with it they can't.
 pub record IsMisfit (kind : SectionKind) (ts : List Lexeme) (at : ℕ) : Type 0 where
   pub here : TokenAt ts at
   pub fits : CanGoOn kind here.before
@@ -93,8 +93,8 @@ abbrev pub open_after : ℕ → List Lexeme → ℕ
 open_after n [] = n
 open_after n (t ∷ ts) = open_after (open_with n t.kind) ts
 
--- The bracket at this place of the tokens is the first that is opened where 128 are open, and rules may go on with it:
--- with some other tokens after it they are spelt, if more brackets may be open. No other section nests brackets so
+-- The bracket at this place of the tokens is the first that is opened while 128 are open, and rules may continue with
+-- it: with some other tokens after it they are spelt, if more brackets may be open. No other section nests brackets so
 -- deep.
 pub record IsTooDeep (ts : List Lexeme) (at : ℕ) : Type 0 where
   pub here : TokenAt ts at

@@ -6,12 +6,12 @@ use Rattle.rbg_grammar.specs.declared.expression.Rank.{Rank}
 use Rattle.rbg_grammar.specs.declared.expression.Rank.TheVariants.{Sum, Product}
 use Rattle.rbg_base.specs.declared.relation.Relation.{Relation}
 
--- a name, and the offset where it stands
+-- a name, and its offset
 pub record SpeltName : Type 0 where
   pub text : List ℕ
   pub at : ℕ
 
--- a number below 2 ^ 64, or None for a greater one, and the offset where it stands
+-- a number below 2 ^ 64, or None for a larger one, and its offset
 pub record SpeltNumber : Type 0 where
   pub value : Option ℕ
   pub at : ℕ
@@ -47,8 +47,8 @@ mutual
     no_rules : SpeltRules
     more_rules : SpeltRules → SpeltRule → SpeltRules
 
-  -- An action. A switch has the offset of its arrow, and no player where it is the keeper's; a pattern has the offset
-  -- of its opening brace.
+  -- An action. A switch has the offset of its arrow, and no player if it is the keeper's; a pattern has the offset of
+  -- its opening brace.
   pub data SpeltAction : Type 0 where
     shift : SpeltName → SpeltAction
     on : List SpeltName → SpeltAction

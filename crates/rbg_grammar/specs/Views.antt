@@ -1,4 +1,4 @@
--- The spelt tree that a tree of the code stands for.
+-- The spelt tree that a tree of the code means.
 use Rattle.std.specs.Prelude.{List, map, option_map}
 use Rattle.std.specs.declared.alloc.Global.{Global}
 use Rattle.std.specs.declared.vec.Vec.{Vec}

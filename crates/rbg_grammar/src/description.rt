@@ -17,7 +17,7 @@ pub struct Description<'a> {
     pub ghost whole: { IsWhole (spelt players variables pieces board rules) },
 }
 
-/// Written out, so that letting a description go is one call in the proofs of those who hold one, not a step for each part.
+/// Written by hand: dropping a description is then one call in the proofs of its owners, not a step for each part.
 impl Drop for Description<'_> {
     fn drop(self) {
         let Description {
@@ -123,7 +123,7 @@ impl<'a> Description<'a> {
     }
 }
 
-/// A player or a variable with the greatest value that it may have, as in `white(100)`.
+/// A player or a variable with the maximum of its value, as in `white(100)`.
 #[derive(Drop)]
 pub struct Bounded<'a> {
     pub name: Name<'a>,
@@ -147,7 +147,7 @@ pub enum Board<'a> {
     },
 }
 
-/// Written out, so that letting a board go is one call in the proofs of those who hold one, not a step for each part.
+/// Written by hand: dropping a board is then one call in the proofs of its owners, not a step for each part.
 impl Drop for Board<'_> {
     fn drop(self) {
         match self {

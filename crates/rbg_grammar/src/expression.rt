@@ -15,7 +15,7 @@ pub enum Expression<'a> {
     Chain(Vec<Operand<'a>>),
 }
 
-/// Written out, so that letting an expression go is one call in the proofs of those who hold one, not a step for each part.
+/// Written by hand: dropping an expression is then one call in the proofs of its owners, not a step for each part.
 impl Drop for Expression<'_> {
     #[cycle(expression)]
     fn drop(self) {

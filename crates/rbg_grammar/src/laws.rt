@@ -11,8 +11,8 @@ pub fn spelt_descriptions_are_whole()
     ensures { WholeLaw }
 {}
 
-/// The tokens of a section stop fitting at most at one place: the first token that doesn't fit, or, where all of them
-/// fit, the section's `#`.
+/// The tokens of a section stop fitting at most at one place: the first token that doesn't fit, or the section's `#` if
+/// all of them fit.
 pub fn sections_stop_fitting_at_one_place()
     ensures { OnePlaceLaw }
 {}

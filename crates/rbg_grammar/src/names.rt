@@ -1,8 +1,8 @@
-//! Names and numbers of a description, with the places where they stand.
+//! Names and numbers of a description, with their offsets in the text.
 ghost use Rattle.std.specs.Prelude.{IsTrue};
 ghost use Rattle.rbg_base.specs.Names.{is_name};
 
-/// A name of the language, whose bytes are borrowed, and the offset in the text where it stands.
+/// A name of the language, whose bytes are borrowed, and its offset in the text, in bytes.
 #[derive(Clone, Copy, PartialEq, Eq)]
 pub struct Name<'a> {
     pub text: &'a [u8],
@@ -10,7 +10,7 @@ pub struct Name<'a> {
     pub ghost valid: { IsTrue (is_name text.now) },
 }
 
-/// A number, and the offset in the text where it stands.
+/// A number, and its offset in the text, in bytes.
 #[derive(Clone, Copy, PartialEq, Eq)]
 pub struct Number {
     /// None if the number is 2^64 or more.

@@ -15,7 +15,7 @@ pub enum Rule<'a> {
     Star(Box<Rule<'a>>),
 }
 
-/// Written out, so that letting a rule go is one call in the proofs of those who hold one, not a step for each part.
+/// Written by hand: dropping a rule is then one call in the proofs of its owners, not a step for each part.
 impl Drop for Rule<'_> {
     #[cycle(rule)]
     fn drop(self) {
@@ -46,7 +46,7 @@ pub enum Action<'a> {
         relation: Relation,
         right: Expression<'a>,
     },
-    /// `->p` with its player, `->>` with none, and the offset of the arrow.
+    /// `->p` with its player, or `->>` with none, and the offset of the arrow.
     Switch {
         at: usize,
         player: Option<Name<'a>>,

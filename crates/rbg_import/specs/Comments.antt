@@ -1,8 +1,8 @@
--- Comments of the paper's language, and what stands in their place.
+-- Comments of the paper's language, and what replaces them.
 use Rattle.std.specs.Prelude.{ℕ, ◌≡◌, ◌≢◌, ◌+◌, ◌-◌, ◌<◌, ◌≤◌, ◌==◌, ◌||◌, Bool, true, false, List, [], ◌∷◌, ◌++◌, length, drop, slice_index, slice_range, codes, if◌then◌else◌}
 use Rattle.std.specs.List.{flat_map}
 
--- these two bytes stand at an offset
+-- these two bytes are at an offset
 pub record StandsAt (bytes : List ℕ) (at first second : ℕ) : Type 0 where
   pub within : at + 1 < length bytes
   pub is_first : slice_index bytes at ≡ first
@@ -28,7 +28,7 @@ pub record IsBlock (bytes : List ℕ) (at end : ℕ) : Type 0 where
   pub closes : StandsAt bytes (end - 2) 42 47
   pub first : (k : ℕ) → at + 2 ≤ k → k < end - 2 → StandsAt bytes k 42 47 → ⊥
 
--- a `/*` after which no `*/` stands
+-- a `/*` without a `*/` after it
 pub record IsOpen (bytes : List ℕ) (at end : ℕ) : Type 0 where
   pub opens : StandsAt bytes at 47 42
   pub last : end ≡ length bytes
@@ -38,7 +38,7 @@ pub record IsOpen (bytes : List ℕ) (at end : ℕ) : Type 0 where
 abbrev pub is_space : ℕ → Bool
 is_space b = b == 32 || b == 9 || b == 13
 
--- there is a line feed, and nothing but spaces stands before it
+-- there is a line feed, and nothing but spaces is before it
 abbrev pub ends_line : List ℕ → Bool
 ends_line [] = false
 ends_line (b ∷ bs) = if b == 10 then true else if is_space b then ends_line bs else false

@@ -11,8 +11,7 @@ pub record IsGraph (bytes : List ℕ) : Type 0 where
   pub board : Board
   pub is : bytes ≡ graph_text board
 
--- What stands between two offsets is replaced by a graph, and by what stands before it. Elsewhere comments alone are
--- rewritten.
+-- The part between two offsets is replaced by some notes and a graph. In the rest only comments are rewritten.
 pub record IsChanged (text new : List ℕ) : Type 0 where
   pub start : ℕ
   pub end : ℕ
@@ -32,7 +31,7 @@ pub data IsImported (text new : List ℕ) : Type 0 where
   comments : Rewrites text (length text) new → IsImported text new
   board : IsChanged text new → IsImported text new
 
--- what comes of a text
+-- the result of an import
 abbrev pub ImportsTo : List ℕ → Imported → Type 0
 ImportsTo text (Text new) = IsImported text new.items
 ImportsTo text (Faults faults) = Unit {0}

@@ -1,4 +1,4 @@
--- The parts of a text, as the code tells them.
+-- The parts of a text, as the code sees them.
 use Rattle.std.specs.Prelude.{ℕ, ◌≡◌, ◌<◌, ◌≤◌, List, ◌++◌, length}
 use Rattle.rbg_import.specs.declared.comments.Part.{Part}
 use Rattle.rbg_import.specs.declared.comments.PartKind.{PartKind}
@@ -11,7 +11,7 @@ IsKind Line bytes at end = IsLine bytes at end
 IsKind Block bytes at end = IsBlock bytes at end
 IsKind Open bytes at end = IsOpen bytes at end
 
--- this part stands at an offset
+-- this part is at an offset
 pub record IsPart (bytes : List ℕ) (at : ℕ) (p : Part) : Type 0 where
   pub after : at < p.end
   pub within : p.end ≤ length bytes

@@ -54,6 +54,6 @@ pub(crate) struct Board<'a> {
     pub cells: Vec<Cell<'a>>,
     /// How many cells the first row has, holes included.
     pub width: Option<usize>,
-    /// Whether a row lacks a cell, or has another number of them than the first one.
+    /// Whether a row lacks a cell, or has another number of cells than the first one.
     pub has_holes: bool,
 }

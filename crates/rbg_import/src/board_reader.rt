@@ -18,7 +18,7 @@ impl<'a> Reader<'a> {
         Reader { tokens, next: 0 }
     }
 
-    /// The token at which the board doesn't go on as it should, or the last one where it ends too early.
+    /// The token at which the board doesn't continue as it should, or the last one if it ends too early.
     pub fn misfit(&self) -> Option<Token<'a>> {
         self.tokens.get(self.next).or(self.tokens.last()).copied()
     }
@@ -143,7 +143,7 @@ fn read_rows<'a>(
     Ok(true)
 }
 
-/// Notes the number of the cells of a row, holes included.
+/// Keeps the number of the cells of a row, holes included.
 fn note_width(board: &mut Board<'_>, width: usize) {
     match board.width {
         Some(first) if first != width => board.has_holes = true,
@@ -152,7 +152,7 @@ fn note_width(board: &mut Board<'_>, width: usize) {
     }
 }
 
-/// Reads the cells of a row up to its closing bracket. How many they are, holes included.
+/// Reads the cells of a row up to its closing bracket. Returns their number, holes included.
 fn read_row<'a>(
     reader: &mut Reader<'a>,
     board: &mut Board<'a>,

@@ -1,4 +1,4 @@
-//! Comments of the paper's language: what begins with `//`, and what stands between `/*` and `*/`.
+//! Comments of the paper's language: what begins with `//`, and what is between `/*` and `*/`.
 ghost use Rattle.std.specs.Prelude.{◌≡◌, ◌↔◌, ℕ, ◌+◌, ◌<◌, ◌≤◌, ◌≢◌, ◌++◌, IfNone, IfSome, IsTrue, OnOk, length, slice_index};
 ghost use Rattle.std.specs.List.{flat_map};
 ghost use Rattle.rbg_import.specs.Comments.{AddsRewritten, StandsAt, commented, commented_byte, ends_line, feed_before, is_space};
@@ -19,14 +19,14 @@ enum PartKind {
     Open,
 }
 
-/// What stands at an offset, and the offset after it.
+/// What begins at an offset, and the offset after it.
 #[derive(Clone, Copy)]
 struct Part {
     kind: PartKind,
     end: usize,
 }
 
-/// What stands at an offset.
+/// What begins at an offset.
 fn part_at(bytes: &[u8], at: usize) -> Part
     requires { at < length bytes.now }
     ensures { IsPart bytes.now at result }
@@ -46,7 +46,7 @@ fn part_at(bytes: &[u8], at: usize) -> Part
     }
 }
 
-/// Whether these two bytes stand at an offset.
+/// Whether these two bytes are at an offset.
 fn stands_at(bytes: &[u8], at: usize, first: u8, second: u8) -> bool
     requires { at < length bytes.now }
     ensures { IsTrue result ↔ StandsAt bytes.now at first second }
@@ -70,7 +70,7 @@ fn line_end(bytes: &[u8], from: usize) -> usize
     bytes.len()
 }
 
-/// The comment whose `/*` stands at an offset.
+/// The comment whose `/*` is at an offset.
 fn block_part(bytes: &[u8], at: usize) -> Part
     requires { StandsAt bytes.now at 47 42 }
     ensures { IsPart bytes.now at result }
@@ -87,7 +87,7 @@ fn block_part(bytes: &[u8], at: usize) -> Part
     }
 }
 
-/// Where the first `*/` stands from an offset on.
+/// The offset of the first `*/` from an offset on.
 fn body_end(bytes: &[u8], from: usize) -> Option<usize>
     requires { from ≤ length bytes.now }
     ensures after { IfSome result (λ index. from ≤ index) }
@@ -108,7 +108,7 @@ fn body_end(bytes: &[u8], from: usize) -> Option<usize>
 pub(crate) struct Plain {
     /// As many bytes as the text has, with its line feeds.
     pub bytes: Vec<u8>,
-    /// Where a comment begins that isn't closed.
+    /// The offset of a comment that isn't closed.
     pub open: Option<usize>,
 }
 
@@ -254,7 +254,7 @@ fn push_comment(
     output.extend_from_slice(b"\n")
 }
 
-/// What stands between the marks of a comment.
+/// What is between the marks of a comment.
 fn inside(comment: &[u8]) -> &[u8] {
     comment
         .get(2..comment.len().saturating_sub(2))

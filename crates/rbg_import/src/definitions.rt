@@ -12,7 +12,7 @@ const SECTIONS: [&str; 5] = ["players", "pieces", "variables", "board", "rules"]
 pub(crate) struct Definition<'a> {
     /// The name in its head.
     pub name: Token<'a>,
-    /// What stands after its `=`.
+    /// What follows its `=`.
     pub body: &'a [Token<'a>],
 }
 

@@ -3,7 +3,7 @@
 use rbg_macro::Token;
 use std::alloc::AllocError;
 
-/// What can't be rewritten, and where it stands.
+/// What can't be rewritten, and where it is.
 #[derive(Clone, Copy)]
 pub struct ImportFault {
     /// Its offset in the text.
@@ -43,7 +43,7 @@ pub enum FaultKind {
 }
 
 impl FaultKind {
-    /// A word for it.
+    /// The word for it in a report.
     pub fn code(self) -> &'static str {
         match self {
             FaultKind::TooLong => "TooLong",
@@ -61,7 +61,7 @@ impl FaultKind {
         }
     }
 
-    /// What is said of it.
+    /// The text of a report on it.
     pub fn words(self) -> &'static str {
         match self {
             FaultKind::TooLong => "the text is longer than a description may be",
@@ -92,7 +92,7 @@ impl FaultKind {
     }
 }
 
-/// Adds that something can't be rewritten, before what stands after it in the text.
+/// Adds a fault, before those that are later in the text.
 pub(crate) fn push_fault(
     faults: &mut Vec<ImportFault>,
     kind: FaultKind,

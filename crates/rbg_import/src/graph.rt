@@ -9,7 +9,7 @@ use crate::place::Place;
 use itoa::Buffer;
 use std::alloc::{AllocError, Global};
 
-/// An edge of a cell: its direction, and where it leads.
+/// An edge of a cell: its direction, and the cell to which it leads.
 #[derive(Clone, Copy)]
 struct Edge<'a> {
     direction: &'a [u8],

@@ -1,6 +1,6 @@
-//! Rewrites a description of the language as its paper has it in what this one spells otherwise: a board of layers, or of
-//! rows with holes, becomes a graph with the same directions, and each `/* */` becomes comments that begin with `//`. All
-//! other bytes stay. What can't be rewritten is reported with its place.
+//! Rewrites a description in the language of its paper where this language spells it otherwise: a board of layers, or
+//! of rows with holes, becomes a graph with the same directions, and each `/* */` becomes comments that begin with
+//! `//`. All other bytes stay. What can't be rewritten is reported with its place.
 #![tactic(auto)]
 
 mod board;

@@ -2,14 +2,14 @@
 ghost use Rattle.std.specs.Prelude.{◌≡◌, ◌+◌, ◌==◌};
 ghost use Rattle.rbg_import.specs.Geometry.{leads as leads_along};
 
-/// Where a cell of a board stands.
+/// The place of a cell of a board.
 #[derive(Clone, Copy)]
 pub(crate) struct Place {
-    /// The cell of its row, from 0.
+    /// The number of the cell in its row, from 0.
     pub x: usize,
-    /// The row of its layer, from 0.
+    /// The number of the row in its layer, from 0.
     pub y: usize,
-    /// The layer, from 0.
+    /// The number of the layer, from 0.
     pub z: usize,
 }
 

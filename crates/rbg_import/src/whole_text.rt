@@ -15,16 +15,16 @@ use crate::graph::graph_text;
 use rbg_macro::{MAX_TEXT, TextError, Token, tokens};
 use std::alloc::{AllocError, Global};
 
-/// The most vertices of a board.
+/// The maximum number of vertices of a board.
 const MAX_VERTICES: usize = 4096;
 
-/// The most bytes that are written for one edge or vertex, but for its piece, in a graph that is written at all.
+/// The maximum number of bytes for one edge or vertex, without its piece, in a graph that is not too large.
 const MAX_NAMES: usize = 10000;
 
-/// The most bytes that begin no token and are reported.
+/// The maximum number of reported bytes that begin no token.
 const MAX_BAD_BYTES: usize = 20;
 
-/// What comes of a text.
+/// The result of an import.
 #[derive(Drop)]
 pub enum Imported {
     /// The new text.
@@ -111,7 +111,7 @@ fn import_plain(
     }
 }
 
-/// Where a board stands in a text, and the graph in its place.
+/// The part of a text that a board takes, and the graph that replaces it.
 #[derive(Drop)]
 struct Change {
     start: usize,
@@ -151,7 +151,7 @@ fn text_or_fault(found: Vec<ImportFault>, new: Vec<u8>) -> Result<Imported, Allo
     Ok(Imported::Text(new))
 }
 
-/// The text where only its comments are rewritten.
+/// The text with only its comments rewritten.
 fn rewritten(alloc: Global, text: &[u8]) -> Result<Vec<u8>, AllocError>
     ensures { IfOk result (λ new. Rewrites text.now (length text.now) new.items) }
 {
@@ -160,7 +160,7 @@ fn rewritten(alloc: Global, text: &[u8]) -> Result<Vec<u8>, AllocError>
     Ok(output)
 }
 
-/// The text with a graph in place of its board. The comments inside of the board stand before the graph.
+/// The text with a graph in place of its board. The comments inside the board come before the graph.
 fn changed(alloc: Global, text: &[u8], change: &Change) -> Result<Vec<u8>, AllocError>
     requires { IsGraph change.now.graph.items }
     ensures { IfOk result (λ new. IsChanged text.now new.items) }
@@ -242,7 +242,7 @@ fn change_of_board(
     }
 }
 
-/// Whether a board is a rectangle that is no graph. Where it calls macros, rows that differ in length may become equal.
+/// Whether a board is a rectangle that is no graph. If it calls macros, rows that differ in length may become equal.
 fn stays(definitions: &[Definition<'_>], body: &[Token<'_>], board: &Board<'_>) -> bool {
     let is_whole = !board.has_holes || first_hole(body).is_none() && has_calls(definitions, body);
     board.shape == Shape::Rectangle && is_whole

@@ -1,4 +1,4 @@
-//! What is found among tokens.
+//! Searches among tokens.
 
 use rbg_macro::{Symbol, Token};
 
@@ -12,7 +12,7 @@ pub fn index_of(tokens: &[Token<'_>], symbol: Symbol) -> Option<usize> {
     None
 }
 
-/// The tokens from the last one that is this symbol; none where none is.
+/// The tokens from the last one that is this symbol; none if there is no such token.
 pub fn from_last<'a>(tokens: &'a [Token<'a>], symbol: Symbol) -> &'a [Token<'a>] {
     let mut start = tokens.len();
     for (index, token) in tokens.iter().enumerate() {
@@ -23,7 +23,7 @@ pub fn from_last<'a>(tokens: &'a [Token<'a>], symbol: Symbol) -> &'a [Token<'a>]
     tokens.get(start..).unwrap_or(&[])
 }
 
-/// The tokens before the first one that is this symbol; all of them where none is.
+/// The tokens before the first one that is this symbol; all of them if there is no such token.
 pub fn before_first<'a, 't>(tokens: &'a [Token<'t>], symbol: Symbol) -> &'a [Token<'t>] {
     let end = index_of(tokens, symbol).unwrap_or(tokens.len());
     tokens.get(..end).unwrap_or(tokens)
@@ -68,7 +68,7 @@ pub fn has_text(tokens: &[Token<'_>], text: &[u8]) -> bool {
     false
 }
 
-/// Whether one of these tokens stands at this offset.
+/// Whether one of these tokens is at this offset.
 pub fn holds_offset(tokens: &[Token<'_>], at: usize) -> bool {
     for token in tokens {
         if token.at == at {
@@ -78,7 +78,7 @@ pub fn holds_offset(tokens: &[Token<'_>], at: usize) -> bool {
     false
 }
 
-/// The name after so many names.
+/// The name after `count` others.
 pub fn nth_name<'a>(tokens: &[Token<'a>], count: usize) -> Option<Token<'a>> {
     let mut left = count;
     for token in tokens {

@@ -1,4 +1,4 @@
-//! Brackets in the bodies of macros, each looked at by itself.
+//! Brackets in the bodies of macros, each body by itself.
 
 use crate::among::holds_offset;
 use crate::definition::{Definition, definitions};
@@ -33,8 +33,9 @@ fn bracket_faults<'a>(
     Ok(faults)
 }
 
-/// Adds what is wrong with the brackets that are closed among some tokens, where none is open before. Whether no bracket
-/// closes one of another kind is returned; those that stay open are left in the list of the open ones.
+/// Adds what is wrong with the brackets that are closed among some tokens, if none is open before them. Stops at the
+/// first bracket that closes one of another kind, and returns false then. Brackets that stay open are left in the list
+/// of the open ones.
 fn push_closing<'a>(
     tokens: &'a [Token<'a>],
     open: &mut Vec<Token<'a>>,
@@ -99,7 +100,7 @@ fn are_balanced(alloc: Global, tokens: &[Token<'_>]) -> Result<bool, AllocError>
     Ok(faults.is_empty())
 }
 
-/// Whether nothing is wrong with the brackets of the section or the macro in whose body the token at an offset stands.
+/// Whether nothing is wrong with the brackets of the section or the macro in whose body the token at an offset is.
 pub fn is_balanced_around(
     alloc: Global,
     tokens: &[Token<'_>],
@@ -190,7 +191,7 @@ fn write_fault(writer: &mut MessageWriter<'_>, text: &[u8], name: &[u8], fault: 
     }
 }
 
-/// Adds to a fault which bracket isn't closed, where another one is closed before.
+/// Adds to a fault the place of the bracket that isn't closed, if another one is closed before it.
 fn relate_opening(
     alloc: Global,
     text: &[u8],

@@ -8,9 +8,9 @@ use rbg_rules::{Arithmetic, Operation};
 pub(crate) enum Constant {
     /// It depends on variables or pieces.
     Unknown,
-    /// It is this one, wherever it is asked for.
+    /// It is this one in every state.
     Value(i64),
-    /// There is none, wherever it is asked for.
+    /// There is none in any state.
     NoValue,
 }
 

@@ -14,11 +14,11 @@ pub struct Definition<'a> {
     pub hash: Token<'a>,
     /// The name in its head.
     pub name: Token<'a>,
-    /// What stands between the name and the `=`.
+    /// What is between the name and the `=`.
     pub head: &'a [Token<'a>],
     /// Its `=`.
     pub equals: Token<'a>,
-    /// What stands after the `=`.
+    /// What follows the `=`.
     pub body: &'a [Token<'a>],
 }
 

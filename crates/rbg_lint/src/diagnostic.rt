@@ -2,7 +2,7 @@
 
 use std::alloc::{AllocError, Global};
 
-/// How bad it is.
+/// Whether a diagnostic is a fault or a warning.
 #[derive(Clone, Copy, PartialEq, Eq)]
 pub enum Severity {
     /// The text is refused.
@@ -15,7 +15,7 @@ pub enum Severity {
 pub struct Diagnostic {
     /// The offset in the text of the first byte that it is about.
     pub start: usize,
-    /// The offset after the last byte that it is about. It is `start` where the whole text is meant.
+    /// The offset after the last byte that it is about. It is `start` if the whole text is meant.
     pub end: usize,
     pub severity: Severity,
     /// A word for its kind.
@@ -26,7 +26,7 @@ pub struct Diagnostic {
     pub related: Vec<Related>,
 }
 
-/// Written out, so that letting a diagnostic go is one call in the proofs of those who hold one, not a step for each part.
+/// Written by hand: dropping a diagnostic is then one call in the proofs of its owners, not a step for each part.
 impl Drop for Diagnostic {
     fn drop(self) {
         let Diagnostic {
@@ -52,7 +52,7 @@ pub struct Related {
 }
 
 impl Diagnostic {
-    /// A fault or a warning of a kind, about so many bytes at an offset, of which nothing is said yet.
+    /// A fault or a warning of a kind about `width` bytes at an offset, with an empty message.
     pub fn new(
         alloc: Global,
         severity: Severity,
@@ -70,7 +70,7 @@ impl Diagnostic {
         }
     }
 
-    /// Adds another place of so many bytes at an offset, with its line of text.
+    /// Adds another place of `width` bytes at an offset, with its line of text.
     pub fn relate(
         &mut self,
         start: usize,

@@ -5,7 +5,7 @@ use rbg_macro::{
 };
 use std::alloc::{AllocError, Global};
 
-/// The tokens of a text, or None where it can't be cut into tokens.
+/// The tokens of a text, or None if it can't be cut into tokens.
 pub fn cut(alloc: Global, text: &[u8]) -> Result<Option<Tokens<'_>>, AllocError> {
     match tokens(alloc, text) {
         Ok(tokens) => Ok(Some(tokens)),
@@ -14,7 +14,7 @@ pub fn cut(alloc: Global, text: &[u8]) -> Result<Option<Tokens<'_>>, AllocError>
     }
 }
 
-/// The expanded sections, or None where the macros are refused.
+/// The expanded sections, or None if the macros are refused.
 pub fn expanded<'t>(alloc: Global, tokens: &Tokens<'t>) -> Result<Option<Source<'t>>, AllocError> {
     match expand(alloc, tokens) {
         Err(MacroError::Memory) => Err(AllocError),
@@ -23,7 +23,7 @@ pub fn expanded<'t>(alloc: Global, tokens: &Tokens<'t>) -> Result<Option<Source<
     }
 }
 
-/// The tokens of the first section of a kind, none where there is no such section.
+/// The tokens of the first section of a kind, none if there is no such section.
 pub fn section_tokens<'a>(
     alloc: Global,
     source: &'a Source<'_>,

@@ -15,7 +15,7 @@ pub(crate) struct Item {
 }
 
 impl Item {
-    /// A token of a section, or of the body of a macro where a call put it.
+    /// A token of a section, or of a macro's body that a call put.
     pub fn of(token: &Token<'_>, call: Option<usize>) -> Item {
         Item {
             start: token.at,
@@ -29,7 +29,7 @@ impl Item {
         }
     }
 
-    /// The token where it stands in place of a parameter of a macro that a call put.
+    /// The token as an argument in place of a parameter, in a macro's body that a call put.
     pub fn placed(self, parameter: &Token<'_>, call: usize) -> Item {
         Item {
             start: self.start,
@@ -73,7 +73,7 @@ impl Arguments {
         Ok(())
     }
 
-    /// The argument with this index, empty where there is none.
+    /// The argument with this index, empty if there is none.
     pub fn get(&self, index: usize) -> &[Item] {
         let start = match index.checked_sub(1) {
             Some(before) => self.ends.get(before).copied().unwrap_or(0),

@@ -1,11 +1,11 @@
-//! Where the keeper goes back in the rules.
+//! Points in the rules at which the keeper goes back.
 
 use rbg_auto::{Compact, Steps};
 use rbg_base::{Memory, Position};
 use rbg_rules::{Action, Game};
 use std::alloc::Global;
 
-/// How many steps are looked at in all.
+/// The maximum number of steps of all searches together.
 const MOST_STEPS: usize = 2_000_000;
 
 /// Looks for what the keeper reaches.
@@ -14,11 +14,11 @@ pub(crate) struct KeeperSearch<'a> {
     alloc: Global,
     game: &'a Game,
     steps: &'a Compact,
-    /// How many steps may still be looked at.
+    /// How many more steps may be taken.
     left: usize,
 }
 
-/// What is known of a search: the positions that were met, and those from which it goes on.
+/// What is known of a search: the positions that were met, and those from which it continues.
 #[derive(Drop)]
 struct Reached {
     is_met: Vec<bool>,
@@ -101,7 +101,7 @@ impl<'a> KeeperSearch<'a> {
         matches!(self.action(position), Some(Action::Off { .. }))
     }
 
-    /// Whether the keeper's move can go on after a position: its action is no switch and no `{}`.
+    /// Whether the keeper's move can continue after a position: its action is no switch and no `{}`.
     fn goes_on(&self, position: Position) -> bool {
         match self.action(position) {
             Some(Action::Switch { .. }) | None => false,
@@ -111,7 +111,7 @@ impl<'a> KeeperSearch<'a> {
     }
 }
 
-/// Remembers that a position was met. Whether it wasn't before.
+/// Marks a position as met. Returns whether it wasn't met before.
 fn meet(is_met: &mut Vec<bool>, position: Position) -> bool {
     match is_met.get_mut(position as usize) {
         Some(met) => !std::mem::replace(met, true),

@@ -1,5 +1,5 @@
-//! What an author learns of a text: where each token comes from, names that are like others, what is doubtful, and how
-//! it is printed, as text or as lines for editors.
+//! Diagnostics for the author of a text: where each token comes from, names that are like others, doubtful rules, and
+//! how they are printed, as text or as lines for editors.
 #![tactic(auto)]
 
 mod among;

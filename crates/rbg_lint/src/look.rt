@@ -1,4 +1,4 @@
-//! The text that is looked at, and what is found in it.
+//! The text that is checked, and the warnings on it.
 
 use crate::diagnostic::{Diagnostic, Severity};
 use crate::parameters::push_parameters;
@@ -9,7 +9,7 @@ use crate::unrolled::{TokenOrigin, Unrolled};
 use rbg_macro::Token;
 use std::alloc::{AllocError, Global};
 
-/// A text, and the same with its macros written out.
+/// A text, and the same text with its macros expanded.
 #[derive(Clone, Copy)]
 pub struct Look<'a> {
     pub text: &'a [u8],
@@ -21,7 +21,7 @@ pub struct Look<'a> {
 }
 
 impl<'a> Look<'a> {
-    /// Where the token with an index comes from, of those whose macros are written out.
+    /// Where the token with an index comes from, in the text with macros expanded.
     pub(crate) fn origin(&self, index: usize) -> Option<TokenOrigin> {
         self.unrolled.origin(index)
     }
@@ -37,7 +37,7 @@ impl<'a> Look<'a> {
     }
 }
 
-/// Adds what is found by looking at a text that describes a game.
+/// Adds the warnings on a text that describes a game.
 pub fn push_warnings(
     alloc: Global,
     look: Look<'_>,
@@ -49,7 +49,8 @@ pub fn push_warnings(
     push_parameters(alloc, look, found)
 }
 
-/// A warning of a kind about a token of the text, unless there is one at its place already. Nothing is said of it yet.
+/// A warning of a kind about a token of the text, with an empty message. Returns None if there is one of this kind at
+/// its place already.
 pub(crate) fn new_warning(
     alloc: Global,
     found: &[Diagnostic],

@@ -1,4 +1,4 @@
-//! What an author reads, as bytes that are added to an output, and the line and the column of a place.
+//! The writer of messages for an author, as bytes that are added to an output, and the line and the column of a place.
 
 use rbg_macro::{TextLine, Token};
 use rbg_warnings::{Excerpt, push_action};
@@ -7,7 +7,7 @@ use std::fmt::Display;
 use std::io::Write;
 use std::str;
 
-/// Writes to an output. Where memory is refused, nothing is added after it.
+/// Writes to an output. After a refused allocation nothing is added.
 #[derive(Drop)]
 pub struct MessageWriter<'a> {
     alloc: Global,
@@ -115,7 +115,7 @@ impl<'a> MessageWriter<'a> {
 /// How many bytes of a name are written.
 const MOST_SHOWN: usize = 40;
 
-/// The line and the column of an offset of a text, both counted from 1. Where the text ends before, those of its end.
+/// The line and the column of an offset of a text, both counted from 1. For an offset past the end, those of the end.
 pub fn line_and_column(text: &[u8], at: usize) -> (usize, usize) {
     let at = at.min(text.len());
     let line = TextLine::of(text, at);

@@ -65,7 +65,7 @@ pub fn rest_after_head<'a>(tokens: &'a [Token<'a>], name: &[u8]) -> Option<&'a [
     None
 }
 
-/// Whether the token at an index of a section is a name of this kind, where the section lists such names.
+/// Whether the token at an index of a section is a name of this kind in a section that lists such names.
 fn is_listed(section: &[Token<'_>], index: usize, kind: NameKind) -> bool {
     let Some([token, after @ ..]) = section.get(index..) else {
         return false;

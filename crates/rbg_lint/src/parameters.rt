@@ -23,8 +23,8 @@ pub(crate) fn push_parameters(
     Ok(())
 }
 
-/// Adds those of one macro. Where a text joins tokens, a call may need a parameter for the sake of other macros, so none is
-/// reported as unused.
+/// Adds those of one macro. If a text joins tokens, a call may need a parameter for the sake of other macros, so none
+/// is reported as unused.
 fn push_parameters_of(
     alloc: Global,
     look: Look<'_>,

@@ -58,7 +58,7 @@ fn count_characters(bytes: &[u8]) -> usize {
     count
 }
 
-/// So many bytes at an offset, or at the end of the text where that is before, in their line.
+/// The line with `width` bytes at an offset, or at the end of the text for an offset past it.
 fn excerpt_of(text: &[u8], at: usize, width: usize) -> Excerpt<'_> {
     let at = at.min(text.len());
     let line = TextLine::of(text, at);

@@ -6,7 +6,7 @@ use crate::message_writer::MessageWriter;
 use rbg_macro::{Symbol, Token};
 use std::alloc::{AllocError, Global};
 
-/// Adds what is found of signs in the sections, where macros are written out.
+/// Adds the warnings on signs in the sections, with macros expanded.
 pub(crate) fn push_signs(
     alloc: Global,
     look: Look<'_>,
@@ -20,10 +20,10 @@ pub(crate) fn push_signs(
     Ok(())
 }
 
-/// The word for the kind of a warning, and what is said.
+/// The code of a warning, and its message.
 type Words = (&'static str, &'static str);
 
-/// What is said of the tokens from an index on.
+/// The warning on the tokens from an index on.
 fn sign_words(look: Look<'_>, index: usize) -> Option<Words> {
     match look.flat.get(index..)? {
         [open, close, next, ..]
@@ -43,8 +43,8 @@ fn begins_item(token: &Token<'_>) -> bool {
         || token.is(Symbol::DoubleArrow)
 }
 
-/// What is said of a `+` after the item with an index, if it is written like a repetition: next to a closing bracket, and
-/// not next to what follows.
+/// The warning on a `+` after the item with an index, if it is written like a repetition: next to a closing bracket,
+/// and not next to what follows.
 fn repetition_words(look: Look<'_>, index: usize) -> Option<Words> {
     let item = look.flat.get(index)?;
     let before = look.origin(index)?;
@@ -62,7 +62,7 @@ fn repetition_words(look: Look<'_>, index: usize) -> Option<Words> {
     }
 }
 
-/// Adds what is said of the token with an index, or of the one after it for a `+`.
+/// Adds a warning on the token with an index, or on the one after it for a `+`.
 fn push_sign(
     alloc: Global,
     look: Look<'_>,

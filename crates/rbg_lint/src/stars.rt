@@ -9,7 +9,7 @@ use crate::unrolled::TokenOrigin;
 use rbg_macro::{Symbol, Token};
 use std::alloc::{AllocError, Global};
 
-/// The most calls, one inside the other, that are followed.
+/// The maximum number of nested calls that are followed.
 const MOST_CALLS: usize = 70;
 
 /// Adds each star that binds the last one of several items that one name of its body puts.
@@ -45,7 +45,7 @@ fn name_before(look: Look<'_>, star: usize) -> Option<usize> {
     }
 }
 
-/// Whether a token stands in the text itself at an offset, and isn't put there.
+/// Whether a token is written in the text itself at an offset, and not put there by a call.
 fn is_own(look: Look<'_>, index: usize, at: usize) -> bool {
     match look.origin(index) {
         Some(origin) => origin.at == at,
@@ -53,7 +53,8 @@ fn is_own(look: Look<'_>, index: usize, at: usize) -> bool {
     }
 }
 
-/// The offset at which a token, or the call from which it comes, stands in the body that a call has put.
+/// The offset of a token, or of the call from which it comes, in the body that the call `level` has put. Returns None
+/// if it isn't in that body.
 pub(crate) fn place_at(look: Look<'_>, index: usize, level: Option<usize>) -> Option<usize> {
     let mut origin: TokenOrigin = look.origin(index)?;
     for _ in 0..MOST_CALLS {
@@ -100,7 +101,7 @@ pub(crate) fn is_rule(tokens: &[Token<'_>], star: usize) -> bool {
     first.at < token.at && !is_in_arithmetic(tokens, star)
 }
 
-/// Whether a `$` stands after the innermost bracket but a parenthesis that is open at an index.
+/// Whether a `$` follows the innermost bracket, other than a parenthesis, that is open at an index.
 fn is_in_arithmetic(tokens: &[Token<'_>], index: usize) -> bool {
     let mut closed = 0usize;
     for place in (0..index).rev() {

@@ -1,15 +1,15 @@
-//! Bytes and characters that begin no token, and what is meant by them.
+//! Bytes and characters that begin no token, and what is usually meant by them.
 
 use std::str;
 
 /// A character that begins no token.
 #[derive(Clone, Copy)]
 pub struct StrayCharacter<'a> {
-    /// Its bytes, or the one byte where they are none of UTF-8.
+    /// Its bytes, or one byte if they aren't UTF-8.
     pub bytes: &'a [u8],
     /// Its number in Unicode, if it has one.
     pub number: Option<u32>,
-    /// What is written in its place, or is known of it; else nothing.
+    /// What to write in its place, or what is known of it; empty if neither.
     pub meant: &'static str,
 }
 
@@ -39,7 +39,7 @@ fn len_of(first: u8) -> usize {
     }
 }
 
-/// What these bytes are, or the first one of the rest where they are no character.
+/// The character of these bytes, or the first byte of the rest if they are no character.
 fn character<'a>(bytes: &'a [u8], rest: &'a [u8]) -> StrayCharacter<'a> {
     let read = match str::from_utf8(bytes) {
         Ok(text) => text.chars().next(),

@@ -75,7 +75,7 @@ fn last_of_call(look: Look<'_>, from: usize, level: Option<usize>, name: usize) 
     Some(last)
 }
 
-/// Whether a token is put where the call is, and not around it by a further call.
+/// Whether a token is in the body that the call has put, and not around it by a further call.
 fn is_near(look: Look<'_>, index: usize, level: Option<usize>) -> bool {
     place_at(look, index, level).is_some()
 }

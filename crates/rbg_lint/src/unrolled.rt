@@ -10,7 +10,7 @@ use std::alloc::{AllocError, Global};
 pub struct TokenOrigin {
     /// The offset in the text of the token itself; of a joined one that of its left part.
     pub at: usize,
-    /// The offset of the parameter in the body of a macro in whose place it stands, else its own.
+    /// The offset of the parameter in a macro's body that it replaces; otherwise its own offset.
     pub place: usize,
     /// The index of the call whose body was put where `place` is. None in a section.
     pub call: Option<usize>,
@@ -22,13 +22,13 @@ pub struct Unrolled {
     pub text: Vec<u8>,
     /// Where each token of `text` comes from.
     pub origins: Vec<TokenOrigin>,
-    /// Where the names in calls of macros come from. A call inside another one's body has the greater index.
+    /// Where the names in calls of macros come from. A call inside another one's body has the larger index.
     pub calls: Vec<TokenOrigin>,
     /// The last call, if the macros expand to more tokens than the limits allow. The rest is left out then.
     pub too_long: Option<TokenOrigin>,
 }
 
-/// Written out, so that letting it go is one call in the proofs of those who hold one, not a step for each part.
+/// Written by hand: dropping it is then one call in the proofs of its owners, not a step for each part.
 impl Drop for Unrolled {
     fn drop(self) {
         let Unrolled {
@@ -41,12 +41,12 @@ impl Drop for Unrolled {
 }
 
 impl Unrolled {
-    /// Where the call comes from whose body holds a token.
+    /// Where the call comes from whose body has a token.
     pub fn call_of(&self, origin: TokenOrigin) -> Option<TokenOrigin> {
         self.calls.get(origin.call?).copied()
     }
 
-    /// Where the first call comes from whose name stands at an offset of the text.
+    /// Where the first call comes from whose name is at an offset of the text.
     pub fn call_at(&self, at: usize) -> Option<TokenOrigin> {
         for call in &self.calls {
             if call.at == at {
@@ -56,7 +56,7 @@ impl Unrolled {
         None
     }
 
-    /// Whether a call whose name stands at an offset of the text is put by another one that stands there.
+    /// Whether a call whose name is at an offset of the text is put by another call at that offset.
     pub fn repeats(&self, at: usize) -> bool {
         let mut next = self.last_call_at(at);
         for _ in 0..self.calls.len() {
@@ -71,7 +71,7 @@ impl Unrolled {
         false
     }
 
-    /// Where the last call comes from whose name stands at an offset of the text.
+    /// Where the last call comes from whose name is at an offset of the text.
     fn last_call_at(&self, at: usize) -> Option<TokenOrigin> {
         let mut last = None;
         for call in &self.calls {
@@ -82,7 +82,7 @@ impl Unrolled {
         last
     }
 
-    /// Where the call in a section comes from by which a token is put; or the token itself, if it stands in a section.
+    /// Where the call in a section comes from that puts a token; or the token itself, if it is in a section.
     pub fn root(&self, origin: TokenOrigin) -> TokenOrigin {
         let mut root = origin;
         for _ in 0..self.calls.len() {
@@ -94,7 +94,7 @@ impl Unrolled {
         root
     }
 
-    /// The offset of the name of the call of the macro with this name that has put a token, where it is written as it is.
+    /// The offset of the innermost call that has put a token and whose name in the text is this one.
     pub fn named_call(&self, text: &[u8], origin: TokenOrigin, name: &[u8]) -> Option<usize> {
         let mut call = origin;
         for _ in 0..self.calls.len() {

@@ -1,4 +1,4 @@
-//! Expands macros, and remembers where each token comes from.
+//! Expands macros, and keeps where each token comes from.
 
 use crate::definition::Definition;
 use crate::item::{Arguments, Item};
@@ -6,7 +6,7 @@ use crate::unrolled::{TokenOrigin, Unrolled};
 use rbg_macro::{MAX_KEPT, MAX_READ, Symbol, Token};
 use std::alloc::{AllocError, Global};
 
-/// The most tokens that are kept: those that a description may have, and the heads of five sections.
+/// The maximum number of tokens that are kept: those that a description may have, and the heads of five sections.
 const MOST_KEPT: usize = MAX_KEPT + 15;
 
 /// How far an expansion has come.
@@ -24,7 +24,7 @@ pub(crate) struct Unroller {
     too_long: Option<TokenOrigin>,
 }
 
-/// Written out, so that letting it go is one call in the proofs of those who hold one, not a step for each part.
+/// Written by hand: dropping it is then one call in the proofs of its owners, not a step for each part.
 impl Drop for Unroller {
     fn drop(self) {
         let Unroller {
@@ -96,7 +96,7 @@ impl Unroller {
         Ok(())
     }
 
-    /// Remembers where the limits were reached first, and reads no further.
+    /// Keeps where the limits were reached first, and reads no further.
     fn stop(&mut self, origin: TokenOrigin) {
         if self.too_long.is_none() {
             self.too_long = Some(origin);
@@ -233,7 +233,7 @@ impl Unroller {
     }
 }
 
-/// Adds a token to the arguments of a call, or cuts them at it, where so many further brackets are open.
+/// Adds a token to the arguments of a call, or cuts them at it, if this many further brackets are open.
 fn push_argument_item(
     arguments: &mut Arguments,
     item: Item,

@@ -1,4 +1,4 @@
--- What stays of a text where its layout is changed.
+-- What of a text stays the same when its layout is changed.
 use Rattle.std.specs.Prelude.{ℕ, List, map, ◌≡◌}
 use Rattle.rbg_macro.specs.Text.{HasTokens}
 use Rattle.rbg_macro.specs.Token.{Lexeme}

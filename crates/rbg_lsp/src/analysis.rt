@@ -32,9 +32,9 @@ pub(crate) enum Role {
 #[derive(Clone, Copy)]
 pub(crate) struct Mark {
     pub role: Role,
-    /// As what a thing of this name is declared.
+    /// What a thing of this name is declared as.
     pub declared: Kinds,
-    /// As what the name is used or declared here.
+    /// What the name is used or declared as here.
     pub used: Kinds,
 }
 
@@ -61,7 +61,7 @@ pub(crate) struct Analysis<'t> {
     alloc: Global,
 }
 
-/// Written out, so that letting an analysis go is one call in the proofs of those who hold one, not a step for each part.
+/// Written by hand: dropping an analysis is then one call in the proofs of its owners, not a step for each part.
 impl Drop for Analysis<'_> {
     fn drop(self) {
         let Analysis {
@@ -77,7 +77,7 @@ impl Drop for Analysis<'_> {
 }
 
 impl<'t> Analysis<'t> {
-    /// What can be known of a text, whether it describes a game or not.
+    /// The analysis of a text, whether it describes a game or not.
     pub(crate) fn of(alloc: Global, text: &'t [u8]) -> Result<Analysis<'t>, AllocError> {
         let mut analysis = Analysis {
             text,
@@ -118,12 +118,12 @@ impl<'t> Analysis<'t> {
         self.words.as_slice().get(index).copied()
     }
 
-    /// The bytes of the word with this index, none where there is no such word.
+    /// The bytes of the word with this index, none if there is no such word.
     pub(crate) fn bytes(&self, index: usize) -> &'t [u8] {
         word_bytes(self.text, &self.words, index)
     }
 
-    /// Finds out what each word is to the macros.
+    /// Finds what each word is to the macros.
     fn mark_roles(&mut self) -> Result<(), AllocError> {
         for index in 0..self.words.len() {
             let role = self.role_of(index);
@@ -196,7 +196,7 @@ impl<'t> Analysis<'t> {
         }
     }
 
-    /// Finds out as what each name is declared.
+    /// Finds what each name is declared as.
     fn mark_declared(&mut self) {
         for index in 0..self.marks.len() {
             let declared = self.declared_as(index);
@@ -206,7 +206,7 @@ impl<'t> Analysis<'t> {
         }
     }
 
-    /// As what the name that is the word with this index is declared.
+    /// What the name that is the word with this index is declared as.
     fn declared_as(&self, index: usize) -> Kinds {
         match self.word(index) {
             Some(word) if word.kind.is_name() => { self.kinds_named(self.bytes(index)) }
@@ -214,7 +214,7 @@ impl<'t> Analysis<'t> {
         }
     }
 
-    /// As what this name is declared.
+    /// What this name is declared as.
     pub(crate) fn kinds_named(&self, name: &[u8]) -> Kinds {
         let mut kinds = Kinds::NONE;
         for thing in &self.things {
@@ -225,7 +225,7 @@ impl<'t> Analysis<'t> {
         kinds
     }
 
-    /// Finds out for what each name is used: by the sections, and then by the bodies that no section calls.
+    /// Finds what each name is used for: by the sections, and then by the bodies that no section calls.
     fn mark_used(&mut self) -> Result<(), AllocError> {
         for index in 0..self.things.len() {
             self.use_thing(index);
@@ -239,7 +239,7 @@ impl<'t> Analysis<'t> {
         Ok(())
     }
 
-    /// A thing's name is used where it is declared.
+    /// Records that a thing's name is used at its declaration.
     fn use_thing(&mut self, index: usize) {
         let things = self.things.as_slice();
         if let Some(thing) = things.get(index).copied() {
@@ -253,7 +253,7 @@ impl<'t> Analysis<'t> {
         }
     }
 
-    /// Finds out for what the names of the section with this index are used.
+    /// Finds what the names of the section with this index are used for.
     fn use_body(&mut self, index: usize) -> Result<(), AllocError> {
         let bodies = self.bodies.as_slice();
         let Some(body) = bodies.get(index) else {
@@ -268,7 +268,7 @@ impl<'t> Analysis<'t> {
         use_steps(&mut walk, &body.steps, &mut self.marks, false)
     }
 
-    /// Finds out for what the names of a macro's body are used, where no section has shown it.
+    /// Finds what the names of a macro's body are used for, if no section has shown it.
     fn use_definition(&mut self, index: usize) -> Result<(), AllocError> {
         let definitions = self.definitions.as_slice();
         let Some(definition) = definitions.get(index).copied() else {
@@ -285,8 +285,8 @@ impl<'t> Analysis<'t> {
     }
 }
 
-/// Walks over words and adds for what their names are used. Of words as they are written only those that have no use yet
-/// get one.
+/// Walks over words, and records what their names are used for. If they are the words as they are written, only those
+/// without a use get one.
 fn use_steps(
     walk: &mut Walk,
     steps: &[Step],
@@ -305,7 +305,7 @@ fn kind_at(steps: &[Step], index: usize) -> Option<TokenKind> {
     Some(steps.get(index)?.kind)
 }
 
-/// Adds for what a name is used where the walk is, and goes on over it.
+/// Records what a name is used for at this point of the walk, and moves past it.
 fn use_step(
     walk: &mut Walk,
     step: Step,
@@ -331,7 +331,7 @@ fn use_step(
     walk.pass(step.kind, next)
 }
 
-/// Whether a name where the walk is, with such a word after it, is that of a vertex.
+/// Whether a name at this point of the walk, with this word after it, is that of a vertex.
 fn begins_vertex(walk: &Walk, next: Option<TokenKind>) -> bool {
     walk.inside() == Inside::Edges && is_kind(next, Symbol::OpenBracket)
 }

@@ -11,7 +11,7 @@ use crate::reply::Reply;
 use crate::words::Span;
 use serde_json::Value;
 
-/// The code of a request that failed though it was right.
+/// The error code of a request that is right but failed.
 const REQUEST_FAILED: i64 = -32803;
 
 /// A request: the method that it calls, its id, and the whole message.
@@ -78,7 +78,7 @@ pub(crate) fn write_span(reply: &mut Reply, asked: DocumentRequest<'_>, span: Op
     }
 }
 
-/// Writes the edits that give a name, or why it can't be given.
+/// Writes the edits that rename something, or why it can't be renamed.
 pub(crate) fn write_renaming(
     reply: &mut Reply,
     asked: DocumentRequest<'_>,
@@ -157,7 +157,7 @@ fn completion_words(kind: CompletionKind) -> &'static str {
     }
 }
 
-/// Writes an outline. What a section declares stands inside of it.
+/// Writes an outline. The things that a section declares are inside its entry.
 pub(crate) fn write_outline(
     reply: &mut Reply,
     asked: DocumentRequest<'_>,
@@ -208,7 +208,7 @@ fn write_symbol(reply: &mut Reply, asked: DocumentRequest<'_>, symbol: &Document
     reply.text(",\"children\":[");
 }
 
-/// The kind of an entry, as the protocol numbers it, and what stands before its range.
+/// The kind of an entry, as the protocol numbers it, and the fields before its range.
 fn symbol_words(kind: SymbolKind) -> &'static str {
     match kind {
         SymbolKind::Section => ",\"kind\":3,\"detail\":\"section\",\"range\":",

@@ -1,4 +1,4 @@
-//! What may stand at a place.
+//! What may come at a place.
 
 use crate::analysis::{Analysis, Role, Thing};
 use crate::definitions::{Definition, SECTIONS, definition_around};
@@ -11,7 +11,7 @@ use std::alloc::{AllocError, Global};
 /// The generators of boards.
 const GENERATORS: [&str; 3] = ["rectangle", "hexagon", "graph"];
 
-/// What stands for something that may come next.
+/// The kind of something that may come next.
 #[derive(Clone, Copy, PartialEq, Eq)]
 pub(crate) enum CompletionKind {
     Section,
@@ -36,11 +36,11 @@ pub(crate) struct Completion<'a> {
 #[derive(Clone, Copy)]
 struct Place<'a> {
     analysis: &'a Analysis<'a>,
-    /// How many words stand before it. The name that is being typed there isn't one of them.
+    /// How many words are before it. The name that is being typed there isn't one of them.
     before: usize,
 }
 
-/// What may stand at an offset.
+/// What may come at an offset.
 pub(crate) fn completions<'a>(
     alloc: Global,
     analysis: &'a Analysis<'a>,
@@ -55,7 +55,7 @@ pub(crate) fn completions<'a>(
     Ok(found)
 }
 
-/// How many words stand before an offset. A name that goes up to the offset or beyond isn't counted.
+/// How many words are before an offset. A name that goes up to the offset or beyond isn't counted.
 fn words_before(words: &[Word], at: usize) -> usize {
     let count = count_up_to(words, at.saturating_sub(1));
     let last = count.saturating_sub(1);
@@ -105,7 +105,7 @@ fn has_section(definitions: &[Definition], section: SectionKind) -> bool {
     false
 }
 
-/// Adds what may stand in the body of a definition.
+/// Adds what may come in the body of a definition.
 fn push_in_body<'a>(
     alloc: Global,
     place: Place<'a>,
@@ -137,7 +137,7 @@ fn push_generators(found: &mut Vec<Completion<'_>>) -> Result<(), AllocError> {
     Ok(())
 }
 
-/// What must stand at a place in the body of a definition.
+/// What must come at a place in the body of a definition.
 fn needed_at(
     alloc: Global,
     place: Place<'_>,
@@ -168,7 +168,7 @@ fn kind_of(word: Option<Word>) -> Option<TokenKind> {
     Some(word?.kind)
 }
 
-/// Adds the things that may stand where such a thing is needed.
+/// Adds the things that may come at a place for such a thing.
 fn push_things<'a>(
     place: Place<'a>,
     needed: Needed,
@@ -195,7 +195,7 @@ fn completion_of<'a>(place: Place<'a>, thing: Thing) -> Completion<'a> {
     }
 }
 
-/// Whether a thing of a kind may stand where such a thing is needed.
+/// Whether a thing of a kind may come at a place for such a thing.
 fn fits(kind: Kind, needed: Needed) -> bool {
     match needed {
         Needed::Direction => kind == Kind::Direction,

@@ -18,9 +18,9 @@ pub(crate) const SECTIONS: [SectionKind; 5] = [
 pub(crate) struct Definition {
     /// The `#`.
     pub hash: usize,
-    /// The name, where one stands after the `#`.
+    /// The name after the `#`, if there is one.
     pub name: Option<usize>,
-    /// The section, where the name is that of one.
+    /// The section, if the name is that of one.
     pub section: Option<SectionKind>,
     /// The first word of the body. Without a `=` it is the end.
     pub body: usize,

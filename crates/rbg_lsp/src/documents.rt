@@ -21,7 +21,7 @@ pub(crate) struct Documents {
     documents: Vec<Document>,
 }
 
-/// Written out, so that letting the documents go is one call in the proofs of those who hold them.
+/// Written by hand: dropping the documents is then one call in the proofs of their owners.
 impl Drop for Documents {
     fn drop(self) {
         let Documents {

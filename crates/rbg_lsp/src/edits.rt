@@ -31,7 +31,7 @@ pub(crate) struct Change {
     pub new: Span,
 }
 
-/// The smallest edit that makes the second text of the first one, None where they are the same.
+/// The smallest edit that makes the second text of the first one, None if they are the same.
 pub(crate) fn change_between(old: &[u8], new: &[u8]) -> Option<Change> {
     let start = common_front(old, new);
     let old_rest = rest(old, start);
@@ -78,7 +78,7 @@ fn common_end(old: &[u8], new: &[u8]) -> usize {
     most
 }
 
-/// The byte before so many others at the end.
+/// The byte before the last `count` bytes.
 fn byte_from_end(bytes: &[u8], count: usize) -> Option<u8> {
     let after = count.saturating_add(1);
     let index = bytes.len().checked_sub(after)?;

@@ -7,7 +7,7 @@ use rbg_macro::{SectionKind, Source, Token};
 use rbg_warnings::actions;
 use std::alloc::{AllocError, Global};
 
-/// Adds the expanded sections of a text, and says whether its macros can be expanded.
+/// Adds the expanded sections of a text. Returns false if its macros can't be expanded.
 pub(crate) fn expand_into(
     alloc: Global,
     text: &[u8],
@@ -23,7 +23,7 @@ pub(crate) fn expand_into(
     }
 }
 
-/// The expanded sections of a text, or None where it is refused before.
+/// The expanded sections of a text, or None if it is refused before that.
 pub(crate) fn source_of(alloc: Global, text: &[u8]) -> Result<Option<Source<'_>>, AllocError> {
     match cut(alloc, text)? {
         Some(tokens) => expanded(alloc, &tokens),
@@ -31,7 +31,7 @@ pub(crate) fn source_of(alloc: Global, text: &[u8]) -> Result<Option<Source<'_>>
     }
 }
 
-/// Adds the positions of the actions to which the word at an offset belongs, where the text's macros can be expanded.
+/// Adds the positions of the actions to which the word at an offset belongs, if the text's macros can be expanded.
 pub(crate) fn push_positions(
     alloc: Global,
     text: &[u8],

@@ -3,10 +3,10 @@
 use std::alloc::{AllocError, Global};
 use thiserror::Error;
 
-/// The most bytes of a header.
+/// The maximum number of bytes of a header.
 const MAX_HEADER: usize = 4_096;
 
-/// The most bytes of a body.
+/// The maximum number of bytes of a body.
 const MAX_BODY: usize = 16_777_216;
 
 /// Why a stream holds no further message.
@@ -17,7 +17,7 @@ pub enum FramingError {
     NoEnd,
     #[error("a header has no Content-Length")]
     NoLength,
-    /// What stands after `Content-Length:` is no number.
+    /// The text after `Content-Length:` is no number.
     #[error("a Content-Length is no number")]
     BadLength,
     #[error("a message is longer than 16 MB")]
@@ -41,7 +41,7 @@ enum Front {
     Broken(FramingError),
 }
 
-/// What is taken of the bytes that have come.
+/// What is taken from the bytes that have come.
 #[derive(Drop)]
 pub(crate) enum Taken {
     Nothing,
@@ -63,7 +63,7 @@ impl Inbox {
         self.bytes.extend_from_slice(bytes)
     }
 
-    /// Takes the first message, if it is there as a whole.
+    /// Takes the first message, if it has come whole.
     pub fn take(&mut self) -> Result<Taken, AllocError> {
         match front_of(&self.bytes) {
             Front::Part => Ok(Taken::Nothing),
@@ -105,7 +105,7 @@ fn front_of(bytes: &[u8]) -> Front {
     }
 }
 
-/// How many bytes stand before the empty line after a header.
+/// How many bytes are before the empty line after a header.
 fn header_len(bytes: &[u8]) -> Option<usize> {
     for index in 0..MAX_HEADER {
         let end = index.saturating_add(4);
@@ -135,7 +135,7 @@ fn body_len(header: &[u8]) -> Result<usize, FramingError> {
     }
 }
 
-/// What stands after `Content-Length:` in a line of a header.
+/// The text after `Content-Length:` in a line of a header.
 fn length_field(line: &[u8]) -> Option<&[u8]> {
     let name = b"content-length:".as_slice();
     let front = line.get(..name.len())?;

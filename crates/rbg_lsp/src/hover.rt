@@ -1,4 +1,4 @@
-//! What is shown of the word at a place.
+//! The text that is shown for the word at a place.
 
 use crate::analysis::{Analysis, Role, Thing};
 use crate::definitions::{Definition, macro_named};
@@ -10,21 +10,21 @@ use rbg_lint::{MessageWriter, section_tokens};
 use rbg_macro::{SectionKind, Source, Symbol, Token, TokenKind, count_line_feeds};
 use std::alloc::{AllocError, Global};
 
-/// The most bytes that are shown of an expansion.
+/// The maximum number of bytes that are shown of an expansion.
 const MOST_SHOWN: usize = 600;
 
-/// The most positions that are listed.
+/// The maximum number of positions that are listed.
 const MOST_POSITIONS: usize = 5;
 
-/// What is shown of a word, as Markdown.
+/// The text for a word, as Markdown.
 #[derive(Drop)]
 pub(crate) struct Hover {
     pub span: Span,
     pub text: Vec<u8>,
 }
 
-/// What is shown of the word at an offset: what its name stands for, what a call of a macro expands to, and which
-/// positions the action has to which it belongs.
+/// The text that an editor shows for the word at an offset: what its name means, what a call of a macro expands to, and
+/// the positions of the action to which it belongs.
 pub(crate) fn hover_at(
     alloc: Global,
     analysis: &Analysis<'_>,
@@ -64,7 +64,7 @@ fn push_hover(
     writer.end()
 }
 
-/// Adds what a name stands for.
+/// Adds what a name means.
 fn push_target(
     alloc: Global,
     analysis: &Analysis<'_>,
@@ -81,7 +81,7 @@ fn push_target(
     }
 }
 
-/// Writes what a name stands for that is no macro.
+/// Writes what a name means that is no macro.
 fn write_target(writer: &mut MessageWriter<'_>, analysis: &Analysis<'_>, found: &Found<'_>) {
     match found.target {
         Target::Section(section) => {
@@ -166,7 +166,7 @@ fn write_others(writer: &mut MessageWriter<'_>, positions: &[usize]) {
     }
 }
 
-/// Adds what is shown of a macro: its head, the line of its definition, and what it expands to where it is called.
+/// Adds what is shown of a macro: its head, the line of its definition, and what it expands to at a call.
 fn push_macro(
     alloc: Global,
     analysis: &Analysis<'_>,
@@ -191,7 +191,7 @@ fn push_macro(
     push_expansion(alloc, analysis, call, shown)
 }
 
-/// Adds the head of a macro, and the line on which it stands.
+/// Adds the head of a macro, and the line on which it is.
 fn push_head(
     alloc: Global,
     analysis: &Analysis<'_>,
@@ -203,7 +203,7 @@ fn push_head(
     writer.end()
 }
 
-/// Writes the head of a macro, and the line on which it stands.
+/// Writes the head of a macro, and the line on which it is.
 fn write_head(writer: &mut MessageWriter<'_>, analysis: &Analysis<'_>, definition: Definition) {
     let words = analysis.words.as_slice();
     let start = start_of(words, definition.hash.saturating_add(1));
@@ -316,12 +316,12 @@ fn write_tokens(writer: &mut MessageWriter<'_>, tokens: &[Token<'_>]) {
     }
 }
 
-/// Whether no blank stands before such a token.
+/// Whether no blank comes before such a token.
 fn is_close(kind: TokenKind) -> bool {
     kind.closes() || kind.is(Symbol::Comma) || kind.is(Symbol::Star) || kind.is(Symbol::Colon)
 }
 
-/// Whether no blank stands after such a token.
+/// Whether no blank comes after such a token.
 fn is_mark(kind: TokenKind) -> bool {
     kind.is(Symbol::Arrow) || kind.is(Symbol::Colon)
 }

@@ -1,4 +1,4 @@
-//! Who judges a text.
+//! The check of a text, which the caller provides.
 
 use rbg_lint::Diagnostic;
 use std::alloc::{AllocError, Global};

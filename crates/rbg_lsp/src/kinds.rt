@@ -1,6 +1,6 @@
-//! What names stand for.
+//! What names mean.
 
-/// What a name stands for.
+/// What a name means.
 #[derive(Clone, Copy, PartialEq, Eq)]
 pub(crate) enum Kind {
     Direction,
@@ -10,7 +10,7 @@ pub(crate) enum Kind {
     Vertex,
 }
 
-/// The things that a name may stand for. A player is one of the variables.
+/// The things that a name may mean. A player is one of the variables.
 #[derive(Clone, Copy)]
 pub(crate) struct Kinds {
     pub direction: bool,
@@ -19,7 +19,7 @@ pub(crate) struct Kinds {
     pub vertex: bool,
 }
 
-/// What must stand at a place.
+/// What must come at a place.
 #[derive(Clone, Copy, PartialEq, Eq)]
 pub(crate) enum Needed {
     Direction,
@@ -34,7 +34,7 @@ pub(crate) enum Needed {
 }
 
 impl Kinds {
-    /// None.
+    /// No kind.
     pub const NONE: Kinds = Kinds {
         direction: false,
         piece: false,
@@ -88,7 +88,7 @@ impl Kinds {
             || self.vertex && !other.vertex)
     }
 
-    /// Those of them for which a name can stand where such a thing is needed.
+    /// Those of them that a name can mean at a place for such a thing.
     pub fn where_needed(self, needed: Needed) -> Kinds {
         match needed {
             Needed::Direction => self.only(Kind::Direction),

@@ -6,14 +6,14 @@ use rbg_base::is_name_part;
 use rbg_macro::{TextError, Token, tokens};
 use std::alloc::{AllocError, Global};
 
-/// The most brackets for which spaces stand before a line.
+/// The maximum number of brackets for which a line is indented.
 const MOST: usize = 20;
 
-/// A text in the usual layout. A line that begins with `#` has no blanks before it. The other lines of a definition have
-/// four spaces, and two more for each bracket that is open; two less where they begin with `+` or a closing bracket. The
-/// lines of a board keep their blanks, which may show its form. Comments stand as the line below them. No line ends with
-/// a blank, no two lines in a row are empty, and the last line has a line feed. None where the text can't be cut into
-/// tokens.
+/// A text in the usual layout. A line that begins with `#` has no blanks before it. The other lines of a definition
+/// have four spaces, and two more for each bracket that is open; two less if they begin with `+` or a closing bracket.
+/// The lines of a board keep their blanks, which may show its form. Comments are indented as the line below them. No
+/// line ends with a blank, no two lines in a row are empty, and the last line has a line feed. Returns None if the text
+/// can't be cut into tokens.
 pub fn formatted(alloc: Global, text: &[u8]) -> Result<Option<Vec<u8>>, AllocError>
     ensures { IfOk result (λ o. IfSome o (λ laid. HasSameTokens text.now laid.items)) }
 {
@@ -104,7 +104,7 @@ struct Layout<'a, 'o> {
 /// What part of a text a line belongs to.
 #[derive(Clone, Copy)]
 enum Part {
-    /// What stands before the first definition.
+    /// The text before the first definition.
     Front,
     Board,
     /// Another section, or a macro.
@@ -127,7 +127,7 @@ impl<'a> Layout<'a, '_> {
         Ok(())
     }
 
-    /// How many spaces stand before a line that is no comment.
+    /// How many spaces are before a line that is no comment.
     fn indent(&self, line: &[u8], content: &[u8]) -> usize {
         let depth = self.depth.min(MOST);
         match (self.part, content.first().copied()) {
@@ -138,7 +138,7 @@ impl<'a> Layout<'a, '_> {
         }
     }
 
-    /// Goes on over a line: the brackets that it opens and closes.
+    /// Passes a line: counts the brackets that it opens and closes.
     fn pass(&mut self, content: &[u8]) {
         for (index, byte) in content.iter().enumerate() {
             match *byte {
@@ -154,8 +154,8 @@ impl<'a> Layout<'a, '_> {
         }
     }
 
-    /// Writes the lines that wait, where the next line is set in so far. Whether an empty line is to stand before that
-    /// one is returned.
+    /// Writes the lines that wait, with the indentation of the next line. Returns whether an empty line comes before
+    /// that one.
     fn flush(&mut self, indent: usize) -> Result<bool, AllocError> {
         let mut is_owed = false;
         for line in &self.waiting {
@@ -194,7 +194,7 @@ fn push_empty(output: &mut Vec<u8>, is_owed: bool) -> Result<(), AllocError> {
     Ok(())
 }
 
-/// Adds a line with so many spaces before it.
+/// Adds a line with this many spaces before it.
 fn push_line(output: &mut Vec<u8>, indent: usize, content: &[u8]) -> Result<(), AllocError> {
     for _ in 0..indent {
         output.push(b' ')?;

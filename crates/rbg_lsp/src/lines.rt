@@ -2,7 +2,7 @@
 
 use std::alloc::{AllocError, Global};
 
-/// A position in a text: the number of a line from 0, and how many units of UTF-16 stand before it in the line.
+/// A position in a text: the number of a line from 0, and the number of UTF-16 units before it in the line.
 #[derive(Clone, Copy, PartialEq, Eq)]
 pub(crate) struct Position {
     pub line: usize,
@@ -23,7 +23,7 @@ impl Lines {
         Ok(Lines { starts })
     }
 
-    /// The offset of a position. What lies after a line's end is its end, and what lies after the last line is the end
+    /// The offset of a position. A position past the end of a line is that end, and one past the last line is the end
     /// of the text. The text is the one whose lines these are.
     pub fn offset_of(&self, text: &[u8], position: Position) -> usize {
         let starts = self.starts.as_slice();
@@ -70,7 +70,7 @@ fn is_line_feed(text: &[u8], at: usize) -> bool {
     }
 }
 
-/// How many bytes of a line stand before so many units of UTF-16. A character that would be cut stays whole after.
+/// How many bytes of a line are before this many units of UTF-16. A character that would be cut is not counted.
 fn len_of_columns(after: &[u8], column: usize) -> usize {
     let mut left = column;
     for (index, byte) in after.iter().enumerate() {
@@ -95,7 +95,7 @@ fn units(bytes: &[u8]) -> usize {
     count
 }
 
-/// How many units of UTF-16 the character has that begins with this byte of UTF-8: none where none begins.
+/// How many units of UTF-16 the character has that begins with this byte of UTF-8: 0 if none begins.
 fn units_of(byte: u8) -> usize {
     match byte {
         0x80..=0xbf => 0,

@@ -1,4 +1,4 @@
-//! What messages hold, by the paths to it.
+//! The fields of messages, by their paths.
 
 use crate::lines::Position;
 use serde_json::Value;
@@ -8,7 +8,7 @@ pub(crate) fn text_at<'a>(message: &'a Value, path: &str) -> Option<&'a str> {
     message.pointer(path)?.as_str()
 }
 
-/// The number at a path. One that is greater than each index is the greatest one.
+/// The number at a path. A number above the maximum index becomes that maximum.
 pub(crate) fn number_at(message: &Value, path: &str) -> Option<usize> {
     let number = message.pointer(path)?.as_u64()?;
     Some(usize::try_from(number).unwrap_or(usize::MAX))

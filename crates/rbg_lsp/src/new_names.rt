@@ -1,4 +1,4 @@
-//! Other names for macros, parameters and things.
+//! New names for macros, parameters and things.
 
 use crate::analysis::Analysis;
 use crate::definitions::section_named;
@@ -11,16 +11,16 @@ use rbg_lint::push_tokens;
 use rbg_macro::{Source, Symbol, Token, TokenKind};
 use std::alloc::{AllocError, Global};
 
-/// What becomes of a wish for another name.
+/// The answer to a request for a new name.
 #[derive(Drop)]
 pub(crate) enum Renaming {
-    /// The name stands at these places.
+    /// The name is at these places.
     Places(Vec<Span>),
-    /// It can't be given, for this reason.
+    /// The name can't be given, for this reason.
     Refused(&'static str),
 }
 
-/// The place of the name at an offset, if it can have another one.
+/// The place of the name at an offset, if it can be renamed.
 pub(crate) fn prepare_rename(analysis: &Analysis<'_>, at: usize) -> Option<Span> {
     let found = found_at(analysis, at)?;
     match found.target {
@@ -29,8 +29,8 @@ pub(crate) fn prepare_rename(analysis: &Analysis<'_>, at: usize) -> Option<Span>
     }
 }
 
-/// The places at which the name at an offset is to be another one. It is refused where the new name stands in the text
-/// already, and where the text with the new name wouldn't expand to the same but for the name.
+/// The places at which the name at an offset is replaced by another one. It is refused if the text has the new name
+/// already, and if the text with the new name doesn't expand to the same but for the name.
 pub(crate) fn rename(
     alloc: Global,
     analysis: &Analysis<'_>,
@@ -52,7 +52,7 @@ pub(crate) fn rename(
     }
 }
 
-/// Why a name can't be another one, as far as the words of the text show.
+/// Why a name can't be renamed, as far as the words of the text show.
 fn refusal(analysis: &Analysis<'_>, found: &Found<'_>, name: &[u8]) -> Option<&'static str> {
     match found.target {
         Target::Section(_) => return Some("a section has its name from the language"),
@@ -93,7 +93,7 @@ fn stands_in(analysis: &Analysis<'_>, name: &[u8]) -> bool {
     false
 }
 
-/// Adds the places at which a name stands for the same.
+/// Adds the places at which a name means the same.
 fn push_places(
     analysis: &Analysis<'_>,
     found: &Found<'_>,
@@ -107,7 +107,7 @@ fn push_places(
     Ok(())
 }
 
-/// Whether the text with another name at these places expands to the same but for the name. Where it can't be expanded,
+/// Whether the text with another name at these places expands to the same but for the name. If it can't be expanded,
 /// whether it joins nothing.
 fn keeps_meaning(
     alloc: Global,

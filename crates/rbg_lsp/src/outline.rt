@@ -33,7 +33,7 @@ pub(crate) struct DocumentSymbol<'a> {
     pub is_inner: bool,
 }
 
-/// The sections and macros in order of the text. After a section stands what it declares.
+/// The sections and macros in order of the text. The things that a section declares follow it.
 pub(crate) fn symbols<'a>(
     alloc: Global,
     analysis: &Analysis<'a>,

@@ -1,4 +1,4 @@
-//! What an editor asks of a document.
+//! Questions of an editor about a document.
 
 use crate::analysis::Analysis;
 use crate::answers::{

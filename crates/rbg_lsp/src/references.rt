@@ -1,4 +1,4 @@
-//! Where a name is declared, and where it stands for the same.
+//! Where a name is declared, and where it means the same.
 
 use crate::analysis::{Analysis, Role};
 use crate::definitions::{Definition, definition_around};
@@ -7,7 +7,7 @@ use crate::words::{Span, index_around};
 use rbg_macro::SectionKind;
 use std::alloc::{AllocError, Global};
 
-/// What a name stands for.
+/// What a name means.
 #[derive(Clone, Copy)]
 pub(crate) enum Target {
     Section(SectionKind),
@@ -27,7 +27,7 @@ pub(crate) struct Found<'a> {
     pub target: Target,
 }
 
-/// The name at an offset, if it stands for something.
+/// The name at an offset, if it means something.
 pub(crate) fn found_at<'a>(analysis: &Analysis<'a>, at: usize) -> Option<Found<'a>> {
     let index = index_around(&analysis.words, at)?;
     let word = analysis.word(index)?;
@@ -42,7 +42,7 @@ pub(crate) fn found_at<'a>(analysis: &Analysis<'a>, at: usize) -> Option<Found<'
     })
 }
 
-/// What the name that is the word with this index stands for.
+/// What the name means that is the word with this index.
 fn target_of(analysis: &Analysis<'_>, index: usize) -> Option<Target> {
     let mark = analysis.mark(index);
     let definition = definition_around(&analysis.definitions, index);
@@ -59,7 +59,7 @@ fn target_of(analysis: &Analysis<'_>, index: usize) -> Option<Target> {
     }
 }
 
-/// Whether the word with this index stands for the same as a name.
+/// Whether the word with this index means the same as a name.
 pub(crate) fn is_same(analysis: &Analysis<'_>, found: &Found<'_>, index: usize) -> bool {
     if analysis.bytes(index) != found.name {
         return false;
@@ -77,7 +77,7 @@ pub(crate) fn is_same(analysis: &Analysis<'_>, found: &Found<'_>, index: usize) 
     }
 }
 
-/// Whether the word with this index, which stands for the same as a name, declares it.
+/// Whether the word with this index, which means the same as a name, declares it.
 fn is_declaration(analysis: &Analysis<'_>, found: &Found<'_>, index: usize) -> bool {
     match found.target {
         Target::Section(_) => true,
@@ -97,7 +97,7 @@ fn declares(analysis: &Analysis<'_>, kinds: Kinds, index: usize) -> bool {
     false
 }
 
-/// Which of the places are asked for at which a name stands for the same.
+/// Which of the places are asked for at which a name means the same.
 #[derive(Clone, Copy, PartialEq, Eq)]
 enum Wanted {
     Declarations,
@@ -116,7 +116,7 @@ pub(crate) fn definition_at(
     Ok(spans)
 }
 
-/// Where a name stands for the same as at an offset, with its declarations or without.
+/// Where a name means the same as at an offset, with its declarations or without.
 pub(crate) fn references_at(
     alloc: Global,
     analysis: &Analysis<'_>,

@@ -9,7 +9,7 @@ use std::io::Write;
 /// The digits of numbers in base 16.
 const HEX: &[u8; 16] = b"0123456789abcdef";
 
-/// A message that is written part by part. Where memory is refused, nothing is added after it.
+/// A message that is written part by part. After a refused allocation nothing is added.
 pub(crate) struct Reply {
     alloc: Global,
     bytes: Vec<u8>,
@@ -17,7 +17,7 @@ pub(crate) struct Reply {
     is_whole: bool,
 }
 
-/// Written out, so that letting a reply go is one call in the proofs of those who hold one, not a step for each part.
+/// Written by hand: dropping a reply is then one call in the proofs of its owners, not a step for each part.
 impl Drop for Reply {
     fn drop(self) {
         let Reply {
@@ -50,7 +50,7 @@ impl Reply {
         output.extend_from_slice(&self.bytes)
     }
 
-    /// Remembers that memory was refused.
+    /// Records that memory was refused.
     pub fn fail(&mut self) {
         self.is_whole = false;
     }
@@ -80,7 +80,7 @@ impl Reply {
         }
     }
 
-    /// Adds a string. What is no UTF-8 of it is replaced.
+    /// Adds a string. Bytes of it that aren't UTF-8 are replaced.
     pub fn string(&mut self, bytes: &[u8]) {
         match String::from_utf8_lossy(self.alloc, bytes) {
             Ok(text) => self.quoted(text.as_bytes()),
@@ -155,7 +155,7 @@ impl Reply {
         self.text(",\"result\":");
     }
 
-    /// Answers a request by an error.
+    /// Answers a request with an error.
     pub fn error(&mut self, id: Option<&Value>, code: i64, message: &str) {
         self.text("{\"jsonrpc\":\"2.0\",\"id\":");
         self.id(id);

@@ -1,4 +1,4 @@
-//! The words of sections, with the macros expanded where they can be.
+//! The words of sections, with the macros expanded if they can be.
 
 use crate::definitions::Definition;
 use crate::words::{Word, bytes_at, index_of_start};
@@ -20,7 +20,7 @@ pub(crate) struct Body {
     pub steps: Vec<Step>,
 }
 
-/// Written out, so that letting a body go is one call in the proofs of those who hold one, not a step for each part.
+/// Written by hand: dropping a body is then one call in the proofs of its owners, not a step for each part.
 impl Drop for Body {
     fn drop(self) {
         let Body {

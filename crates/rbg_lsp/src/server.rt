@@ -1,4 +1,4 @@
-//! The server: what becomes of each message.
+//! The server: how it handles each message.
 
 use crate::answers::{Request, write_null};
 use crate::documents::Documents;
@@ -32,7 +32,7 @@ const CAPABILITIES: [&str; 7] = [
     r#""serverInfo":{"name":"rbg_author"}}}"#,
 ];
 
-/// How far the talk with an editor is.
+/// The phase of the session with an editor.
 #[derive(Clone, Copy, PartialEq, Eq)]
 pub(crate) enum Phase {
     Beginning,
@@ -42,14 +42,14 @@ pub(crate) enum Phase {
     Ended { was_shut_down: bool },
 }
 
-/// The server's side of the talk with an editor.
+/// The server's side of a session with an editor.
 pub(crate) struct Server {
     alloc: Global,
     documents: Documents,
     phase: Phase,
 }
 
-/// Written out, so that letting a server go is one call in the proofs of those who hold one.
+/// Written by hand: dropping a server is then one call in the proofs of its owners.
 impl Drop for Server {
     fn drop(self) {
         let Server {
@@ -61,7 +61,7 @@ impl Drop for Server {
 }
 
 impl Server {
-    /// No message has come.
+    /// A server to which no message has come.
     pub fn new(alloc: Global) -> Server {
         Server {
             alloc,
@@ -74,7 +74,7 @@ impl Server {
         self.phase
     }
 
-    /// Takes the body of a message, and adds to an output what the editor is sent.
+    /// Takes the body of a message, and appends the messages for the editor to an output.
     pub fn hear<J: Judge>(
         &mut self,
         judge: &J,
@@ -98,7 +98,7 @@ impl Server {
         reply.push_to(output)
     }
 
-    /// Handles a message: a request, which has an id, or a notification. Answers of the editor are passed over.
+    /// Handles a message: a request, which has an id, or a notification. Answers of the editor are ignored.
     fn handle<J: Judge>(
         &mut self,
         judge: &J,
@@ -195,7 +195,7 @@ impl Server {
         }
     }
 
-    /// Takes a notification. Those that the server doesn't know are passed over.
+    /// Takes a notification. Those that the server doesn't know are ignored.
     fn notification<J: Judge>(
         &mut self,
         judge: &J,

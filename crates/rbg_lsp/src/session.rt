@@ -1,4 +1,4 @@
-//! The talk with an editor over a reader and a writer.
+//! A session with an editor, over a reader and a writer.
 
 use crate::frames::{FramingError, Inbox, Taken};
 use crate::judge::Judge;
@@ -6,15 +6,15 @@ use crate::server::{Phase, Server};
 use std::alloc::{AllocError, Global};
 use std::io::{ErrorKind, Read, Write};
 
-/// How many bytes are asked for at once.
+/// How many bytes one read asks for.
 const CHUNK: usize = 65_536;
 
-/// How the talk with an editor ended.
+/// How a session with an editor ended.
 #[derive(Clone, Copy, Debug, PartialEq, Eq)]
 pub enum End {
     /// The editor asked for it, after a shutdown or without one.
     Asked { was_shut_down: bool },
-    /// The input ended before.
+    /// The input ended before that.
     Closed,
     /// The input isn't made of messages.
     Broken(FramingError),
@@ -51,7 +51,7 @@ pub fn serve<R: Read, W: Write, J: Judge>(
     Ok(End::Closed)
 }
 
-/// Answers the messages that have come as a whole, and says whether the talk ended.
+/// Answers the messages that have come whole. Returns how the session ended, or None if it hasn't ended.
 fn hear_all<W: Write, J: Judge>(
     alloc: Global,
     judge: &J,
@@ -73,7 +73,7 @@ fn hear_all<W: Write, J: Judge>(
     Ok(None)
 }
 
-/// Answers a message, and says whether the talk ended.
+/// Answers a message. Returns how the session ended, or None if it hasn't ended.
 fn hear_one<W: Write, J: Judge>(
     alloc: Global,
     judge: &J,

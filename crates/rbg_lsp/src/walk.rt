@@ -1,4 +1,4 @@
-//! A walk over words that shows what must stand at each place.
+//! A walk over words that shows what must come at each place.
 
 use crate::kinds::Needed;
 use rbg_macro::{Symbol, TokenKind};
@@ -32,7 +32,7 @@ pub(crate) struct Walk {
     is_call: bool,
 }
 
-/// Written out, so that letting a walk go is one call in the proofs of those who hold one, not a step for each part.
+/// Written by hand: dropping a walk is then one call in the proofs of its owners, not a step for each part.
 impl Drop for Walk {
     fn drop(self) {
         let Walk {
@@ -55,7 +55,7 @@ impl Walk {
         }
     }
 
-    /// What the words are where the walk is.
+    /// What the words are at this point of the walk.
     pub fn inside(&self) -> Inside {
         self.open.last().copied().unwrap_or(self.outside)
     }
@@ -72,7 +72,7 @@ impl Walk {
         }
     }
 
-    /// What a name must be that stands where the walk is.
+    /// What a name at this point of the walk must be.
     pub fn needed(&self) -> Needed {
         if self.follows(Symbol::Arrow) {
             return Needed::Player;
@@ -88,7 +88,7 @@ impl Walk {
         }
     }
 
-    /// Goes on over a word, with the one after it.
+    /// Passes a word; `next` is the one after it.
     pub fn pass(&mut self, kind: TokenKind, next: Option<TokenKind>) -> Result<(), AllocError> {
         if kind.opens() {
             let inside = self.opened(kind, next);
@@ -105,13 +105,13 @@ impl Walk {
         Ok(())
     }
 
-    /// Goes on over the name of a macro with parameters.
+    /// Passes the name of a macro with parameters.
     pub fn pass_call(&mut self) {
         self.last = Some(TokenKind::Name);
         self.is_call = true;
     }
 
-    /// What stands in the brackets that a word opens, with the one after it.
+    /// What is in the brackets that a word opens, with the one after it.
     fn opened(&self, kind: TokenKind, next: Option<TokenKind>) -> Inside {
         let is_arithmetic = is_symbol(next, Symbol::Dollar);
         if kind.is(Symbol::OpenParenthesis) {
@@ -145,7 +145,7 @@ impl Walk {
         }
     }
 
-    /// Changes what stands in the innermost brackets.
+    /// Changes what is in the innermost brackets.
     fn turn(&mut self, from: Inside, to: Inside) {
         if self.inside() == from && self.open.pop().is_some() {
             let _kept = self.open.push(to);

@@ -1,4 +1,4 @@
-//! The words of a text: its tokens, also where some bytes begin none.
+//! The words of a text: its tokens, even if some bytes begin none.
 
 use rbg_macro::{MAX_TEXT, TextError, Token, TokenKind, tokens};
 use std::alloc::{AllocError, Global};
@@ -23,7 +23,7 @@ pub(crate) fn bytes_at(text: &[u8], span: Span) -> &[u8] {
     text.get(span.start..span.end).unwrap_or(&[])
 }
 
-/// The bytes of the word with this index, none where there is no such word.
+/// The bytes of the word with this index, none if there is no such word.
 pub(crate) fn word_bytes<'a>(text: &'a [u8], words: &[Word], index: usize) -> &'a [u8] {
     match words.get(index) {
         Some(word) => bytes_at(text, word.span),
@@ -81,8 +81,8 @@ fn touches(words: &[Word], index: usize, at: usize) -> bool {
     }
 }
 
-/// Adds the words of a text. Bytes that begin no token are passed over, and so are zero bytes. A text that is too long
-/// has none.
+/// Adds the words of a text. Bytes that begin no token are skipped, and so are zero bytes. A text that is too long has
+/// none.
 pub(crate) fn push_words(
     alloc: Global,
     text: &[u8],
@@ -102,7 +102,7 @@ pub(crate) fn push_words(
     Ok(())
 }
 
-/// Adds the words of bytes up to the first one that begins no token, and returns how many bytes stand before it. The
+/// Adds the words of bytes up to the first one that begins no token, and returns how many bytes are before it. The
 /// bytes begin at an offset of their text.
 fn push_up_to_fault(
     alloc: Global,
@@ -122,7 +122,7 @@ fn push_up_to_fault(
     Ok(Some(len))
 }
 
-/// How many bytes stand before the one that a text is refused for.
+/// How many bytes are before the one that a text is refused for.
 fn len_before(fault: TextError, bytes: &[u8]) -> Result<usize, AllocError> {
     match fault {
         TextError::BadByte { at } => Ok(at),
@@ -132,7 +132,7 @@ fn len_before(fault: TextError, bytes: &[u8]) -> Result<usize, AllocError> {
     }
 }
 
-/// How many bytes stand before the first zero byte.
+/// How many bytes are before the first zero byte.
 fn first_zero(bytes: &[u8]) -> usize {
     for (index, byte) in bytes.iter().enumerate() {
         if *byte == 0 {

@@ -95,7 +95,7 @@ nested_within kind further n is = by_tests (opens kind) (closes kind) (is_symbol
     by_tests false false true p (suc f) is = let same : suc f ≡ n = cc in omega arith
     by_tests false false false p f is = let same : f ≡ n = cc in omega arith
 
--- a token cuts only where no further bracket is open
+-- a token cuts only if no further bracket is open
 nested_cut : (kind : TokenKind) (further : ℕ) → nesting kind further ≡ Cuts → further ≡ 0
 nested_cut kind zero is = refl
 nested_cut kind (suc further) is = absurd (by_tests (opens kind) (closes kind) (is_symbol symbols.Semicolon kind) is)

@@ -1,4 +1,4 @@
--- Where expansion fails.
+-- How expansion fails.
 use Rattle.std.proofs.Common.{ℕ, ◌≡◌, ◌+◌, ◌-◌, ◌<◌, ◌≤◌, List, ◌∷◌, length, ap, ◌∙◌, arith}
 use Rattle.rbg_macro.proofs.Common.{MacroError, TooManyTokens, MAX_LEVEL, MAX_READ, Template, Calls, met, meets, IsMiscall, IsNamed, FailsReading, too_many_read, no_call, in_call, Macro}
 use Rattle.rbg_macro.specs.Token.{Lexeme}

@@ -90,7 +90,7 @@ pub all_marked : (macros : List Macro) (templates : List Template) → AllZip (I
     length macros ≤ length templates → AllZip (IsMarkedTemplate macros) macros templates
 all_marked macros templates all enough = rw (take_all (length templates) macros enough) at all
 
--- a part of a list is marked where the list is
+-- a part of a list is marked if the list is
 pub keeps_one_more : (tokens : List ReadToken) (start at : ℕ) (argument : Bor (List ReadToken)) (found new : List (Bor (List ReadToken))) → KeepsMarks tokens found →
     argument.now ≡ slice_range tokens start at → new ≡ found ++ argument ∷ [] → KeepsMarks tokens new
 keeps_one_more tokens start at argument found new so_far cut added = record {

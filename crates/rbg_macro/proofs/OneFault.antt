@@ -155,7 +155,7 @@ fault_once ts e f (inr fault) (inr fault') =
     subst (λ (ds : Definitions). FailsAll ds.macros 0 0 ds.sections f) same fault'.fails in
     all_fail_once fault.definitions.macros 0 0 fault.definitions.sections e fault.fails f moved
 
--- the fault that an error other than out of memory stands for
+-- the fault that an error other than out of memory means
 fault_of : (ts : List Lexeme) (e : MacroError) → HasMacroFault ts e → e ≢ Memory → HasFault ts e
 fault_of ts (BadDefinition at) fault other = fault
 fault_of ts (Twice at) fault other = fault

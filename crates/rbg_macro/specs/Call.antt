@@ -22,8 +22,8 @@ with_token t a = record a { first = t ∷ a.first }
 abbrev pub with_argument : Arguments → Arguments
 with_argument a = record { first = []; others = a.first ∷ a.others; rest = a.rest }
 
--- what a token does where some further brackets are open: it belongs to the argument and leaves that many open, or it
--- separates two arguments, or it closes the call, or it closes the call's bracket by another one
+-- what a token does if some further brackets are open: it belongs to the argument and leaves that many open, or it
+-- separates two arguments, or it closes the call, or it closes the call's bracket with one of another kind
 pub data Nesting : Type 0 where
   Within : ℕ → Nesting
   Cuts : Nesting
@@ -35,7 +35,7 @@ abbrev pub closing : TokenKind → ℕ → Nesting
 closing kind zero = cond (is_symbol symbols.CloseParenthesis kind) Ends Mismatched
 closing kind (suc further) = Within further
 
--- a `;` cuts only where no further bracket is open
+-- a `;` cuts only if no further bracket is open
 abbrev pub cutting : ℕ → Nesting
 cutting zero = Cuts
 cutting (suc further) = Within (suc further)
@@ -53,8 +53,8 @@ arguments_by Cuts t ts go_on = option_map with_argument (go_on 0)
 arguments_by Ends t ts go_on = Some (record { first = []; others = []; rest = ts })
 arguments_by Mismatched t ts go_on = None
 
--- The arguments in the tokens after a call's `(`, where a number of further brackets are open. There are none where
--- the token that closes the call is missing or isn't `)`.
+-- The arguments in the tokens after a call's `(`, if a number of further brackets are open. There are none if the token
+-- that closes the call is missing or isn't `)`.
 abbrev pub arguments : ℕ → List Lexeme → Option Arguments
 arguments further [] = None
 arguments further (t ∷ ts) = arguments_by (nesting t.kind further) t ts (λ n. arguments n ts)

@@ -20,7 +20,8 @@ pub record Part : Type 0 where
   pub at : ℕ
   -- what comes after it
   pub tokens : List Lexeme
-  -- where a head is refused that these tokens leave unfinished: at the next `#`, or at its own if the text ended
+  -- the place of the error for a head that these tokens leave unfinished: the next `#`, or the head's own if the text
+  -- ended
   pub end : ℕ
 
 abbrev pub is_hash_token : Lexeme → Bool

@@ -1,9 +1,9 @@
--- What an error of an expansion says if it isn't out of memory.
+-- What each error of an expansion means, other than out of memory.
 use Rattle.rbg_macro.specs.declared.error.MacroError.{MacroError}
 use Rattle.rbg_macro.specs.declared.error.MacroError.TheVariants.{BadDefinition, Twice, ArgumentCount, Depth}
 use Rattle.rbg_macro.specs.declared.error.MacroError.TheVariants.{TooManyTokens, BadJoin, Memory}
 
--- memory may run out anywhere; of any other error this holds
+-- memory may run out anywhere; any other error meets this condition
 abbrev pub UnlessMemory : (MacroError → Type 0) → MacroError → Type 0
 UnlessMemory P (BadDefinition at) = P (BadDefinition at)
 UnlessMemory P (Twice at) = P (Twice at)

@@ -1,4 +1,4 @@
--- The expansion of sections, and the first fault where there is none within the limits.
+-- The expansion of sections, and the first fault if there is none within the limits.
 use Rattle.std.specs.Prelude.{ℕ, ◌≡◌, ◌+◌, ◌<◌, ◌≤◌, List, [], ◌∷◌, ◌++◌, length, sum_by, ◌⊎◌, Ok, Err}
 use Rattle.rbg_macro.specs.declared.error.MacroError.{MacroError}
 use Rattle.rbg_macro.specs.declared.error.MacroError.TheVariants.{ArgumentCount, Depth, TooManyTokens}
@@ -27,8 +27,9 @@ mutual
         meets macros t ts ≡ Calls body rest → d < deepest_level → Expands macros (d + 1) body vs k →
         Reads macros d rest us n → Reads macros d (t ∷ ts) (vs ++ us) (k + n)
 
--- `Fails macros d n k ts e`: where `n` tokens were read and `k` were kept before, `e` is the first fault that the
--- expansion of the list `ts` of level `d` meets. `FailsReading` says it of a joined list, which was counted already.
+-- `Fails macros d n k ts e`: if `n` tokens were read and `k` were kept before, `e` is the first fault that the
+-- expansion of the list `ts` of level `d` meets. `FailsReading` is the same for a joined list, which was counted
+-- already.
 mutual
   pub data Fails (macros : List Macro) : ℕ → ℕ → ℕ → List Lexeme → MacroError → Type 0 where
     too_many_read : (d n k : ℕ) (ts : List Lexeme) → most_read < n + length ts → Fails macros d n k ts TooManyTokens

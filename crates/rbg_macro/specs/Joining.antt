@@ -43,13 +43,13 @@ abbrev pub beyond : Lexeme → Result (List Lexeme) MacroError → Result (List 
 beyond t (Ok ts) = Ok (t ∷ ts)
 beyond t (Err e) = Err e
 
--- what a `~` at this offset gives: the joined token goes on, or can't be made
+-- what a `~` at this offset gives: the joined token is handed to `goes_on`, or can't be made
 abbrev pub join_at : ℕ → Option Lexeme → (Lexeme → Result (List Lexeme) MacroError) → Result (List Lexeme) MacroError
 join_at at None goes_on = Err (BadJoin at)
 join_at at (Some t) goes_on = goes_on t
 
--- A token followed by others, joined. It stays where no `~` follows it. Else it and the token after the `~`
--- become one token, which is then followed by what is left; where they can't, the fault is at the `~`.
+-- A token followed by others, joined. It stays as it is if no `~` follows it. Otherwise it and the token after the `~`
+-- become one token, which is then followed by what is left. If they can't be joined, the fault is at the `~`.
 abbrev pub joined_from : Lexeme → List Lexeme → Result (List Lexeme) MacroError
 joined_from t [] = Ok (t ∷ [])
 joined_from t (s ∷ []) = cond (is_symbol symbols.Tilde s.kind) (Err (BadJoin s.at)) (Ok (t ∷ s ∷ []))

@@ -1,4 +1,4 @@
--- What a description calls its sections.
+-- The names of sections in a description.
 use Rattle.std.specs.Prelude.{ℕ, List, codes}
 use Rattle.rbg_macro.specs.declared.source.SectionKind.{SectionKind}
 use Rattle.rbg_macro.specs.declared.source.SectionKind.TheVariants.{Players, Pieces, Variables, Board, Rules}

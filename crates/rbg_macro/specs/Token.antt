@@ -9,6 +9,6 @@ pub record Lexeme : Type 0 where
   pub text : List ℕ
   pub at : ℕ
 
--- a token without where its bytes lie in memory
+-- a token, apart from where its bytes are in memory
 abbrev pub lexeme_of : Token → Lexeme
 lexeme_of t = record { kind = t.kind; text = t.text.now; at = t.at }

@@ -45,7 +45,7 @@ impl<'t> Model for TokenBuffer<'t> {
     ghost invariant = { λ b. All (IsKeptWithin b.joined.items) b.tokens.items };
 }
 
-/// Written out, so that letting a buffer go is one call in the proofs of those who hold one, not a step for each part.
+/// Written by hand: dropping a buffer is then one call in the proofs of its owners, not a step for each part.
 impl Drop for TokenBuffer<'_> {
     fn drop(self) {
         let TokenBuffer {

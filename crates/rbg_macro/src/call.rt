@@ -24,7 +24,7 @@ pub(crate) struct Call<'m, 't, 'j> {
     pub arguments: Arguments<'t, 'j>,
 }
 
-/// Written out, so that letting a call go is one call in the proofs of those who hold one, not a step for each part.
+/// Written by hand: dropping a call is then one call in the proofs of its owners, not a step for each part.
 impl Drop for Call<'_, '_, '_> {
     fn drop(self) {
         let Call {
@@ -34,7 +34,7 @@ impl Drop for Call<'_, '_, '_> {
     }
 }
 
-/// What a token does where a number of brackets are open inside the call's own.
+/// What a token does if a number of brackets are open inside the call's own.
 #[derive(Clone, Copy)]
 enum Effect {
     /// It belongs to the argument, and leaves this number of inner brackets open.
@@ -110,7 +110,7 @@ fn find_arguments<'t, 'j>(
 }
 
 /// Puts the arguments of a call into `found`, which is empty before. Returns the number of tokens of the call after the
-/// macro's name, which is at this offset: none where the macro has no parameters, else the arguments follow.
+/// macro's name, which is at this offset: 0 if the macro has no parameters.
 pub(crate) fn read_arguments<'t, 'j>(
     found: &mut Arguments<'t, 'j>,
     template: &Template<'t>,

@@ -36,8 +36,8 @@ pub(crate) struct Definitions<'t, 's> {
     pub macros: Macros<'t>,
 }
 
-/// The next token of a head and what follows it, if the token is a name. A head that ends before is
-/// refused at `end`.
+/// The next token of a head and what follows it, if the token is a name. A head that ends before it is refused with the
+/// offset `end`.
 fn expect_name<'t, 's>(
     tokens: &'s [Token<'t>],
     end: usize,

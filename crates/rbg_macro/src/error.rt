@@ -30,7 +30,7 @@ pub enum MacroError {
     Memory,
 }
 
-/// Whatever says that memory is refused, as a failed allocation does.
+/// An error of a refused allocation becomes `Memory`.
 impl<E: Into<Memory> + Drop> From<E> for MacroError {
     ghost from_gives = { λ _ e. e ≡ macro_errors.Memory };
 

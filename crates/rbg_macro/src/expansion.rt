@@ -202,8 +202,8 @@ fn read_section<'t>(
     })
 }
 
-/// Expands the sections one by one, and returns the tokens that were kept and where each section's tokens are among
-/// them. Only the bytes of joined tokens are copied.
+/// Expands the sections one by one. Returns the tokens that were kept, and where each section's tokens are among them.
+/// Only the bytes of joined tokens are copied.
 fn expand_sections<'t>(
     alloc: Global,
     macros: &MarkedMacros<'t>,
@@ -227,8 +227,8 @@ fn expand_sections<'t>(
     Ok((expanded.kept, sections))
 }
 
-/// The sections that the tokens define, expanded: each macro call is replaced by the macro's body with
-/// the call's arguments, and `~` joins the tokens beside it. The source borrows the text, and not the tokens.
+/// The sections that the tokens define, expanded: each macro call is replaced by the macro's body with the call's
+/// arguments, and `~` joins its two neighbours. The source borrows the text, and not the tokens.
 pub fn expand<'t>(alloc: Global, tokens: &Tokens<'t>) -> Result<Source<'t>, MacroError>
     ensures sections { IfOk result (HasSections tokens.now) }
     ensures fault { IfErr result (HasMacroFault tokens.now) }

@@ -145,8 +145,8 @@ impl<'t, 'j> JoinedList<'t, 'j> {
         Ok(())
     }
 
-    /// Adds the token that the first tokens make together, where each but the first follows a `~`, and returns the
-    /// number of tokens that it took.
+    /// Adds the token that the first tokens make together: each but the first follows a `~`. Returns the number of
+    /// tokens that it took.
     fn push_chain(
         &mut self,
         macros: &MarkedMacros<'_>,

@@ -47,7 +47,7 @@ impl<'t> Model for Macros<'t> {
     ghost view = { λ m. map macro_in m.by_name.entries };
 }
 
-/// Written out, so that letting the macros go is one call in the proofs of those who hold one, not a step for each part.
+/// Written by hand: dropping the macros is then one call in the proofs of their owners, not a step for each part.
 impl Drop for Macros<'_> {
     fn drop(self) {
         let Macros { by_name: _ } = self;
@@ -116,7 +116,7 @@ impl<'t> Macros<'t> {
         Ok(())
     }
 
-    /// The number of the macro that the token names. It costs the token's bytes.
+    /// The number of the macro that the token names. Its cost grows with the token's length.
     pub(crate) fn number_of(&self, token: &ReadToken<'_, '_>) -> Option<usize>
         ensures { MatchOption result (macro_named self.now (read_lexeme token.now) ≡ None)
             (IsNumberOf self.now (read_lexeme token.now)) }

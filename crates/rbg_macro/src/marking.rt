@@ -1,5 +1,4 @@
-//! Marks tokens with the numbers of the macros that they name, so that their bytes aren't looked at wherever they are
-//! read.
+//! Marks tokens with the numbers of the macros that they name, so that a reader need not look at their bytes.
 ghost use Rattle.std.specs.Prelude.{◌≡◌, List, map, None, Some, MatchOption, IfOk, IfSome, All};
 ghost use Rattle.rbg_macro.specs.Macro.{macro_named};
 ghost use Rattle.rbg_macro.specs.internal.Marks.{IsMarked, IsMarkedItem, IsMarkedTemplate};

@@ -70,7 +70,7 @@ impl<'t> Model for Source<'t> {
     ghost invariant = { λ s. All (IsSectionIn s.tokens) s.sections.items };
 }
 
-/// Written out, so that letting a source go is one call in the proofs of those who hold one, not a step for each part.
+/// Written by hand: dropping a source is then one call in the proofs of its owners, not a step for each part.
 impl Drop for Source<'_> {
     fn drop(self) {
         let Source {

@@ -21,7 +21,7 @@ pub enum TextError {
     Memory,
 }
 
-/// Whatever says that memory is refused, as a failed allocation does.
+/// An error of a refused allocation becomes `Memory`.
 impl<E: Into<Memory> + Drop> From<E> for TextError {
     ghost from_gives = { λ _ e. e ≡ text_errors.Memory };
 

@@ -1,4 +1,4 @@
 //! The limit on texts.
 
-/// The greatest length of a text, in bytes.
+/// The maximum length of a text, in bytes.
 pub const MAX_TEXT: usize = 262_144;

@@ -26,7 +26,7 @@ timed_inputs_of-more streams (first ∷ events) event =
     ap (λ next. timed_inputs_in streams first ++ next) (timed_inputs_of-more (streams_after streams first) events event)
     ∙ sym (append_assoc (timed_inputs_in streams first) (timed_inputs_of (streams_after streams first) events) (timed_inputs_in (streams_through (streams_after streams first) events) event))
 
--- The inputs that these events stand for are handled in turn. As long as the match goes on, its streams are those after them.
+-- The inputs that these events mean are handled in turn. While the match lasts, its streams are those after them.
 pub record HasHandled (old : MatchState) (before : List (List ℕ)) (events : List AbstractEvent) (new : MatchState) (after : List (List ℕ)) : Type 0 where
   pub same_game : new.game ≡ old.game
   pub same_config : new.config ≡ old.config
@@ -36,7 +36,7 @@ pub record HasHandled (old : MatchState) (before : List (List ℕ)) (events : Li
   pub streams : new.play.outcome ≡ None → new.streams ≡ streams_through old.streams events
 
 module _ (old : MatchState) (before : List (List ℕ)) (events : List AbstractEvent) (middle : MatchState) (between : List (List ℕ)) (event : AbstractEvent) (new : MatchState) (after : List (List ℕ)) (handled : HasHandled old before events middle between) (step : Steps middle event new between after) where
-  -- the inputs that the next event stands for, in a match that goes on
+  -- the inputs that the next event means, in a match that has not ended
   next_handled : middle.play.outcome ≡ None → HandlesAll old.game old.config middle.play (timed_inputs_in (streams_through old.streams events) event) new.play step.said
   next_handled going =
       let in_game = subst (λ game. HandlesAll game middle.config middle.play (timed_inputs_in middle.streams event) new.play step.said) handled.same_game step.handles in

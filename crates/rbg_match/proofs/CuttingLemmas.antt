@@ -18,7 +18,7 @@ set-set [] i x y = refl
 set-set (z ∷ zs) zero x y = refl
 set-set (z ∷ zs) (suc i) x y = ap (λ l. z ∷ l) (set-set zs i x y)
 
--- What two pieces of a seat stand for, one directly after the other, and what the one piece of their bytes does.
+-- What two pieces of a seat mean, one directly after the other, and what the one piece of their bytes does.
 record IsCutInTwo (rests : List Rest) (seat at : ℕ) (a b : List ℕ) : Type 0 where
   pub later : List AbstractInput
   pub whole : inputs_in rests (piece seat at (a ++ b)) ≡ inputs_in rests (piece seat at a) ++ later
@@ -139,7 +139,7 @@ timed_inputs_of-append streams (event ∷ before) after =
     ∙ sym (append_assoc (timed_inputs_in streams event) (timed_inputs_of (streams_after streams event) before) (timed_inputs_of (streams_through (streams_after streams event) before) after))
 
 module _ (game : AbstractGame) (config : Config) (some : 1 ≤ config.turn_ms) (streams : Streams) (play end : AbstractPlay) (said : List Delivery) where
-  -- the inputs that these events stand for are handled
+  -- the inputs that these events mean are handled
   abbrev Handled : List AbstractEvent → Type 0
   Handled events = HandlesAll game config play (timed_inputs_of streams events) end said
 

@@ -1,4 +1,4 @@
--- What each seat's bytes are, as more is said.
+-- What each seat's bytes are when more is sent.
 use Rattle.rbg_base.proofs.Common.{◌≡◌, ℕ, zero, suc, ◌+◌, ◌<◌, List, [], ◌∷◌, ◌++◌, length, map, replicate, refl, sym, ap, ◌∙◌, arith, add-one, get_or, set, append_assoc, ◌≢◌, range_with_len}
 use Rattle.std.proofs.lemmas.List.{append-nil}
 use Rattle.std.proofs.lemmas.List.Concat.{flat_map-append}
@@ -13,7 +13,7 @@ pub delivered_from-append : (seat : ℕ) (outbox : List (List ℕ)) (a b : List 
 delivered_from-append seat [] a b = refl
 delivered_from-append seat (bytes ∷ others) a b = rw (delivered_from-append (suc seat) others a b, bytes_for-append seat a b, append_assoc) refl
 
--- what is said in two goes is said in one
+-- what is sent in two lists is what is sent in one
 pub delivered-append : (outbox : List (List ℕ)) (a b : List Delivery) → delivered (delivered outbox a) b ≡ delivered outbox (a ++ b)
 delivered-append outbox a b = delivered_from-append 1 outbox a b
 
@@ -81,7 +81,7 @@ to_others-more seats one message differ = let apart : suc seats ≢ one = omega 
 pub to_others-same : (seats one : ℕ) (message : AbstractMessage) → seats + 1 ≡ one → to_others (seats + 1) one message ≡ to_others seats one message
 to_others-same seats one message same = let equal : suc seats ≡ one = omega arith in rw (add-one, eq-eqb (suc seats) one equal) (append-nil (to_others seats one message))
 
--- what more is said stands after what each seat has been sent
+-- what more is sent follows what each seat was sent
 pub delivered-queued_more : (seats : ℕ) (first next : List Delivery) → delivered (queued seats first) next ≡ queued seats (first ++ next)
 delivered-queued_more seats first next =
     ap (λ outbox. delivered outbox next) (sym (delivered-queued seats first)) ∙ delivered-append (replicate seats []) first next ∙ delivered-queued seats (first ++ next)

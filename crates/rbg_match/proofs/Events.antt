@@ -1,4 +1,4 @@
--- The inputs that an event stands for are handled in turn.
+-- The inputs that an event means are handled in turn.
 use Rattle.std.proofs.Common.{◌≡◌, ℕ, ◌-◌, ◌<◌, Bool, true, false, List, [], ◌∷◌, ◌++◌, length, map, get_or, set, refl, sym, ap, ◌∙◌, subst, append_assoc, ◌&&◌, nat_le}
 use Rattle.std.proofs.lemmas.List.{append-nil, get_or-map, map-set, length-map}
 use Rattle.rbg_wire.specs.Streams.{Rest, Stream, incomplete, Cut, cut}

@@ -1,11 +1,11 @@
--- How play goes on, step by step.
+-- How play continues, step by step.
 use Rattle.std.proofs.Common.{◌≡◌, ℕ, suc, ◌+◌, ◌≤◌, List, [], ◌++◌, ◌∙◌, subst, arith, add-one, add-one-le, append_assoc, Ok}
 use Rattle.rbg_moves.specs.Limits.{most_keeper_moves}
 use Rattle.rbg_match.proofs.Common.{KeeperMoved, Settled, Delivery, AbstractPlay, PlaysOn, keeper, RefereeState, Replies, PlaysOnOnce, gone_on}
 use Rattle.rbg_match.proofs.Replying.{nothing_done, gone_on-twice}
 
--- Play has come from its start to this state by so many keeper moves in a row: what it goes on to from here, it goes on to from
--- the start, with what was said so far in front.
+-- Play has come from its start to this state by `in_a_row` keeper moves in a row. Each way in which it continues from
+-- here is a way in which it continues from the start, with the messages so far in front.
 pub record HasCome (start : RefereeState) (in_a_row : ℕ) (referee : RefereeState) : Type 0 where
   pub few : in_a_row ≤ most_keeper_moves
   pub play : AbstractPlay

@@ -11,7 +11,7 @@ greetings_from text config first (other ∷ names) name =
     let same : first + suc (length names) ≡ (first + 1) + length names = omega arith in
     rw same (ap (λ more. greeting text config first other ++ more) (greetings_from text config (first + 1) names name))
 
--- the greetings of the first so many seats, and of the next
+-- the greetings of the first `index` seats, and of the next
 pub greetings_more : (text : List ℕ) (config : Config) (names : List (List ℕ)) (index : ℕ) (name : List ℕ) → slice_get names (index + 1 - 1) ≡ Some name → greetings text config (take (index + 1) names) ≡ greetings text config (take index names) ++ greeting text config (index + 1) name
 greetings_more text config names index name found =
     let same : index + 1 - 1 ≡ index = omega arith in
@@ -21,7 +21,7 @@ greetings_more text config names index name found =
     let number : 1 + index ≡ index + 1 = omega arith in
     rw (take_more names index name within, get_or_from_slice_get names index name name there) (greetings_from text config 1 (take index names) name ∙ rw (count, number) refl)
 
--- a player's name is a name where all are
+-- a player's name is a name if all are
 pub name_at : (names : List (List ℕ)) → All (λ name. IsTrue (is_name name)) names → (index : ℕ) (name : List ℕ) → slice_get names (index + 1 - 1) ≡ Some name → IsTrue (is_name name)
 name_at names all index name found =
     let same : index + 1 - 1 ≡ index = omega arith in

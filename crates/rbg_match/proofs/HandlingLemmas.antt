@@ -7,7 +7,7 @@ use Rattle.rbg_wire.specs.Messages.{end_message, refusal_message}
 use Rattle.rbg_rules.specs.Meaning.{AbstractGame}
 use Rattle.rbg_match.proofs.Common.{Config, Delivery, to_each, to_seat, AbstractPlay, ended, refusals_of, refused, AbstractInput, Handles, Refuses, after_end, spent}
 
--- an option is there, or not, as its test says
+-- an option is there, or not, as its test has it
 pub is_there : {A : Type 0} (o : Option A) → is_some o ≡ true → (x : A) × (o ≡ Some x)
 is_there None test = absurd (false≢true test)
 is_there (Some x) test = (x, refl)

@@ -22,7 +22,8 @@ IsInputOf game tick = Unit {0}
 IsInputOf game (gone seat) = IsSeat game seat
 IsInputOf game (sent seat item) = IsSeat game seat
 
--- In a match that goes on these moves were made, a player is to move since the last of them, and its turn isn't due at the moment.
+-- In a match that has not ended these moves were made, a player is to move since the last of them, and its turn isn't
+-- due at the moment.
 record IsInPlay (game : AbstractGame) (config : Config) (began moment : ℕ) (play : AbstractPlay) : Type 0 where
   pub leads : LeadsTo game play.made play.place
   pub last : ℕ
@@ -31,7 +32,8 @@ record IsInPlay (game : AbstractGame) (config : Config) (began moment : ℕ) (pl
   pub turn : HasTurnSince game play last
   pub early : IsInTurn config last moment
 
--- What is kept from one moment to the next: a match that goes on has a turn that began before, and one that has ended has a history.
+-- What is kept from one moment to the next: a match that has not ended has a turn that began before, and one that has
+-- ended has a history.
 pub record IsKept (game : AbstractGame) (config : Config) (began moment : ℕ) (play : AbstractPlay) : Type 0 where
   pub leads : LeadsTo game play.made play.place
   pub last : ℕ
@@ -40,7 +42,7 @@ pub record IsKept (game : AbstractGame) (config : Config) (began moment : ℕ) (
   pub over : (outcome : Outcome) → play.outcome ≡ Some outcome → FitsOutcome game config play last moment (Some outcome)
 
 module _ {game : AbstractGame} {config : Config} (lawful : IsWithinLimits config) {moment : ℕ} (counted : moment ≤ latest_moment) {began : ℕ} where
-  -- play that goes on from a move has a history
+  -- play that continues after a move has a history
   pub plays_on_keeps : {n : ℕ} {play : AbstractPlay} {after : AbstractPlay} {said : List Delivery} → PlaysOn game moment n play after said → play.outcome ≡ None → LeadsTo game play.made play.place → MadeInTurn config began play.made moment → IsHistory game config began moment after
   plays_on_keeps (on.endless is_keeper many) going leads in_turn = record { lawful = lawful; counted = counted; leads = leads; last = moment; in_turn = in_turn; fits = let some = lawful.turn_some in (omega arith, omega (arith, some)) }
   plays_on_keeps (on.heavy may hard) going leads in_turn = record { lawful = lawful; counted = counted; leads = leads; last = moment; in_turn = in_turn; fits = let some = lawful.turn_some in (omega arith, omega (arith, some)) }
@@ -119,7 +121,7 @@ module _ {game : AbstractGame} {config : Config} (lawful : IsWithinLimits config
       let began_then = turn.1 in
       in_time_keeps handles is_input (record { leads = has.leads; last = has.last; in_turn = has.in_turn; going = going; turn = turn; early = (before, omega (arith, began_then, early)) })
 
-  -- a match with a history goes on at the same moment
+  -- a match with a history still has it at the same moment
   still_kept : {play : AbstractPlay} → IsHistory game config began moment play → IsKept game config began moment play
   still_kept {play} has = record {
     leads = has.leads;
@@ -129,7 +131,7 @@ module _ {game : AbstractGame} {config : Config} (lawful : IsWithinLimits config
     over = λ outcome is. subst (λ outcome. FitsOutcome game config play has.last moment outcome) is has.fits;
   }
 
--- a match with a history that has not ended goes on at a later moment
+-- a match with a history that has not ended has one at a later moment
 pub kept_later : {game : AbstractGame} {config : Config} {began earlier : ℕ} {play : AbstractPlay} (moment : ℕ) → earlier ≤ moment → play.outcome ≡ None → IsHistory game config began earlier play → IsKept game config began moment play
 kept_later {game} {config} {began} {earlier} {play} moment before going has =
     let (turn, early) = subst (λ outcome. FitsOutcome game config play has.last earlier outcome) going has.fits in
@@ -169,7 +171,7 @@ seat_there game rests seat same test =
     let parts = and_parts (nat_le 1 seat) (nat_le seat (length rests)) test in
     (leb-true 1 seat parts.0, subst (λ (n : ℕ). seat ≤ n) same (leb-true seat (length rests) parts.1))
 
--- an event stands for inputs of the game's seats alone
+-- an event means inputs of the game's seats alone
 module _ (game : AbstractGame) (rests : List Rest) (same : length rests ≡ seats_of game) where
   all_sent : (seat : ℕ) (items : List Item) → IsSeat game seat → All (IsInputOf game) (map (sent seat) items)
   all_sent seat items is_seat = All-map (IsInputOf game) (sent seat) items (λ k d within. is_seat)
@@ -191,13 +193,13 @@ module _ (game : AbstractGame) (rests : List Rest) (same : length rests ≡ seat
   timed_of_event moment event =
       All-map (IsInputAt game moment) (λ input. let timed : TimedInput = record { moment = moment; input = input } in timed) (inputs_in rests event) (All-weaker (IsInputOf game) (λ (input : AbstractInput). IsInputAt game moment (record { moment = moment; input = input })) (λ input is_input. (is_input, refl)) (inputs_in rests event) (all_of_event event))
 
--- an event stands for one input at least
+-- an event means one input at least
 pub some_input : (game : AbstractGame) (rests : List Rest) (moment : ℕ) (event : AbstractEvent) → inputs_at moment (inputs_in rests event) ≢ []
 some_input game rests moment (piece seat at bytes) is = cc
 some_input game rests moment (end_of_stream seat at) is = cc
 some_input game rests moment (moment_alone at) is = cc
 
--- an event keeps the history of a match that goes on
+-- an event keeps the history of a match that has not ended
 pub event_keeps : (game : AbstractGame) (config : Config) (old new : AbstractPlay) (inboxes : List Stream) (began earlier moment : ℕ) (event : AbstractEvent) (said : List Delivery) → earlier ≤ moment → moment ≤ latest_moment → length inboxes ≡ seats_of game → old.outcome ≡ None → IsHistory game config began earlier old → HandlesAll game config old (inputs_at moment (inputs_in (rests_of inboxes) event)) new said → IsHistory game config began moment new
 event_keeps game config old new inboxes began earlier moment event said before counted same going has handles =
     let seats : length (rests_of inboxes) ≡ seats_of game = length-map inboxes (λ (inbox : Stream). inbox.rest) ∙ same in

@@ -119,7 +119,7 @@ keepers_first moves made rest keeper =
 heads : {A : Type 0} (x y : A) (xs ys : List A) → x ∷ xs ≡ y ∷ ys → x ≡ y
 heads x y xs ys same = cc
 
--- the keeper's moves where a move of the keeper's comes next
+-- the keeper's moves if a move of the keeper's comes next
 next_of_keeper : (play after : AbstractPlay) (moment : ℕ) (pairs : List (ℕ × ℕ)) (to : AbstractPlace) (later : List (List (ℕ × ℕ))) → mover_of play ≡ 0 → (grows : Grows (moved play moment pairs to) after) → keeper_pairs after.made ++ later ≡ keeper_pairs play.made ++ pairs ∷ (keeper_pairs grows.0 ++ later)
 next_of_keeper play after moment pairs to later keeper grows =
     let made : Made = record { player = mover_of play; at = moment; pairs = pairs } in
@@ -146,7 +146,7 @@ not_long_and_short ps qs is long short =
     let same : length ps ≡ length qs = ap length is in
     omega (arith, same, long, short)
 
--- one of two stops at a message where the other goes on
+-- one of two stops at a message at which the other continues
 stops_here : (game : AbstractGame) (play : AbstractPlay) (others : List Delivery) → IsHeavyEnd play → StopsWithin game play (to_each (seats_of game) (end_message Heavy)) others
 stops_here game play others heavy = record { heavy = heavy; before = []; after = others; told = refl; goes_on = refl }
 
@@ -292,7 +292,7 @@ as_many rests (piece seat at bytes) = as_many_if rests (seat - 1) (cut_of rests 
 as_many rests (end_of_stream seat at) = refl
 as_many rests (moment_alone at) = refl
 
--- events stand for inputs of the game's seats alone
+-- events mean inputs of the game's seats alone
 all_timed : (game : AbstractGame) (streams : Streams) (events : List AbstractEvent) → length streams.rests ≡ seats_of game → All (λ (one : TimedInput). IsInputOf game one.input) (timed_inputs_of streams events)
 all_timed game streams [] same = All-nil (λ (one : TimedInput). IsInputOf game one.input)
 all_timed game streams (event ∷ events) same =

@@ -7,11 +7,11 @@ use Rattle.rbg_match.proofs.Common.{Config, Delivery, most_refusals, AbstractPla
 use Rattle.rbg_match.proofs.Delivering.{delivered-append, delivered-none}
 use Rattle.rbg_match.proofs.Sayings.{length-says}
 
--- play stays, and nothing is said
+-- play stays, and nothing is sent
 pub nothing_done : (referee : RefereeState) → referee ≡ gone_on referee referee.play []
 nothing_done referee = ap (λ outbox. let one : RefereeState = record referee { outbox = outbox } in one) (sym (delivered-none referee.outbox))
 
--- play goes on, and then goes on further
+-- play continues, and then continues further
 pub gone_on-twice : (referee : RefereeState) (play last : AbstractPlay) (first next : List Delivery) → gone_on (gone_on referee play first) last next ≡ gone_on referee last (first ++ next)
 gone_on-twice referee play last first next = ap (λ outbox. let one : RefereeState = record referee { play = last; outbox = outbox } in one) (delivered-append referee.outbox first next)
 
@@ -50,15 +50,15 @@ replies_also {old = old} {result = result} {IsReply = IsReply} replies Also turn
   whole = IfOk-weaker result (λ value. IsReply old value replies.after replies.said) (λ value. Also old value replies.after replies.said) (λ value. turn value replies.after replies.said) replies.whole;
 }
 
--- play is at another state, and nothing is said
+-- play is at another state, and nothing is sent
 pub replies_quietly : {T E : Type 0} {new : RefereeState} (value : T) (referee : RefereeState) (play : AbstractPlay) → new ≡ record referee { play = play } → (IsReply : Reply T) → IsReply referee value play [] → Replies {E = E} referee new (Ok value) IsReply
 replies_quietly value referee play is IsReply whole = record { after = play; said = []; becomes = is ∙ nothing_done (record referee { play = play }); whole = whole }
 
--- the same, where the answer is another one
+-- the same, if the answer is another one
 pub replies_with : {T U E F : Type 0} {old new : RefereeState} {value : T} {IsReply : Reply T} → Replies {E = E} old new (Ok value) IsReply → (other : U) (Also : Reply U) → ((after : AbstractPlay) (said : List Delivery) → IsReply old value after said → Also old other after said) → Replies {E = F} old new (Ok other) Also
 replies_with replies other Also turn = record { after = replies.after; said = replies.said; becomes = replies.becomes; whole = turn replies.after replies.said replies.whole }
 
--- a call goes on from what came before it
+-- a call continues from what came before it
 pub replies_then : {T E : Type 0} {old middle new : RefereeState} {result : Result T E} {IsReply : Reply T} (play : AbstractPlay) (first : List Delivery) → middle ≡ gone_on old play first → Replies middle new result IsReply → (Both : Reply T) → ((value : T) (after : AbstractPlay) (next : List Delivery) → IsReply (gone_on old play first) value after next → Both old value after (first ++ next)) → Replies old new result Both
 replies_then {old = old} {new = new} {result = result} {IsReply = IsReply} play first before replies Both join =
     let next = subst (λ middle. Replies middle new result IsReply) before replies in

@@ -4,7 +4,7 @@ use Rattle.rbg_wire.specs.Messages.{AbstractMessage, spelling}
 use Rattle.rbg_match.proofs.Common.{Delivery, delivered, to_seat, Says}
 use Rattle.rbg_match.proofs.Delivering.{delivered-append, delivered-none, delivered-one, length-delivered}
 
--- what was said next stands after what was said first
+-- what was sent next follows what was sent first
 pub said_more : {middle new : List (List ℕ)} (old : List (List ℕ)) (first next : List Delivery) → middle ≡ delivered old first → new ≡ delivered middle next → new ≡ delivered old (first ++ next)
 said_more old first next before after = after ∙ ap (λ outbox. delivered outbox next) before ∙ delivered-append old first next
 
@@ -12,7 +12,7 @@ said_more old first next before after = after ∙ ap (λ outbox. delivered outbo
 abbrev pub both_said : {T U E F : Type 0} {old middle new : List (List ℕ)} {first : T} {next : U} {IsFirst : T → List Delivery → Type 0} {IsNext : U → List Delivery → Type 0} → Says {E = E} old middle (Ok first) IsFirst → Says {E = F} middle new (Ok next) IsNext → Says {E = F} old new (Ok next) (λ _ _. Unit {0})
 both_said {old = old} one two = record { said = one.said ++ two.said; beyond = said_more old one.said two.said one.beyond two.beyond; whole = tt }
 
--- after what was said first, a call that was refused: the answer is a refusal
+-- after what was sent first, a call that was refused: the answer is a refusal
 pub said_refused : {T U E F : Type 0} {old middle new : List (List ℕ)} {result : Result T E} {IsToSay : T → List Delivery → Type 0} (first : List Delivery) → middle ≡ delivered old first → Says middle new result IsToSay → (refusal : Result U F) → IsErr refusal → (Both : U → List Delivery → Type 0) → Says old new refusal Both
 said_refused {old = old} first before says refusal is_err Both = record {
   said = first ++ says.said;
@@ -45,10 +45,10 @@ queue_said {Z = Z} queues seat message was is result some most found ok err =
     one_said (map items queues) (seat - 1) message is.items result within (rw had ok) (rw had err) in
     rw (map-set items queues (seat - 1) is) (subst (λ number. Says (map items queues) (set (map items queues) (seat - 1) is.items) result (λ _ said. said ≡ to_seat number message)) same told)
 
--- nothing was said, and the answer is a refusal
+-- nothing was sent, and the answer is a refusal
 pub nothing_err : {T E : Type 0} (outbox : List (List ℕ)) (refusal : Result T E) → IsErr refusal → (IsToSay : T → List Delivery → Type 0) → Says outbox outbox refusal IsToSay
 nothing_err outbox refusal is_err IsToSay = record { said = []; beyond = sym (delivered-none outbox); whole = IfOk-from_err refusal (λ value. IsToSay value []) is_err }
 
--- a call that says something leaves the number of seats
+-- a call that sends something keeps the number of seats
 pub length-says : {T E : Type 0} {old new : List (List ℕ)} {result : Result T E} {IsToSay : T → List Delivery → Type 0} → Says old new result IsToSay → length new ≡ length old
 length-says {old = old} says = ap length says.beyond ∙ length-delivered old says.said

@@ -9,7 +9,7 @@ use Rattle.rbg_match.proofs.OneByOne.{all_to_each, each_to_all}
 use Rattle.rbg_match.proofs.Transcripts.{of_other_inputs}
 use Rattle.rbg_match.proofs.Settling.{tick_at, tick_dropped, tick_added, plays_on_settles, first_dropped, first_added}
 
--- an event stands for one input at least
+-- an event means one input at least
 record HasInput (rests : List Rest) (event : AbstractEvent) : Type 0 where
   pub first : AbstractInput
   pub others : List AbstractInput
@@ -44,7 +44,7 @@ module _ (streams : Streams) (event : AbstractEvent) (at : ℕ) (after : List Ab
       ∙ ap (λ (one : Streams). timed_inputs_in streams event ++ tick_at moment ∷ timed_inputs_of one after) same_streams
 
 module _ (game : AbstractGame) (config : Config) (some : 1 ≤ config.turn_ms) (streams : Streams) (play end : AbstractPlay) (said : List Delivery) where
-  -- the inputs that these events stand for are handled
+  -- the inputs that these events mean are handled
   abbrev Handled : List AbstractEvent → Type 0
   Handled events = HandlesAll game config play (timed_inputs_of streams events) end said
 

@@ -1,4 +1,4 @@
--- Every transcript tells a history.
+-- Every transcript has a history.
 use Rattle.rbg_base.proofs.Common.{◌≡◌, ℕ, ◌≤◌, List, [], ◌∷◌, length, Option, Some, None, refl, sym, ap, ◌∙◌, subst, arith, min, le-max_left, min-le_right, length-replicate, none-some}
 use Rattle.rbg_wire.specs.declared.outcome.Outcome.{Outcome}
 use Rattle.rbg_wire.specs.Streams.{incomplete}
@@ -16,13 +16,13 @@ counted_most streams at few =
     omega (arith, few, most)
 
 module _ (game : AbstractGame) (config : Config) (lawful : IsWithinLimits config) (began : ℕ) where
-  -- a history at a moment, which is the greatest one as long as the match goes on
+  -- a history at a moment, which is the maximum so far while the match lasts
   record HasHistoryAt (streams : Streams) (play : AbstractPlay) : Type 0 where
     pub moment : ℕ
     pub has : IsHistory game config began moment play
     pub now : play.outcome ≡ None → moment ≡ streams.moment
 
-  -- an event of a match that goes on
+  -- an event of a match that has not ended
   after_event : (streams : Streams) (event : AbstractEvent) {play middle : AbstractPlay} {said : List Delivery} → streams.moment ≤ latest_moment → length streams.rests ≡ seats_of game → HasHistoryAt streams play → (outcome : Option Outcome) → play.outcome ≡ outcome → HandlesEach game config play (timed_inputs_in streams event) middle said → HasHistoryAt (streams_after streams event) middle
   after_event streams event few same before None going handles =
       let moment = counted streams (moment_of event) in

@@ -26,9 +26,9 @@ abbrev pub IsUnreadable : Item → Type 0
 IsUnreadable (complete text) = (pairs : List (ℕ × ℕ)) → ¬ SpellsMove text pairs
 IsUnreadable too_long = Unit {0}
 
--- In a match of that many seats a seat's message is refused for this reason.
---   counted: the seat is told so.
---   spent: the seat is told so. Its count passes the allowed number, so the match ends with `E2`.
+-- In a match of that many seats a message of a seat is refused for this reason.
+--   counted: the refusal is sent to the seat.
+--   spent: the refusal is sent to the seat. Its count passes the allowed number, so the match ends with `E2`.
 pub data Refuses (seats : ℕ) (config : Config) (play : AbstractPlay) (seat : ℕ) (reason : Reason) :
     (after : AbstractPlay) → (said : List Delivery) → Type 0 where
   counted :
@@ -43,7 +43,7 @@ pub data Refuses (seats : ℕ) (config : Config) (play : AbstractPlay) (seat : �
 -- The mover asks for the move of these pairs, of which there are at most 200.
 --   heavy: the question whether it is legal is above the limits. The match ends with `E4`.
 --   illegal: it is not legal, so it is refused.
---   legal: it is made and sent to every seat, the mover's too, and play goes on.
+--   legal: it is made and sent to every seat, the mover's too, and play continues.
 pub data Judges (game : AbstractGame) (config : Config) (play : AbstractPlay) (moment : ℕ) (pairs : List (ℕ × ℕ)) :
     (after : AbstractPlay) → (said : List Delivery) → Type 0 where
   heavy :
@@ -58,9 +58,9 @@ pub data Judges (game : AbstractGame) (config : Config) (play : AbstractPlay) (m
       PlaysOn game moment 0 (moved play moment pairs to) after more →
       Judges game config play moment pairs after (to_each (seats_of game) (move_message pairs) ++ more)
 
--- A match that goes on handles an input that arrived before the due moment.
+-- A match that has not ended handles an input that arrived before the due moment.
 --   nothing: a moment alone changes nothing.
---   leaving: a seat's stream has ended. The match ends with `E3`, and every other seat is told so.
+--   leaving: a seat's stream has ended. The match ends with `E3`, which is sent to every other seat.
 --   out_of_turn: an item of a seat that is not the mover's is refused.
 --   unreadable: an item of the mover that is no move is refused.
 --   too_many: a move of more than 200 pairs is refused.

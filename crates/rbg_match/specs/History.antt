@@ -17,8 +17,8 @@ use Rattle.rbg_match.specs.PlayingOn.{seats_of}
 abbrev pub start_place : AbstractGame → AbstractPlace
 start_place game = record { state = start_of game; last = None }
 
--- These moves lead from the start to the place. Each is legal where it is made, is made by the mover of that place, and
--- has at most 200 pairs.
+-- These moves lead from the start to the place. Each is legal at the place where it is made, is made by the mover of
+-- that place, and has at most 200 pairs.
 pub data LeadsTo (game : AbstractGame) : List Made → AbstractPlace → Type 0 where
   none :
       LeadsTo game [] (start_place game)
@@ -65,7 +65,7 @@ pub record HasTurn (game : AbstractGame) (place : AbstractPlace) : Type 0 where
 abbrev pub HasTurnSince : AbstractGame → AbstractPlay → (begun : ℕ) → Type 0
 HasTurnSince game play begun = HasTurn game play.place × (play.turn_began ≡ begun)
 
--- The outcome fits the place that play has reached, the moment of the last move and the greatest moment, which is that
+-- The outcome fits the place that play has reached, the moment of the last move and the maximum moment, which is that
 -- of the end if there is one.
 --   None: a player is to move and has a legal move. Its turn began with the last move and isn't due.
 --   Finished: no move is legal, the scores are the players' values, and the match ended with the last move.
@@ -84,9 +84,9 @@ FitsOutcome game config play last moment (Some (Gone seat)) =
     HasTurnSince game play last × IsInTurn config last moment × (1 ≤ seat) × (seat ≤ seats_of game)
 FitsOutcome game config play last moment (Some Heavy) = IsInTurn config last moment
 
--- The history that a state of play tells, where the match began at a moment and its greatest moment is another: the
--- moves lead from the start to the place, each was made in its turn, and the outcome fits. No moment is greater than
--- the latest that is counted.
+-- The history of a state of play, if the match began at one moment and its maximum moment is another: the moves lead
+-- from the start to the place, each was made in its turn, and the outcome fits. No moment is later than the latest that
+-- is counted.
 pub record IsHistory (game : AbstractGame) (config : Config) (began moment : ℕ) (play : AbstractPlay) : Type 0 where
   pub lawful : IsWithinLimits config
   pub counted : moment ≤ latest_moment

@@ -1,4 +1,4 @@
--- What a list of events stands for: inputs, each at its counted moment.
+-- What a list of events means: inputs, each at its counted moment.
 use Rattle.std.specs.Prelude.{
   ◌≡◌,
   ℕ,
@@ -26,7 +26,7 @@ use Rattle.rbg_match.specs.declared.event.Event.TheVariants.{Piece, Ended, Tick}
 use Rattle.rbg_match.specs.Handling.{AbstractInput, tick, gone, sent}
 use Rattle.rbg_match.specs.Limits.{message_limit, latest_moment}
 
--- An event, apart from where its bytes lie in memory.
+-- An event, apart from where its bytes are in memory.
 pub data AbstractEvent : Type 0 where
   piece : (seat at : ℕ) (bytes : List ℕ) → AbstractEvent
   end_of_stream : (seat at : ℕ) → AbstractEvent
@@ -42,7 +42,7 @@ pub record TimedInput : Type 0 where
   pub moment : ℕ
   pub input : AbstractInput
 
--- What the next events need of those so far: the greatest counted moment, and for each seat, seat 1 first, the end of
+-- What the next events need of those so far: the maximum counted moment, and for each seat, seat 1 first, the end of
 -- its stream that is no whole message yet.
 pub record Streams : Type 0 where
   pub moment : ℕ
@@ -65,17 +65,16 @@ rest_of rests seat = slice_index_or rests (seat - 1) (incomplete [])
 abbrev pub cut_of : List Rest → (seat : ℕ) → (bytes : List ℕ) → Cut
 cut_of rests seat bytes = cut message_limit (rest_of rests seat) bytes
 
--- The inputs that an event stands for. A piece is a moment and then, in order, the items that it completes in its
--- seat's stream. The end of a stream is that end. A moment, or an event of a seat that the match doesn't have, is a
--- moment.
+-- The inputs that an event means. A piece is a moment and then, in order, the items that it completes in its seat's
+-- stream. The end of a stream is that end. A moment, or an event of a seat that the match doesn't have, is a moment.
 abbrev pub inputs_in : List Rest → AbstractEvent → List AbstractInput
 inputs_in rests (piece seat at bytes) =
     tick ∷ (if has_seat rests seat then map (sent seat) (cut_of rests seat bytes).items else [])
 inputs_in rests (end_of_stream seat at) = (if has_seat rests seat then gone seat else tick) ∷ []
 inputs_in rests (moment_alone at) = tick ∷ []
 
--- The event is a moment of the clock, or of a seat that the match doesn't have. So it stands for a tick, and no stream
--- goes on.
+-- The event is a moment of the clock, or of a seat that the match doesn't have. So it means a tick, and no stream
+-- changes.
 abbrev pub IsTickAlone : List Rest → AbstractEvent → Type 0
 IsTickAlone rests (piece seat at bytes) = has_seat rests seat ≡ false
 IsTickAlone rests (end_of_stream seat at) = has_seat rests seat ≡ false
@@ -98,7 +97,7 @@ moment_of (moment_alone at) = at
 abbrev pub inputs_at : (moment : ℕ) → List AbstractInput → List TimedInput
 inputs_at moment inputs = map (λ one. record { moment = moment; input = one }) inputs
 
--- the inputs that an event stands for, each at the event's counted moment
+-- the inputs that an event means, each at the event's counted moment
 abbrev pub timed_inputs_in : Streams → AbstractEvent → List TimedInput
 timed_inputs_in streams event = inputs_at (counted streams (moment_of event)) (inputs_in streams.rests event)
 
@@ -117,7 +116,7 @@ counted_first now = min now latest_moment
 abbrev pub streams_at_start : (seats now : ℕ) → Streams
 streams_at_start seats now = record { moment = counted_first now; rests = replicate seats (incomplete []) }
 
--- the inputs that a list of events stands for, in turn
+-- the inputs that a list of events means, in turn
 abbrev pub timed_inputs_of : Streams → List AbstractEvent → List TimedInput
 timed_inputs_of streams [] = []
 timed_inputs_of streams (event ∷ events) =

@@ -17,8 +17,9 @@ use Rattle.rbg_match.specs.Play.{AbstractPlay, mover_of}
 use Rattle.rbg_match.specs.PlayingOn.{seats_of}
 use Rattle.rbg_match.specs.Transcript.{HandlesAll, Transcript}
 
--- How a seat's stream is cut does not matter, where a turn lasts some time. A piece may be replaced by one or more pieces
--- of the same seat and moment, directly one after the other and with the same bytes joined: the transcripts stay the same.
+-- How a seat's stream is cut does not matter if a turn lasts some time. A piece may be replaced by one or more pieces
+-- of the same seat and moment, directly one after the other and with the same bytes joined: the transcripts stay the
+-- same.
 abbrev pub Cutting : Type 0
 Cutting =
     (game : AbstractGame) (text : List ℕ) (config : Config) (now : ℕ) →
@@ -32,7 +33,7 @@ Cutting =
 abbrev pub keeper_pairs : List Made → List (List (ℕ × ℕ))
 keeper_pairs moves = map (λ made. made.pairs) (filter (λ made. made.player == 0) moves)
 
--- how many of these moves at their end are the keeper's, where that many before them are
+-- how many of these moves at their end are the keeper's, if `before` moves of the keeper's came directly before them
 abbrev pub keeper_run : (before : ℕ) → List Made → ℕ
 keeper_run before [] = before
 keeper_run before (made ∷ moves) = keeper_run (if made.player == 0 then suc before else 0) moves
@@ -74,8 +75,8 @@ OfTwoTranscripts Then =
     Then game play play' said said'
 
 -- The text, the config, the first moment and the events decide everything but the keeper's moves and where a match ends
--- because a question is above the limits. So where the keeper's moves in two transcripts of them are the first ones of
--- one list, the transcripts are the same until one of them ends so.
+-- because a question is above the limits. So if the keeper's moves in two transcripts of them are the first ones of one
+-- list, the transcripts are the same until one of them ends for that reason.
 abbrev pub OneUntilHeavy : Type 0
 OneUntilHeavy =
     OfTwoTranscripts (λ game one other said others. HaveOneKeeper one other → AreAlike game one other said others)
@@ -114,7 +115,7 @@ TickAfter =
     Transcript game text config now (before ++ event ∷ moment_alone at ∷ after) play said
     ↔ Transcript game text config now (before ++ event ∷ after) play said
 
--- So is one that isn't later than the first moment of a match, before any event.
+-- A moment of the clock that isn't later than the first moment of a match, before any event, changes nothing either.
 abbrev pub TickAtStart : Type 0
 TickAtStart =
     (game : AbstractGame) (text : List ℕ) (config : Config) (now : ℕ) →
@@ -125,8 +126,8 @@ TickAtStart =
     Transcript game text config now (moment_alone at ∷ after) play said
     ↔ Transcript game text config now after play said
 
--- Every transcript tells a history: where play stands at its end, the moves were legal and made in their turns, and the
--- outcome fits, for some greatest moment.
+-- Every transcript has a history: for the state of play at its end, the moves were legal and made in their turns, and
+-- the outcome fits, for some maximum moment.
 abbrev pub TranscriptHasHistory : Type 0
 TranscriptHasHistory =
     (game : AbstractGame) (text : List ℕ) (config : Config) (now : ℕ) (events : List AbstractEvent) →
@@ -135,7 +136,7 @@ TranscriptHasHistory =
     Transcript game text config now events play said →
     (moment : ℕ) × IsHistory game config (counted_first now) moment play
 
--- Where play has ended it stays as it is, whatever the inputs are, and nothing is sent.
+-- Play that has ended stays as it is, whatever the inputs are, and nothing is sent.
 abbrev pub EndedPlayStays : Type 0
 EndedPlayStays =
     (game : AbstractGame) (config : Config) (play after : AbstractPlay) (outcome : Outcome) →

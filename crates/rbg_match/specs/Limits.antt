@@ -17,7 +17,7 @@ most_refusals = 100
 abbrev pub message_limit : ℕ
 message_limit = 4096
 
--- The latest moment that is counted: an hour before the greatest number of 64 bits, so that each due moment is a number
+-- The latest moment that is counted: an hour before the maximum number of 64 bits, so that each due moment is a number
 -- of 64 bits.
 abbrev pub latest_moment : ℕ
 latest_moment = 18446744073705951615

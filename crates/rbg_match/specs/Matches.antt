@@ -21,8 +21,8 @@ use Rattle.rbg_match.specs.PlayingOn.{PlaysOn, seats_of}
 use Rattle.rbg_match.specs.Transcript.{HandlesAll, greetings}
 
 -- A match: its game and config, the counted moment at which it began, the state of play, what the next events need of
--- those so far, and whether it has failed because it ran out of memory. The streams' moment is the greatest counted
--- one; once the match has ended it stays the moment of the end.
+-- those so far, and whether it has failed because it ran out of memory. The streams' moment is the maximum counted one.
+-- After the end of the match it stays the moment of the end.
 pub record MatchState : Type 0 where
   pub game : AbstractGame
   pub config : Config
@@ -31,11 +31,11 @@ pub record MatchState : Type 0 where
   pub streams : Streams
   pub failed : Bool
 
--- The history that a match tells.
+-- The history of a match.
 abbrev pub HasHistory : MatchState → Type 0
 HasHistory state = IsHistory state.game state.config state.began state.streams.moment state.play
 
--- A match of this game, text and config opens at a moment: each seat is greeted, and play goes on from the start.
+-- A match of this game, text and config opens at a moment: each seat is greeted, and play continues from the start.
 pub record Opens (game : AbstractGame) (text : List ℕ) (config : Config) (now : ℕ)
     (state : MatchState) (outbox : List (List ℕ)) : Type 0 where
   pub lawful : IsWithinLimits config
@@ -48,9 +48,9 @@ pub record Opens (game : AbstractGame) (text : List ℕ) (config : Config) (now 
   pub opens : PlaysOn game (counted_first now) 0 (play_at_start game (counted_first now)) state.play opening
   pub told : outbox ≡ queued (seats_of game) (greetings text config game.players ++ opening)
 
--- What an event changes in a match and in what each seat has. The inputs that the event stands for are handled in turn,
--- and the messages that this sends follow what each seat had. The greatest moment is that of the event, and as long as
--- the match goes on, its streams are those after the event. A match that has ended stays as it is, and nothing is sent.
+-- What an event changes in a match and in what each seat has. The inputs that the event means are handled in turn, and
+-- the messages that this sends follow what each seat had. The maximum moment is that of the event, and while the match
+-- lasts, its streams are those after the event. A match that has ended stays as it is, and nothing is sent.
 pub record Steps (old : MatchState) (event : AbstractEvent) (new : MatchState)
     (before after : List (List ℕ)) : Type 0 where
   pub worked : old.failed ≡ false

@@ -1,4 +1,4 @@
--- The state of play: where play stands, apart from streams and the clock.
+-- The state of play: how far play has come, apart from streams and the clock.
 use Rattle.std.specs.Prelude.{
   ℕ,
   ◌+◌,

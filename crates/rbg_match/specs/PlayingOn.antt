@@ -1,4 +1,4 @@
--- How play goes on, until a player is to move or the match has ended.
+-- How play continues, until a player is to move or the match has ended.
 use Rattle.std.specs.Prelude.{◌≡◌, ◌≢◌, ℕ, suc, ◌<◌, ◌≤◌, List, [], ◌++◌, length}
 use Rattle.rbg_wire.specs.declared.outcome.Outcome.TheVariants.{Finished, Heavy}
 use Rattle.rbg_wire.specs.Messages.{move_message, end_message}
@@ -18,12 +18,12 @@ seats_of game = length game.players
 abbrev pub MayBeAsked : (in_a_row : ℕ) → AbstractPlay → Type 0
 MayBeAsked in_a_row play = mover_of play ≡ 0 → in_a_row < most_keeper_moves
 
--- After that many keeper moves in a row, at this moment, play goes on from one state to another, and these messages are
--- sent.
+-- After that many keeper moves in a row, at this moment, play continues from one state to another, and these messages
+-- are sent.
 --   endless: the keeper is to move and has moved 1,000 times in a row. The match ends with `E4`, whatever else holds.
 --   heavy: the question for a legal move is above the limits. The match ends with `E4`.
 --   finished: no move is legal. The match ends with `E0` and the players' scores.
---   keeper: the keeper makes a legal move of at most 200 pairs, which is sent to every seat, and play goes on.
+--   keeper: the keeper makes a legal move of at most 200 pairs, which is sent to every seat, and play continues.
 --   turn: a player is to move and has a legal move. Its turn begins.
 pub data PlaysOn (game : AbstractGame) (moment : ℕ) :
     (in_a_row : ℕ) → (before after : AbstractPlay) → (said : List Delivery) → Type 0 where

@@ -32,8 +32,8 @@ pub data HandlesAll (game : AbstractGame) (config : Config) (play : AbstractPlay
       HandlesAll game config play (inputs ++ input ∷ []) after (first ++ next)
 
 -- With this game and text, this config, from the moment `now` on, and with these inputs in turn, these messages are
--- sent in the whole match, and play stands here at the end. First each seat is greeted and play goes on from the start.
--- Then the inputs are handled in turn.
+-- sent in the whole match, and this is the state of play at the end. First each seat is greeted, and play continues
+-- from the start. Then the inputs are handled in turn.
 pub record InputTranscript (game : AbstractGame) (text : List ℕ) (config : Config) (now : ℕ)
     (inputs : List TimedInput) (play : AbstractPlay) (said : List Delivery) : Type 0 where
   pub opened : AbstractPlay
@@ -43,7 +43,7 @@ pub record InputTranscript (game : AbstractGame) (text : List ℕ) (config : Con
   pub goes_on : HandlesAll game config opened inputs play replies
   pub whole : said ≡ greetings text config game.players ++ opening ++ replies
 
--- The same for a list of events: the inputs are those that the events stand for.
+-- The same for a list of events: the inputs are those that the events mean.
 abbrev pub Transcript : AbstractGame → (text : List ℕ) → Config → (now : ℕ) →
     List AbstractEvent → AbstractPlay → (said : List Delivery) → Type 0
 Transcript game text config now events play said =

@@ -7,8 +7,8 @@ ghost use Rattle.rbg_wire.specs.Messages.{ArePairs};
 use rbg_base::Pair;
 use rbg_moves::{Move, Over, Place, PlayedGame, Workspace};
 
-/// The pairs of a legal move at a place, which a message can tell, or None if play is finished. The workspace takes them
-/// back. The question is asked on the place itself, which is given back as it was, also after an error.
+/// The pairs of a legal move at a place, short enough for a message. Returns None if play is finished. The workspace
+/// may take them back. The search works on the place itself and restores it, also on an error.
 pub(crate) fn find_pairs(
     game: &PlayedGame,
     place: &mut Place,

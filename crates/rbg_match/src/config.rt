@@ -1,12 +1,12 @@
 //! The config of a match.
 
-/// The longest time for a turn, in milliseconds: one hour.
+/// The maximum time for a turn, in milliseconds: one hour.
 pub const MAX_TURN_MS: u64 = 3_600_000;
 
 /// The latest moment that is counted. It leaves room for the longest turn, so that each due moment is a `u64`.
 pub const LATEST_MOMENT: u64 = u64::MAX - MAX_TURN_MS;
 
-/// The most refused messages that may be allowed to a seat.
+/// The maximum number of refused messages that may be allowed to a seat.
 pub const MAX_REFUSALS: u32 = 100;
 
 /// The time for a turn, and how many refused messages a seat is allowed.

@@ -1,4 +1,4 @@
-//! How a referee handles an event: the inputs that the event stands for, in turn.
+//! How a referee handles an event: the inputs that the event means, in turn.
 ghost use Rattle.std.specs.Prelude.{◌≡◌, ◌≤◌, ◌&&◌, ◌↔◌, max, min, nat_le, IsTrue, length, map, OnOk};
 ghost use Rattle.rbg_wire.specs.Streams.{cut};
 ghost use Rattle.rbg_match.specs.Handling.{sent};
@@ -44,7 +44,7 @@ impl Referee {
         Ok(())
     }
 
-    /// Handles an event at the counted moment: the inputs that it stands for, in turn.
+    /// Handles an event at the counted moment: the inputs that it means, in turn.
     pub(crate) fn handle_event(
         &mut self,
         inboxes: &mut [Inbox],

@@ -1,11 +1,11 @@
-//! Why a match is not made.
+//! Why a match can't be made.
 ghost use Rattle.std.specs.Prelude.{◌≡◌};
 ghost use Rattle.rbg_match.specs.declared.error.MatchError.TheVariants.{Memory as OutOfMemory};
 
 use rbg_base::Memory;
 use thiserror::Error;
 
-/// Why a match is not made.
+/// Why a match can't be made.
 #[derive(Clone, Copy, Debug, PartialEq, Eq, Error)]
 pub enum MatchError {
     /// A number of the config is outside its limits.

@@ -33,7 +33,7 @@ impl Referee {
         Ok(())
     }
 
-    /// Judges the move that the mover asks for. A legal move is made, and play goes on. Another one is refused.
+    /// Judges the move that the mover asks for. A legal move is made, and play continues. Another one is refused.
     fn judge(&mut self, pairs: Move) -> Result<(), Memory>
         requires going { self.old.play.outcome ≡ None }
         requires player { 1 ≤ mover_of self.old.play }

@@ -1,4 +1,4 @@
-//! The inputs of a match: what its events stand for.
+//! The inputs of a match: what its events mean.
 
 use rbg_wire::Took;
 

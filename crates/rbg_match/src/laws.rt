@@ -32,12 +32,12 @@ pub fn tick_after_an_event_says_nothing()
     ensures { TickAfter }
 {}
 
-/// Nor does a tick at the moment at which the match begins.
+/// A tick at the moment at which the match begins changes nothing and sends nothing either.
 pub fn tick_at_the_start_says_nothing()
     ensures { TickAtStart }
 {}
 
-/// What `Match::new` makes and `step` goes on with is a transcript of the events.
+/// A match that `Match::new` makes and `step` continues is a transcript of the events.
 pub fn stepped_match_is_refereed()
     ensures { SteppedIsTranscript }
 {}
@@ -54,7 +54,7 @@ pub fn one_transcript()
     ensures { OneTranscript }
 {}
 
-/// Every transcript tells a history.
+/// Every transcript has a history.
 pub fn transcripts_have_a_history()
     ensures { TranscriptHasHistory }
 {}

@@ -20,7 +20,7 @@ use std::marker::Model;
 
 /// A match of a game.
 pub struct Match {
-    /// Its moment is the greatest counted one. Once the match has ended it stays the moment of the end.
+    /// Its moment is the maximum counted one. After the end of the match it stays the moment of the end.
     referee: Referee,
     /// The counted moment at which the match began.
     began: u64,
@@ -55,7 +55,7 @@ impl Model for Match {
     ghost invariant = { λ m. IsMatch m.referee.game m.inboxes.items m.failed };
 }
 
-/// Written out, so that letting a match go is one call in the proofs of those who hold one, not a step for each part.
+/// Written by hand: dropping a match is then one call in the proofs of its owners, not a step for each part.
 impl Drop for Match {
     fn drop(self) {
         let Match {
@@ -95,7 +95,7 @@ impl Match {
     ghost use Rattle.rbg_wire.specs.declared.outcome.Outcome.{Outcome};
 
     /// Makes a match of a game at the moment `now`. Each seat is greeted with the game's text, of which no byte may be
-    /// zero, and play goes on from the start. Returns the match and its outbox.
+    /// zero, and play continues from the start. Returns the match and its outbox.
     pub fn new(
         alloc: Global,
         game: Game,
@@ -115,8 +115,9 @@ impl Match {
         Ok(open(alloc, game, text, config, now.min(LATEST_MOMENT))?)
     }
 
-    /// Handles an event. Its messages go to the outbox, which must have the match's seats. After an `Err` the match has
-    /// failed, and each further call returns `Err`. Its game, its config and the moment at which it began never change.
+    /// Handles an event. Its messages go to the outbox, which must have the match's seats. After an error the match has
+    /// failed, and each further call returns an error. Its game, its config and the moment at which it began never
+    /// change.
     pub fn step(&mut self, event: Event<'_>, outbox: &mut Outbox) -> Result<(), Memory>
         requires { length outbox.old ≡ seats_of self.old.game }
         ensures ok { OnOk result (Steps self.old (event_of event.entry) self.new outbox.old
@@ -163,8 +164,9 @@ impl Match {
         &self.referee.play.place
     }
 
-    /// The legal moves at the place that play has reached, or `max` of them where there are more. `Deep` and `Wide` say
-    /// how the question is above the limits. An answer comes only where the forced openings are within them.
+    /// The legal moves at the place that play has reached, or `max` of them if there are more. The errors `Deep` and
+    /// `Wide` mean that the question is above a limit of play. An answer is given only if the forced openings are
+    /// within the limits.
     pub fn list_moves(&self, max: usize) -> Result<Listed, Over>
         requires { 0 < max }
         ensures { ListsMoves self.now.game self.now.play.place result
@@ -181,8 +183,8 @@ impl Match {
         self.referee.play.made.as_slice()
     }
 
-    /// How the match ended, once it has. A message that was read may name any number as a player's, so an `Outcome` has
-    /// the number in 64 bits.
+    /// The outcome, once the match has ended. An `Outcome` has the number of a player in 64 bits, since a message may
+    /// name any number.
     pub fn outcome(&self) -> Option<Outcome>
         ensures { result ≡ self.now.play.outcome }
     {
@@ -220,7 +222,7 @@ impl Match {
         self.began
     }
 
-    /// The greatest counted moment. Once the match has ended it stays the moment of the end.
+    /// The maximum counted moment, in milliseconds. After the end of the match it stays the moment of the end.
     pub fn moment(&self) -> u64
         ensures { result ≡ self.now.streams.moment }
     {
@@ -239,7 +241,7 @@ impl Match {
         Some(self.referee.play.turn_began + self.referee.config.turn_ms)
     }
 
-    /// How many messages of a seat were refused. It must be one of the seats.
+    /// The number of refused messages of a seat. It must be one of the seats.
     pub fn refusals(&self, seat: usize) -> u32
         requires is_seat { 1 ≤ seat }
         requires is_there { seat ≤ seats_of self.now.game }

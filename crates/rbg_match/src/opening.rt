@@ -22,7 +22,7 @@ use rbg_rules::Game;
 use rbg_wire::{Inbox, Message};
 use std::alloc::Global;
 
-/// The most bytes of a seat's message, not counting its zero byte.
+/// The maximum number of bytes of a seat's message, without its zero byte.
 pub(crate) const MESSAGE_LIMIT: usize = 4096;
 
 /// Greets one seat.

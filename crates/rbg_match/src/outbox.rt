@@ -29,7 +29,7 @@ use std::alloc::{AllocError, Global};
 use std::marker::Model;
 use std::mem::replace;
 
-/// The most seats of a match.
+/// The maximum number of seats of a match.
 pub const MAX_SEATS: usize = 8;
 
 /// The bytes that were queued for each seat since the start of the match. Seats are numbered from 1. Contracts see the
@@ -37,7 +37,7 @@ pub const MAX_SEATS: usize = 8;
 #[derive(Debug, Drop)]
 pub struct Outbox {
     queues: Vec<Vec<u8>>,
-    /// The bytes of a message that goes to several seats. Contracts don't see them.
+    /// A buffer for a message that goes to several seats. Contracts don't see it.
     told: Vec<u8>,
 }
 

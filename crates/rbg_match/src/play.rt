@@ -6,7 +6,7 @@ use rbg_moves::{Move, Place, Workspace};
 use rbg_wire::Outcome;
 use std::mem::replace;
 
-/// The state of play. Contracts see it by `play_of`.
+/// The state of play. Contracts see it as `play_of` does.
 pub(crate) struct Play {
     pub place: Place,
     /// The moment when the turn began.
@@ -15,13 +15,13 @@ pub(crate) struct Play {
     pub refusals: Vec<u32>,
     /// The moves so far.
     pub made: Vec<Made>,
-    /// How the match ended, once it has.
+    /// The outcome, once the match has ended.
     pub outcome: Option<Outcome>,
-    /// What the questions of play leave to later ones. Contracts don't see it.
+    /// Memory that the searches of play use again. Contracts don't see it.
     pub workspace: Workspace,
 }
 
-/// Written out, so that letting a state of play go is one call in the proofs of those who hold one, not a step for each part.
+/// Written by hand: dropping a state of play is then one call in the proofs of its owners, not a step for each part.
 impl Drop for Play {
     fn drop(self) {
         let Play {

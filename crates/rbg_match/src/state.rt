@@ -9,11 +9,11 @@ use rbg_moves::PlayedGame;
 use std::marker::Model;
 use std::mem::swap;
 
-/// The referee of a match: what it judges by, how play stands, and what it has to say.
+/// The referee of a match: what it judges by, the state of play, and the messages to send.
 pub(crate) struct Referee {
     pub game: PlayedGame,
     pub config: Config,
-    /// The greatest counted moment, in milliseconds.
+    /// The maximum counted moment, in milliseconds.
     pub moment: u64,
     pub play: Play,
     /// The outbox of the call at hand. Between two calls it is one in which nothing is queued.
@@ -42,7 +42,7 @@ impl Model for Referee {
     ghost invariant = { λ r. IsReferee r.game r.config r.moment (play_of r.play) r.outbox };
 }
 
-/// Written out, so that letting a referee go is one call in the proofs of those who hold one, not a step for each part.
+/// Written by hand: dropping a referee is then one call in the proofs of its owners, not a step for each part.
 impl Drop for Referee {
     fn drop(self) {
         let Referee {

@@ -1,4 +1,4 @@
-//! How play goes on, until a player is to move or the match has ended.
+//! How play continues, until a player is to move or the match has ended.
 ghost use Rattle.std.specs.Prelude.{◌≡◌, ◌⊎◌, length, take};
 ghost use Rattle.rbg_base.specs.Move.{IsMoveLength};
 ghost use Rattle.rbg_rules.specs.Meaning.{IsLegal, Legal, IsPlaceOf};
@@ -14,17 +14,17 @@ use rbg_base::{Memory, Pair};
 use rbg_moves::{MAX_KEEPER_MOVES, Move, Over, Place, PlayedGame};
 use rbg_wire::{Message, Outcome, Scores};
 
-/// What one step of play was.
+/// The result of one step of play.
 #[derive(Clone, Copy)]
 pub(crate) enum Progress {
-    /// The keeper has moved, so play goes on.
+    /// The keeper has moved, so play continues.
     KeeperMoved,
     /// A player is to move, or the match has ended.
     Settled,
 }
 
 impl Referee {
-    /// Ends the match and tells every seat how it ended.
+    /// Ends the match and sends the outcome to every seat.
     pub(crate) fn end(&mut self, outcome: Outcome) -> Result<(), Memory>
         requires { OutcomeHasSpelling outcome }
         ensures { Replies self.old self.new result (Ends outcome) }
@@ -36,7 +36,7 @@ impl Referee {
         Ok(())
     }
 
-    /// Ends the match because a seat's stream has ended, and tells every other seat so.
+    /// Ends the match because a seat's stream has ended, and sends the outcome to every other seat.
     pub(crate) fn leave(&mut self, seat: usize) -> Result<(), Memory>
         ensures { Replies self.old self.new result (λ referee _ after said.
             (after ≡ ended referee.play (Outcome.Gone seat))
@@ -52,7 +52,7 @@ impl Referee {
         Ok(())
     }
 
-    /// Ends the match because a question is above the limits. A want of memory is passed on.
+    /// Ends the match because a question is above the limits. Refused memory is returned as an error.
     pub(crate) fn end_heavy(&mut self, over: Over) -> Result<(), Memory>
         ensures { Replies self.old self.new result (λ referee value after said.
             ((over ≡ Over.Deep) ⊎ (over ≡ Over.Wide))

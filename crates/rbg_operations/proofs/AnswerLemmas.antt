@@ -30,7 +30,7 @@ answer_is task text said status ended is was answer =
 pub long_known : ¬ IsMemory (Text TooLong)
 long_known same = absurd (let e : TooLong ≡ TextMemory = same in cc)
 
--- what is said of a game is the answer
+-- what is answered about a game is the answer
 pub game_answers : (command : FileCommand) (read : Option (Vec ℕ Global)) (told : List ℕ) (game : AbstractGame) (text : List ℕ) (status : Status) → ((d : List ℕ) → IsReadOf longest_text read d → Loads d game) → ((d : List ℕ) → IsGamesAnswer game d told command text status) → AnswersWhole command read told text status
 game_answers command read told game text status loads says = λ d reads fits. of_game game text status (loads d reads) fits (says d)
 
@@ -45,7 +45,7 @@ refusal_answers_long read error text status why known is was =
     λ command other d told reads above. answer_is (task_of command d told) text (refused_line error) status Refused is was
     (refused error (why d reads) known (λ same. absurd (other same)))
 
--- the same of what is said of a description that is not loaded
+-- the same of what is answered about a description that is not loaded
 pub unloaded_answers : (command : FileCommand) (read : Option (Vec ℕ Global)) (told : List ℕ) (error : LoadError) (text : List ℕ) (status : Status) → ((d : List ℕ) → IsReadOf longest_text read d → IsRefused d error) → SaysUnloaded error text status → AnswersWhole command read told text status
 unloaded_answers command read told error text status why says = refusal_answers command read told error text status why says.0 says.1 says.2
 

@@ -22,7 +22,7 @@ pub games_answer_is : (game : AbstractGame) (description told : List ℕ) (comma
 games_answer_is game description told command text said status ended is was answer =
     subst (λ t. IsGamesAnswer game description told command t status) (sym is) (subst (IsGamesAnswer game description told command said) (sym was) answer)
 
--- What is told of a record is true.
+-- The verdict on a record is true.
 pub record Judges (game : AbstractGame) (told : List ℕ) (checked : Result Checked RecordError) : Type 0 where
   pub right : IfOk checked (λ is. (is ≡ Good) ↔ IsRightRecord game told)
   pub wrong : (line : ℕ) → checked ≡ Ok (Bad line) → IsBadLine game told line
@@ -41,7 +41,7 @@ checked_answer game told (Err (Over line)) text status is says description =
     games_answer_is game description told Replay text (over_line line) status BadInput says.0 says.1 (wrong (over_line line) (over line (is.heavy line refl)))
 checked_answer game told (Err Memory) text status is says description = absurd says
 
--- the line of a fault is the answer where the moves of a record lead nowhere
+-- the line of a fault is the answer if the moves of a record lead nowhere
 pub misfit_answer : (game : AbstractGame) (told : List ℕ) (fault : LineFault) (line : ℕ) (text : List ℕ) (status : Status) → IsJudged game told (told_at fault line) → SaysChecked (told_at fault line) text status → (description : List ℕ) → IsGamesAnswer game description told Moves text status
 misfit_answer game told faults.Form line text status is says description =
     games_answer_is game description told Moves text (form_line line) status BadInput says.0 says.1 (no_moves (form_line line) (not_of_form line is))
@@ -51,7 +51,7 @@ misfit_answer game told faults.Over line text status is says description =
     games_answer_is game description told Moves text (over_line line) status BadInput says.0 says.1 (no_moves (over_line line) (over line is))
 misfit_answer game told faults.Memory line text status is says description = absurd says
 
--- the line of a record's fault is the answer where the record can't be migrated
+-- the line of a record's fault is the answer if the record can't be migrated
 pub plain_fault_answer : (game : AbstractGame) (told : List ℕ) (error : RecordError) (text : List ℕ) (status : Status) → ((line : ℕ) → error ≡ Form line → IsPlainFault told line) → ((line : ℕ) → ¬ (error ≡ Over line)) → SaysFault error text status → (description : List ℕ) → IsGamesAnswer game description told Migrate text status
 plain_fault_answer game told (Form line) text status form never says description =
     games_answer_is game description told Migrate text (form_line line) status BadInput says.0 says.1 (not_plain line (form line refl))

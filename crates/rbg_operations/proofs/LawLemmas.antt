@@ -1,4 +1,4 @@
--- Answers to one task are apart, and of a right record nothing else is said than that it is good.
+-- Answers to one task are apart, and the only answer about a right record is that it is good.
 use Rattle.std.proofs.Common.{◌≡◌, ◌∙◌, ℕ, ◌≤◌, List, length, inl, inr, ap, refl, sym, subst, arith, ◌⊎◌, Result, Ok, Err}
 use Rattle.rbg_console.specs.Inputs.{most_input}
 use Rattle.rbg_console.specs.declared.status.Status.{Status}
@@ -21,7 +21,7 @@ use Rattle.rbg_operations.specs.Answers.IsTaskAnswer.{of_game, refused, long_scr
 use Rattle.rbg_operations.specs.Laws.{RightRecordsAreGood, TaskAnswersAreApart}
 use Rattle.rbg_operations.specs.Tasks.{AbstractTask}
 
--- what is said of a record
+-- the text of the verdict on a record
 abbrev text_of : Result Checked RecordError → List ℕ
 text_of (Ok Good) = good_line
 text_of (Ok (Bad line)) = bad_line line
@@ -34,7 +34,7 @@ status_of (Ok Good) = Success
 status_of (Ok (Bad line)) = BadInput
 status_of (Err error) = BadInput
 
--- the answer tells what is true of the record, and no question is above the limits
+-- the answer is true of the record, and no question is above the limits
 record Tells (game : AbstractGame) (told text : List ℕ) (status : Status) : Type 0 where
   pub result : Result Checked RecordError
   pub judged : IsJudged game told result
@@ -58,7 +58,7 @@ tells lines game description told _ _ (good right) =
     inl (record { result = Ok Good; judged = (lines game told).1 right; decided = λ no. no; says = refl; ends = refl })
 tells lines game description told _ _ (wrong text fault) = tells_fault game told text fault
 
--- answers of one status, and one line where a script or a record is at fault
+-- answers of one status, and one line if a script or a record is at fault
 abbrev AreOne : (text other : List ℕ) → (status ended : Status) → Type 0
 AreOne text other status ended = (status ≡ ended) × (status ≡ BadInput → text ≡ other)
 
@@ -155,7 +155,7 @@ answers_apart one known task _ _ _ _ (long_record game loads is above) (refused 
 answers_apart one known task _ _ _ _ (long_record game loads other above) (long_script is too) = absurd (other is)
 answers_apart one known task _ _ _ _ (long_record game loads is above) (long_record also loaded was too) = inl (refl, λ _. refl)
 
--- a right record is told of as good
+-- a right record is reported as good
 says_good : OneJudgement → (game : AbstractGame) → IsNumbered game.rules → (told text : List ℕ) (status : Status) → IsJudged game told (Ok Good) → Tells game told text status ⊎ SaysHeavy game told text → ((text ≡ good_line) × (status ≡ Success)) ⊎ SaysHeavy game told text
 says_good judge game numbered told text status right (inl a) =
     let same : a.result ≡ Ok Good = judge game numbered told a.result (Ok Good) a.judged right a.decided (λ no. no) in

@@ -25,7 +25,7 @@ over_error over (inr wide) = inr (ap no_list wide)
 nothing_in : {X : Type 0} (x : X) → Contains [] x → ⊥
 nothing_in x there = omega (arith, there.1)
 
--- where no move is listed, none is legal
+-- if no move is listed, none is legal
 pub none_legal : (game : AbstractGame) (place : AbstractPlace) (moves : List (List (ℕ × ℕ))) (cut : Bool) → IsListed game place most_listed moves cut → moves ≡ [] → Finished game place
 none_legal game place moves true listed none =
     let full : length moves ≡ 1000 = listed.full refl in

@@ -14,7 +14,7 @@ use Rattle.rbg_operations.specs.declared.opening.Opened.TheVariants.{Both, Answe
 use Rattle.rbg_operations.specs.internal.Parts.{task_of, IsOnRecord, IsReadIn, IsFilesAnswer, AreOpened, OpensFiles, OpensNone, OpensTexts}
 use Rattle.rbg_operations.specs.internal.Parts.IsFilesAnswer.{of_task, unreadable}
 
--- where what is told to a command on a record comes from
+-- the source of the second text of a command on a record
 told_in : (known : KnownFiles) (unread : Option (List ℕ)) (other told : List ℕ) → MayBe (known other) told → (command : FileCommand) → IsOnRecord command → IsToldIn known unread unread other command told
 told_in known unread other told may Check on = absurd on
 told_in known unread other told may Referee on = absurd on
@@ -26,7 +26,7 @@ told_in known unread other told may Moves on = (may, refl)
 no_referee : (command : FileCommand) → IsOnRecord command → command ≢ Referee
 no_referee command on same = subst IsOnRecord same on
 
--- what is said of a game and a record is the answer to the command
+-- what is answered about a game and a record is the answer to the command
 pub opened_answer : (known : KnownFiles) (file other : List ℕ) (game : AbstractGame) (told : List ℕ) (command : FileCommand) (text : List ℕ) (status : Status) → IsOnRecord command → AreOpened known file other game told → ((description : List ℕ) → IsGamesAnswer game description told command text status) → (unread : Option (List ℕ)) → IsFilesAnswer known unread unread (on_record command file other) text status
 opened_answer known file other game told command text status on is says unread =
     of_task (task_of command is.description told)
@@ -49,7 +49,7 @@ files_opened known file other description told (Answered answer) d t is = λ com
     (record { command = refl; description = d.may; told = told_in known unread other t.bytes t.may command on })
     (is command (no_referee command on) d.bytes t.bytes d.reads t.reads)
 
--- a file that can't be read is told of
+-- a file that can't be read is reported
 pub none_opened : (known : KnownFiles) (file other : List ℕ) (opened : Opened) → OpensNone opened → OpensFiles known file other opened
 none_opened known file other (Both game told) is = absurd is
 none_opened known file other (Answered answer) is = λ command on unread. unreadable is.0 is.1

@@ -1,4 +1,4 @@
--- The moves with which play can go on after a record.
+-- The moves with which play can continue after a record.
 use Rattle.std.specs.Prelude.{◌≢◌, ℕ, Bool, List, [], ◌++◌, length, take, codes}
 use Rattle.std.specs.List.{flat_map}
 use Rattle.rbg_moves.specs.Listing.{IsListed}
@@ -7,9 +7,9 @@ use Rattle.rbg_rules.specs.Meaning.{IsTooHard, AbstractPlace, Finished, list_mov
 use Rattle.rbg_operations.specs.Lines.{move_line, cut_text, numbers_text}
 use Rattle.rbg_operations.specs.Openings.{most_listed}
 
--- How play can go on at a place.
+-- How play can continue at a place.
 --   finished: it can't, since no move is legal. These are the values of the players.
---   listed: by these moves, which are all the legal ones, each once and in order, or so many of them, cut off.
+--   listed: by these moves, each once and in order. They are all the legal ones, or 1,000 of them, marked as cut off.
 --   too_hard: which moves are legal is a question above the limits.
 pub data GoesOnAt (game : AbstractGame) (place : AbstractPlace) : (text : List ℕ) → Type 0 where
   finished : Finished game place
@@ -21,7 +21,7 @@ pub data GoesOnAt (game : AbstractGame) (place : AbstractPlace) : (text : List �
       → GoesOnAt game place (flat_map (move_line place.state.player) moves ++ cut_text cut)
   too_hard : IsTooHard game list_moves place → GoesOnAt game place (codes "over\n")
 
--- the text says how play can go on at the place to which the moves of a record lead
+-- the text has how play can continue at the place to which the moves of a record lead
 pub record IsMovesAfter (game : AbstractGame) (bytes text : List ℕ) : Type 0 where
   pub place : AbstractPlace
   pub after : IsPlaceAfter game bytes place

@@ -1,4 +1,4 @@
--- What is answered to a task: a text that is printed, and a status.
+-- The answer to a task: a text that is printed, and a status.
 use Rattle.std.specs.Prelude.{◌≡◌, ◌≢◌, ℕ, ◌<◌, ◌≤◌, List, ◌++◌, length, codes, decimal}
 use Rattle.rbg_console.specs.Counts.{counts_of}
 use Rattle.rbg_console.specs.Inputs.{most_input}
@@ -31,18 +31,19 @@ form_line line = codes "form " ++ (decimal line ++ codes "\n")
 abbrev pub over_line : (line : ℕ) → List ℕ
 over_line line = codes "over " ++ (decimal line ++ codes "\n")
 
--- The first line of the record is named that is not right, not of the form, or asks a question above the limits.
+-- The answer names the first line of the record that is not right, not of the form, or asks a question above the
+-- limits.
 pub data NamesFault (game : AbstractGame) (told : List ℕ) : (text : List ℕ) → Type 0 where
   bad : (line : ℕ) → IsBadLine game told line → NamesFault game told (bad_line line)
   not_of_form : (line : ℕ) → IsFormFault game told line → NamesFault game told (form_line line)
   over : (line : ℕ) → IsHeavyLine game told line → NamesFault game told (over_line line)
 
--- The answer where the description is that of a game, and what is told is not too long.
+-- The answer if the description is that of a game, and the second text is not too long.
 --   counted: how many of each thing the game has.
 --   played, misfit: the lines of the script's match, or the script's first line that is not of its form.
 --   good, wrong: the record is right, or its fault is named.
---   migrated, not_plain: version 2 of the record, or its first line is named that is not of the form of version 1.
---   goes_on, no_moves: how play can go on after the record, or its fault is named.
+--   migrated, not_plain: version 2 of the record, or its first line that is not of the form of version 1.
+--   goes_on, no_moves: how play can continue after the record, or its fault is named.
 pub data IsGamesAnswer (game : AbstractGame) (description told : List ℕ) : FileCommand → (text : List ℕ) → Status → Type 0 where
   counted : IsGamesAnswer game description told Check (counts_of game ++ codes "\n") Success
   played : (lines : List ℕ)
@@ -62,11 +63,12 @@ pub data IsGamesAnswer (game : AbstractGame) (description told : List ℕ) : Fil
       → IsGamesAnswer game description told Moves text Success
   no_moves : (text : List ℕ) → NamesFault game told text → IsGamesAnswer game description told Moves text BadInput
 
--- what is told is longer than it may be
+-- the second text, a script or a record, is longer than it may be
 abbrev pub IsLong : AbstractTask → Type 0
 IsLong task = most_input < length task.told
 
--- The answer to a task. A fault of the description comes before one of what is told, but too long a script comes first.
+-- The answer to a task. A fault of the description comes before one of the second text, but a script that is too long
+-- comes first.
 pub data IsTaskAnswer (task : AbstractTask) : (text : List ℕ) → Status → Type 0 where
   of_game : (game : AbstractGame) (text : List ℕ) (status : Status)
       → Loads task.description game

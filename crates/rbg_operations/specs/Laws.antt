@@ -13,7 +13,7 @@ use Rattle.rbg_operations.specs.Answers.{IsTaskAnswer, good_line, over_line}
 use Rattle.rbg_operations.specs.Recorded.{IsRecorded}
 use Rattle.rbg_operations.specs.Tasks.{AbstractTask}
 
--- Of a right record of a game nothing else is said than that it is good, unless a question is above the limits.
+-- The only answer about a right record of a game is that it is good, unless a question is above the limits.
 abbrev pub RightRecordsAreGood : Type 0
 RightRecordsAreGood =
     (game : AbstractGame) (description told text : List ℕ) (status : Status)
@@ -23,8 +23,8 @@ RightRecordsAreGood =
     → IsTaskAnswer (record { command = Replay; description = description; told = told }) text status
     → ((text ≡ good_line) × (status ≡ Success)) ⊎ ((line : ℕ) × IsHeavyLine game told line × (text ≡ over_line line))
 
--- A task has answers of one status at most, unless one says that a question is above the limits. Where a script or a
--- record is at fault, they are one line.
+-- A task has answers of one status at most, unless one is that a question is above the limits. If a script or a record
+-- has a fault, they are one line.
 abbrev pub TaskAnswersAreApart : Type 0
 TaskAnswersAreApart =
     (task : AbstractTask) (text other : List ℕ) (status ended : Status)
@@ -33,15 +33,14 @@ TaskAnswersAreApart =
     → ((status ≡ ended) × (status ≡ BadInput → text ≡ other))
     ⊎ ((line : ℕ) × ((text ≡ over_line line) ⊎ (other ≡ over_line line)))
 
--- The lines beside a record are those that are printed without one.
+-- The lines that are printed when a record is written are those that are printed without one.
 abbrev pub SameLines : Type 0
 SameLines =
     (description text lines told : List ℕ)
     → IsRecorded description text lines told
     → IsScriptsMatch description text lines
 
--- Of the record, if it is not too long, nothing else is said than that it is good, unless a question is above the
--- limits.
+-- The only answer about the record, if it is not too long, is that it is good, unless a question is above the limits.
 abbrev pub RecordsAreGood : Type 0
 RecordsAreGood =
     (description text lines told said : List ℕ) (status : Status)

@@ -1,4 +1,4 @@
--- What `moves` answers to a description: a text that is printed, and a status.
+-- The answer of `moves` to a description: a text that is printed, and a status.
 use Rattle.std.specs.Prelude.{◌≡◌, ℕ, List}
 use Rattle.rbg_console.specs.declared.status.Status.{Status}
 use Rattle.rbg_console.specs.declared.status.Status.TheVariants.{Success, Refused}

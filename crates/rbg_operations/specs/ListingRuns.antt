@@ -6,7 +6,7 @@ use Rattle.rbg_console.specs.declared.status.Status.TheVariants.{Device}
 use Rattle.rbg_referee.specs.Runs.{IsRunOf, device_line}
 use Rattle.rbg_operations.specs.ListingAnswers.{IsMovesAnswer}
 
--- the answer to what the file has, or the line that says that it can't be read
+-- the answer to what the file has, or the line `device` if it can't be read
 pub data IsFilesMoves (known : Option (List ℕ)) (text : List ℕ) (status : Status) : Type 0 where
   of_file : (description : List ℕ)
       → MayBe known description

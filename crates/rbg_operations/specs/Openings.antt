@@ -1,4 +1,4 @@
--- What is printed of a game's opening, and of the moves with which play can go on.
+-- What is printed of a game's opening and of the moves with which play can continue.
 use Rattle.std.specs.Prelude.{◌≡◌, ℕ, Bool, List, ◌++◌, Some, None, codes}
 use Rattle.std.specs.List.{flat_map}
 use Rattle.rbg_game.specs.Loading.{Loads}
@@ -10,13 +10,13 @@ use Rattle.rbg_rules.specs.Meaning.{IsTooHard, list_moves, AbstractGame}
 use Rattle.rbg_wire.specs.declared.outcome.Outcome.{Outcome}
 use Rattle.rbg_operations.specs.Lines.{made_line, move_line, cut_text, end_text}
 
--- the most legal moves that are printed
+-- the maximum number of legal moves that are printed
 abbrev pub most_listed : ℕ
 most_listed = 1000
 
--- How play can go on from an opening.
+-- How play can continue from an opening.
 --   ended: it can't, since the match ended in its opening.
---   listed: by these moves, which are all the legal ones, each once and in order, or so many of them, cut off.
+--   listed: by these moves, each once and in order. They are all the legal ones, or 1,000 of them, marked as cut off.
 --   too_hard: whether there are such moves is a question above the limits.
 pub data GoesOn (state : MatchState) : (text : List ℕ) → Type 0 where
   ended : (outcome : Outcome) → state.play.outcome ≡ Some outcome → GoesOn state (end_text outcome)
@@ -28,7 +28,7 @@ pub data GoesOn (state : MatchState) : (text : List ℕ) → Type 0 where
       → IsTooHard state.game list_moves state.play.place
       → GoesOn state (codes "over\n")
 
--- the lines of the moves of an opening, and of how play can go on
+-- the lines of the moves of an opening, and of how play can continue
 pub record IsOpenedText (state : MatchState) (text : List ℕ) : Type 0 where
   pub rest : List ℕ
   pub goes_on : GoesOn state rest

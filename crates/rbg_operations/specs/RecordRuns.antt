@@ -21,7 +21,7 @@ HasTexts known unread left None description script =
 HasTexts known unread left (Some file) description script =
     MayBe (known file) description × IsAll most_input unread left script
 
--- what is answered without a record
+-- the answer without a record
 abbrev pub IsPlainAnswer : KnownFiles → (unread left file : Option (List ℕ)) → (text : List ℕ) → Status → Type 0
 IsPlainAnswer known unread left None text status = IsReadersAnswer unread left text status
 IsPlainAnswer known unread left (Some file) text status =
@@ -30,8 +30,8 @@ IsPlainAnswer known unread left (Some file) text status =
     × IsTaskAnswer task text status
 
 -- The answer, from the files as they were known to those that are known after.
---   recorded: no file was known by the record's name, and the text is the lines of the match. If new files tell what is
---     written to them, that one has the match's record, which is right.
+--   recorded: no file was known by the record's name, and the text is the lines of the match. If what is
+--     written to new files is known, that one has the match's record, which is right.
 --   unplayed: there is no match, and the answer is the one that is given without a record.
 --   failed: a file or standard input can't be read, or the file for the record can't be created or written.
 pub data IsRecordedAnswer (tells : Type 0) (known after : KnownFiles) (unread left : Option (List ℕ)) (named : RecordedTask) (text : List ℕ) (status : Status) : Type 0 where

@@ -9,11 +9,11 @@ use Rattle.rbg_operations.specs.Answers.{IsTaskAnswer}
 use Rattle.rbg_operations.specs.Tasks.{NamedTask}
 use Rattle.rbg_operations.specs.Tasks.{AbstractTask, AsksFor}
 
--- The files are known as far as they tell their bytes; standard input had some bytes unread and has the others left;
+-- The files are known as far as their bytes are known; standard input had some bytes unread and has the others left;
 -- the output held some bytes and holds more now. One of these is written, and nothing else:
 --   answered: the answer to the task whose bytes the files and standard input have.
---   unreadable: the line that says that a file or standard input can't be read.
---   no_memory: the line that says that memory ran out.
+--   unreadable: the line `device`, since a file or standard input can't be read.
+--   no_memory: the line `memory`.
 pub data IsTaskRun (known : KnownFiles) (unread left : Option (List ℕ)) (named : NamedTask) (held holds : Option (List ℕ)) (status : Status) : Type 0 where
   answered : (task : AbstractTask) (text : List ℕ) (wanted : Status)
       → AsksFor known unread left named task

@@ -7,9 +7,9 @@ use Rattle.rbg_console.specs.Inputs.{most_input, IsAll, IsAbove}
 -- A command on files.
 --   Check: to print how many of each thing the game has.
 --   Referee: to referee the match of the script on standard input.
---   Replay: to tell whether a record is right.
+--   Replay: to check whether a record is right.
 --   Migrate: to print a record of version 1 as one of version 2.
---   Moves: to print the moves with which play can go on after a record.
+--   Moves: to print the moves with which play can continue after a record.
 pub data FileCommand : Type 0 where
   Check : FileCommand
   Referee : FileCommand
@@ -17,7 +17,7 @@ pub data FileCommand : Type 0 where
   Migrate : FileCommand
   Moves : FileCommand
 
--- A command with the names of the files of its description and its record, the latter empty where it asks for none.
+-- A command with the names of the files of its description and its record, the latter empty if it asks for none.
 pub record NamedTask : Type 0 where
   pub command : FileCommand
   pub file : List ℕ
@@ -37,18 +37,18 @@ pub record RecordedTask : Type 0 where
 abbrev pub recorded_task : (file : Option (List ℕ)) → (other : List ℕ) → RecordedTask
 recorded_task file other = record { file = file; record_file = other }
 
--- A command with its description and what is told of a match of it: a script or a record, and nothing for `check`.
+-- A command with its description and a second text about a match of it: a script or a record, and nothing for `check`.
 pub record AbstractTask : Type 0 where
   pub command : FileCommand
   pub description : List ℕ
   pub told : List ℕ
 
--- Standard input had these bytes. Either all were read, or so many that they are more than an input may have.
+-- Standard input had these bytes. Either all were read, or more than an input may have.
 pub data IsInputOf (unread left : Option (List ℕ)) (bytes : List ℕ) : Type 0 where
   whole : IsAll most_input unread left bytes → IsInputOf unread left bytes
   too_long : IsAbove most_input unread left → most_input < length bytes → MayBe unread bytes → IsInputOf unread left bytes
 
--- Where what is told comes from. Only `referee` reads standard input.
+-- The source of the second text. Only `referee` reads standard input.
 abbrev pub IsToldIn : KnownFiles → (unread left : Option (List ℕ)) → (record_file : List ℕ) → FileCommand → (told : List ℕ) → Type 0
 IsToldIn known unread left record_file Check told = (told ≡ []) × (left ≡ unread)
 IsToldIn known unread left record_file Referee told = IsInputOf unread left told
@@ -56,7 +56,7 @@ IsToldIn known unread left record_file Replay told = MayBe (known record_file) t
 IsToldIn known unread left record_file Migrate told = MayBe (known record_file) told × (left ≡ unread)
 IsToldIn known unread left record_file Moves told = MayBe (known record_file) told × (left ≡ unread)
 
--- The command's files, and standard input where it is asked for, have the bytes of the task.
+-- The command's files, and standard input if it is asked for, have the bytes of the task.
 pub record AsksFor (known : KnownFiles) (unread left : Option (List ℕ)) (named : NamedTask) (task : AbstractTask) : Type 0 where
   pub command : task.command ≡ named.command
   pub description : MayBe (known named.file) task.description

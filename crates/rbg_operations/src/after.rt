@@ -1,4 +1,4 @@
-//! How play can go on after the moves of a record.
+//! How play can continue after the moves of a record.
 ghost use Rattle.std.specs.Prelude.{IfErr, IfOk};
 ghost use Rattle.rbg_record.specs.Judged.{IsMisfit};
 ghost use Rattle.rbg_operations.specs.After.{IsMovesAfter};
@@ -8,7 +8,7 @@ use rbg_moves::PlayedGame;
 use rbg_record::{Misfit, place_after};
 use std::alloc::Global;
 
-/// The lines of the moves with which play can go on after a record, of either version. A record that isn't right is
+/// The lines of the moves with which play can continue after a record, of either version. A record that isn't right is
 /// refused.
 pub fn moves_beyond(alloc: Global, game: &PlayedGame, bytes: &[u8]) -> Result<Vec<u8>, Misfit>
     ensures lines { IfOk result (λ lines. IsMovesAfter game.now bytes.now lines.items) }

@@ -28,7 +28,7 @@ pub(crate) fn answer_moves(alloc: Global, text: &[u8]) -> Result<Answer, AllocEr
     }
 }
 
-/// The line of a refusal. Nothing answers refused memory.
+/// The line of a refusal. Refused memory has no such line.
 pub(crate) fn refuse(alloc: Global, error: LoadError) -> Result<Answer, AllocError>
     ensures known { IfOk result (λ _. ¬ IsMemory error) }
     ensures text { IfOk result (λ answer. answer.text.items ≡ refused_line error) }

@@ -10,7 +10,7 @@ use rbg_game::laws::texts_are_one_game;
 use rbg_record::laws::{good_lines_are_a_right_record, one_fault_of_version_1, one_judgement};
 use rbg_script::laws::scripts_are_apart;
 
-/// Of a right record nothing else is said than that it is good, unless a question is above the limits.
+/// The only answer about a right record is that it is good, unless a question is above the limits.
 pub fn right_records_are_good()
     ensures { RightRecordsAreGood }
 {
@@ -30,12 +30,12 @@ pub fn task_answers_are_apart()
     scripts_are_apart();
 }
 
-/// The lines beside the record of a match are those that are printed without one.
+/// The lines that are printed when the record of a match is written are those that are printed without one.
 pub fn lines_are_the_same()
     ensures { SameLines }
 {}
 
-/// Of the record of a match nothing else is said than that it is good, unless a question is above the limits.
+/// The only answer about the record of a match is that it is good, unless a question is above the limits.
 pub fn records_are_good()
     ensures { RecordsAreGood }
 {

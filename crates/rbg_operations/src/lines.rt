@@ -1,4 +1,4 @@
-//! The lines that are answered to a record.
+//! The lines of answers about a record.
 ghost use Rattle.std.specs.Prelude.{◌≡◌, IfOk};
 ghost use Rattle.rbg_operations.specs.Answers.{bad_line, form_line, good_line, over_line};
 ghost use Rattle.rbg_operations.specs.internal.Parts.{SaysFault};

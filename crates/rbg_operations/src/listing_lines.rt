@@ -53,7 +53,7 @@ fn write_head(word: &[u8], player: Player, out: &mut Vec<u8>) -> Result<(), Memo
     out.extend_from_slice(b" ")
 }
 
-/// Whether there are more moves.
+/// The line that there are more moves, if the list is cut off.
 pub(crate) fn write_cut(cut: bool, out: &mut Vec<u8>) -> Result<(), Memory>
     ensures { OnOk result (out.new.items ≡ out.old.items ++ cut_text cut) }
 {
@@ -104,7 +104,7 @@ fn write_spaced(number: u64, out: &mut Vec<u8>) -> Result<(), Memory>
     write_number(number, out)
 }
 
-/// That a question is above the limits.
+/// The line that a question is above the limits.
 pub(crate) fn write_over(out: &mut Vec<u8>) -> Result<(), Memory>
     ensures { OnOk result (out.new.items ≡ out.old.items ++ codes "over\n") }
 {

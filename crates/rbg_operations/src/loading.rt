@@ -10,7 +10,7 @@ use rbg_macro::TextError;
 use rbg_referee::{Answer, answer_refused};
 use std::alloc::{AllocError, Global};
 
-/// The game of a description. Where there is more than a text may have, it is refused as too long.
+/// The game of a description. A description of more than `MAX_TEXT` bytes, which is None here, is refused as too long.
 pub(crate) fn load_read(alloc: Global, description: &Option<Vec<u8>>) -> Result<Game, LoadError>
     ensures game { IfOk result (λ game. (text : List ℕ) →
         IsReadOf longest_text description.now text → Loads text game) }

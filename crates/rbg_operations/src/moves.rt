@@ -17,8 +17,8 @@ use rbg_referee::{Answer, write_answer};
 use std::alloc::{AllocError, Global};
 use std::io::Write;
 
-/// Prints the moves with which play can go on after the record that the other file has. Nothing is written before all is
-/// read and judged.
+/// Prints the moves with which play can continue after the record that the other file has. Nothing is written before
+/// all is read and judged.
 pub fn run_moves_after<F: Files, W: Write>(
     alloc: Global,
     file: &str,
@@ -51,7 +51,7 @@ fn answer_files<F: Files>(
     }
 }
 
-/// The moves with which play can go on after a record.
+/// The moves with which play can continue after a record.
 fn go_on(alloc: Global, game: Game, told: &[u8]) -> Result<Answer, AllocError>
     ensures { IfOk result (λ answer. (description : List ℕ) →
         IsGamesAnswer game description told.now Moves answer.text.items answer.status) }

@@ -11,10 +11,10 @@ use rbg_match::Match;
 use rbg_moves::{Listed, Over};
 use std::alloc::Global;
 
-/// The most legal moves that are printed.
+/// The maximum number of legal moves that are printed.
 pub(crate) const MAX_LISTED: usize = 1_000;
 
-/// The lines of the moves of the opening, and of how play can go on.
+/// The lines of the moves of the opening, and of how play can continue.
 pub(crate) fn opened_lines(alloc: Global, opened: &Match) -> Result<Vec<u8>, Memory>
     ensures { IfOk result (λ lines. IsOpenedText opened.now lines.items) }
 {
@@ -24,7 +24,7 @@ pub(crate) fn opened_lines(alloc: Global, opened: &Match) -> Result<Vec<u8>, Mem
     Ok(lines)
 }
 
-/// How the match ended, or how it can go on.
+/// How the match ended, or how it can continue.
 fn write_rest(opened: &Match, out: &mut Vec<u8>) -> Result<(), Memory>
     ensures { OnOk result ((rest : List ℕ) × GoesOn opened.now rest
         × (out.new.items ≡ out.old.items ++ rest)) }
@@ -46,7 +46,7 @@ fn write_legal(opened: &Match, out: &mut Vec<u8>) -> Result<(), Memory>
     }
 }
 
-/// That a question is above the limits, if that is why there is no answer.
+/// The line that a question is above the limits, if that is the reason for no answer.
 pub(crate) fn write_limit(over: Over, out: &mut Vec<u8>) -> Result<(), Memory>
     ensures written { OnOk result (out.new.items ≡ out.old.items ++ codes "over\n") }
     ensures limit { OnOk result ((over ≡ Over.Deep) ⊎ (over ≡ Over.Wide)) }
@@ -65,7 +65,7 @@ fn mover(opened: &Match) -> Player
     opened.place().state.player()
 }
 
-/// Moves of a player, and whether there are more.
+/// The lines of moves of a player, and of the mark that there are more.
 pub(crate) fn write_listed(player: Player, listed: &Listed, out: &mut Vec<u8>) -> Result<(), Memory>
     ensures { OnOk result (out.new.items ≡ out.old.items
         ++ (flat_map (move_line player) listed.now.moves.items ++ cut_text listed.now.cut)) }

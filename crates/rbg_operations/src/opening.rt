@@ -12,7 +12,7 @@ use rbg_moves::PlayedGame;
 use rbg_referee::Answer;
 use std::alloc::{AllocError, Global};
 
-/// A game and the bytes of a record, or the answer where one of them is not to be had.
+/// A game and the bytes of a record, or the answer if one of them is missing or refused.
 #[derive(Drop)]
 pub(crate) enum Opened {
     Both { game: Game, told: Vec<u8> },
@@ -34,7 +34,7 @@ pub(crate) fn open_files<F: Files>(
     }
 }
 
-/// The answer where a file can't be read.
+/// The answer if a file can't be read.
 fn open_none(alloc: Global, unread: Unread) -> Result<Opened, AllocError>
     ensures { IfOk result OpensNone }
 {
@@ -70,7 +70,7 @@ fn open_whole(
     }
 }
 
-/// The answer where a record is longer than it may be.
+/// The answer if a record is longer than it may be.
 fn open_long(alloc: Global, description: &Option<Vec<u8>>) -> Result<Opened, AllocError>
     ensures { IfOk result (OpensTexts description.now None) }
 {

@@ -1,4 +1,4 @@
-//! The lines of the moves with which play can go on at a place.
+//! The lines of the moves with which play can continue at a place.
 ghost use Rattle.std.specs.Prelude.{◌≡◌, ◌++◌, ℕ, List, codes, length, take, IfOk, OnOk};
 ghost use Rattle.rbg_rules.specs.Meaning.{IsPlaceOf};
 ghost use Rattle.rbg_moves.specs.Listing.{IsListed};
@@ -12,7 +12,7 @@ use rbg_base::{Memory, Player};
 use rbg_moves::{Listed, Place, PlayedGame};
 use std::alloc::Global;
 
-/// The lines of the legal moves at a place, or the scores where there is none.
+/// The lines of the legal moves at a place, or the scores if there is none.
 pub(crate) fn place_lines(
     alloc: Global,
     game: &PlayedGame,
@@ -37,7 +37,7 @@ fn write_place(game: &PlayedGame, place: &Place, out: &mut Vec<u8>) -> Result<()
     }
 }
 
-/// The moves that were found, or the scores where there is none.
+/// The moves that were found, or the scores if there is none.
 fn write_found(
     game: &PlayedGame,
     place: &Place,
@@ -57,7 +57,7 @@ fn write_found(
     }
 }
 
-/// That play is finished, with the values of the players.
+/// The line that play is finished, with the values of the players.
 fn write_values(game: &PlayedGame, place: &Place, out: &mut Vec<u8>) -> Result<(), Memory>
     requires { IsPlaceOf game.now place.now }
     ensures { OnOk result (out.new.items ≡ out.old.items ++ (codes "finished"

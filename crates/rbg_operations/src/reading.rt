@@ -1,4 +1,4 @@
-//! Reading what a command asks for. All is read before any of it is looked into.
+//! Reading what a command asks for. All is read before any of it is judged.
 ghost use Rattle.std.specs.Prelude.{◌≡◌, IfOk};
 ghost use Rattle.rbg_console.specs.Files.{KeepsFiles};
 ghost use Rattle.rbg_console.specs.Inputs.{most_input};
@@ -28,7 +28,7 @@ impl From<AllocError> for Unread {
     }
 }
 
-/// The line that says that a file or standard input can't be read.
+/// The line `device` of a file or of standard input that can't be read.
 pub(crate) fn answer_unread(alloc: Global, unread: Unread) -> Result<Answer, AllocError>
     ensures text { IfOk result (λ answer. answer.text.items ≡ device_line) }
     ensures status { IfOk result (λ answer. answer.status ≡ Status.Device) }
@@ -74,7 +74,7 @@ pub(crate) fn read_both<F: Files>(
     Ok(Texts { description, told })
 }
 
-/// The bytes of a file, or None where there are more than `limit`.
+/// The bytes of a file, or None if there are more than `limit`.
 pub(crate) fn read_within<F: Files>(
     alloc: Global,
     files: &mut F,
@@ -87,21 +87,21 @@ pub(crate) fn read_within<F: Files>(
     given(files.read_file(alloc, name, limit)?)
 }
 
-/// The bytes of the file of a record, or None where there are more than an input may have.
+/// The bytes of the file of a record, or None if there are more than an input may have.
 fn read_told<F: Files>(alloc: Global, files: &mut F, name: &str) -> Result<Option<Vec<u8>>, Unread>
     ensures { IfOk result (IsReadIn most_input (F.told files.old name.now)) }
 {
     given(read_record(alloc, files, name)?)
 }
 
-/// The bytes of standard input, or None where there are more than an input may have.
+/// The bytes of standard input, or None if there are more than an input may have.
 fn read_script<R: Read>(alloc: Global, input: &mut R) -> Result<Option<Vec<u8>>, Unread>
     ensures { IfOk result (IsReadInput (R.remaining input.old) (R.remaining input.new)) }
 {
     given(read_input(alloc, input, MAX_INPUT)?)
 }
 
-/// What a reading gives.
+/// What a reading gives: None if there is too much.
 fn given(input: Input) -> Result<Option<Vec<u8>>, Unread>
     ensures { IfOk result (Gives input) }
 {

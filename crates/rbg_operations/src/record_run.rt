@@ -16,9 +16,9 @@ mod filing;
 mod marked;
 
 /// Reads a description and a script, referees their match, writes its record to a new file, and then what is printed.
-/// Without a file standard input holds the description, a line `%%` and the script. Nothing is written before all is read.
-/// The file for the record is created before the match is refereed. Where there is no match, it stays empty, or isn't
-/// created if a text is too long or there is no mark.
+/// Without a file standard input holds the description, a line `%%` and the script. Nothing is written before all is
+/// read. The file for the record is created before the match is refereed. If there is no match, it stays empty, or
+/// isn't created if a text is too long or there is no mark.
 pub fn run_recorded<F: Files, R: Read, W: Write>(
     alloc: Global,
     file: Option<&str>,

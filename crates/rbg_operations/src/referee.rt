@@ -64,7 +64,7 @@ pub(crate) fn answer_texts(alloc: Global, texts: &Texts) -> Result<Answer, Alloc
     }
 }
 
-/// The answer where all of a script was read.
+/// The answer if all of a script was read.
 fn answer_whole(
     alloc: Global,
     description: &Option<Vec<u8>>,

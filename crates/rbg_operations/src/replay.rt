@@ -57,7 +57,7 @@ fn replay(alloc: Global, game: Game, told: &[u8]) -> Result<Answer, AllocError>
     answer_checked(alloc, check_record(&played, told))
 }
 
-/// The line of what is told of a record.
+/// The line of the verdict on a record.
 fn answer_checked(
     alloc: Global,
     checked: Result<Checked, RecordError>,

@@ -10,7 +10,7 @@ use rbg_referee::{Answer, answer_device, write_answer};
 use std::alloc::{AllocError, Global};
 use std::io::Write;
 
-/// Prints the moves of the opening of the file's game, and the moves with which play can go on.
+/// Prints the moves of the opening of the file's game, and the moves with which play can continue.
 pub fn run_moves<F: Files, W: Write>(
     alloc: Global,
     file: &str,

@@ -8,7 +8,7 @@ use Rattle.rbg_player.specs.Players.{AbstractSeat}
 use Rattle.rbg_player.specs.Hearing.{IsMover, HasMoveToMake}
 use Rattle.rbg_player.specs.internal.Sitting.{IsAnswer, Lists}
 
--- where no move is listed, play is finished
+-- if no move is listed, play is finished
 pub nothing_listed : (game : AbstractGame) (place : AbstractPlace) (moves : List (List (ℕ × ℕ))) (cut : Bool) → IsListed game place 64 moves cut → moves ≡ [] → Finished game place
 nothing_listed game place moves true listed none =
     let full : length moves ≡ 64 = listed.full refl in
@@ -20,7 +20,7 @@ nothing_listed game place moves false listed none = record {
       absurd (All-contains (λ _. ⊥) [] ps (All-nil (λ _. ⊥)) (subst (λ (m : List (List (ℕ × ℕ))). Contains m ps) none there));
 }
 
--- where no move is listed, there is none to make
+-- if no move is listed, there is none to make
 pub none_to_make : (seat : AbstractSeat) (moves : List (List (ℕ × ℕ))) → Lists seat moves → moves ≡ [] → ¬ HasMoveToMake seat
 none_to_make seat moves lists none has = has.1 (nothing_listed seat.game seat.place moves lists.cut lists.listed none)
 
@@ -35,7 +35,7 @@ chosen_answer seat lawful fits mover moves lists answer there many =
       few = many.1;
     }
 
--- the answer where one is chosen, and none where there is none
+-- the answer if one is chosen, and none if there is none
 pub chosen_answers : (seat : AbstractSeat) → IsGame seat.game → IsPlaceOf seat.game seat.place → IsMover seat → (moves : List (List (ℕ × ℕ))) → Lists seat moves → (chosen : Option (List (ℕ × ℕ))) → IfSome chosen (Contains moves) → IfSome chosen (λ answer. IsMoveLength (length answer)) → IfSome chosen (IsAnswer seat)
 chosen_answers seat lawful fits mover moves lists (Some answer) there many = chosen_answer seat lawful fits mover moves lists answer there many
 chosen_answers seat lawful fits mover moves lists None there many = tt

@@ -1,4 +1,4 @@
--- What a player does where it hears one message.
+-- What a player does when it receives one message.
 use Rattle.rbg_base.proofs.Common.{◌≡◌, ℕ, ◌⊎◌, List, [], ◌∷◌, ◌++◌, Some, None, Result, Ok, Err, false, sym, ap, subst, inl, inr, ◌∙◌, refl, IfErr, OnOk, none-some}
 use Rattle.std.proofs.lemmas.List.{append-nil}
 use Rattle.rbg_wire.specs.declared.message.Reason.{Reason}
@@ -31,7 +31,7 @@ error_is (ended outcome) error is = absurd (none-some error (sym is))
 pub not_failed : (stage : Stage) (error : PlayerError) → None ≡ error_at stage → stage ≡ failed error → ⊥
 not_failed stage error is failed_is = none-some error (is ∙ ap error_at failed_is)
 
--- each kind of hearing, and each kind of fault
+-- each way to receive a message, and each kind of fault
 pub misplaced : (stage : Stage) (message : AbstractMessage) → is_in_place stage message ≡ false → HasFault stage message BadMessage
 misplaced stage message is = out_of_place is
 
@@ -99,7 +99,7 @@ says_nothing old new pairs bytes follows none = record {
   told = sym (append-nil bytes);
 }
 
--- a message that is heard with nothing said
+-- a message that is received with nothing sent
 pub quietly : (result : Result (Unit {0}) PlayerError) (old new : Stage) (message : AbstractMessage) (bytes : List ℕ) → OnOk result (Hears old message new []) → OnOk result (HearsAndSays old message new bytes bytes)
 quietly (Ok x) old new message bytes hears = record { said = []; hears = hears; told = sym (append-nil bytes) }
 quietly (Err e) old new message bytes hears = tt

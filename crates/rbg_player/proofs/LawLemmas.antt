@@ -1,4 +1,4 @@
--- A message that has a fault is not heard.
+-- A message that has a fault is not accepted.
 use Rattle.std.proofs.Common.{◌≡◌, ◌≢◌, List, true, sym, subst, ◌∙◌, refl}
 use Rattle.std.proofs.lemmas.Bool.{true≢false}
 use Rattle.rbg_wire.specs.Messages.{AbstractMessage}
@@ -8,7 +8,7 @@ use Rattle.rbg_player.specs.declared.error.PlayerError.TheVariants as errors
 use Rattle.rbg_player.specs.Players.{Stage}
 use Rattle.rbg_player.specs.Hearing.{IsPlayerOf, Hears, is_named, is_seated, begins, passes, answers, is_refused, ends, is_in_place, HasFault, out_of_place, no_game, no_player, illegal, heavy_to_try, heavy_to_list, memory, no_seat}
 
--- what is heard is in place
+-- a message that is accepted is in place
 in_place : {stage after : Stage} {message : AbstractMessage} {said : List AbstractMessage} → Hears stage message after said → is_in_place stage message ≡ true
 in_place is_named = refl
 in_place (is_seated loads is) = refl

@@ -1,4 +1,4 @@
--- The items that a stream has completed are heard in turn.
+-- The items that a stream has completed are received in turn.
 use Rattle.rbg_base.proofs.Common.{◌≡◌, ℕ, List, [], ◌∷◌, ◌++◌, drop, refl, sym, ap, ◌∙◌, subst, Some, None, slice_get, append_assoc, flat_map, flat_map-append}
 use Rattle.std.proofs.lemmas.List.{append-nil}
 use Rattle.rbg_wire.proofs.Common.{AbstractMessage, spelling, Item, complete, Cut, cut, Stream, with_bytes, without_first}
@@ -8,7 +8,7 @@ use Rattle.rbg_player.specs.Players.{Stage, AbstractPlayer}
 use Rattle.rbg_player.specs.Streams.{HearsAll, none, more, HearsPiece, HasItemFault, FailsIn, cut_of}
 use Rattle.rbg_player.specs.internal.Standing.{HearsItem, IsReady}
 
--- From this stage on, with these items in the inbox and this rest after them, some items were taken and heard.
+-- From this stage on, with these items in the inbox and this rest after them, some items were taken and received.
 pub record HasHeard (start : Stage) (from : Stream) (old : List ℕ) (stage : Stage) (inbox : Stream) (new : List ℕ) : Type 0 where
   pub taken : List Item
   pub parts : from.items ≡ taken ++ inbox.items
@@ -29,7 +29,7 @@ nothing_heard start from old = record {
   told = sym (append-nil old);
 }
 
--- one more item is taken and heard
+-- one more item is taken and received
 pub one_heard : (start : Stage) (from : Stream) (old : List ℕ) (stage next : Stage) (inbox after : Stream) (middle new : List ℕ) (item : Item) → HasHeard start from old stage inbox middle → slice_get inbox.items 0 ≡ Some item → after ≡ without_first inbox → HearsItem stage item next middle new → HasHeard start from old next after new
 one_heard start from old stage next inbox after middle new item has first loses heard =
     let first_is : inbox.items ≡ item ∷ drop 1 inbox.items = first_and_others inbox.items item first in

@@ -1,4 +1,4 @@
--- What a player does where it hears one message.
+-- What a player does when it receives one message.
 use Rattle.std.specs.Prelude.{◌≡◌, ℕ, ◌≤◌, List, [], ◌∷◌, length, Bool, true, false}
 use Rattle.rbg_base.specs.Move.{most_pairs}
 use Rattle.rbg_wire.specs.declared.message.Reason.{Reason}
@@ -23,13 +23,13 @@ IsMover seat = seat.place.state.player ≡ seat.player
 abbrev pub HasMoveToMake : AbstractSeat → Type 0
 HasMoveToMake seat = IsMover seat × ¬ Finished seat.game seat.place
 
--- A player hears a message, and says these messages. It says one only where a move makes it the mover of a place that
+-- A player accepts a message, and sends these messages. It sends one only if a move makes it the mover of a place that
 -- isn't finished.
---   is_named: `W` tells it its number.
---   is_seated: `G` tells it its game, in which there is a player of that number.
+--   is_named: `W` has its number.
+--   is_seated: `G` has its game, in which there is a player of that number.
 --   begins: `L` begins play.
 --   passes: a legal move is made, and the player has no move to make.
---   answers: a legal move is made, and the player has a move to make. It says one that is legal.
+--   answers: a legal move is made, and the player has a move to make. It sends one that is legal.
 --   is_refused: a refusal changes nothing.
 --   ends: play has ended.
 pub data Hears : Stage → AbstractMessage → (after : Stage) → (said : List AbstractMessage) → Type 0 where
@@ -56,8 +56,8 @@ pub data Hears : Stage → AbstractMessage → (after : Stage) → (said : List 
   ends : {seat : AbstractSeat} {outcome : Outcome} →
       Hears (playing seat) (end_message outcome) (ended outcome) []
 
--- The messages that are in place: `W`, or a refusal for want of a seat; then `G`; then `L`; then moves, refusals and
--- one end. `H` is never.
+-- The messages that are in place: `W`, or a refusal for lack of a seat; then `G`; then `L`; then moves, refusals and
+-- one end. `H` is never in place.
 abbrev pub is_in_place : Stage → AbstractMessage → Bool
 is_in_place unnamed (who_message player name) = true
 is_in_place unnamed (refusal_message NoSeat) = true
@@ -68,15 +68,15 @@ is_in_place (playing seat) (refusal_message reason) = true
 is_in_place (playing seat) (end_message outcome) = true
 is_in_place _ _ = false
 
--- Why a player doesn't go on where it hears a message.
+-- Why a player doesn't continue after a message.
 --   out_of_place: `BadMessage`, the message is out of place.
 --   no_game: `BadMessage`, the text of `G` is no game's.
 --   no_player: `BadMessage`, the game has no player of its number.
 --   illegal: `NotLegal`, the move isn't legal.
 --   heavy_to_try: `Over`, the question whether the move is legal is above the limits.
 --   heavy_to_list: `Over`, the move makes it the mover, and the question for the legal moves is above the limits.
---   memory: `Memory`, which says nothing of the message.
---   no_seat: `NoSeat`, a refusal for want of a seat before `W`.
+--   memory: `Memory`, which says nothing about the message.
+--   no_seat: `NoSeat`, a refusal before `W`, since there is no seat.
 pub data HasFault : Stage → AbstractMessage → PlayerError → Type 0 where
   out_of_place : {stage : Stage} {message : AbstractMessage} →
       is_in_place stage message ≡ false →

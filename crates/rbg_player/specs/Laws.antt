@@ -1,4 +1,4 @@
--- A law of hearing.
+-- A law of the messages that a player receives.
 use Rattle.std.specs.Prelude.{◌≢◌, List}
 use Rattle.rbg_wire.specs.Messages.{AbstractMessage}
 use Rattle.rbg_player.specs.declared.error.PlayerError.{PlayerError}
@@ -6,7 +6,7 @@ use Rattle.rbg_player.specs.declared.error.PlayerError.TheVariants as errors
 use Rattle.rbg_player.specs.Players.{Stage}
 use Rattle.rbg_player.specs.Hearing.{Hears, HasFault}
 
--- A message that has a fault is heard in no way, unless the fault is want of memory or a question above the limits.
+-- A message that has a fault is never accepted, unless the fault is refused memory or a question above the limits.
 abbrev pub FaultsAreNotHeard : Type 0
 FaultsAreNotHeard =
     (stage after : Stage) (message : AbstractMessage) (error : PlayerError) (said : List AbstractMessage)

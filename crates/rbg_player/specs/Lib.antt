@@ -1,4 +1,4 @@
--- What a player hears and says, by topic. Each file builds on those above it.
+-- What a player receives and sends, by topic. Each file builds on those above it.
 pub mod Limits
 pub mod Players
 pub mod Hearing

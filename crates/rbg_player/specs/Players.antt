@@ -1,4 +1,4 @@
--- A player: what it has heard so far.
+-- A player: what it has received so far.
 use Rattle.std.specs.Prelude.{ℕ, [], Option, Some, None}
 use Rattle.rbg_wire.specs.declared.outcome.Outcome.{Outcome}
 use Rattle.rbg_wire.specs.Streams.{Rest, incomplete}
@@ -13,7 +13,7 @@ pub record AbstractSeat : Type 0 where
   pub game : AbstractGame
   pub place : AbstractPlace
 
--- the seat of that player where play begins
+-- the seat of that player when play begins
 abbrev pub seat_at_start : (player : ℕ) → AbstractGame → AbstractSeat
 seat_at_start player game = record {
   player = player;
@@ -25,13 +25,13 @@ seat_at_start player game = record {
 abbrev pub moved_to : AbstractSeat → AbstractPlace → AbstractSeat
 moved_to seat to = record seat { place = to }
 
--- Where a player stands.
---   unnamed: it waits for `W`, which tells its number.
+-- How far a player has come.
+--   unnamed: it waits for `W`, which has its number.
 --   named: it waits for `G`, the text of the game.
 --   seated: it knows its seat, and waits for `L`.
 --   playing: it follows play.
---   ended: it has heard the end of play.
---   failed: it answered this error, and answers it from then on.
+--   ended: it has received the end of play.
+--   failed: it returned this error, and returns it from then on.
 pub data Stage : Type 0 where
   unnamed : Stage
   named : (player : ℕ) → Stage
@@ -40,21 +40,21 @@ pub data Stage : Type 0 where
   ended : Outcome → Stage
   failed : PlayerError → Stage
 
--- A player: where it stands, and the end of its stream that is no whole message yet.
+-- A player: its stage, and the end of its stream that is no whole message yet.
 pub record AbstractPlayer : Type 0 where
   pub stage : Stage
   pub rest : Rest
 
--- a player that has heard nothing
+-- a player that has received nothing
 abbrev pub new_player : AbstractPlayer
 new_player = record { stage = unnamed; rest = incomplete [] }
 
--- what a player tells where it stands: the outcome, once it has heard the end
+-- what a player returns at its stage: the outcome, once it has received the end
 abbrev pub heard_at : Stage → Heard
 heard_at (ended outcome) = Ended outcome
 heard_at _ = Going
 
--- the error that a player has answered, if it has answered one
+-- the error that a player has returned, if it has returned one
 abbrev pub error_at : Stage → Option PlayerError
 error_at (failed error) = Some error
 error_at _ = None

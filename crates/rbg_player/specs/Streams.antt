@@ -1,4 +1,4 @@
--- What a player does where it hears a piece of its stream.
+-- What a player does when it receives a piece of its stream.
 use Rattle.std.specs.Prelude.{◌≡◌, ℕ, List, [], ◌∷◌, ◌++◌}
 use Rattle.std.specs.List.{flat_map}
 use Rattle.rbg_wire.specs.Messages.{AbstractMessage, spelling}
@@ -15,9 +15,9 @@ pub record IsReadAs (text : List ℕ) (message : AbstractMessage) : Type 0 where
   pub spelled : SpellsMessage text message
   pub few : HasFewPairs message
 
--- A player hears the items of a stream in turn, and says these messages.
---   none: it hears nothing.
---   more: it hears one more item, which is read as a message.
+-- A player receives the items of a stream in turn, and sends these messages.
+--   none: it receives nothing.
+--   more: it receives one more item, which is read as a message.
 pub data HearsAll (start : Stage) : List Item → (after : Stage) → (said : List AbstractMessage) → Type 0 where
   none :
       HearsAll start [] start []
@@ -28,7 +28,7 @@ pub data HearsAll (start : Stage) : List Item → (after : Stage) → (said : Li
       Hears middle message after next →
       HearsAll start (items ++ complete text ∷ []) after (first ++ next)
 
--- Why a player doesn't go on where it hears an item.
+-- Why a player doesn't continue after an item.
 --   overlong: the item is too long.
 --   unreadable: its text spells no message.
 --   too_many: its text spells a move of more than 200 pairs.
@@ -51,8 +51,8 @@ pub data HasItemFault (stage : Stage) : Item → PlayerError → Type 0 where
 abbrev pub cut_of : AbstractPlayer → (piece : List ℕ) → Cut
 cut_of player piece = cut message_limit player.rest piece
 
--- A player hears a piece of its stream well: it hears the items that the piece completes, keeps the rest, and what it
--- says stands after the bytes that were there.
+-- A player receives a piece of its stream without a fault: it receives the items that the piece completes, keeps the
+-- rest, and what it sends follows the bytes that were there.
 pub record HearsPiece
     (old : AbstractPlayer) (piece : List ℕ) (new : AbstractPlayer) (before after : List ℕ)
     : Type 0
@@ -62,7 +62,7 @@ pub record HearsPiece
     pub rest : new.rest ≡ (cut_of old piece).rest
     pub told : after ≡ before ++ flat_map spelling said
 
--- One of the items has a fault, and the items before it are heard well.
+-- One of the items has a fault, and the items before it are received without a fault.
 pub record FailsIn (start : Stage) (items : List Item) (error : PlayerError) : Type 0 where
   pub before : List Item
   pub item : Item
@@ -73,8 +73,8 @@ pub record FailsIn (start : Stage) (items : List Item) (error : PlayerError) : T
   pub heard : HearsAll start before middle said
   pub fault : HasItemFault middle item error
 
--- Why a player answers an error to a piece of its stream.
---   again: it has answered this error before.
+-- Why a player returns an error for a piece of its stream.
+--   again: it has returned this error before.
 --   no_memory: memory ran out.
 --   here: an item that the piece completes has the fault.
 pub data Fails (old : AbstractPlayer) (piece : List ℕ) : PlayerError → Type 0 where

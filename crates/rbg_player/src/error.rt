@@ -1,4 +1,4 @@
-//! Why a player doesn't go on.
+//! Why a player stops.
 ghost use Rattle.std.specs.Prelude.{◌≡◌};
 ghost use Rattle.rbg_player.specs.declared.error.PlayerError.TheVariants.{Memory as OutOfMemory};
 ghost use Rattle.rbg_player.specs.internal.Sitting.{error_of};
@@ -7,10 +7,11 @@ use rbg_base::Memory;
 use rbg_moves::Over as OverLimits;
 use thiserror::Error;
 
-/// Why a player doesn't go on.
+/// Why a player stops.
 #[derive(Clone, Copy, Debug, PartialEq, Eq, Error)]
 pub enum PlayerError {
-    /// 1: a message is too long, is not of the grammar or is out of place, or `G` brings no game with the player in it.
+    /// 1: a message is too long, is not of the grammar or is out of place, or the text of `G` is no game with the
+    /// player in it.
     #[error("a message is not of the grammar, or is out of place")]
     BadMessage,
     /// 2: the move that was made is not legal.

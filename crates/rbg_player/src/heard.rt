@@ -1,12 +1,12 @@
-//! What a player tells after a piece of its stream.
+//! What a player returns after a piece of its stream.
 
 use rbg_wire::Outcome;
 
-/// Whether play goes on, as far as the player has heard.
+/// Whether play continues, as far as the player has received it.
 #[derive(Clone, Copy, PartialEq, Eq)]
 pub enum Heard {
-    /// The player hasn't heard the end of play.
+    /// The player hasn't received the end of play.
     Going,
-    /// The player has heard the end of play, in this piece or in an earlier one.
+    /// The player has received the end of play, in this piece or in an earlier one.
     Ended(Outcome),
 }

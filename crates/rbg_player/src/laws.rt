@@ -1,4 +1,4 @@
-//! Laws of hearing. The contract of each function is a law; its body does nothing.
+//! Laws of the messages that a player receives. The contract of each function is a law; its body does nothing.
 ghost use Rattle.std.specs.Prelude.{◌≡◌};
 ghost use Rattle.rbg_player.specs.Limits.{message_limit, most_choices};
 ghost use Rattle.rbg_player.specs.Laws.{FaultsAreNotHeard};
@@ -11,7 +11,7 @@ pub fn limits_are_as_stated()
     ensures choices { MAX_CHOICES ≡ most_choices }
 {}
 
-/// A message that has a fault is not heard.
+/// A message that has a fault is not accepted.
 pub fn faults_are_not_heard()
     ensures { FaultsAreNotHeard }
 {}

@@ -1,5 +1,5 @@
-//! A player: it hears the stream of a seat, follows play by the rules of the game, and says a legal move where it has
-//! one to make.
+//! A player: it receives the stream of a seat, follows play by the rules of the game, and sends a legal move when it
+//! has one to make.
 #![tactic(auto)]
 
 mod chooser;

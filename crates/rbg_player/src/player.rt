@@ -1,4 +1,4 @@
-//! A player: it hears the stream of its seat in pieces.
+//! A player: it receives the stream of its seat in pieces.
 ghost use Rattle.std.specs.Prelude.{◌≡◌, IfErr, OnErr, OnOk, length, take};
 ghost use Rattle.rbg_wire.specs.Inboxes.{item_of};
 ghost use Rattle.rbg_player.specs.Players.{AbstractPlayer, failed};
@@ -13,10 +13,10 @@ use rbg_wire::{Inbox, Message, Took, WireError, read_message, write_message};
 use std::alloc::Global;
 use std::marker::Model;
 
-/// The most bytes of a message that a player hears, without its zero byte: the letter `G` and the longest text.
+/// The maximum number of bytes of a message to a player, without its zero byte: the letter `G` and the longest text.
 pub const MAX_MESSAGE_BYTES: usize = 262_145;
 
-/// A player of a match. It hears the stream of its seat, and says its moves.
+/// A player of a match. It receives the stream of its seat, and sends its moves.
 pub struct Player {
     alloc: Global,
     inbox: Inbox,
@@ -33,7 +33,7 @@ impl Model for Player {
     ghost invariant = { λ p. IsReady p.inbox };
 }
 
-/// Written out, so that letting a player go is one call in the proofs of those who hold one, not a step for each part.
+/// Written by hand: dropping a player is then one call in the proofs of its owners, not a step for each part.
 impl Drop for Player {
     fn drop(self) {
         let Player {
@@ -51,7 +51,7 @@ impl Player {
     ghost use Rattle.rbg_player.specs.Players.{failed, heard_at, new_player};
     ghost use Rattle.rbg_player.specs.Streams.{Fails, HearsPiece};
 
-    /// A player that has heard nothing. It takes no memory.
+    /// A player that has received nothing. The call doesn't allocate.
     pub fn new(alloc: Global) -> Player
         ensures { result ≡ new_player }
     {
@@ -74,10 +74,10 @@ impl Player {
         Ok(Player::new(alloc))
     }
 
-    /// Hears a piece of its stream, and appends what it says to `out`. Where it has a move to make, the chooser chooses
-    /// one of at most 64 legal moves.
+    /// Receives a piece of its stream, and appends the messages that it sends to `out`. If it has a move to make, the
+    /// chooser chooses one of at most 64 legal moves.
     ///
-    /// After an error `out` is as before, and the player answers that error from then on.
+    /// After an error `out` is as before, and the player returns that error from then on.
     pub fn hear<C: Chooser>(
         &mut self,
         piece: &[u8],
@@ -114,7 +114,7 @@ impl Player {
     }
 }
 
-/// Where a player stands that answers an error. What it said after the first bytes is taken back.
+/// The stage of a player that returns an error. What it wrote after the first `len` bytes is taken back.
 fn give_up(error: PlayerError, len: usize, out: &mut Vec<u8>) -> Stage
     ensures stage { stage_of result ≡ failed error }
     ensures out { out.new.items ≡ take len out.old.items }
@@ -123,7 +123,7 @@ fn give_up(error: PlayerError, len: usize, out: &mut Vec<u8>) -> Stage
     Stage::Failed { error }
 }
 
-/// Hears the items that a piece completes, in turn. After an error the bytes that were there are still there, and
+/// Receives the items that a piece completes, in turn. After an error the bytes that were there are still there, and
 /// others may follow them.
 fn hear_piece<C: Chooser>(
     alloc: Global,
@@ -148,7 +148,7 @@ fn hear_piece<C: Chooser>(
     Ok(())
 }
 
-/// Hears an item of the stream.
+/// Receives an item of the stream.
 fn hear_item<C: Chooser>(
     alloc: Global,
     stage: &mut Stage,

@@ -15,7 +15,7 @@ use rbg_moves::{Move, Place, PlayedGame};
 use std::alloc::Global;
 use std::marker::Model;
 
-/// The most legal moves among which a player chooses.
+/// The maximum number of legal moves among which a player chooses.
 pub const MAX_CHOICES: usize = 64;
 
 /// A seat in a game. Contracts see the number of its player, the game and the place that play has reached.
@@ -35,7 +35,7 @@ impl Model for Seat {
     ghost invariant = { λ s. IsPlaceOf s.game s.place };
 }
 
-/// Written out, so that letting a seat go is one call in the proofs of those who hold one, not a step for each part.
+/// Written by hand: dropping a seat is then one call in the proofs of its owners, not a step for each part.
 impl Drop for Seat {
     fn drop(self) {
         let Seat {
@@ -82,7 +82,7 @@ impl Seat {
         }
     }
 
-    /// A legal move that the chooser chooses, where the player has a move to make.
+    /// A legal move of the chooser's choice, if the player has a move to make.
     pub(crate) fn choose_move<C: Chooser>(
         &self,
         chooser: &mut C,

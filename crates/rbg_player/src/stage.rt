@@ -1,4 +1,4 @@
-//! Where a player stands, and what it does where it hears a message.
+//! The stages of a player, and what it does with each message.
 ghost use Rattle.std.specs.Prelude.{◌≡◌, ◌++◌, ℕ, List, [], IfErr, OnErr, OnOk};
 ghost use Rattle.rbg_wire.specs.Messages.{ArePairs, spelling, message_of, who_message, game_message, limits_message, move_message, refusal_message, end_message};
 ghost use Rattle.rbg_player.specs.Players.{unnamed, playing, error_at, heard_at};
@@ -13,7 +13,7 @@ use rbg_wire::{Message, Outcome, Reason, write_message};
 use std::alloc::Global;
 use std::mem;
 
-/// Where a player stands. Contracts see it by `stage_of`.
+/// How far a player has come. Contracts see it as `stage_of` does.
 #[derive(Drop)]
 pub(crate) enum Stage {
     /// The player waits for `W`.
@@ -24,14 +24,14 @@ pub(crate) enum Stage {
     Seated { seat: Seat },
     /// The player follows play.
     Playing { seat: Seat },
-    /// The player has heard the end of play.
+    /// The player has received the end of play.
     Ended { outcome: Outcome },
-    /// The player has answered an error.
+    /// The player has returned an error.
     Failed { error: PlayerError },
 }
 
 impl Stage {
-    /// What the player tells.
+    /// What the player returns after a piece: the outcome, once it has received the end.
     pub(crate) fn heard(&self) -> Heard
         ensures { result ≡ heard_at (stage_of self.now) }
     {
@@ -41,7 +41,7 @@ impl Stage {
         }
     }
 
-    /// The error that the player has answered.
+    /// The error that the player has returned.
     pub(crate) fn error(&self) -> Option<PlayerError>
         ensures { result ≡ error_at (stage_of self.now) }
     {
@@ -51,7 +51,7 @@ impl Stage {
         }
     }
 
-    /// Hears a message, and says what is to be said. After an error it may stand anywhere.
+    /// Receives a message, and appends what it sends to `out`. After an error the stage is unspecified.
     pub(crate) fn hear<C: Chooser>(
         &mut self,
         alloc: Global,
@@ -158,7 +158,7 @@ impl Stage {
     }
 }
 
-/// The error of a refusal that is heard before `W`.
+/// The error of a refusal that is received before `W`.
 #[tactic(auto, using(crate::proofs::HearingLemmas::hearing))]
 fn refused_early(reason: Reason) -> PlayerError
     ensures { HasFault unnamed (refusal_message reason) result }
@@ -172,7 +172,7 @@ fn refused_early(reason: Reason) -> PlayerError
     }
 }
 
-/// Follows a move that was made, and says a move where the player then has one to make.
+/// Follows a move that was made, and sends a move if the player then has one to make.
 fn play<C: Chooser>(
     seat: &mut Seat,
     pairs: &Move,
@@ -189,7 +189,7 @@ fn play<C: Chooser>(
     Ok(())
 }
 
-/// Says a move.
+/// Sends a move: appends its message to `out`.
 fn say(pairs: Move, out: &mut Vec<u8>) -> Result<(), Memory>
     requires { ArePairs pairs }
     ensures ok { OnOk result (out.new.items ≡ out.old.items ++ spelling (move_message pairs)) }

@@ -12,7 +12,7 @@ use Rattle.rbg_position.specs.Sections.{Indexed, leave_open, kinds_before, names
 use Rattle.rbg_position.specs.internal.Walking.{is_inside_after}
 use Rattle.rbg_position.proofs.Sections.{inside_more}
 
--- the names in brackets of these tokens, where the first one is in brackets or isn't
+-- the names in brackets of these tokens, if the first one is in brackets or isn't
 abbrev pub names_from : Bool → List Lexeme → List (List ℕ)
 names_from inside [] = []
 names_from inside (t ∷ ts) =

@@ -1,4 +1,4 @@
--- Where a section of a board is defined, `#board` stands in the text.
+-- If a section of a board is defined, `#board` is in the text.
 use Rattle.rbg_base.proofs.Common.{◌≡◌, ℕ, zero, suc, ◌+◌, ◌||◌, ◌⊎◌, inl, inr, Bool, true, false, cond, List, [], ◌∷◌, ◌++◌, length, take, slice_get, Option, Some, None, Result, Ok, Err, codes, refl, ap, ◌∙◌, arith, list_any, position_or_len, bytes_eq, false≢true, none-some, same_Some, bytes_eq-Decides}
 use Rattle.rbg_grammar.proofs.Common.{same_kind, sections_of, HasSection}
 use Rattle.rbg_macro.proofs.Common.{Definitions, Defined, A_Section, A_Macro, Part, after_equals, beyond_name, defined, defined_as, definitions, definitions_of, expect, is_hash_token, part_of, parts, section_named, with_defined, with_section, ExpandsAll, none, one_more, HasSections, Macro, body_of, SectionTokens, ◌>>=◌}
@@ -86,7 +86,7 @@ begins_part : (earlier : List Macro) (p : Part) (tokens : List Lexeme)
 begins_part earlier p [] is = absurd (false≢true is)
 begins_part earlier p (t ∷ ts) is = record { name = t; rest = ts; whole = refl; is_board = name_there earlier p t ts (is_name_kind t.kind) is }
 
--- some part begins so
+-- some part begins in this way
 abbrev SomeBegins : List Part → Type 0
 SomeBegins [] = ⊥
 SomeBegins (p ∷ ps) = BeginsPart p.tokens ⊎ SomeBegins ps
@@ -117,7 +117,7 @@ some_begins : (earlier : List Macro) (ps : List Part) → has_defined (definitio
 some_begins earlier [] is = absurd (false≢true is)
 some_begins earlier (p ∷ ps) is = part_or earlier p ps (defined earlier p) (λ macros later. some_begins macros ps later) (begins_part earlier p p.tokens) is
 
--- `#board` stands somewhere
+-- `#board` is at some place
 abbrev pub Begins : List Lexeme → Type 0
 Begins tokens = (at : ℕ) × BeginsBoard tokens at
 

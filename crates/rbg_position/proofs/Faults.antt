@@ -1,4 +1,4 @@
--- What a refusal says.
+-- What each refusal means.
 use Rattle.rbg_base.proofs.Common.{◌≡◌, ◌≢◌, ℕ, List, Bool, true, false, not, sym, subst, Result, Err, bytes_eq, bytes_eq-Decides}
 use Rattle.rbg_rules.specs.Meaning.{AbstractGame, AbstractPlace}
 use Rattle.rbg_moves.specs.Settling.{MeetsHeavy, IsEndless}

@@ -1,4 +1,4 @@
--- The keys of what stands after other parts.
+-- The keys of parts that follow other parts.
 use Rattle.std.proofs.Common.{◌≡◌, ℕ, ◌+◌, ◌<◌, List, [], ◌∷◌, ◌++◌, length, get_or, map, take, sym, ap, ◌∙◌, append_assoc}
 use Rattle.rbg_rules.specs.Meaning.{AbstractArithmetic, Expression, arithmetic_of, changed, operated, operation_of}
 use Rattle.rbg_rules.specs.declared.arithmetic.Operation.{Operation}

@@ -3,7 +3,7 @@ use Rattle.rbg_base.proofs.Common.{◌≡◌, ℕ, ◌<◌, ◌≤◌, ◌⊎◌
 use Rattle.rbg_board.specs.Graph.{Graph, next, HasWidth}
 use Rattle.rbg_board.proofs.CallerLemmas.{same_graph}
 
--- no direction leads from what is no vertex, nor in a direction that is none
+-- no direction leads from a number that is no vertex, and none leads that is no direction of the board
 none_from : (g : Graph) (width v d : ℕ) → HasWidth width g → length g.first ≤ v → next g v d ≡ None
 unfolding next
 none_from g width v d wide past = ap (λ row. get_or row d None) (get_or_past g.ways v [] (omega (arith, wide.rows)))
@@ -44,7 +44,7 @@ same_ways a b width wide_a wide_b count alike =
     anywhere v d (inl within) (inr past) = none_in a width v d wide_a past ∙ (sym (none_in b width v d wide_b past) ∙ sym (led_next b a.first v d))
     anywhere v d (inr beyond) _ = none_from a width v d wide_a beyond ∙ (sym (none_from b width v d wide_b (omega (arith, count, beyond))) ∙ sym (led_next b a.first v d))
 
--- boards of the same ways have as many vertices, the same width, and lead alike
+-- boards of the same ways have as many vertices, the same width, and lead to the same vertices
 pub as_many : (a b : Graph) (w v : ℕ) → HasWidth w a → HasWidth v b → a.ways ≡ b.ways → length a.first ≡ length b.first
 as_many a b w v wide_a wide_b same = sym wide_a.rows ∙ (ap length same ∙ wide_b.rows)
 

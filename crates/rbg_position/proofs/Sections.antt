@@ -64,8 +64,8 @@ inside_more kinds (Symbol OpenBracket) = bracket_more kinds (Symbol OpenBracket)
 inside_more kinds (Symbol CloseBracket) = bracket_more kinds (Symbol CloseBracket) refl
 inside_more kinds kind = other_more kinds kind refl
 
--- So many tokens of a section are written after the old text. So many of them name pieces, and the next one is in
--- brackets or not.
+-- The first `i` tokens of a section are written after the old text. `vertex` of them name pieces, and the next one is
+-- in brackets or not.
 pub record AreWritten (game : AbstractGame) (pieces : List ℕ) (ts : List Lexeme) (old : List ℕ) (vertex : ℕ) (inside : Bool) (last : Option TokenKind) (i : ℕ) (out : List ℕ) : Type 0 where
   pub text : out ≡ old ++ flat_map (written_of game pieces ts) (enumerate_from 0 (take i ts))
   pub vertex_is : vertex ≡ vertex_at ts i

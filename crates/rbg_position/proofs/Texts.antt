@@ -13,7 +13,7 @@ not_false false e = e
 pub same_text : (a b : List ℕ) → false ≡ not (bytes_eq a b) → a ≡ b
 same_text a b test = (bytes_eq-Decides a b).0 (not_false (bytes_eq a b) test)
 
--- rules are the same exactly where their keys are
+-- rules are the same exactly if their keys are
 pub alike : (x y : Expression) (a b : List KeyMark) (t : Bool) → Decides t (a ≡ b) → a ≡ rules_key x → b ≡ rules_key y → (IsTrue t → x ≡ y) × (x ≡ y → IsTrue t)
 alike x y a b t test a_is b_is = (
   λ h. same_key x y (sym a_is ∙ (test.0 h ∙ b_is)),

@@ -18,7 +18,7 @@ same_token ts i d t within at = some_lexeme t (lexeme_of (get_or ts i d)) (sym a
 pub token_within : (ts : List Token) (i : ℕ) (t : Lexeme) → slice_get (map lexeme_of ts) i ≡ Some t → i < length ts
 token_within ts i t at = let within = slice_get_within (map lexeme_of ts) i t at in omega (arith, within, length-map ts lexeme_of)
 
--- `#board` stands where the two tokens are these
+-- `#board` is at this index if the two tokens are these
 pub begins_here : (ts : List Token) (at : ℕ) (d e : Token) (test : Bool) → at + 1 < length ts
     → (IsTrue test → (is_symbol symbols.Hash (get_or ts at d).kind ≡ true) × ((get_or ts (at + 1) e).text.now ≡ codes "board"))
     × ((is_symbol symbols.Hash (get_or ts at d).kind ≡ true) × ((get_or ts (at + 1) e).text.now ≡ codes "board") → IsTrue test)
@@ -38,7 +38,7 @@ begins_here ts at d e test within told = (
   ),
 )
 
--- it stands nowhere
+-- it is at no index
 pub begins_nowhere : (ts : List Token) (count : ℕ) → length ts ≤ count + 1 → ((k : ℕ) → k < count → ¬ BeginsBoard (map lexeme_of ts) k) → (at : ℕ) → ¬ BeginsBoard (map lexeme_of ts) at
 begins_nowhere ts count all before at b =
     let within : at + 1 < length ts = token_within ts (at + 1) b.name b.at_name in

@@ -5,7 +5,7 @@ use Rattle.rbg_macro.specs.declared.token.Symbol.TheVariants as symbols
 use Rattle.rbg_macro.specs.Text.{HasTokens}
 use Rattle.rbg_macro.specs.Token.{Lexeme}
 
--- `#board` stands here.
+-- `#board` is here.
 pub record BeginsBoard (tokens : List Lexeme) (at : ℕ) : Type 0 where
   pub hash : Lexeme
   pub name : Lexeme
@@ -14,7 +14,7 @@ pub record BeginsBoard (tokens : List Lexeme) (at : ℕ) : Type 0 where
   pub is_hash : is_symbol symbols.Hash hash.kind ≡ true
   pub is_board : name.text ≡ codes "board"
 
--- The tokens from this one up to that one are the section of the board: `#board`, and what stands before the next `#`.
+-- The tokens from `start` up to `end` are the section of the board: `#board`, and what comes before the next `#`.
 pub record IsBoardSection (tokens : List Lexeme) (start end : ℕ) : Type 0 where
   pub begins : BeginsBoard tokens start
   pub after : start + 2 ≤ end
@@ -25,8 +25,8 @@ pub record IsBoardSection (tokens : List Lexeme) (start end : ℕ) : Type 0 wher
       slice_get tokens k ≡ Some token → is_symbol symbols.Hash token.kind ≡ false
   pub ends : (token : Lexeme) → slice_get tokens end ≡ Some token → is_symbol symbols.Hash token.kind ≡ true
 
--- The new text is the old one with this section in place of that of its board. What stands before the first token of
--- that section, and after its last one, is the same.
+-- The new text is the old one with this section in place of that of its board. The text before the first token of that
+-- section, and after its last one, is the same.
 pub record IsRewritten (text section new : List ℕ) : Type 0 where
   pub tokens : List Lexeme
   pub cut : HasTokens text tokens

@@ -7,7 +7,7 @@ use Rattle.rbg_macro.specs.declared.token.Symbol.TheVariants as symbols
 use Rattle.rbg_macro.specs.declared.token.TokenKind.TheVariants as kinds
 use Rattle.rbg_position.specs.Sections.{section_text}
 
--- a name and a symbol, wherever they stand
+-- a name and a symbol, with no real offset
 abbrev pub word : List ℕ → Lexeme
 word text = record { kind = kinds.Name; text = text; at = 0 }
 

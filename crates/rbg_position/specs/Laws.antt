@@ -1,4 +1,4 @@
--- What the section of a game's board says of its vertices.
+-- What the section of a game's board means for its vertices.
 use Rattle.std.specs.Prelude.{◌≡◌, ℕ, List, Some, map, filter}
 use Rattle.std.specs.List.{enumerate_from}
 use Rattle.rbg_game.specs.Loading.{Loads}

@@ -17,8 +17,8 @@ pub record HoldsOther (variable here there : ℕ) (at place : AbstractPlace) : T
   pub at_there : slice_get place.state.values variable ≡ Some there
   pub other : here ≢ there
 
--- How a place stands otherwise than another one: other pieces stand on the board, or another player is to move, or a
--- variable holds another number.
+-- How one place differs from another one: other pieces are on the board, or another player is to move, or a variable
+-- has another value.
 pub data StandsOtherwise (at place : AbstractPlace) : PositionError → Type 0 where
   pieces : at.state.pieces ≢ place.state.pieces → StandsOtherwise at place Keeper
   player : {here there : ℕ} →
@@ -26,25 +26,25 @@ pub data StandsOtherwise (at place : AbstractPlace) : PositionError → Type 0 w
   value : {variable here there : ℕ} →
       HoldsOther variable here there at place → StandsOtherwise at place (Value variable there here)
 
--- The keeper's moves from a place lead to none where play could go on: a question about them is above the limits, or they
--- don't end.
+-- The keeper's moves from a place lead to none from which play could continue: a question about them is above the
+-- limits, or they don't end.
 pub data IsUnsettled (game : AbstractGame) (place : AbstractPlace) : PositionError → Type 0 where
   heavy : MeetsHeavy game place → IsUnsettled game place Unsettled
   endless : IsEndless game place → IsUnsettled game place Unsettled
   no_memory : IsUnsettled game place Memory
 
--- Why a game doesn't begin as play stands at the place.
---   otherwise: the keeper's first moves lead to where something stands otherwise.
---   unsettled: they lead to no place where play could begin.
+-- Why a game doesn't begin as play is at the place.
+--   otherwise: the keeper's first moves lead to a place at which something differs.
+--   unsettled: they lead to no place at which play could begin.
 pub data BeginsOtherwise (game : AbstractGame) (place : AbstractPlace) : PositionError → Type 0 where
   otherwise : {at : AbstractPlace} {error : PositionError} →
       Settles game (first_place game) at → StandsOtherwise at place error → BeginsOtherwise game place error
   unsettled : {error : PositionError} → IsUnsettled game (first_place game) error → BeginsOtherwise game place error
 
 -- Why there is no description of the place.
---   refused: the text with the section of its board as it stands there has a fault, and is no game's.
---   other_game: it is another game's than that with the board as it stands there.
---   otherwise: that game doesn't begin as play stands at the place.
+--   refused: the text with the section of its board for the pieces of the place has a fault, and is no game's.
+--   other_game: it is another game's than that with these pieces on the board.
+--   otherwise: that game doesn't begin as play is at the place.
 pub data IsUndescribed (text : List ℕ) (game : AbstractGame) (place : AbstractPlace) : PositionError → Type 0 where
   refused : {new : List ℕ} {fault : LoadError} →
       IsTextAt text game place new →

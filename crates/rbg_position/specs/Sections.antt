@@ -1,5 +1,5 @@
 -- The section of a board with other pieces on the vertices, as it is written: `#board = `, and then the tokens of the
--- text's own section, macros expanded, where the names of these pieces replace the names in brackets.
+-- text's own section, macros expanded, with the names of these pieces in place of the names in brackets.
 use Rattle.std.specs.Prelude.{◌≡◌, ℕ, ◌&&◌, Bool, true, false, List, [], ◌++◌, map, take, filter, flat_map, count_by, slice_get, slice_index_or, Option, Some, None, codes, if◌then◌else◌}
 use Rattle.std.specs.List.{enumerate_from, last_or}
 use Rattle.rbg_grammar.specs.Spells.{HasSection}
@@ -33,7 +33,7 @@ abbrev pub is_opening : Option TokenKind → Bool
 is_opening (Some (Symbol OpenBracket)) = true
 is_opening _ = false
 
--- whether what stands after these tokens is in brackets: the last bracket among them is `[`
+-- whether the token after these ones is in brackets: the last bracket among them is `[`
 abbrev pub leave_open : List TokenKind → Bool
 leave_open kinds = is_opening (last_or None (filter is_bracket kinds))
 
@@ -45,7 +45,7 @@ names_piece ts p = leave_open (kinds_before ts p.0) && is_name_kind p.1.kind
 abbrev pub vertex_at : List Lexeme → ℕ → ℕ
 vertex_at ts k = count_by (names_piece ts) (enumerate_from 0 (take k ts))
 
--- the name of a piece; nothing, where there is none
+-- the name of a piece; nothing, if there is none
 abbrev pub name_of : AbstractGame → Option ℕ → List ℕ
 name_of game None = []
 name_of game (Some piece) = slice_index_or game.pieces piece []

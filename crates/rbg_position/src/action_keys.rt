@@ -30,7 +30,7 @@ pub(crate) fn put_arithmetic(arithmetic: &Arithmetic, key: &mut Vec<KeyMark>) ->
     }
 }
 
-/// Goes on after the key of what stands before the operations.
+/// Appends the keys of operations, after the key of the value to which they apply.
 #[cycle(arithmetic)]
 fn put_operations(operations: &[Operation], key: &mut Vec<KeyMark>) -> Result<(), Memory>
     ensures { OnOk result ((before : List KeyMark) (first : AbstractArithmetic)

@@ -19,7 +19,7 @@ use rbg_macro::{Section, SectionKind, Source, Symbol, TokenKind, Tokens, expand}
 use rbg_rules::Game;
 use std::alloc::Global;
 
-/// The section of the board, in which these pieces stand on the vertices. Its macros are expanded.
+/// The section of the board, with these pieces on the vertices. Its macros are expanded.
 pub(crate) fn board_section(
     alloc: Global,
     tokens: &Tokens<'_>,
@@ -36,7 +36,7 @@ pub(crate) fn board_section(
     Ok(out)
 }
 
-/// The sections of a text that is a game's: only memory can be lacking.
+/// The expanded sections of a text that is a game's. The only error is refused memory.
 fn expanded<'t>(alloc: Global, tokens: &Tokens<'t>) -> Result<Source<'t>, Memory>
     ensures { IfOk result (HasSections tokens.now) }
 {
@@ -162,7 +162,7 @@ fn piece_name(game: &Game, piece: Piece) -> &[u8]
     }
 }
 
-/// Whether what stands after a token is in brackets, where the token itself is or isn't.
+/// Whether the token after this one is in brackets, if this one is or isn't.
 fn is_inside_after(is_inside: bool, kind: TokenKind) -> bool
     ensures { result ≡ is_inside_after is_inside kind }
 {
@@ -173,7 +173,7 @@ fn is_inside_after(is_inside: bool, kind: TokenKind) -> bool
     }
 }
 
-/// Appends what stands between two tokens.
+/// Appends the space between two tokens.
 #[tactic(auto, unfolding(crate::specs::Sections::space_between))]
 fn put_space(last: Option<TokenKind>, next: TokenKind, out: &mut Vec<u8>) -> Result<(), Memory>
     ensures { OnOk result (out.new.items ≡ out.old.items ++ space_between last next) }
@@ -184,7 +184,7 @@ fn put_space(last: Option<TokenKind>, next: TokenKind, out: &mut Vec<u8>) -> Res
     }
 }
 
-/// What stands between two tokens: a space after a `,` and a `:`, and a new line before a row and after a vertex of a
+/// The space between two tokens: a space after a `,` and a `:`, and a new line before a row and after a vertex of a
 /// graph.
 fn space_between(last: TokenKind, next: TokenKind) -> &'static [u8]
     ensures { result.now ≡ space_between (Some last) next }

@@ -20,9 +20,9 @@ use rbg_moves::{Place, PlayedGame};
 use rbg_record::place_after;
 use std::alloc::Global;
 
-/// The description of the place to which a record of the game of a text leads: the text with the board as it stands
-/// there. Play begins there as it stands at the place: after the keeper's first moves these pieces stand on the board,
-/// the variables hold the same numbers, and the same player is to move.
+/// The description of the place to which a record of the game of a text leads: the text with the pieces of that place
+/// on the board. After the keeper's first moves a match of it is at that place: the same pieces are on the board, the
+/// variables have the same values, and the same player is to move.
 pub fn position(
     alloc: Global,
     text: &[u8],
@@ -63,7 +63,7 @@ fn describe(
     Ok(new)
 }
 
-/// Whether a text describes the game with the board as it stands at the place, and this begins as play stands there.
+/// Whether a text describes the game with the pieces of the place on the board, and begins as play is at the place.
 fn begin_at(
     alloc: Global,
     game: &PlayedGame,
@@ -81,7 +81,7 @@ fn begin_at(
     Ok(())
 }
 
-/// The game of the new text, if it is the old one with the board as it stands at the place.
+/// The game of the new text, if it is the old one with the pieces of the place on the board.
 fn new_game(
     alloc: Global,
     game: &PlayedGame,
@@ -98,7 +98,7 @@ fn new_game(
     Ok(other)
 }
 
-/// Whether a game is another one with the board as it stands at the place.
+/// Whether a game is another one with the pieces of the place on the board.
 fn judge(alloc: Global, other: &Game, game: &PlayedGame, place: &Place) -> Result<(), PositionError>
     requires narrow { IsNarrow game.now.board }
     ensures is { IfOk result (λ _. other.now ≡ game_at game.now place.now) }

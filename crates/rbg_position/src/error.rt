@@ -14,14 +14,16 @@ pub enum PositionError {
     Record {
         misfit: Misfit,
     },
-    /// A variable holds another number there than where the description begins.
+    /// After the record's moves (`there`) a variable has another value than at the beginning of the description
+    /// (`here`).
     #[error("variable {variable} holds {there} after the record's moves, and {here} at the beginning")]
     Value {
         variable: Variable,
         there: u32,
         here: u32,
     },
-    /// Another player is to move there than where the description begins. The keeper is 0.
+    /// After the record's moves (`there`) another player is to move than at the beginning of the description (`here`).
+    /// The keeper is 0.
     #[error("player {there} is to move after the record's moves, and player {here} at the beginning")]
     Turn {
         there: Player,
@@ -33,7 +35,7 @@ pub enum PositionError {
     /// With this board the keeper's first moves don't end, or a question about them is above the limits.
     #[error("with this board the keeper's first moves don't end, or a question is above the limits")]
     Unsettled,
-    /// The description with this board isn't accepted, as where it is too long.
+    /// The description with this board isn't accepted, for example if it is too long.
     #[error("the description with this board isn't accepted")]
     Refused,
     /// A request for memory failed.

@@ -3,7 +3,7 @@ ghost use Rattle.std.specs.Prelude.{◌≡◌, ◌++◌, ◌∷◌, [], OnOk};
 
 use rbg_base::{Direction, Memory, Piece, Player, Position, Relation, Variable};
 
-/// A mark of a key. Those of arithmetic and of rules stand after the marks of their parts.
+/// A mark of a key. The marks of arithmetic and of rules come after the marks of their parts.
 #[derive(Clone, Copy, PartialEq, Eq)]
 pub enum KeyMark {
     Number(u64),

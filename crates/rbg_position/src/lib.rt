@@ -1,4 +1,4 @@
-//! A place as a description: the game with the board as it stands after the moves of a record. And whether two games
+//! A place as a description: the game with the pieces of the place that a record's moves reach. And whether two games
 //! differ in their boards' pieces alone.
 #![tactic(auto)]
 

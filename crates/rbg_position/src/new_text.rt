@@ -35,7 +35,7 @@ pub(crate) fn rewritten(
     }
 }
 
-/// The text with this section in place of what stands from an offset to the end of the last token.
+/// The text with this section in place of the part from an offset to the end of the last token.
 fn replaced(
     alloc: Global,
     text: &[u8],
@@ -69,7 +69,7 @@ fn find_board(tokens: &[Token<'_>]) -> Option<usize>
     None
 }
 
-/// Whether `#board` stands at an index.
+/// Whether `#board` is at an index.
 fn begins_board(tokens: &[Token<'_>], at: usize) -> bool
     requires { at + 1 < length tokens.now }
     ensures { IsTrue result ↔ BeginsBoard (map lexeme_of tokens.now) at }

@@ -12,7 +12,7 @@ use rbg_game::Game;
 use rbg_moves::{Place, PlayedGame, Unsettled, Workspace};
 use std::alloc::Global;
 
-/// Whether a game begins as play stands at a place.
+/// Whether a game begins as play is at a place. Returns an error if it doesn't.
 pub(crate) fn begin(alloc: Global, game: Game, place: &Place) -> Result<(), PositionError>
     requires { length place.now.state.values ≡ length game.bounds }
     ensures begins { IfOk result (λ _. BeginsAs game place.now) }
@@ -47,7 +47,7 @@ fn settle(alloc: Global, game: &PlayedGame, place: &mut Place) -> Result<(), Pos
     Ok(())
 }
 
-/// Why a game doesn't begin where its keeper's first moves lead to no place.
+/// The error for a game whose keeper's first moves lead to no place.
 fn refusal_of(unsettled: Unsettled) -> PositionError
     ensures { result ≡ error_of unsettled }
 {

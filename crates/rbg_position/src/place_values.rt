@@ -7,8 +7,8 @@ use crate::error::PositionError;
 use rbg_base::{Piece, Player, Variable};
 use rbg_moves::Place;
 
-/// Whether at two places, of games with so many variables, the same pieces stand, the variables hold the same, and the
-/// same player is to move.
+/// Compares two places of games with `count` variables: the pieces, the player to move, and the values. Returns an
+/// error for the first that differs.
 pub(crate) fn compare(count: usize, at: &Place, place: &Place) -> Result<(), PositionError>
     requires few { count ≤ 65536 }
     requires here { length at.now.state.values ≡ count }
@@ -49,7 +49,7 @@ fn compare_values(count: usize, at: &Place, place: &Place) -> Result<(), Positio
     Ok(())
 }
 
-/// The pieces that stand on the vertices.
+/// The pieces on the vertices.
 pub(crate) fn pieces_of(place: &Place) -> &[Piece]
     ensures { result.now ≡ place.now.state.pieces }
 {

@@ -45,7 +45,7 @@ pub(crate) fn put_rule(
     }
 }
 
-/// Goes on after the key of what stands before the parts. The mark is that of what joins two of them.
+/// Appends the keys of parts, after the key of the parts before them. `mark` is that of what joins two of them.
 #[cycle(rules)]
 fn put_parts(
     parts: &[Rule],
@@ -90,7 +90,7 @@ fn put_known(position: Position, action: &Action, key: &mut Vec<KeyMark>) -> Res
     }
 }
 
-/// Appends what stands after the key of a pattern's inside.
+/// Appends the marks after the key of a pattern's inside.
 fn put_pattern(mark: KeyMark, position: Position, key: &mut Vec<KeyMark>) -> Result<(), Memory>
     ensures { OnOk result (key.new.items ≡ key.old.items ++ (mark ∷ []) ++ (ActMark position ∷ [])) }
 {
@@ -110,7 +110,7 @@ fn find_action(position: Position, actions: &[Action]) -> Option<&Action>
     }
 }
 
-/// The mark of the pattern at a position, if one stands there.
+/// The mark of the pattern at a position, if there is one.
 fn pattern_at(position: Position, actions: &[Action]) -> Option<KeyMark>
     ensures found { IfSome result (λ mark. (x : Expression)
         → rules_key (pattern_of position (action_at actions.now position) x)

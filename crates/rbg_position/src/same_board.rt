@@ -15,7 +15,7 @@ pub(crate) fn is_board_with(new: &Board, old: &Board, pieces: &[Piece]) -> bool
     stand_at_start(new, pieces) && leads_alike(new, old)
 }
 
-/// Whether these pieces stand on a board when play begins.
+/// Whether these pieces are on a board when play begins.
 fn stand_at_start(board: &Board, pieces: &[Piece]) -> bool
     ensures { IsTrue result ↔ (board.now.first ≡ pieces.now) }
 {

@@ -19,7 +19,7 @@ use Rattle.rbg_record.proofs.Leading.{all_first, all_last, right_is_good}
 use Rattle.rbg_record.proofs.OneEnd.{End, good, bad, misread, Chain, stay, chain_more, IsReading, Stops, one_end}
 use Rattle.rbg_record.proofs.Telling.{good_is_right}
 
--- a text tells one entry
+-- a text spells one entry
 pub one_told : (version : Version) (text : List ℕ) (a b : Timed) → SpellsIn version text a → SpellsIn version text b → a ≡ b
 one_told One text a b one other =
     let same = entries_apart.entries text a.entry b.entry one.0 other.0 in
@@ -75,7 +75,7 @@ chain_of : (game : AbstractGame) (texts : List (List ℕ)) (to : Reached) → Le
 chain_of game texts to lines.none = stay
 chain_of game texts to (lines.more {texts = before} {from = from} earlier leads) = chain_more (chain_of game before from earlier) leads
 
--- reading stops after so many lines
+-- reading stops after this many lines
 record StopsAfter (game : AbstractGame) (bytes : List ℕ) (count : ℕ) (end : End) : Type 0 where
   pub texts : List (List ℕ)
   pub rest : List ℕ
@@ -167,7 +167,7 @@ good_answer = Ok Good
 pub good_by_lines : GoodByLines
 good_by_lines game bytes = (good_is_right game bytes, right_is_good game bytes)
 
--- an answer is Good exactly where the record is right
+-- an answer is Good exactly if the record is right
 pub good_exactly : (game : AbstractGame) → IsNumbered game.rules → (bytes : List ℕ) (result : Result Checked RecordError) → IsJudged game bytes result → IfOk result (λ checked. (checked ≡ Good) ↔ IsRightRecord game bytes)
 good_exactly game numbered bytes (Ok Good) judged = ((λ _. good_is_right game bytes judged), (λ _. refl))
 good_exactly game numbered bytes (Ok (Bad line)) judged =

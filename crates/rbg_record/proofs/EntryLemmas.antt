@@ -70,7 +70,7 @@ legal_move game standing at player pairs to fits counted legal = lines.move fits
 has_turn : (game : AbstractGame) (place : AbstractPlace) → place.state.player ≢ 0 → SomeIsLegal game place → HasTurn game place
 has_turn game place player some = record { player = player; pairs = some.0; to = some.1.0; legal = some.1.1 }
 
--- an end that could be, where a question has told whether play is finished
+-- an end that is possible, after a question has found whether play is finished
 fits_end : (game : AbstractGame) (standing : MatchSoFar) (at : ℕ) (finished : Bool) (outcome : Option Outcome) → (finished ≡ true → moves.Finished game standing.place) → (finished ≡ false → SomeIsLegal game standing.place) → FitsUnasked game standing at (End outcome) → EndsSo game standing.place finished outcome → FitsOutcome game (turn_config standing.turn_ms) (play_at standing outcome) standing.last at outcome
 fits_end game standing at finished None over going fits ends = ((has_turn game standing.place fits.0 (going ends), refl), fits.1)
 fits_end game standing at finished (Some (Finished scores)) over going fits ends = (over ends.0, ends.1, fits)
@@ -129,7 +129,7 @@ pub line_leads : (game : AbstractGame) (standing : MatchSoFar) (text : List ℕ)
 line_leads game standing text told (Ok to) spells leads = lines.entry spells leads
 line_leads game standing text told (Err fault) spells leads = tt
 
--- a line that was read as this entry, where one comes next
+-- a line that was read as this entry, if an entry comes next
 pub entry_read : (game : AbstractGame) (reached : CodeReached) (standing : MatchSoFar) (text : List ℕ) (told : Timed) (result : Result CodeReached LineFault) → reached ≡ code.Entry standing → Says (next_of (reached_of reached)) text (contents.Entry told) → IfOk result (λ to. EntryLeads game standing told (reached_of to)) → IfOk result (λ to. IsReachedIn game (reached_of to)) → IfErr result (RefusesEntry game standing told) → ReadsLine game (reached_of reached) text result
 entry_read game reached standing text told result is says leads in_game refused =
     let spells : SpellsIn standing.version text told = subst (λ (one : CodeReached). Says (next_of (reached_of one)) text (contents.Entry told)) is says in

@@ -29,7 +29,7 @@ module _ (byte : ℕ) where
   lacks-flat_map P text each [] h = nothing_lacks
   lacks-flat_map P text each (x ∷ xs) h = lacks-append (text x) (flat_map text xs) (each x (All-head P x xs h)) (lacks-flat_map P text each xs (All-tail P x xs h))
 
-  -- a name has no byte with which no name goes on
+  -- a name lacks each byte that can't be part of a name
   part_apart : is_name_part byte ≡ false → (other : ℕ) → is_name_part other ≡ true → other ≢ byte
   part_apart none other h same = let apart : false ≡ true = sym none ∙ subst (λ b. is_name_part b ≡ true) same h in cc
 

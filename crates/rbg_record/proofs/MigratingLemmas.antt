@@ -160,7 +160,7 @@ module _ {game : AbstractGame} {bytes : List ℕ} {next : Next} {out : List ℕ}
   migrating_refused line (error.Over number) takes refused = refused
   migrating_refused line error.Memory takes refused = tt
 
--- What was migrated is right exactly where the old record is.
+-- What was migrated is right exactly if the old record is.
 
 at_zero : (game : AbstractGame) (moves : List Made) (place : AbstractPlace) → LeadsTo game moves place → All (λ made. made.at ≡ 0) moves → MadeInTurn (turn_config 1) 0 moves 0
 at_zero game moves place history.none zeros = history.nothing

@@ -34,7 +34,7 @@ Stops Leads HasForm IsOver state rest good = IsOver state × (rest ≡ [])
 Stops Leads HasForm IsOver state rest bad = IsStuck Leads HasForm state rest
 Stops Leads HasForm IsOver state rest misread = ¬ GoesOn (IsOver state) (HasForm state) rest
 
--- what reading rests on: a line leads to one state, from one that isn't over, and is of the form where it leads on
+-- what reading needs: a line leads to one state, from one that isn't over, and if it leads to one it is of the form
 pub record IsReading {State : Type 0} (Leads : State → List ℕ → State → Type 0) (HasForm : State → List ℕ → Type 0) (IsOver : State → Type 0) : Type 0 where
   pub one : (from : State) (text : List ℕ) (to to' : State) → Leads from text to → Leads from text to' → to ≡ to'
   pub formed : (from : State) (text : List ℕ) (to : State) → Leads from text to → HasForm from text

@@ -12,7 +12,7 @@ use Rattle.rbg_record.proofs.Common.{OneRecord, PlainMove, AbstractRecord, plain
 use Rattle.rbg_rules.specs.Meaning.{AbstractGame}
 use Rattle.rbg_record.proofs.Leading.{whole_texts}
 
--- lists whose texts are the same, where each text tells one thing
+-- lists whose texts are the same, if each text spells one thing
 same_items : {A : Type 0} (Has : A → Type 0) (text_of : A → List ℕ) → ((a b : A) → Has a → Has b → text_of a ≡ text_of b → a ≡ b) → (xs ys : List A) → All Has xs → All Has ys → map text_of xs ≡ map text_of ys → xs ≡ ys
 same_items Has text_of one [] [] all all' same = refl
 same_items Has text_of one [] (y ∷ ys) all all' same = let apart : [] ≡ text_of y ∷ map text_of ys = same in cc
@@ -31,7 +31,7 @@ one_entry a b has has' same = entries_apart.entries (entry_text a) a b (record {
 one_timed : (a b : Timed) → TimedHasSpelling a → TimedHasSpelling b → timed_text a ≡ timed_text b → a ≡ b
 one_timed a b has has' same = entries_apart.timed (timed_text a) a b (record { has = has; is = refl }) (record { has = has'; is = same })
 
--- entries that are the same tell the same moves and the same end
+-- entries that are the same have the same moves and the same end
 same_plain : (xs ys : List PlainMove) (m n : Option Outcome) → map plain_entry xs ++ End m ∷ [] ≡ map plain_entry ys ++ End n ∷ [] → (xs ≡ ys) × (m ≡ n)
 same_plain [] [] m n same = let parts : End m ∷ [] ≡ End n ∷ [] = same in (refl, cc)
 same_plain [] (y ∷ ys) m n same = let parts : End m ∷ [] ≡ Move y.player y.pairs ∷ (map plain_entry ys ++ End n ∷ []) = same in let apart : End m ≡ Move y.player y.pairs = cc in absurd cc
@@ -98,7 +98,7 @@ pub one_record : OneRecord
 one_record bytes one other spells spells' =
     one_told one other spells.has spells'.has (lines_apart (texts_of one) (texts_of other) (whole_texts one spells.has) (whole_texts other spells'.has) (sym spells.is ∙ spells'.is))
 
--- what was migrated is right exactly where the old bytes are
+-- what was migrated is right exactly if the old bytes are
 pub migrated_right : (game : AbstractGame) (old new : List ℕ) → IsMigrated game old new → IsRightRecord game new ↔ IsRightRecord game old
 migrated_right game old new is = (before, after)
   where

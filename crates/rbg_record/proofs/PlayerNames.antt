@@ -3,7 +3,7 @@ use Rattle.rbg_base.proofs.Common.{◌≡◌, ◌≢◌, ℕ, ◌+◌, ◌-◌, 
 use Rattle.std.proofs.lemmas.Bool.{true≢false}
 use Rattle.rbg_base.proofs.CallerLemmas.{slice_get-append_right}
 
--- the names begin with those of so many players, and these are left
+-- the names begin with those of the first `index` players, and these are left
 pub record AreFirstNames (names players left : List (List ℕ)) (index : ℕ) : Type 0 where
   pub within : index ≤ length players
   pub parts : names ≡ take index players ++ left
@@ -56,7 +56,7 @@ too_many names players left rest name index first all is same =
     let longer = ap length whole ∙ length-append players (name ∷ rest) in
     omega arith
 
--- what a test of two texts has told
+-- what a test of two texts means
 other_not : (b : Bool) → not b ≡ false → b ≡ true
 other_not true same = refl
 other_not false same = absurd (true≢false same)

@@ -1,4 +1,4 @@
--- What a line says tells what the lines before it lead to.
+-- What a line contains shows what the lines before it lead to.
 use Rattle.std.proofs.Common.{◌≡◌, ℕ, List, refl}
 use Rattle.rbg_wire.specs.Words.{words_of}
 use Rattle.rbg_record.specs.declared.heading.Start.{Start}

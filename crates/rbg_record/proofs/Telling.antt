@@ -1,4 +1,4 @@
--- Lines that are right in turn tell a record that is right.
+-- Lines that are right in turn are those of a record that is right.
 use Rattle.rbg_base.proofs.Common.{◌≡◌, ◌≢◌, ◌⊎◌, inl, inr, zero, suc, ℕ, ◌≤◌, List, [], ◌∷◌, ◌++◌, map, Option, refl, sym, ap, ◌∙◌, subst, arith, append-nil, All, map-append, All-nil, All-push}
 use Rattle.rbg_wire.specs.declared.outcome.Outcome.{Outcome}
 use Rattle.rbg_rules.specs.Meaning.{AbstractGame, AbstractPlace, Legal}
@@ -17,7 +17,7 @@ use Rattle.rbg_record.proofs.Common.{PlainMove, AbstractRecord, plain, timed, pl
 use Rattle.rbg_record.specs.Lines as lines
 use Rattle.rbg_record.proofs.Fitting.{fits_place, fits_same}
 
--- What the lines so far tell of play, in version 1.
+-- What the lines so far mean for play, in version 1.
 pub record TellsPlain (game : AbstractGame) (texts : List (List ℕ)) (place : AbstractPlace) : Type 0 where
   pub moves : List PlainMove
   pub are : texts ≡ version_text One ∷ map entry_text (map plain_entry moves)
@@ -48,7 +48,7 @@ abbrev pub TellsIn : Version → AbstractGame → List (List ℕ) → (turn_ms l
 TellsIn One game texts turn_ms last place = TellsPlain game texts place
 TellsIn Two game texts turn_ms last place = TellsTimed game texts turn_ms last place
 
--- what the lines that lead so far tell
+-- what the lines mean that lead to this point
 abbrev pub Tells : AbstractGame → List (List ℕ) → Reached → Type 0
 Tells game texts version_next = texts ≡ []
 Tells game texts players_next = texts ≡ version_text Two ∷ []

@@ -1,4 +1,4 @@
--- A record is told line by line.
+-- Lines for the script are written of a record line by line.
 use Rattle.rbg_base.proofs.Common.{◌≡◌, ℕ, List, [], ◌∷◌, ◌++◌, Result, Err, sym, ap, ◌∙◌, subst, arith, append-nil, append_assoc, IfErr, flat_map, flat_map-append, All-nil, All-cons, All-push}
 use Rattle.rbg_base.proofs.CallerLemmas.{AllZip-push_one}
 use Rattle.rbg_wire.proofs.Common.{LacksByte, line_feed, line_of, lines_of}
@@ -126,7 +126,7 @@ entry_told_at version text at (End outcome) old new spells events = record {
   };
 }
 
--- what a line says tells what came next
+-- what a line contains decides what is written next
 pub version_tells : (next : Next) (text : List ℕ) (version : Version) (to : Next) (old new : List ℕ) → Says next text (contents.Version version) → ((text : List ℕ) → text ≡ version_text version → TellsNext nexts.Version text to old new) → TellsNext next text to old new
 version_tells nexts.Version text version to old new says tells = tells text says
 version_tells _ text version to old new says tells = absurd says

@@ -1,4 +1,4 @@
--- What the reading of one line tells: what it leads to, or why it leads to nothing.
+-- What the reading of one line means: what it leads to, or why it leads to nothing.
 use Rattle.std.specs.Prelude.{◌≡◌, ℕ, ◌≤◌, List, Result, IfOk, IfErr}
 use Rattle.rbg_rules.specs.Meaning.{AbstractGame, IsPlaceOf}
 use Rattle.rbg_match.specs.Limits.{latest_moment}
@@ -13,7 +13,7 @@ use Rattle.rbg_record.specs.declared.reached.Reached.TheVariants as code
 use Rattle.rbg_record.specs.Judged.{FitsUnasked, AsksHeavy}
 use Rattle.rbg_record.specs.Lines.{MatchSoFar, Reached, version_next, players_next, start_next, entry_next, nothing_next, HasForm, EntryLeads, Leads}
 
--- what the code's value says that the lines so far lead to
+-- what the code's value means: the point to which the lines so far lead
 abbrev pub reached_of : CodeReached → Reached
 reached_of code.Version = version_next
 reached_of code.Players = players_next
@@ -26,13 +26,13 @@ abbrev pub IsReachedIn : AbstractGame → Reached → Type 0
 IsReachedIn game (entry_next standing) = IsPlaceOf game standing.place
 IsReachedIn game _ = Unit {0}
 
--- all that an entry tells without a question is right, but its question is above the limits
+-- everything about an entry that needs no question is right, but its question is above the limits
 pub record IsHeavyEntry (game : AbstractGame) (standing : MatchSoFar) (told : Timed) : Type 0 where
   pub counted : told.at ≤ latest_moment
   pub fits : FitsUnasked game standing told.at told.entry
   pub asks : AsksHeavy game standing told.entry
 
--- why an entry doesn't lead on
+-- why an entry is refused
 abbrev pub RefusesEntry : AbstractGame → MatchSoFar → Timed → LineFault → Type 0
 RefusesEntry game standing told Form = ⊥
 RefusesEntry game standing told Bad = (to : Reached) → ¬ EntryLeads game standing told to
@@ -47,14 +47,15 @@ pub record IsHeavyText (game : AbstractGame) (reached : Reached) (text : List �
   pub form : SpellsIn standing.version text told
   pub heavy : IsHeavyEntry game standing told
 
--- why a line with this text doesn't lead on
+-- why a line with this text is refused
 abbrev pub Refuses : AbstractGame → Reached → (text : List ℕ) → LineFault → Type 0
 Refuses game reached text Form = ¬ HasForm reached text
 Refuses game reached text Bad = HasForm reached text × ((to : Reached) → ¬ Leads game reached text to)
 Refuses game reached text Over = IsHeavyText game reached text
 Refuses game reached text Memory = Unit {0}
 
--- what a call says that judges a line with this text: what it leads to, at a place of the game, or why it doesn't lead on
+-- what a call returns that judges a line with this text: the point to which it leads, at a place of the game, or why it
+-- leads to none
 pub record ReadsLine (game : AbstractGame) (reached : Reached) (text : List ℕ) (result : Result CodeReached LineFault) :
     Type 0 where
   pub leads : IfOk result (λ to. Leads game reached text (reached_of to))

@@ -10,7 +10,7 @@ use Rattle.rbg_record.specs.declared.entry.Timed.{Timed}
 use Rattle.rbg_record.specs.declared.heading.Version.{Version}
 use Rattle.rbg_record.specs.declared.heading.Version.TheVariants.{One, Two}
 
--- A move is its player and its pairs. The end is the outcome, or `-` where the match is still in play.
+-- A move is its player and its pairs. The end is the outcome, or `-` if the match is still in play.
 unfoldable pub entry_text : Entry → List ℕ
 entry_text (Move player pairs) = decimal player ++ codes " " ++ pairs_text pairs
 entry_text (End None) = codes "-"
@@ -22,7 +22,7 @@ EntryHasSpelling (Move player pairs) = (player < 2 ^ 64) × ArePairs pairs × (l
 EntryHasSpelling (End None) = Unit {0}
 EntryHasSpelling (End (Some outcome)) = OutcomeHasSpelling outcome
 
--- what stands before an entry: its moment and a space, or nothing
+-- what comes before an entry: its moment and a space, or nothing
 abbrev pub moment_text : Option ℕ → List ℕ
 moment_text None = []
 moment_text (Some at) = decimal at ++ codes " "
@@ -42,8 +42,8 @@ SpellsEntry = IsSpelling EntryHasSpelling entry_text
 abbrev pub SpellsTimed : List ℕ → Timed → Type 0
 SpellsTimed = IsSpelling TimedHasSpelling timed_text
 
--- The moment that version 1 leaves out. All that happens does so at moment 0, but a time that is over ends at moment 1:
--- there a turn lasts for one millisecond.
+-- The moment that version 1 leaves out. Everything happens at moment 0, except that a time that is over ends at moment
+-- 1: a turn lasts for one millisecond there.
 abbrev pub unwritten_moment : Entry → ℕ
 unwritten_moment (End (Some (Time player))) = 1
 unwritten_moment _ = 0

@@ -1,4 +1,4 @@
--- What is told of a record: that it is right, or the first line that is not, and what is wrong with it.
+-- The verdict on a record: that it is right, or the first line that is not, and what is wrong with it.
 use Rattle.std.specs.Prelude.{◌≡◌, ◌≢◌, ℕ, ◌+◌, ◌≤◌, List, [], ◌∷◌, ◌++◌, length, Some, None, Result, Ok, Err}
 use Rattle.rbg_wire.specs.declared.outcome.Outcome.TheVariants.{Finished, Time, Refusals, Gone, Heavy}
 use Rattle.rbg_rules.specs.Meaning.{IsHeavyToFind, IsHeavyToTry, AbstractGame}
@@ -59,7 +59,7 @@ abbrev pub IsOnTurn : MatchSoFar → (at : ℕ) → Type 0
 IsOnTurn standing at =
     (standing.place.state.player ≢ 0) × IsInTurn (turn_config standing.turn_ms) standing.last at
 
--- What is looked at before a question is asked of the rules.
+-- What is checked before a question is asked of the rules.
 --   Move: the player is the mover, and the moment is one for its move.
 --   None: a player is to move, and the moment is one of its turn.
 --   Finished: the moment is that of the last move.
@@ -79,7 +79,7 @@ FitsUnasked game standing at (End (Some (Gone player))) =
     IsOnTurn standing at × (1 ≤ player) × (player ≤ seats_of game)
 FitsUnasked game standing at (End (Some Heavy)) = IsInTurn (turn_config standing.turn_ms) standing.last at
 
--- The question of an entry is above the limits: whether the move is legal, or whether there is a legal move. `E4` asks
+-- The question of an entry is above the limits: whether the move is legal, or whether there is a legal move. `E4` has
 -- none.
 abbrev pub AsksHeavy : AbstractGame → MatchSoFar → Entry → Type 0
 AsksHeavy game standing (Move player pairs) = IsHeavyToTry game standing.place pairs
@@ -100,7 +100,7 @@ pub record IsHeavyLine (game : AbstractGame) (bytes : List ℕ) (line : ℕ) : T
   pub fits : FitsUnasked game standing told.at told.entry
   pub asks : AsksHeavy game standing told.entry
 
--- What is told of a record is true.
+-- The verdict on a record is true.
 abbrev pub IsJudged : AbstractGame → List ℕ → Result Checked RecordError → Type 0
 IsJudged game bytes (Ok Good) = IsGoodByLines game bytes
 IsJudged game bytes (Ok (Bad line)) = IsBadLine game bytes line
@@ -108,7 +108,7 @@ IsJudged game bytes (Err (Form line)) = IsFormFault game bytes line
 IsJudged game bytes (Err (Over line)) = IsHeavyLine game bytes line
 IsJudged game bytes (Err Memory) = Unit {0}
 
--- The line is the first one that is not right, not of the form, or asks a question above the limits, as the fault says.
--- Where memory ran out nothing is said.
+-- The line is the first one that is not right, not of the form, or asks a question above the limits, as the fault has
+-- it. If memory ran out, nothing is claimed.
 abbrev pub IsMisfit : AbstractGame → List ℕ → Misfit → Type 0
 IsMisfit game bytes misfit = IsJudged game bytes (told_at misfit.fault misfit.line)

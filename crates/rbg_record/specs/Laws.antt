@@ -11,19 +11,18 @@ use Rattle.rbg_record.specs.Judged.{IsGoodByLines, IsJudged}
 use Rattle.rbg_record.specs.Migration.{IsPlainFault}
 use Rattle.rbg_record.specs.OfMatch.{record_of, plain_record_of}
 
--- Bytes are good line by line exactly where they are those of a record that is right.
+-- Bytes are good line by line exactly if they are those of a record that is right.
 abbrev pub GoodByLines : Type 0
 GoodByLines = (game : AbstractGame) (bytes : List ℕ) → IsGoodByLines game bytes ↔ IsRightRecord game bytes
 
--- The answer tells neither that a record is right nor what is wrong: a question was above the limits, or memory ran
--- out.
+-- The answer is neither that a record is right nor what is wrong: a question was above the limits, or memory ran out.
 abbrev pub IsUndecided : Result Checked RecordError → Type 0
 IsUndecided (Ok _) = ⊥
 IsUndecided (Err (Form line)) = ⊥
 IsUndecided (Err (Over line)) = Unit {0}
 IsUndecided (Err Memory) = Unit {0}
 
--- Of one record only one answer is true, apart from those two. (In an accepted game the positions are numbered.)
+-- At most one answer about a record is true, apart from those two. (In an accepted game the positions are numbered.)
 abbrev pub OneJudgement : Type 0
 OneJudgement =
     (game : AbstractGame) → IsNumbered game.rules →
@@ -38,7 +37,7 @@ OneJudgement =
 abbrev pub OneRecord : Type 0
 OneRecord = (bytes : List ℕ) (one other : AbstractRecord) → Spells bytes one → Spells bytes other → one ≡ other
 
--- Bytes have one fault at most against the form of version 1, and none where they are those of such a record.
+-- Bytes have one fault at most against the form of version 1, and none if they are those of such a record.
 pub record OnePlainFault : Type 0 where
   pub one : (bytes : List ℕ) (m n : ℕ) → IsPlainFault bytes m → IsPlainFault bytes n → m ≡ n
   pub none : (bytes : List ℕ) (told : PlainRecord) (n : ℕ) → Spells bytes (plain told) → ¬ IsPlainFault bytes n

@@ -4,7 +4,7 @@ pub mod Heading
 pub mod NextLine
 pub mod Reading
 pub mod LineLaws
--- What a record is, which records are right, and what is told of one that isn't. Each file builds on those above it.
+-- What a record is, which records are right, and the verdict on one that isn't. Each file builds on those above it.
 pub mod Records
 pub mod Right
 pub mod Lines

@@ -54,7 +54,7 @@ pub record IsMomentFor (standing : MatchSoFar) (player at : ℕ) : Type 0 where
 abbrev pub play_at : MatchSoFar → Option Outcome → AbstractPlay
 play_at standing outcome = told_play [] outcome standing.place standing.last
 
--- An entry is right where the moves so far lead, and leads on.
+-- An entry is right at the place to which the moves so far lead, and the record can continue after it.
 --   move: it is one of the mover, at a moment of its turn that is counted, and it is legal.
 --   end: the outcome fits the place and the moments, and the moment is one that is counted.
 pub data EntryLeads (game : AbstractGame) (standing : MatchSoFar) : Timed → Reached → Type 0 where
@@ -70,12 +70,12 @@ pub data EntryLeads (game : AbstractGame) (standing : MatchSoFar) : Timed → Re
       at ≤ latest_moment →
       EntryLeads game standing (record { at = at; entry = End outcome }) nothing_next
 
--- A line with this text is right after the lines so far, and leads on.
+-- A line with this text is right after the lines so far, and the record can continue after it.
 --   version_1: moves come next. The first turn begins at moment 0 and lasts for one millisecond.
 --   version_2: the players come next.
 --   players: they are those of the game.
 --   start: the time for a turn is within its limits, and the moment is one that is counted.
---   entry: it is right where the moves so far lead.
+--   entry: it is right at the place to which the moves so far lead.
 pub data Leads (game : AbstractGame) : Reached → (text : List ℕ) → Reached → Type 0 where
   version_1 : {text : List ℕ} →
       text ≡ version_text One →

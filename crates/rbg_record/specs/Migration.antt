@@ -1,4 +1,4 @@
--- Making version 2 of version 1.
+-- Version 2 of a record of version 1.
 use Rattle.std.specs.Prelude.{◌≡◌, ◌↔◌, ℕ, List, [], ◌∷◌, ◌++◌, map, Option}
 use Rattle.rbg_wire.specs.declared.outcome.Outcome.{Outcome}
 use Rattle.rbg_rules.specs.Meaning.{AbstractGame}
@@ -11,8 +11,8 @@ use Rattle.rbg_record.specs.Records.{PlainRecord, TimedRecord, plain, timed, Spe
 use Rattle.rbg_record.specs.Right.{made_at, IsRight}
 use Rattle.rbg_record.specs.NextLine.{HasFormFault}
 
--- Version 2 of a record of version 1: with the game's players, a turn of one millisecond, and the beginning and all
--- that happens at moment 0, but for a time that is over, which ends at moment 1.
+-- Version 2 of a record of version 1: with the game's players, a turn of one millisecond, and everything at moment 0,
+-- except a time that is over, which ends at moment 1.
 abbrev pub migrated : AbstractGame → PlainRecord → TimedRecord
 migrated game told = record {
   players = game.players;
@@ -22,15 +22,15 @@ migrated game told = record {
   outcome = told.outcome;
 }
 
--- The old bytes are a record of version 1, and the new ones are version 2 of it, which is right exactly where the old
--- one is.
+-- The old bytes are a record of version 1, and the new ones are version 2 of it, which is right exactly if the old one
+-- is.
 pub record IsMigrated (game : AbstractGame) (old new : List ℕ) : Type 0 where
   pub told : PlainRecord
   pub before : Spells old (plain told)
   pub after : Spells new (timed (migrated game told))
   pub same : IsRight game (plain told) ↔ IsRight game (timed (migrated game told))
 
--- Where one is in a record of version 1: before its version, among its moves, or after its end.
+-- A point in a record of version 1: before its version, among its moves, or after its end.
 pub data PlainPart : Type 0 where
   before_version : PlainPart
   among_moves : PlainPart

@@ -26,7 +26,7 @@ pub data GoesOn (over : Type 0) (HasForm : List ℕ → Type 0) (rest : List ℕ
       GoesOn over HasForm rest
 
 -- The lines before this one lead to a part of the record, and what follows them is not of the form that it may have
--- there. Lines are numbered from 1. The line is missing where the record ends too early.
+-- there. Lines are numbered from 1. The line is missing if the record ends too early.
 pub record HasFormFault {Part : Type 0} (LeadThere : List (List ℕ) → Part → Type 0) (over : Part)
     (HasForm : Part → List ℕ → Type 0) (bytes : List ℕ) (line : ℕ) : Type 0 where
   pub texts : List (List ℕ)

@@ -7,7 +7,7 @@ use Rattle.rbg_match.specs.Matches.{HasHistory, MatchState}
 use Rattle.rbg_record.specs.Records.{AbstractRecord, PlainRecord, TimedRecord, PlainMove, Spells}
 use Rattle.rbg_record.specs.Right.{IsRightRecord}
 
--- what version 2 tells of a match
+-- the record of version 2 of a match
 abbrev pub record_of : MatchState → TimedRecord
 record_of state = record {
   players = state.game.players;
@@ -21,11 +21,11 @@ record_of state = record {
 abbrev pub plain_move : Made → PlainMove
 plain_move made = record { player = made.player; pairs = made.pairs }
 
--- what version 1 tells of a match
+-- the record of version 1 of a match
 abbrev pub plain_record_of : MatchState → PlainRecord
 plain_record_of state = record { moves = map plain_move state.play.made; outcome = state.play.outcome }
 
--- what a call tells that writes this record of a match: the bytes spell it, and are those of a right one
+-- what a call returns that writes this record of a match: bytes that spell it, and that are those of a right record
 pub record WritesRecord {E : Type 0} (state : MatchState) (told : AbstractRecord) (result : Result (Vec ℕ Global) E) :
     Type 0 where
   pub spelled : HasHistory state → IfOk result (λ bytes. Spells bytes.items told)

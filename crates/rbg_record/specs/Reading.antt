@@ -1,4 +1,4 @@
--- Reading a record line by line: of which form each line may be, what it says, and where reading stops.
+-- Reading a record line by line: the forms that each line may have, its contents, and where reading stops.
 use Rattle.std.specs.Prelude.{◌≡◌, ℕ, ◌+◌, List}
 use Rattle.rbg_wire.specs.Words.{words_of}
 use Rattle.rbg_record.specs.declared.entry.Entry.{Entry}
@@ -24,7 +24,7 @@ HasForm nexts.Start text = (start : Start) × SpellsStart text start
 HasForm (nexts.Entry version) text = (timed : Timed) × SpellsIn version text timed
 HasForm nexts.Nothing text = ⊥
 
--- a line there that has this text says this
+-- a line with this text has these contents there
 abbrev pub Says : Next → List ℕ → Content → Type 0
 Says nexts.Version text (contents.Version version) = text ≡ version_text version
 Says nexts.Players text (contents.Players names) = SpellsPlayers text (words_of names.now)
@@ -32,12 +32,12 @@ Says nexts.Start text (contents.Start start) = SpellsStart text start
 Says (nexts.Entry version) text (contents.Entry timed) = SpellsIn version text timed
 Says _ text _ = ⊥
 
--- what comes after an entry, where it is what comes next
+-- what comes after an entry that was read when `next` was next
 abbrev pub next_after : Next → Entry → Next
 next_after next (Move player pairs) = next
 next_after next (End outcome) = nexts.Nothing
 
--- The line is the first one of what is left, and says what its text says there.
+-- The line is the first one of what is left, and has the contents of its text there.
 pub record TakesLine (next : Next) (old new : Left) (line : RecordLine) : Type 0 where
   pub first : IsFirstLine old.rest line.text.now new.rest
   pub number : line.number ≡ old.number

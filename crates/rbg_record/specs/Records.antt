@@ -1,4 +1,4 @@
--- Records: what each tells, and which bytes spell it. Each record has one spelling.
+-- Records: what each contains, and which bytes spell it. Each record has one spelling.
 use Rattle.std.specs.Prelude.{◌≡◌, ℕ, List, [], ◌∷◌, ◌++◌, map, All, Option}
 use Rattle.rbg_wire.specs.declared.outcome.Outcome.{Outcome}
 use Rattle.rbg_match.specs.declared.made.Made.{Made}
@@ -16,13 +16,13 @@ pub record PlainMove : Type 0 where
   pub player : ℕ
   pub pairs : List (ℕ × ℕ)
 
--- What a record of version 1 tells: the moves in order, and how the match ended. The outcome is None where the match is
+-- What a record of version 1 contains: the moves in order, and how the match ended. The outcome is None if the match is
 -- still in play.
 pub record PlainRecord : Type 0 where
   pub moves : List PlainMove
   pub outcome : Option Outcome
 
--- What a record of version 2 tells: the players' names, the time for a turn and the moment at which the match began,
+-- What a record of version 2 contains: the players' names, the time for a turn and the moment at which the match began,
 -- the moves in order with their moments, the moment to which the record goes, and how the match ended.
 pub record TimedRecord : Type 0 where
   pub players : List (List ℕ)

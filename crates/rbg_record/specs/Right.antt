@@ -11,7 +11,7 @@ use Rattle.rbg_match.specs.Play.{AbstractPlay, scores_of}
 use Rattle.rbg_match.specs.PlayingOn.{seats_of}
 use Rattle.rbg_record.specs.Records.{PlainMove, PlainRecord, TimedRecord, AbstractRecord, plain, timed, Spells}
 
--- the state of play that is told by these moves and this outcome, at a place whose turn began at a moment
+-- the state of play of these moves and this outcome, at a place whose turn began at a moment
 abbrev pub told_play : List Made → Option Outcome → AbstractPlace → (turn_began : ℕ) → AbstractPlay
 told_play moves outcome place turn_began = record {
   place = place;
@@ -21,13 +21,13 @@ told_play moves outcome place turn_began = record {
   outcome = outcome;
 }
 
--- a config with this time for a turn: a record doesn't tell how many refused messages are allowed
+-- a config with this time for a turn: a record doesn't have the number of refused messages that are allowed
 abbrev pub turn_config : (turn_ms : ℕ) → Config
 turn_config turn_ms = record { turn_ms = turn_ms; refusals = 0 }
 
--- A record of version 2 is right where the players are the game's and it tells the history of a match: the moves are
--- legal ones from the start, each in its turn; the outcome fits the place and the moments; the time for a turn is
--- within its limits; and no moment is greater than the latest that is counted.
+-- A record of version 2 is right if the players are the game's and it has the history of a match: the moves are legal
+-- ones from the start, each in its turn; the outcome fits the place and the moments; the time for a turn is within its
+-- limits; and no moment is later than the latest that is counted.
 pub record IsRightTimed (game : AbstractGame) (told : TimedRecord) : Type 0 where
   pub players : told.players ≡ game.players
   pub place : AbstractPlace
@@ -55,9 +55,8 @@ FitsPlace game place (Some (Refusals player)) = HasTurn game place × (1 ≤ pla
 FitsPlace game place (Some (Gone player)) = HasTurn game place × (1 ≤ player) × (player ≤ seats_of game)
 FitsPlace game place (Some Heavy) = Unit {0}
 
--- A record of version 1 is right where the moves are legal ones from the start to a place, each by the mover, and the
--- outcome fits that place. The moments are no part of it: each move is taken as one of moment 0, and `LeadsTo` doesn't
--- look at moments.
+-- A record of version 1 is right if the moves are legal ones from the start to a place, each by the mover, and the
+-- outcome fits that place. Moments don't matter: each move counts as one of moment 0, and `LeadsTo` ignores moments.
 pub record IsRightPlain (game : AbstractGame) (told : PlainRecord) : Type 0 where
   pub place : AbstractPlace
   pub leads : LeadsTo game (map (made_at 0) told.moves) place

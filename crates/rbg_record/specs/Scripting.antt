@@ -1,4 +1,4 @@
--- The script of a record: which config it has, and which events bring its moves and its end about.
+-- The script of a record: its config, and the events that lead to the record's moves and its end.
 use Rattle.std.specs.Prelude.{◌≡◌, ℕ, zero, suc, List, [], ◌∷◌, ◌++◌, All, Option, Some, None}
 use Rattle.std.specs.List.{flat_map, AllZip}
 use Rattle.rbg_wire.specs.declared.outcome.Outcome.{Outcome}
@@ -23,14 +23,14 @@ use Rattle.rbg_script.specs.declared.config.ScriptConfig.{ScriptConfig}
 use Rattle.rbg_script.specs.Events.{AbstractEvent, piece_event, end_event, tick_event}
 use Rattle.rbg_script.specs.Scripts.{SpellsScript}
 
--- A player says its move at the move's moment. The keeper moves by itself.
+-- A player sends its move at the move's moment. The keeper moves by itself.
 abbrev pub move_events : (at player : ℕ) → (pairs : List (ℕ × ℕ)) → List AbstractEvent
 move_events at zero pairs = []
 move_events at (suc before) pairs = piece_event (suc before) at (spelling (move_message pairs)) ∷ []
 
--- The end comes about by an event at its moment: by the moment alone where a time is over, by a message without a text
--- where a player was refused too often, by the end of a stream where a player has gone. A match that is finished, or
--- that meets a question above the limits, ends by itself. One that is in play goes on to the moment.
+-- The end follows from an event at its moment: the moment alone if a time is over, a message without a text if a player
+-- was refused too often, the end of a stream if a player has gone. A match that is finished, or that meets a question
+-- above the limits, ends by itself. One that is in play continues to the moment.
 abbrev pub end_events : (at : ℕ) → Option Outcome → List AbstractEvent
 end_events at None = tick_event at ∷ []
 end_events at (Some (Finished scores)) = []
@@ -47,7 +47,7 @@ entry_events at (End outcome) = end_events at outcome
 abbrev pub events_in : Timed → List AbstractEvent
 events_in told = entry_events told.at told.entry
 
--- the config of a match that began so; no refusal is allowed
+-- the config of a match with this start; no refusal is allowed
 abbrev pub config_at : (turn_ms now : ℕ) → ScriptConfig
 config_at turn_ms now = record { turn_ms = turn_ms; refusals = 0; now = now }
 

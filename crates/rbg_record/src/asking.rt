@@ -1,4 +1,4 @@
-//! What a record asks of its game: who the players are, what they have scored, and the questions of the rules.
+//! What a record needs of its game: the players, their scores, and the questions of the rules.
 ghost use Rattle.std.specs.Prelude.{
   ◌≡◌,
   ◌↔◌,

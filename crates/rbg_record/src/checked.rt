@@ -1,6 +1,6 @@
-//! What is told of a record that was read whole.
+//! The verdict on a record that was read whole.
 
-/// What is told of a record that was read whole. Lines are numbered from 1.
+/// The verdict on a record that was read whole. Lines are numbered from 1.
 #[derive(Clone, Copy)]
 pub enum Checked {
     /// The record is right.

@@ -9,10 +9,10 @@ use crate::reading::judge_line;
 use crate::{Checked, Misfit, RecordError};
 use rbg_moves::PlayedGame;
 
-/// Tells whether a record is right, of either version.
+/// Checks whether a record is right, of either version.
 ///
-/// The lines are taken in order, and each is read before it is judged. The first line decides that is not of the form,
-/// not right, or asks a question above the limits. What a line tells without a question is looked at before its
+/// The lines are taken in order, and each is read before it is judged. The result is decided by the first line that is
+/// not of the form, not right, or asks a question above the limits. What needs no question is checked before the line's
 /// question. No question is asked twice.
 pub fn check_record(game: &PlayedGame, bytes: &[u8]) -> Result<Checked, RecordError>
     ensures good { IfOk result (λ checked.

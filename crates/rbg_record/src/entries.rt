@@ -1,4 +1,4 @@
-//! The events that bring an entry of a record about.
+//! The events that lead to an entry of a record.
 ghost use Rattle.std.specs.Prelude.{◌≡◌, ◌++◌, IfOk, OnOk, Some, codes};
 ghost use Rattle.rbg_record.specs.Entries.{EntryHasSpelling};
 ghost use Rattle.rbg_wire.specs.Messages.{ArePairs, pairs_text};
@@ -11,7 +11,7 @@ use rbg_script::{write_end, write_message, write_tick};
 use rbg_wire::{Outcome, write_pairs};
 use std::alloc::Global;
 
-/// Appends the lines of the events that bring an entry about.
+/// Appends the lines of the events that lead to an entry.
 pub(crate) fn write_entry(alloc: Global, told: &Timed, out: &mut Vec<u8>) -> Result<(), Memory>
     requires { EntryHasSpelling told.now.entry }
     ensures { OnOk result (TellsEvents (events_in told.now) out.old.items out.new.items) }
@@ -51,7 +51,7 @@ fn move_text(alloc: Global, pairs: &Move) -> Result<Vec<u8>, Memory>
     Ok(text)
 }
 
-/// Appends the lines of the events by which a match ends so, if it doesn't by itself.
+/// Appends the lines of the events by which a match ends with this outcome, if it doesn't end by itself.
 fn write_ended(at: u64, outcome: Option<Outcome>, out: &mut Vec<u8>) -> Result<(), Memory>
     ensures { OnOk result (TellsEvents (end_events at outcome) out.old.items out.new.items) }
 {

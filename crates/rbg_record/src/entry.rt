@@ -1,4 +1,4 @@
-//! What the lines of a record tell of play.
+//! Entries: the lines of a record that have a move or the end.
 
 use rbg_base::Move;
 use rbg_wire::Outcome;
@@ -8,7 +8,7 @@ use rbg_wire::Outcome;
 pub enum Entry {
     /// `<player> <pairs>`: the player made this move. The keeper is player 0.
     Move { player: u64, pairs: Move },
-    /// `E..`: the match ended so. `-`: it is still in play.
+    /// `E..`: the match ended with this outcome. `-`: it is still in play.
     End { outcome: Option<Outcome> },
 }
 

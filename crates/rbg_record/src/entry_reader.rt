@@ -7,9 +7,9 @@ ghost use Rattle.rbg_record.specs.Entries.{SpellsEntry, SpellsIn, SpellsTimed, u
 use crate::{Entry, Timed, Version};
 use rbg_wire::{Outcome, cut_number, read_outcome, read_pairs};
 
-/// The entry of which the whole text is the spelling.
+/// The entry that the whole text spells.
 ///
-/// Returns None if it is that of no entry, as where it has more than 200 pairs.
+/// Returns None if the text spells no entry. More than 200 pairs are no entry.
 pub fn read_entry(line: &[u8]) -> Option<Entry>
     ensures { ReadsOnly (SpellsEntry line.now) result }
 {
@@ -24,9 +24,9 @@ pub fn read_entry(line: &[u8]) -> Option<Entry>
     move_in(line)
 }
 
-/// The entry with a moment before it of which the whole text is the spelling.
+/// The entry with its moment that the whole text spells.
 ///
-/// Returns None if it is that of no such entry.
+/// Returns None if the text spells no entry with a moment.
 pub fn read_timed(line: &[u8]) -> Option<Timed>
     ensures { ReadsOnly (SpellsTimed line.now) result }
 {
@@ -46,7 +46,8 @@ fn move_in(line: &[u8]) -> Option<Entry>
     Some(Entry::Move { player, pairs })
 }
 
-/// The entry of a line in a record of that version. In version 1 it has the moment that is not written.
+/// The entry of a line in a record of that version. In version 1, which writes no moments, it gets one: 1 for a time
+/// that is over, and 0 for any other entry.
 pub(crate) fn read_in(version: Version, text: &[u8]) -> Option<Timed>
     ensures found { IfSome result (SpellsIn version text.now) }
     ensures none { IfNone result ((told : AnyTimed) → ¬ SpellsIn version text.now told) }
@@ -63,7 +64,7 @@ pub(crate) fn read_in(version: Version, text: &[u8]) -> Option<Timed>
     }
 }
 
-/// The moment of an entry that is written without one.
+/// The moment of an entry that is written without one: 1 for a time that is over, and 0 for any other entry.
 fn unwritten(entry: &Entry) -> u64
     ensures { result ≡ unwritten_moment entry.now }
 {

@@ -1,4 +1,4 @@
-//! Why it can't be told whether a record is right.
+//! Why there is no verdict on a record.
 ghost use Rattle.std.specs.Prelude.{◌≡◌};
 ghost use Rattle.rbg_record.specs.declared.error.RecordError.TheVariants.{Form as NotOfForm, Memory as OutOfMemory};
 
@@ -6,7 +6,7 @@ use crate::FormError;
 use rbg_base::Memory;
 use thiserror::Error;
 
-/// Why it can't be told whether a record is right. Lines are numbered from 1.
+/// Why there is no verdict on a record. Lines are numbered from 1.
 #[derive(Clone, Copy, Debug, PartialEq, Eq, Error)]
 pub enum RecordError {
     /// This line is missing, or not of the form.

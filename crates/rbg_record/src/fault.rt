@@ -1,4 +1,4 @@
-//! Why a line of a record does not lead on.
+//! Why a line of a record is refused.
 ghost use Rattle.std.specs.Prelude.{◌≡◌};
 ghost use Rattle.rbg_record.specs.internal.Faults.{IsFaultOf, told_at};
 ghost use Rattle.rbg_record.specs.declared.fault.LineFault.TheVariants.{Form as NotOfForm, Memory as OutOfMemory};
@@ -8,7 +8,7 @@ use rbg_base::Memory;
 use rbg_moves::Over as OverLimits;
 use thiserror::Error;
 
-/// Why a line of a record does not lead on.
+/// Why a line of a record is refused.
 #[derive(Clone, Copy, Debug, PartialEq, Eq, Error)]
 pub enum LineFault {
     /// It is missing, or not of the form.
@@ -25,7 +25,7 @@ pub enum LineFault {
     Memory,
 }
 
-/// The first line of a record that doesn't lead on, numbered from 1, and why. Where memory ran out it may be any line.
+/// The first line of a record that is refused, numbered from 1, and why. If memory ran out, it may be any line.
 #[derive(Clone, Copy, Debug, PartialEq, Eq, Error)]
 #[error("line {line}: {fault}")]
 pub struct Misfit {
@@ -34,7 +34,7 @@ pub struct Misfit {
 }
 
 impl Misfit {
-    /// What is said of a record with this misfit.
+    /// The verdict on a record with this misfit.
     pub(crate) fn checked(self) -> Result<Checked, RecordError>
         ensures { result ≡ told_at self.fault self.line }
     {

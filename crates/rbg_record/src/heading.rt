@@ -1,4 +1,4 @@
-//! What the first lines of a record tell.
+//! What the first lines of a record contain.
 
 /// The version of a record.
 #[derive(Clone, Copy)]
@@ -9,7 +9,7 @@ pub enum Version {
     Two,
 }
 
-/// `start <turn> <now>`: how a match was begun.
+/// `start <turn> <now>`: how a match began.
 #[derive(Clone, Copy)]
 pub struct Start {
     /// The time for a turn, in milliseconds.

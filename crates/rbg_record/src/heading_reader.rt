@@ -10,9 +10,9 @@ use crate::{Start, Version};
 use rbg_base::{is_name, number_of_decimal};
 use rbg_wire::{Words, after_text, cut_number};
 
-/// The version of which the whole text is the spelling.
+/// The version that the whole text spells.
 ///
-/// Returns None if it is that of no version.
+/// Returns None if the text spells no version.
 pub fn read_version(line: &[u8]) -> Option<Version>
     ensures { ReadsOnly (λ version. line.now ≡ version_text version) result }
 {
@@ -25,13 +25,13 @@ pub fn read_version(line: &[u8]) -> Option<Version>
     }
 }
 
-/// The names of the players of which the whole text is the spelling. They are borrowed from it.
+/// The names of the players that the whole text spells. They are borrowed from it.
 ///
-/// Returns None if it is that of no players.
+/// Returns None if the text spells no players.
 pub fn read_players(line: &[u8]) -> Option<Words<'_>>
-    // The text is that of the names that are returned.
+    // Names that are returned are those that the text spells.
     ensures found { IfSome result (λ names. SpellsPlayers line.now (words_left names)) }
-    // The names are returned whose text this is.
+    // If the text spells names, those names are returned.
     ensures only { (names : List (List ℕ))
         → SpellsPlayers line.now names
         → IsSomeAnd result (λ found. words_left found ≡ names) }
@@ -40,7 +40,8 @@ pub fn read_players(line: &[u8]) -> Option<Words<'_>>
     Some(Words::of(names))
 }
 
-/// The text of the names of the players, with a space between two, if the whole text is the spelling of players.
+/// The part of a text that has the names of the players, with a space between two. Returns None if the text spells no
+/// players.
 pub(crate) fn names_in(line: &[u8]) -> Option<&[u8]>
     ensures found { IfSome result (λ names. SpellsPlayers line.now (words_of names.now)) }
     ensures only { (names : List (List ℕ))
@@ -58,9 +59,9 @@ fn are_names(text: &[u8]) -> bool
     Words::of(text).all(|name| is_name(name))
 }
 
-/// The start of which the whole text is the spelling.
+/// The start that the whole text spells.
 ///
-/// Returns None if it is that of no start.
+/// Returns None if the text spells no start.
 pub fn read_start(line: &[u8]) -> Option<Start>
     ensures { ReadsOnly (SpellsStart line.now) result }
 {

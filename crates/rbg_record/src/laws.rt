@@ -2,12 +2,12 @@
 ghost use Rattle.rbg_record.specs.Laws.{GoodByLines, MatchesAreRight, OneJudgement, OnePlainFault, OneRecord};
 
 /// Line by line is the same as all at once: each line is right after those before it, and the record ends with the
-/// last, exactly where the bytes are those of a record that is right.
+/// last, exactly if the bytes are those of a record that is right.
 pub fn good_lines_are_a_right_record()
     ensures { GoodByLines }
 {}
 
-/// Of one record only one answer is true, but for questions above the limits and want of memory.
+/// At most one answer about a record is true, apart from questions above the limits and refused memory.
 pub fn one_judgement()
     ensures { OneJudgement }
 {}
@@ -22,7 +22,7 @@ pub fn one_record()
     ensures { OneRecord }
 {}
 
-/// Bytes have one fault at most against the form of version 1, and none where they are those of such a record.
+/// Bytes have one fault at most against the form of version 1, and none if they are those of such a record.
 pub fn one_fault_of_version_1()
     ensures { OnePlainFault }
 {}

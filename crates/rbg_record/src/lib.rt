@@ -1,6 +1,5 @@
 //! Records of matches: their lines, whether a record is right, how one of version 1 becomes one of version 2, and the
-//! script of a record. A line of version 2 that tells a move or the end is a moment, a space and such a line of version
-//! 1.
+//! script of a record. A line of version 2 with a move or the end is a moment, a space and such a line of version 1.
 #![tactic(auto)]
 
 mod asking;

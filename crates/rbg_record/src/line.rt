@@ -2,14 +2,14 @@
 
 use crate::{Start, Timed, Version};
 
-/// What a line of a record says.
+/// The contents of a line of a record.
 #[derive(Drop)]
 pub enum Content<'a> {
     Version(Version),
     /// The names of the players, with a space between two.
     Players(&'a [u8]),
     Start(Start),
-    /// A move or the end. In version 1 it has the moment that is not written.
+    /// A move or the end. In version 1, which writes no moments, its moment is 1 for a time that is over, and else 0.
     Entry(Timed),
 }
 

@@ -19,13 +19,13 @@ use rbg_match::Config;
 use rbg_script::{ScriptConfig, write_config};
 use std::alloc::Global;
 
-/// Makes a script of a record of either version: its config, and the events that bring the record's moves and its end
-/// about. A record of version 1 has no moments: a turn lasts for one millisecond, the match begins at moment 0, and all
-/// happens at moment 0 but for a time that is over, which ends at moment 1.
+/// Makes a script of a record of either version: its config, and the events that lead to the record's moves and its
+/// end. A record of version 1 has no moments. In its script a turn lasts for one millisecond, the match begins at
+/// moment 0, and everything happens at moment 0, except that a time that is over ends at moment 1.
 ///
-/// No refusal is allowed: a right record needs none, and a match that ended by refusals ends so by one.
+/// No refusal is allowed: a right record needs none, and a match that ended by refusals ends at the first one.
 ///
-/// Only the form is looked at, so a record that isn't right has a script too.
+/// Only the form is checked, so a record that isn't right has a script too.
 pub fn script_of_record(alloc: Global, bytes: &[u8]) -> Result<Vec<u8>, ScriptingError>
     ensures made { IfOk result (λ script. IsScriptOfRecord bytes.now script.items) }
     ensures form { (line : ℕ) → result ≡ Err (ScriptingError.Form line) → IsNoRecord bytes.now line }
@@ -46,7 +46,7 @@ fn write_lines(alloc: Global, bytes: &[u8]) -> Result<Vec<u8>, ScriptingError>
     Ok(out)
 }
 
-/// Appends what a line is in the script, and returns what comes next.
+/// Appends to the script what a line of the record means, and returns what comes next.
 fn write_line(
     alloc: Global,
     next: Next,
@@ -100,7 +100,7 @@ fn is_within_limits(start: Start) -> bool
     config.is_within_limits()
 }
 
-/// Appends the config of a match that began so. No refusal is allowed.
+/// Appends the config of a match with this start. No refusal is allowed.
 fn write_start(start: Start, out: &mut Vec<u8>) -> Result<(), Memory>
     ensures { OnOk result (out.new.items ≡ out.old.items ++ line_of (config_text (config_at start.turn_ms start.now))) }
 {

@@ -21,10 +21,9 @@ use rbg_base::Memory;
 use rbg_rules::Game;
 use std::alloc::Global;
 
-/// Makes version 2 of a record of version 1. A turn lasts for one millisecond, the match begins at moment 0, and all
-/// happens at moment 0 but for a time that is over, which ends at moment 1.
-///
-/// Only the form is looked at, so a record that isn't right is migrated too. No question is asked of the rules.
+/// Makes version 2 of a record of version 1. In it a turn lasts for one millisecond, the match begins at moment 0, and
+/// everything happens at moment 0, except that a time that is over ends at moment 1.
+/// Only the form is checked, so a record that isn't right is migrated too. No question is asked of the rules.
 pub fn migrate(alloc: Global, game: &Game, bytes: &[u8]) -> Result<Vec<u8>, RecordError>
     ensures migrated { IfOk result (λ new. IsMigrated game.now bytes.now new.items) }
     ensures right { IfOk result (λ new.
@@ -49,7 +48,7 @@ fn migrate_lines(alloc: Global, game: &Game, bytes: &[u8]) -> Result<Vec<u8>, Re
     Ok(out)
 }
 
-/// Appends what a line is in version 2, and returns what comes next. Only version 1 is migrated.
+/// Appends a line as version 2 has it, and returns what comes next. Only version 1 is migrated.
 fn migrate_line(
     game: &Game,
     next: Next,

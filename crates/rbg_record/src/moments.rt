@@ -1,4 +1,4 @@
-//! The moments of a record, and what an entry tells without a question.
+//! The moments of a record, and the checks of an entry that need no question.
 ghost use Rattle.std.specs.Prelude.{◌≡◌, ◌↔◌, ◌≤◌, ◌+◌, Some, IsTrue};
 ghost use Rattle.rbg_match.specs.Config.{IsWithinLimits};
 ghost use Rattle.rbg_match.specs.History.{IsInTurn};
@@ -67,7 +67,7 @@ impl MatchSoFar {
         }
     }
 
-    /// Whether what an entry tells without a question is right in a game.
+    /// Whether all of an entry that needs no question is right in a game.
     pub(crate) fn fits(&self, game: &PlayedGame, told: &Timed) -> bool
         ensures { IsTrue result
             ↔ FitsUnasked game.now self.now told.now.at told.now.entry }

@@ -19,7 +19,7 @@ pub enum Next {
 }
 
 impl Next {
-    /// What comes after an entry, where it is what comes next.
+    /// What comes after an entry that was read when `self` was next.
     pub fn after(self, entry: &Entry) -> Next
         ensures { result ≡ next_after self entry.now }
     {

@@ -9,7 +9,7 @@ use crate::next::Next;
 use rbg_base::Memory;
 use rbg_moves::Place;
 
-/// Where the moves so far lead.
+/// The point to which the moves so far lead.
 #[derive(Drop)]
 pub struct MatchSoFar {
     /// The version of the record.
@@ -50,7 +50,7 @@ impl Reached {
         }
     }
 
-    /// A copy of the place to which the last line leads, or else the one before it.
+    /// A copy of the place to which the last line leads, or of `before` if it leads to none.
     pub fn place_or(&self, before: Place) -> Result<Place, Memory>
         ensures { IfOk result (λ place. place ≡ place_in (reached_of self.now) before) }
     {

@@ -9,7 +9,8 @@ use crate::heading_reader::names_in;
 use crate::{Content, FormError, Next, RecordLine, read_start, read_version};
 use std::marker::Model;
 
-/// What is left of a record that is read line by line, by its form alone. Whoever reads says at each line what comes next.
+/// What is left of a record that is read line by line, by its form alone. The caller passes what comes next for each
+/// line.
 #[derive(Drop)]
 pub struct RecordReader<'a> {
     /// The bytes that are left.
@@ -40,9 +41,9 @@ impl<'a> RecordReader<'a> {
         }
     }
 
-    /// The next line, or None where nothing comes next and nothing is left.
+    /// The next line, or None if nothing comes next and nothing is left.
     ///
-    /// What is left is not of the form where it has no such line.
+    /// Returns an error if what is left has no line of this form.
     pub fn read(&mut self, next: Next) -> Result<Option<RecordLine<'a>>, FormError>
         ensures line { IfOk result (λ found. IfSome found (TakesLine next self.old self.new)) }
         ensures over { IfOk result (λ found. IfNone found ((next ≡ Next.Nothing) × (self.old.rest ≡ []))) }
@@ -68,7 +69,7 @@ impl<'a> RecordReader<'a> {
     }
 }
 
-/// What a line says that has this text, or None if it isn't of the form.
+/// The contents of a line with this text. Returns None if it isn't of the form.
 fn content_of(next: Next, text: &[u8]) -> Option<Content<'_>>
     ensures says { IfSome result (Says next text.now) }
     ensures none { IfNone result (¬ HasForm next text.now) }

@@ -24,8 +24,8 @@ use rbg_match::LATEST_MOMENT;
 use rbg_moves::{Move, Place, PlayedGame};
 use rbg_wire::{Outcome, Words};
 
-/// What a line leads to after the lines so far, of which the first is judged after `Reached::Version`. Whoever judges a
-/// record line by line by this call takes the same ones as `check_record`.
+/// What a line leads to after the lines so far. The first line of a record is judged after `Reached::Version`. A caller
+/// that judges a record line by line with this call accepts the same records as `check_record`.
 pub fn judge_line(
     game: &PlayedGame,
     reached: &Reached,
@@ -117,7 +117,7 @@ fn go_on(game: &PlayedGame, reached: &Reached, told: &Timed) -> Result<Reached, 
     judge(game, standing, told)
 }
 
-/// What an entry leads to. What needs no question is looked at first.
+/// What an entry leads to. What needs no question is checked first.
 fn judge(game: &PlayedGame, standing: &MatchSoFar, told: &Timed) -> Result<Reached, LineFault>
     requires { IsPlaceOf game.now standing.now.place }
     ensures leads { IfOk result (λ to.
@@ -162,7 +162,7 @@ fn make_move(
     }
 }
 
-/// Nothing comes next, if the match could end so.
+/// Checks that the match could end with this outcome. After that nothing comes next.
 fn end(
     game: &PlayedGame,
     standing: &MatchSoFar,
@@ -189,14 +189,14 @@ fn end(
     }
 }
 
-/// Whether a question was too heavy to be answered.
+/// Whether the outcome is that a question was above the limits.
 fn is_heavy(outcome: &Option<Outcome>) -> bool
     ensures { IsTrue result ↔ (outcome.now ≡ Some Heavy) }
 {
     matches!(outcome, Some(Outcome::Heavy))
 }
 
-/// Whether the match could end so at a place, given whether play is finished there.
+/// Whether the match could end with this outcome at a place, if play is finished there or not.
 fn ends_so(game: &PlayedGame, place: &Place, finished: bool, outcome: &Option<Outcome>) -> bool
     requires { IsPlaceOf game.now place.now }
     ensures { IsTrue result ↔ EndsSo game.now place.now finished outcome.now }

@@ -68,7 +68,7 @@ fn write_moves(version: Version, moves: &[Made], out: &mut Vec<u8>) -> Result<()
     Ok(())
 }
 
-// The moment as a version tells it: version 1 tells none.
+// The moment as a version writes it: version 1 has none.
 fn moment_in(version: Version, at: u64) -> Option<u64>
     ensures { result ≡ told_moment version at }
 {

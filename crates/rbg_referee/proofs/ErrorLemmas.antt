@@ -12,7 +12,7 @@ use Rattle.rbg_referee.specs.Matches.{IsNoMatch}
 reason_has : (text : List ℕ) (number : ℕ) → IsReason text (Line number) → HasMisfit text number
 reason_has text _ (misfit number has) = has
 
--- a text that is no script, where the description is a game's
+-- a text that is no script, if the description is a game's
 pub script_is_no_match : (description : List ℕ) (game : AbstractGame) → Loads description game → (reason : ScriptError) (error : RefereeingError) → IsOfScript reason error → (text : List ℕ) → IsReason text reason → IsNoMatch description text error
 script_is_no_match description game loads (Line number) error is text reason =
     subst (λ e. IsNoMatch description text e) (sym is) (game, loads, reason_has text number reason)

@@ -19,7 +19,7 @@ pub game_message : (message text : List ℕ) → message ≡ codes "G" ++ text �
 unfolding printed_message
 game_message message text is = ap printed_message is
 
--- The lines of some messages are printed, and the others stand in what is left.
+-- The lines of some messages are printed, and the others are in what is left.
 abbrev pub ArePrintedOf : (seat : ℕ) (bytes left before lines : List ℕ) → Type 0
 ArePrintedOf seat bytes left before lines =
     (messages : List (List ℕ))

@@ -26,7 +26,7 @@ long_refused text above = record {
   no_game = λ known game loads. let fits : length text ≤ longest_text = loads.describes.has.cut.fits in let no : ⊥ = omega (arith, fits, above) in no;
 }
 
--- a right answer is written, or the line that says that memory ran out
+-- a right answer is written, or the line `memory`
 pub run_of : {E : Type 0} (Answers : List ℕ → Status → Type 0) (held holds : Option (List ℕ)) (result : Result Answer E) (status : Status) → IfOk result (λ answer. Answers answer.text.items answer.status) → WritesAnswer result held holds status → IsRunOf Answers held holds status
 run_of Answers held holds (Ok answer) status right written = answered answer.text.items answer.status right written
 run_of Answers held holds (Err error) status right written = no_memory written

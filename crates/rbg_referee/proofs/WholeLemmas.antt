@@ -20,7 +20,7 @@ use Rattle.rbg_referee.specs.InputLaws.{AreWhole, OutboxesAreWhole}
 use Rattle.rbg_referee.specs.Printed.{with_zero, AreMessages}
 use Rattle.rbg_referee.proofs.SayableLemmas.{IsSayable, move_sayable, end_sayable, refusal_sayable, game_sayable, limits_sayable, who_sayable}
 
--- all that is said can be sent on a stream
+-- all that is sent can be sent on a stream
 abbrev AreSayable : List Delivery → Type 0
 AreSayable said = All (λ delivery. IsSayable delivery.message) said
 

@@ -1,4 +1,4 @@
--- What `referee` answers to an input: a text that is printed, and a status.
+-- The answer of `referee` to an input: a text that is printed, and a status.
 use Rattle.std.specs.Prelude.{ℕ, List, ◌++◌, codes, decimal}
 use Rattle.rbg_console.specs.Refusals.{refusal_text}
 use Rattle.rbg_console.specs.declared.status.Status.{Status}

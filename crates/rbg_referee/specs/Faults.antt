@@ -1,4 +1,4 @@
--- The answer where there is no match. Nothing answers refused memory.
+-- The answer if there is no match. None of these is the answer to refused memory.
 use Rattle.std.specs.Prelude.{◌≡◌, List, ℕ}
 use Rattle.rbg_console.specs.declared.status.Status.{Status}
 use Rattle.rbg_console.specs.declared.status.Status.TheVariants.{Refused, BadInput}

@@ -10,7 +10,7 @@ use Rattle.rbg_wire.specs.Bytes.{LacksByte}
 use Rattle.rbg_referee.specs.Answers.{IsAnswer}
 use Rattle.rbg_referee.specs.Printed.{with_zero, AreMessages}
 
--- An input has answers of one status at most. Where a script is at fault, they name one line.
+-- An input has answers of one status at most. If a script has a fault, they name one line.
 abbrev pub AnswersAreApart : Type 0
 AnswersAreApart =
     (input text other : List ℕ) (status ended : Status)
@@ -24,8 +24,8 @@ pub record AreWhole (bytes : List ℕ) : Type 0 where
   pub parts : bytes ≡ flat_map with_zero messages
   pub whole : All (LacksByte 0) messages
 
--- The bytes of each seat of a match are whole messages. Whatever messages such bytes are cut into, nothing stands after
--- the last one.
+-- The bytes of each seat of a match are whole messages. Whatever messages such bytes are cut into, nothing follows the
+-- last one.
 pub record OutboxesAreWhole : Type 0 where
   pub seats : (text : List ℕ) (config : Config) (now : ℕ) (events : List AbstractEvent) (outbox : List (List ℕ))
       → IsRefereed text config now events outbox

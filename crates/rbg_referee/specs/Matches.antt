@@ -1,4 +1,4 @@
--- What is printed of the match of a description and a script, and why nothing is.
+-- The printed lines of the match of a description and a script, and why there are none.
 use Rattle.std.specs.Prelude.{◌≡◌, ℕ, List, map}
 use Rattle.rbg_game.specs.Loading.{Loads, IsRefused, IsMemory}
 use Rattle.rbg_match.specs.Matches.{MatchState}

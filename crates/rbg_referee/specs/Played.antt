@@ -6,8 +6,8 @@ use Rattle.rbg_match.specs.Matches.{MatchState, HasHistory, StepsAll}
 use Rattle.rbg_referee.specs.Refereed.{IsRefereed, OpensText}
 
 -- The text is a game's. A match of it opens, and these events in turn lead to this match and to these bytes of each
--- seat. The bytes are those of a transcript of the events, which has the match's game and ends where its play stands.
--- The match tells its history, so that its record is right.
+-- seat. The bytes are those of a transcript of the events, which has the match's game and ends in its state of play.
+-- The match has its history, so its record is right.
 pub record IsMatchOf (text : List ℕ) (config : Config) (now : ℕ) (events : List AbstractEvent)
     (state : MatchState) (outbox : List (List ℕ)) : Type 0 where
   pub opened : MatchState

@@ -8,7 +8,7 @@ use Rattle.rbg_wire.specs.Messages.{game_letter}
 abbrev pub with_zero : List ℕ → List ℕ
 with_zero message = message ++ 0 ∷ []
 
--- The messages that the bytes hold: each stands before a zero byte. What stands after the last one is no message.
+-- The messages that the bytes hold: each ends before a zero byte. What follows the last one is no message.
 pub record AreMessages (bytes : List ℕ) (messages : List (List ℕ)) : Type 0 where
   pub rest : List ℕ
   pub parts : bytes ≡ flat_map with_zero messages ++ rest

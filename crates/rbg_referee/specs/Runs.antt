@@ -7,11 +7,11 @@ use Rattle.rbg_console.specs.declared.status.Status.TheVariants.{BadInput, Devic
 use Rattle.rbg_referee.specs.declared.answer.Answer.{Answer}
 use Rattle.rbg_referee.specs.Answers.{script_line, IsAnswer}
 
--- the line that says that the input can't be read
+-- the line of an input that can't be read
 abbrev pub device_line : List ℕ
 device_line = codes "device\n"
 
--- the line that says that memory ran out
+-- the line of refused memory
 abbrev pub memory_line : List ℕ
 memory_line = codes "memory\n"
 
@@ -33,8 +33,8 @@ pub data IsReadersAnswer (unread left : Option (List ℕ)) (text : List ℕ) (st
       → status ≡ Device
       → IsReadersAnswer unread left text status
 
--- The output held some bytes and holds more now. Either an answer that is right is written, or memory ran out and the line
--- that says so is written: that one line alone.
+-- The output held some bytes and holds more now. Either a right answer is written, or memory ran out and the line
+-- `memory` is written: that one line alone.
 pub data IsRunOf (Answers : (text : List ℕ) → Status → Type 0) (held holds : Option (List ℕ)) (status : Status) : Type 0 where
   answered : (text : List ℕ) (wanted : Status)
       → Answers text wanted
@@ -46,7 +46,7 @@ pub data IsRunOf (Answers : (text : List ℕ) → Status → Type 0) (held holds
 abbrev pub IsRun : (unread left held holds : Option (List ℕ)) → Status → Type 0
 IsRun unread left held holds status = IsRunOf (IsReadersAnswer unread left) held holds status
 
--- This answer is written, or the line that says that memory ran out.
+-- This answer is written, or the line `memory`.
 abbrev pub WritesAnswer : {E : Type 0} → Result Answer E → (held holds : Option (List ℕ)) → Status → Type 0
 WritesAnswer (Ok answer) held holds status = IsWritten held holds answer.text.items answer.status status
 WritesAnswer (Err _) held holds status = IsWritten held holds memory_line Memory status

@@ -1,4 +1,4 @@
-//! What is answered to an input: a text that is printed, and the status with which the program ends.
+//! The answer to an input: a text that is printed, and the status with which the program ends.
 ghost use Rattle.std.specs.Prelude.{◌≡◌, ◌++◌, IfOk, codes, decimal};
 ghost use Rattle.rbg_referee.specs.Answers.{IsAnswer, refused_line, script_line};
 ghost use Rattle.rbg_referee.specs.Runs.{WritesAnswer, device_line};
@@ -31,7 +31,7 @@ pub fn answer_input(alloc: Global, input: &[u8]) -> Result<Answer, AllocError>
     }
 }
 
-/// The line of what keeps a match from being refereed.
+/// The line of the fault because of which a match is not refereed.
 pub fn answer_fault(alloc: Global, error: RefereeingError) -> Result<Answer, AllocError>
     ensures { IfOk result (λ answer. AnswersFault error answer.text.items answer.status) }
 {
@@ -63,7 +63,7 @@ pub fn answer_script(alloc: Global, number: usize) -> Result<Answer, AllocError>
     answer_line(alloc, "script ", number)
 }
 
-/// A word and the number of a line, for what is at fault there.
+/// A word and the number of the line that has a fault.
 pub fn answer_line(alloc: Global, word: &str, number: usize) -> Result<Answer, AllocError>
     ensures text { IfOk result (λ answer.
         answer.text.items ≡ word.now ++ (decimal number ++ codes "\n")) }
@@ -87,7 +87,7 @@ pub fn answer_device(alloc: Global) -> Result<Answer, AllocError>
     })
 }
 
-/// Writes an answer, or the line that says that memory ran out.
+/// Writes an answer, or the line `memory` if memory ran out.
 pub fn write_answer<W: Write>(output: &mut W, answered: Result<Answer, AllocError>) -> Status
     ensures { WritesAnswer answered (W.contents output.old) (W.contents output.new) result }
 {

@@ -1,5 +1,5 @@
-//! Laws of what is printed of a match, and of what two crates say apart. The contract of each function is a law; its
-//! body does nothing.
+//! Laws of what is printed of a match, and laws that join the statements of two crates. The contract of each function
+//! is a law; its body does nothing.
 ghost use Rattle.std.specs.Prelude.{◌≡◌};
 ghost use Rattle.rbg_match.specs.Limits.{longest_turn, most_refusals};
 ghost use Rattle.rbg_referee.specs.InputLaws.{AnswersAreApart, OutboxesAreWhole};
@@ -11,7 +11,7 @@ pub fn scripts_have_the_limits_of_matches()
     ensures refusals { most_written ≡ most_refusals }
 {}
 
-/// The bytes for each seat of a match are whole messages, and nothing stands after the last one.
+/// The bytes for each seat of a match are whole messages, and nothing follows the last one.
 pub fn outboxes_are_whole()
     ensures { OutboxesAreWhole }
 {}

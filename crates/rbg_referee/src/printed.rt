@@ -53,7 +53,7 @@ fn push_line(
     Ok(())
 }
 
-/// What is printed of a message.
+/// The printed form of a message.
 #[tactic(auto, using(crate::proofs::PrintedLemmas::game_message, crate::proofs::PrintedLemmas::other_message))]
 fn push_message(alloc: Global, message: &[u8], lines: &mut Vec<u8>) -> Result<(), AllocError>
     ensures { OnOk result (lines.new.items ≡ lines.old.items ++ printed_message message.now) }

@@ -42,7 +42,7 @@ pub fn referee_texts(
     }
 }
 
-/// The fault of a text that is no script for this reason, if the description is a game's.
+/// The fault of a text that is no script for this reason. A refusal of the description comes first.
 fn refuse_script(
     alloc: Global,
     description: &[u8],

@@ -108,7 +108,7 @@ fn go_on(
     }
 }
 
-/// Handles the events in turn. An `Err` holds how many events were handled. The match had not ended after them.
+/// Handles the events in turn. An error has the number of events that were handled. The match had not ended after them.
 fn handle_all(refereed: &mut Match, events: &[Event<'_>], outbox: &mut Outbox) -> Result<(), usize>
     requires works { refereed.old.failed ≡ false }
     requires seats { length outbox.old ≡ seats_of refereed.old.game }

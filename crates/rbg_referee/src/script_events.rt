@@ -1,4 +1,4 @@
-//! The events of a script, as a match is given them.
+//! The events of a script as events of a match.
 ghost use Rattle.std.specs.Prelude.{◌≡◌, map, IfOk};
 ghost use Rattle.rbg_match.specs.Inputs.{event_of as match_event};
 ghost use Rattle.rbg_referee.specs.Scripts.{config_for, event_for};

@@ -40,14 +40,14 @@ pub const MACROS: &[u8] = b"#players = white(100), black(100)
 #rules = ->white k(2) h([w]) ->black ->> {}
 ";
 
-/// White takes off its one square as often as it likes.
+/// White empties its one square zero or more times.
 pub const STAR: &[u8] = b"#players = white(100), black(100)
 #pieces = e, w
 #board = rectangle(up,down,left,right,[e])
 #rules = ->white ([e])* ->black
 ";
 
-/// White puts its piece on its one square as often as it likes.
+/// White puts its piece on its one square zero or more times.
 pub const DEEPEST: &[u8] = b"#players = white(100), black(100)
 #pieces = e, w
 #board = rectangle(up,down,left,right,[e])

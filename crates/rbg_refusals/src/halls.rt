@@ -15,8 +15,8 @@ use rbg_serving::{ListClock, MemoryLog};
 use std::alloc::Global;
 use std::io::Write;
 
-/// What the hall hears: a line asks for a table that there is not, two lines take the seats, so that the match begins, and
-/// white moves.
+/// The events of the hall. A line asks for a table that doesn't exist, two lines take the seats, so that the match
+/// begins, and white moves.
 const EVENTS: [HallEvent<'static>; 4] = [
     HallEvent::Piece {
         line: 2,
@@ -54,10 +54,10 @@ const PLAYERS: [Plan; 2] = [
     },
 ];
 
-/// How many rounds a hall is served at most.
+/// The maximum number of rounds in which a hall is served.
 const ROUNDS: u64 = 100;
 
-/// How many lines say something.
+/// How many lines send something.
 const LINES: u64 = 3;
 
 /// How many bytes a log can hold.
@@ -96,7 +96,7 @@ fn tables(alloc: Global) -> Result<Vec<Table>, Stop>
     Ok(tables)
 }
 
-/// Makes a hall of one table. If it is to hear events, the run is about the last of them.
+/// Makes a hall of one table. If there are events, the run is about the last of them.
 fn make<W: Write>(
     alloc: Global,
     events: &[HallEvent<'_>],
@@ -109,7 +109,7 @@ fn make<W: Write>(
     }
 }
 
-/// Says why there is no hall, if the run is about that.
+/// Prints why there is no hall, if the run is about that.
 fn tell_error<W: Write>(
     error: HallError,
     is_asked: bool,
@@ -122,7 +122,7 @@ fn tell_error<W: Write>(
     Ok(())
 }
 
-/// Says how many bytes are queued for each line that says something, and which ones.
+/// Prints how many bytes are queued for each line that sends something, and which ones.
 fn tell_queues<W: Write>(out: &HallOut, told: &mut Telling<W>) {
     for line in 0..LINES {
         let bytes = out.bytes(line);
@@ -147,7 +147,7 @@ fn are_queued(copies: &[Vec<u8>], out: &HallOut) -> bool {
     are_same
 }
 
-/// Lets a hall, whose match has a log, hear events. If there is none, the queues are told as they are.
+/// Handles events in a hall whose match has a log. Without events the queues are printed as they are.
 fn hear<W: Write>(
     alloc: Global,
     hall: &mut Hall<MemoryLog>,
@@ -164,7 +164,7 @@ fn hear<W: Write>(
     step_last(alloc, hall, out, *last, told)
 }
 
-/// Lets the hall hear the events that come before the one that the run is about.
+/// Handles the events before the one that the run is about.
 fn step_all(
     hall: &mut Hall<MemoryLog>,
     out: &mut HallOut,
@@ -189,7 +189,7 @@ fn step_last<W: Write>(
     Ok(())
 }
 
-/// Lets the hall hear the event. Where memory is refused, it does so again.
+/// Handles the event. If memory is refused, it is handled once more.
 fn tell_step<W: Write>(
     hall: &mut Hall<MemoryLog>,
     out: &mut HallOut,
@@ -208,7 +208,7 @@ fn tell_step<W: Write>(
     }
 }
 
-/// Tells what a log holds.
+/// Prints what a log holds.
 fn tell_log<W: Write>(log: Option<&MemoryLog>, told: &mut Telling<W>) {
     match log {
         Some(log) => told.bytes(log.bytes()),

@@ -38,7 +38,7 @@ pub fn run<W: Write>(alloc: Global, name: &str, told: &mut Telling<W>) -> Result
     }
 }
 
-/// Expands the sections of a text at a limit, and tells them.
+/// Expands the sections of a text at a limit, and prints them.
 fn tell_limit<W: Write>(alloc: Global, rules: &[u8], told: &mut Telling<W>) -> Result<(), Stop> {
     let mut text = Vec::from_slice(alloc, LEVELS)?;
     text.extend_from_slice(rules)?;

@@ -6,17 +6,17 @@ use rbg_serving::{Give, MemoryLine, ServeError, Served, Take};
 use std::alloc::Global;
 use std::io::Write;
 
-/// How many bytes a line takes at most, where nothing else is said.
+/// The maximum number of bytes that a line takes, unless a run sets another limit.
 pub const ROOM: usize = 1000;
 
 /// What a line gives and takes.
 #[derive(Clone, Copy)]
 pub struct Plan {
-    /// What comes at each poll. Where it has no bytes, nothing comes.
+    /// What comes at each poll. If there are no bytes, nothing comes.
     pub gives: &'static [&'static [u8]],
     /// What it takes at each put, and then everything.
     pub takes: &'static [Take],
-    /// How many bytes it takes at most.
+    /// The maximum number of bytes that it takes.
     pub room: usize,
 }
 
@@ -44,7 +44,7 @@ pub fn two_lines(alloc: Global, plans: &[Plan; 2]) -> Result<[MemoryLine; 2], St
     Ok([first, line(alloc, &plans[1])?])
 }
 
-/// Says how serving ended, and what each line took of what is queued for it.
+/// Prints how serving ended, and what each line took of what is queued for it.
 pub fn tell_served<W: Write>(
     served: Result<Served, ServeError>,
     lines: &[MemoryLine; 2],
@@ -68,7 +68,7 @@ pub fn tell_served<W: Write>(
     }
 }
 
-/// Says how many bytes a line took, and which ones.
+/// Prints how many bytes a line took, and which ones.
 fn tell_bytes<W: Write>(bytes: &[u8], told: &mut Telling<W>) {
     told.number("took", bytes.len() as u64);
     told.line(" bytes");
@@ -77,13 +77,13 @@ fn tell_bytes<W: Write>(bytes: &[u8], told: &mut Telling<W>) {
     }
 }
 
-/// Says what each line took.
+/// Prints what each line took.
 fn tell_taken<W: Write>(lines: &[MemoryLine; 2], told: &mut Telling<W>) {
     tell_bytes(lines[0].took(), told);
     tell_bytes(lines[1].took(), told);
 }
 
-/// Says whether each line took the beginning of what is queued for it.
+/// Prints whether each line took the beginning of what is queued for it.
 fn tell_beginnings<W: Write>(lines: &[MemoryLine; 2], queued: [&[u8]; 2], told: &mut Telling<W>) {
     let right = queued[0].starts_with(lines[0].took()) && queued[1].starts_with(lines[1].took());
     told.line(if right {

@@ -1,12 +1,12 @@
-//! Named runs of what the libraries offer, for a program that refuses requests for memory.
+//! Named runs of calls of the libraries, for a program that refuses requests for memory.
 //!
-//! Standard input is a list of names, one a line. For each of them the name is printed, and then what the run answers,
-//! as one fact a line. Where memory is refused the fact is `memory`, and what stands after it follows: `tools/refuse`
-//! says which lines are right. `setup memory` says that memory was refused before the call that the run is about.
+//! Standard input is a list of names, one a line. For each of them the name is printed, and then the answer of the run,
+//! one fact a line. If memory is refused, the fact is `memory`, and the facts on what is left follow: `tools/refuse`
+//! decides which lines are right. `setup memory` means that memory was refused before the call that the run is about.
 //!
-//! To read a name and to print a fact takes no memory. A module makes the runs of its names, and hands another name on to
-//! the next module. A value that holds much is made in a function with one way out, which lends it to another one: so
-//! the proofs are small.
+//! Reading a name and printing a fact don't allocate. A module makes the runs of its names, and hands another name on
+//! to the next module. A value that holds much is made in a function with one way out, which lends it to another one:
+//! so the proofs are small.
 #![tactic(auto)]
 
 mod copies;
@@ -35,13 +35,13 @@ use std::io::{self, Read, Write};
 use std::process::ExitCode;
 use std::str;
 
-/// The most bytes of a name.
+/// The maximum number of bytes of a name.
 const MAX_NAME: usize = 40;
 
-/// The most bytes of the list.
+/// The maximum number of bytes of the list.
 const MAX_LIST: u32 = 10_000;
 
-/// Prints a name and what its run tells.
+/// Prints a name and the facts of its run.
 fn tell_run<W: Write>(alloc: Global, name: &[u8], told: &mut Telling<W>) {
     told.bytes(name);
     told.bytes(b"\n");
@@ -53,7 +53,7 @@ fn tell_run<W: Write>(alloc: Global, name: &[u8], told: &mut Telling<W>) {
     }
 }
 
-/// Hears the next byte of the list. The end of a line makes the run of its name.
+/// Takes the next byte of the list. The end of a line makes the run of its name.
 fn hear<W: Write>(
     alloc: Global,
     byte: u8,
@@ -68,7 +68,7 @@ fn hear<W: Write>(
     }
 }
 
-/// Makes the runs of the names that the input lists, and prints what they tell.
+/// Makes the runs of the names that the input lists, and prints their facts.
 fn tell_runs<R: Read, W: Write>(
     alloc: Global,
     input: &mut R,

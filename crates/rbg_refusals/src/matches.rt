@@ -16,7 +16,7 @@ use rbg_referee::{RefereeError, referee};
 use std::alloc::Global;
 use std::io::Write;
 
-/// What the seats say in the small game.
+/// What the seats send in the small game.
 const EVENTS: [Event<'static>; 2] = [
     Event::Piece {
         seat: 1,
@@ -36,7 +36,7 @@ const LONGEST: Config = Config {
     refusals: 3,
 };
 
-/// White's move at the greatest moment that a seat's bytes can have.
+/// White's move at the latest moment that a seat's bytes can have.
 const LATEST: Event<'static> = Event::Piece {
     seat: 1,
     at: u64::MAX,
@@ -65,14 +65,14 @@ pub fn run<W: Write>(alloc: Global, name: &str, told: &mut Telling<W>) -> Result
     }
 }
 
-/// Says how many bytes are queued for each seat.
+/// Prints how many bytes are queued for each seat.
 fn tell_sizes<W: Write>(outbox: &Outbox, told: &mut Telling<W>) {
     for seat in 1..=outbox.seats() {
         told.size("seat", seat as u64, outbox.bytes(seat).len());
     }
 }
 
-/// Says what is queued for each seat.
+/// Prints what is queued for each seat.
 fn tell_outbox<W: Write>(outbox: &Outbox, told: &mut Telling<W>) {
     tell_sizes(outbox, told);
     for seat in 1..=outbox.seats() {
@@ -155,7 +155,7 @@ fn step<W: Write>(
     Ok(())
 }
 
-/// Lets white move. Where memory is refused, it does so again.
+/// Handles white's move. If memory is refused, it is handled once more.
 fn tell_step<W: Write>(
     opened: &mut Match,
     outbox: &mut Outbox,
@@ -202,7 +202,7 @@ fn play_both(played: &mut Match, outbox: &mut Outbox) -> Result<(), Memory>
     played.step(EVENTS[1], outbox)
 }
 
-/// Tells a record that was written.
+/// Prints a record that was written.
 fn tell_written<W: Write>(written: &Result<Vec<u8>, Memory>, told: &mut Telling<W>) {
     match written {
         Ok(record) => told.bytes(record.as_slice()),
@@ -228,7 +228,8 @@ fn tell_refereed<W: Write>(refereed: &Result<Outbox, RefereeError>, told: &mut T
     }
 }
 
-/// Lets white move at the greatest moment, and says when the time was over before that and when it is over after that.
+/// Handles white's move at the latest moment. Prints when the time of the turn was over before it, and when it is over
+/// after it.
 fn tell_due<W: Write>(
     opened: &mut Match,
     outbox: &mut Outbox,
@@ -244,7 +245,7 @@ fn tell_due<W: Write>(
     Ok(())
 }
 
-/// Says when a mover's time is over.
+/// Prints when a mover's time is over.
 fn tell_moment<W: Write>(due: Option<u64>, told: &mut Telling<W>) {
     match due {
         Some(at) => told.count("due", at),

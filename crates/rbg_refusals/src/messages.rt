@@ -19,7 +19,7 @@ pub fn run<W: Write>(alloc: Global, name: &str, told: &mut Telling<W>) -> Result
     }
 }
 
-/// Tells the messages of an inbox, and takes them.
+/// Prints the messages of an inbox, and takes them.
 fn tell_taken<W: Write>(inbox: &mut Inbox, told: &mut Telling<W>) {
     for _ in 0..u64::MAX {
         match inbox.take() {

@@ -51,13 +51,13 @@ const LISTED: usize = 20;
 /// A question about white's moves.
 #[derive(Clone, Copy)]
 enum Asked<'a> {
-    /// Which one is found.
+    /// Find one.
     Find,
-    /// Whether these pairs are one.
+    /// Try whether these pairs are one.
     Try(&'a [Pair]),
-    /// Which ones there are.
+    /// List them.
     List,
-    /// How long they are, if that many are listed at most.
+    /// List at most this many, and print how long they are.
     Measure(usize),
 }
 
@@ -169,7 +169,7 @@ fn tell_tried<W: Write>(
     Ok(())
 }
 
-/// Who is to move at a place, where, and what stands on the board.
+/// Prints the player to move at a place, the current vertex, and the pieces on the board.
 fn tell_place<W: Write>(place: &Place, told: &mut Telling<W>) {
     told.count("player", place.state.player() as u64);
     told.count("vertex", place.state.vertex() as u64);
@@ -197,7 +197,7 @@ fn tell_listed<W: Write>(listed: &Listed, told: &mut Telling<W>) {
     told.truth("cut", listed.cut);
 }
 
-/// How many moves are listed of at most `max`, and how many pairs each of them has.
+/// Prints how many moves are listed, of at most `max`, and how many pairs each of them has.
 fn tell_lengths<W: Write>(
     game: &PlayedGame,
     place: &Place,

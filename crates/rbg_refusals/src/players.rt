@@ -22,14 +22,14 @@ pub fn run<W: Write>(alloc: Global, name: &str, told: &mut Telling<W>) -> Result
     }
 }
 
-/// Lets a player hear the start of its match, so that it says its move.
+/// Hands a player the start of its match, so that it sends its move.
 fn hear<W: Write>(alloc: Global, told: &mut Telling<W>) -> Result<(), Stop> {
     let mut said = Vec::from_slice(alloc, KEPT)?;
     hear_opening(&mut Player::new(alloc), &mut said, told);
     Ok(())
 }
 
-/// What a player says, and whether play goes on.
+/// Prints what a player sends, and whether play continues.
 fn hear_opening<W: Write>(player: &mut Player, said: &mut Vec<u8>, told: &mut Telling<W>) {
     match player.hear(OPENING, &mut FirstChooser, said) {
         Ok(heard) => {
@@ -49,7 +49,7 @@ fn hear_again<W: Write>(player: &mut Player, said: &mut Vec<u8>, told: &mut Tell
     told.again(matches!(again, Err(PlayerError::Memory)));
 }
 
-/// Lets a player ask for a seat.
+/// Makes a player that asks for a seat.
 fn join<W: Write>(alloc: Global, told: &mut Telling<W>) -> Result<(), Stop> {
     let mut said = Vec::from_slice(alloc, KEPT)?;
     let went_well = Player::join(alloc, u64::MAX, &mut said).is_ok();

@@ -49,7 +49,7 @@ pub fn run<W: Write>(alloc: Global, name: &str, told: &mut Telling<W>) -> Result
     }
 }
 
-/// Says why there is no answer.
+/// Prints why there is no answer.
 fn tell_error<W: Write>(error: RecordError, told: &mut Telling<W>) {
     match error {
         RecordError::Memory => told.memory(),

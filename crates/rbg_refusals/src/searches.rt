@@ -1,4 +1,4 @@
-//! Runs of what moves are found by, and of the counting of their sequences.
+//! Runs of the searches for moves, and of the counts of their sequences.
 ghost use Rattle.rbg_rules.specs.Meaning.{IsStateOf};
 
 use crate::games::{SQUARES, WALK, played};
@@ -15,22 +15,22 @@ use rbg_state::SemiState;
 use std::alloc::Global;
 use std::io::Write;
 
-/// How many moves the sequences have that are counted.
+/// The number of moves of the sequences that are counted.
 const COUNTED: u8 = 3;
 
-/// What a search may take up.
+/// The budget of a search.
 const BUDGET: Budget = Budget {
     openings: 100_000,
     modifiers: 200,
 };
 
-/// Where the pattern stands that is asked alone.
+/// The position of the pattern that is asked alone.
 const ASKED: Position = 3;
 
 /// A question at the start of the walk.
 #[derive(Clone, Copy)]
 enum Question {
-    /// What is reached.
+    /// Which modifiers are reached.
     Reach,
     /// Whether the pattern is valid.
     Pattern,
@@ -46,7 +46,7 @@ pub fn run<W: Write>(alloc: Global, name: &str, told: &mut Telling<W>) -> Result
     }
 }
 
-/// Says why there is no answer.
+/// Prints why there is no answer.
 pub fn tell_over<W: Write>(over: Over, told: &mut Telling<W>) {
     told.line(match over {
         Over::Memory => "memory",

@@ -13,7 +13,7 @@ use rbg_serving::{ListClock, MemoryLine, Take, serve};
 use std::alloc::Global;
 use std::io::Write;
 
-/// A match that is served: the text of its game, the lines of its two seats, and the most rounds.
+/// A match that is served: the text of its game, the lines of its two seats, and the maximum number of rounds.
 #[derive(Clone, Copy)]
 struct Service {
     text: &'static [u8],

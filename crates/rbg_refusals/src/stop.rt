@@ -1,4 +1,4 @@
-//! Why a run tells no more.
+//! Why a run prints no more.
 
 use rbg_base::Memory;
 use rbg_game::LoadError;
@@ -9,12 +9,12 @@ use rbg_moves::Over;
 use rbg_wire::WireError;
 use std::alloc::AllocFailed;
 
-/// Why a run tells no more.
+/// Why a run prints no more.
 #[derive(Clone, Copy)]
 pub enum Stop {
     /// Memory was refused before the call that the run is about.
     Setup,
-    /// What comes before that call answers otherwise than it does with ample memory.
+    /// Something before that call answers otherwise than with ample memory.
     Wrong,
     /// No run has the name.
     Unknown,

@@ -3,10 +3,10 @@
 use std::fmt::{Debug, Display};
 use std::io::Write;
 
-/// What stands in a list of bytes before a run appends to it.
+/// The bytes in a list before a run appends to it.
 pub const KEPT: &[u8] = b"kept\0";
 
-/// Prints facts, and takes no memory. Where something can't be printed, nothing is printed after it.
+/// Prints facts, and doesn't allocate. After a failure to print, nothing more is printed.
 #[derive(Drop)]
 pub struct Telling<W: Write> {
     output: W,

@@ -35,7 +35,7 @@ pub fn run<W: Write>(alloc: Global, name: &str, told: &mut Telling<W>) -> Result
     }
 }
 
-/// Loads a text, and tells its game.
+/// Loads a text, and prints its game.
 fn tell_load<W: Write>(alloc: Global, text: &[u8], told: &mut Telling<W>) -> Result<(), Stop> {
     match load(alloc, text) {
         Ok(game) => tell_game(&game, told),
@@ -67,7 +67,7 @@ fn tell_actions<W: Write>(game: &Game, told: &mut Telling<W>) {
     }
 }
 
-/// Expands the sections of a text, and tells them.
+/// Expands the sections of a text, and prints them.
 pub fn tell_expand<W: Write>(
     alloc: Global,
     text: &[u8],
@@ -102,7 +102,7 @@ fn tell_section<W: Write>(section: &Section<'_>, told: &mut Telling<W>) {
     }
 }
 
-/// Makes a form of an automaton, the plain or the compact one, and tells it.
+/// Makes a form of an automaton, the plain or the compact one, and prints it.
 fn tell_automaton<W: Write>(
     alloc: Global,
     is_compact: bool,

@@ -12,17 +12,17 @@ use rbg_serving::MemoryLog;
 use std::alloc::Global;
 use std::io::Write;
 
-/// How many events the hall hears.
+/// How many events the hall handles.
 const EVENTS: usize = 9;
 
-/// How many lines say something.
+/// How many lines send something.
 const LINES: usize = 6;
 
 /// How many bytes are queued for each line.
 type Sizes = [usize; LINES];
 
-/// What the hall hears. Each match begins when its second line asks for it. White of match 2 moves before that, so it is
-/// refused, and no player moves in time. A third table isn't there, and a match that is over has no seat.
+/// The events of the hall. Each match begins when its second line asks for it. White of match 2 moves before that, so
+/// it is refused, and no player moves in time. A third table doesn't exist, and a match that is over has no seat.
 const HEARD: [HallEvent<'static>; EVENTS] = [
     HallEvent::Piece {
         line: 0,
@@ -81,7 +81,7 @@ fn two_tables(alloc: Global) -> Result<Vec<Table>, Stop>
     Ok(tables)
 }
 
-/// Makes a hall of two tables, which hears the events.
+/// Makes a hall of two tables, which handles the events.
 fn make<W: Write>(alloc: Global, told: &mut Telling<W>) -> Result<(), Stop> {
     let tables = two_tables(alloc)?;
     let (mut hall, mut out) = Hall::new(alloc, tables)?;
@@ -89,7 +89,7 @@ fn make<W: Write>(alloc: Global, told: &mut Telling<W>) -> Result<(), Stop> {
     Ok(())
 }
 
-/// Lets the hall hear the events, and says what each of them queues.
+/// Handles the events in the hall, and prints what each of them queues.
 fn hear<W: Write>(hall: &mut Hall<MemoryLog>, out: &mut HallOut, told: &mut Telling<W>) {
     let mut sizes = [[0; LINES]; EVENTS];
     match step_each(hall, out, &mut sizes) {
@@ -98,7 +98,7 @@ fn hear<W: Write>(hall: &mut Hall<MemoryLog>, out: &mut HallOut, told: &mut Tell
     }
 }
 
-/// Lets the hall hear the events, and keeps how much is queued after each of them.
+/// Handles the events in the hall, and keeps how much is queued after each of them.
 fn step_each(
     hall: &mut Hall<MemoryLog>,
     out: &mut HallOut,
@@ -120,7 +120,7 @@ fn sizes_of(out: &HallOut) -> Sizes {
     sizes
 }
 
-/// Says what each event queued.
+/// Prints what each event queued.
 fn tell_each<W: Write>(out: &HallOut, sizes: &[Sizes; EVENTS], told: &mut Telling<W>) {
     let mut before = [0; LINES];
     for index in 0..EVENTS {
@@ -130,7 +130,7 @@ fn tell_each<W: Write>(out: &HallOut, sizes: &[Sizes; EVENTS], told: &mut Tellin
     }
 }
 
-/// Says what was queued for each line that got something, between two sizes.
+/// Prints what was queued for each line that got something, between two sizes.
 fn tell_queued<W: Write>(out: &HallOut, before: &Sizes, after: &Sizes, told: &mut Telling<W>) {
     for line in 0..LINES {
         let queued = out.bytes(line as u64).get(before[line]..after[line]);

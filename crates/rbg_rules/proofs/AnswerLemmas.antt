@@ -11,7 +11,7 @@ use Rattle.rbg_rules.proofs.PositionLemmas.{one_stands}
 use Rattle.rbg_rules.proofs.PlaceLemmas.{RunPairs-Runs, Runs-RunPairs}
 use Rattle.rbg_rules.proofs.MoveLemmas.{positive_law, negative_law}
 
--- The inside of a pattern is the one that stands there.
+-- The inside of a pattern is the one at its position.
 positive_is : (rules : Expression) → IsNumbered rules → (p : ℕ) (x y : Expression) → HasAction rules p (positive x) → IsLevel rules (inside p) y → y ≡ x
 positive_is rules numbered p x y stands (inl h) = let same = one_stands rules numbered p (positive y) (positive x) h stands in cc
 positive_is rules numbered p x y stands (inr h) = let same = one_stands rules numbered p (negative y) (positive x) h stands in absurd cc

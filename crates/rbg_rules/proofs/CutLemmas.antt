@@ -1,4 +1,4 @@
--- Where a position stands in a joined list, and in a word of an expression.
+-- Where a position is in a joined list, and in a word of an expression.
 use Rattle.std.proofs.Common.{◌≡◌, ℕ, List, [], ◌∷◌, ◌++◌, refl, ap, inl}
 use Rattle.rbg_rules.specs.Expression.{Expression}
 use Rattle.rbg_rules.specs.Positions.{positions_of}

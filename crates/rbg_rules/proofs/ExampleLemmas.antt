@@ -47,7 +47,7 @@ pair_position (modify applied modifies run) v p (inl e) = inl (sym (ap (λ (q : 
 pair_position (modify applied modifies run) v p (inr h) = inr (pair_position run v p h)
 pair_position (pass applied quiet run) v p h = inr (pair_position run v p h)
 
--- What follows an own action of the rules goes on in a word of the rules.
+-- What follows an own action of the rules continues in a word of the rules.
 pub record GoesOn (rules : Expression) (i : ℕ) (m : List ℕ) : Type 0 where
   pub front : List ℕ
   pub back : List ℕ
@@ -67,7 +67,7 @@ sequence_word parts w join = (sequence_law parts w).1 join
 pub join_word : (parts : List Expression) (w : List ℕ) → Word (sequence_of parts) w → IsJoinOfWords parts w
 join_word parts w word = (sequence_law parts w).0 word
 
--- An action that opens a word and stands nowhere else in it is at its front.
+-- An action that begins a word and is nowhere else in it is at its front.
 pub at_front : (i : ℕ) (u r w : List ℕ) → u ++ i ∷ r ≡ i ∷ w → ¬ Among i w → r ≡ w
 at_front i [] r w e once = cc
 at_front i (x ∷ u) r w e once =
@@ -115,7 +115,7 @@ pub first_applies : {game : AbstractGame} {p : ℕ} {w : List ℕ} {s t : Abstra
 first_applies (modify {middle} applied modifies run) = (middle, applied)
 first_applies (pass {middle} applied quiet run) = (middle, applied)
 
--- An element of a list stands in its first part, or the whole of that part stands before it.
+-- An element of a list is in its first part, or the whole of that part is before it.
 pub split : (m b : List ℕ) (q x : ℕ) (back : List ℕ) → m ++ q ∷ back ≡ b ++ x ∷ [] → Among q b ⊎ ((rest : List ℕ) × (m ≡ b ++ rest))
 split m [] q x back e = inr (m, refl)
 split [] (y ∷ b) q x back e = inl (inl cc)

@@ -12,7 +12,7 @@ among_below first zero x h = absurd h
 among_below first (suc many) x (inl same) = omega (arith, same)
 among_below first (suc many) x (inr h) = let below : x < first + 1 + many = among_below (first + 1) many x h in omega (arith, below)
 
--- an action stands at one of the positions
+-- an action is at one of the positions
 position_within : (x : Expression) → IsNumbered x → (p : ℕ) (a : AbstractAction) → HasAction x p a → p ≤ length (positions_of x)
 position_within x numbered p a stands =
     let below : p < 1 + length (positions_of x) = among_below 1 (length (positions_of x)) p (subst (Among p) numbered.in_order (has_position x p a stands)) in

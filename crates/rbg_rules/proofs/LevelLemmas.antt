@@ -6,7 +6,7 @@ use Rattle.rbg_rules.specs.Laws.{OneLevelLaw, SomeLevelLaw, OwnWordLaw}
 use Rattle.rbg_rules.proofs.PositionLemmas.{Among, AllDifferent, AllDifferent_left, AllDifferent_right, AllDifferent_apart, has_position, inside_position, numbered_once, one_stands}
 use Rattle.rbg_rules.proofs.PatternLemmas.{own_stands, stands_inside, stays_inside, word_own}
 
--- An own action of an expression stands in no pattern of it.
+-- An own action of an expression is in no pattern of it.
 own_not_inside : (x : Expression) → AllDifferent (positions_of x) → (i : ℕ) (c : AbstractAction) → HasOwnAction x i c → (p : ℕ) (b : AbstractAction) → HasAction x p b → (a : AbstractAction) → ¬ HasInside b i a
 own_not_inside (act q d) (first, different) i c (here, _) p b h a k = first (subst (λ (j : ℕ). Among j (positions_inside d)) here (inside_position d i a (within h)))
   where

@@ -74,7 +74,7 @@ changed_in_sequence x y j apart in_one in_other u v (a, b, in_x, in_y, e) u' v' 
         let word = in_other front v (subst (Word y) later in_y) front' v' (subst (Word y) later' in_y') in
         (a, front ++ j ∷ v', in_x, word, ap (λ (z : List ℕ). z ++ j ∷ v') is ∙ append_assoc a front (j ∷ v'))
 
--- Where no position occurs twice, two words through one position change over there.
+-- If no position occurs twice, two words through one position may exchange what follows it.
 pub changed_over : (x : Expression) → AllDifferent (positions_of x) → (u : List ℕ) (j : ℕ) (v : List ℕ) → Word x (u ++ j ∷ v) → (u' v' : List ℕ) → Word x (u' ++ j ∷ v') → Word x (u ++ j ∷ v')
 changed_over (act q b) different u j v word u' v' word' =
     let (none, _, here) = single u j v q word in
@@ -136,7 +136,7 @@ change_over rules numbered level level' u j v u' v' one other =
           (subst (λ (x : Expression). Word x (u' ++ j ∷ v')) (sym same) other.is_word);
     }
 
--- A word of a level, where its list is another way of writing the same.
+-- A word of a level, if its list is another way to write the same.
 word_is : {rules : Expression} {level : Level} {w w' : List ℕ} → w ≡ w' → WordOf rules level w → WordOf rules level w'
 word_is {rules} {level} e word = subst (WordOf rules level) e word
 

@@ -10,7 +10,7 @@ use Rattle.rbg_rules.proofs.PositionLemmas.{one_stands}
 use Rattle.rbg_rules.proofs.RunLemmas.{Acts_one, Runs-append, Runs_join}
 use Rattle.rbg_rules.proofs.PatternLemmas.{inside_runs, runs_inside, positive_inside, negative_inside}
 
--- What the action at a position does is what any action that stands there does.
+-- What the action at a position does is what any action at that position does.
 pub applied_acts : (game : AbstractGame) → IsNumbered game.rules → (p : ℕ) (a : AbstractAction) → HasAction game.rules p a → {s t : AbstractState} → Applies game p s t → Acts game a s t
 applied_acts game numbered p a stands {s} {t} applied =
     subst (λ (b : AbstractAction). Acts game b s t) (one_stands game.rules numbered p applied.action a applied.stands stands) applied.acts

@@ -1,4 +1,4 @@
--- A star of offs, whose position is 2: so many of them, and their pairs at the vertex 0.
+-- A star of offs, whose position is 2: a number of them, and their pairs at the vertex 0.
 use Rattle.rbg_base.proofs.Common.{◌≡◌, ℕ, zero, suc, List, [], ◌∷◌, length, refl, ap, All-cons, All-nil}
 use Rattle.rbg_rules.specs.Meaning.{off, act, Expression, IsSwitchAt, HasNoSwitch, Repeats, done, again, Word}
 

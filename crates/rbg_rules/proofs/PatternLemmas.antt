@@ -1,4 +1,4 @@
--- A pattern that stands anywhere in the rules asks for a run by the game's own actions: what the table of actions says of a
+-- A pattern anywhere in the rules asks for a run by the game's own actions: what the table of actions means for a
 -- pattern's inside, read with the actions of that inside alone, is the same read with all actions of the rules.
 use Rattle.std.proofs.Common.{◌≡◌, ℕ, List, [], ◌∷◌, refl, subst, inl, inr}
 use Rattle.rbg_rules.specs.Expression.{AbstractAction, positive, negative, Expression, act, skip, sequence, fail, choice, star}
@@ -8,7 +8,7 @@ use Rattle.rbg_rules.specs.State.{AbstractGame, AbstractState}
 use Rattle.rbg_rules.specs.Actions.{Runs, rest, step, Acts, ActsIn, Applies, Run}
 use Rattle.rbg_rules.proofs.PositionLemmas.{Among, Among_cases, one_stands}
 
--- An own action is an action, and what stands in an inside stands in the whole.
+-- An own action is an action, and what is in an inside is in the whole.
 pub own_stands : (x : Expression) (p : ℕ) (a : AbstractAction) → HasOwnAction x p a → HasAction x p a
 own_stands (act q b) p a h = inl h
 own_stands skip p a h = absurd h
@@ -61,7 +61,7 @@ word_own (choice x y) w (inl in_x) p h = let own = word_own x w in_x p h in (own
 word_own (choice x y) w (inr in_y) p h = let own = word_own y w in_y p h in (own.0, inr own.1)
 word_own (star x) w repeats p h = repeats_each (λ (q : ℕ). (a : AbstractAction) × HasOwnAction x q a) (word_own x) repeats p h
 
--- An own action of the expression that acts is what `ActsIn` says, and the other way round.
+-- An own action of the expression that acts acts as `ActsIn` has it, and the other way round.
 module _ (game : AbstractGame) (s t : AbstractState) where
   pub acts_in : (x : Expression) (p : ℕ) (a : AbstractAction) → HasOwnAction x p a → Acts game a s t → ActsIn game x p s t
   acts_in (act q b) p a (here, same) acts = (here, subst (λ (c : AbstractAction). Acts game c s t) same acts)

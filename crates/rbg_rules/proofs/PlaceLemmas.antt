@@ -1,5 +1,5 @@
--- A place and a list of pairs reach at most one place: between two modifiers a run moves the current vertex alone, and each pair
--- tells the vertex of its modifier.
+-- A place and a list of pairs reach at most one place: between two modifiers a run moves the current vertex alone, and
+-- each pair has the vertex of its modifier.
 use Rattle.std.proofs.Common.{◌≡◌, ℕ, List, [], ◌∷◌, ◌++◌, Bool, true, false, refl, sym, ap, ◌∙◌, subst, Some}
 use Rattle.rbg_rules.specs.Expression.{AbstractAction, shift, on, off, assignment, comparison, switch, positive, negative}
 use Rattle.rbg_rules.specs.Positions.{IsNumbered, is_modifier, IsSwitchAt}
@@ -154,7 +154,7 @@ one_switch {game} numbered {p} switches (pass applied quiet stay) =
     true_not_false : true ≡ false → ⊥
     true_not_false e = cc
 
--- Two lists with one more element each are equal only where the lists are and the elements are.
+-- Two lists with one more element each are equal only if the lists are and the elements are.
 pub snoc_same : (xs ys : List (ℕ × ℕ)) (x y : ℕ × ℕ) → xs ++ x ∷ [] ≡ ys ++ y ∷ [] → (xs ≡ ys) × (x ≡ y)
 snoc_same [] [] x y e = (refl, cc)
 snoc_same [] (b ∷ []) x y e = absurd cc

@@ -1,4 +1,4 @@
--- What numbering gives: at each position stands one action, and only a word's own positions are in it.
+-- What numbering gives: one action is at each position, and only a word's own positions are in it.
 use Rattle.rbg_base.proofs.Common.{◌≡◌, ℕ, zero, suc, ◌+◌, ◌≤◌, List, [], ◌∷◌, ◌++◌, length, sym, ◌∙◌, subst, ◌⊎◌, inl, inr, arith, range_with_len}
 use Rattle.rbg_rules.specs.Expression.{AbstractAction, positive, negative, Expression, act, skip, sequence, fail, choice, star}
 use Rattle.rbg_rules.specs.Positions.{HasAction, HasInside, positions_of, positions_inside, IsNumbered}
@@ -70,14 +70,14 @@ mutual
   inside_position (negative x) p a h = has_position x p a h
   inside_position _ p a h = absurd h
 
--- Of two parts that share no position, both actions stand in the same part.
+-- Of two parts that share no position, both actions are in the same part.
 one_of_two : (x y : Expression) → AllDifferent (positions_of x ++ positions_of y) → (p : ℕ) (a b : AbstractAction) → (HasAction x p a → HasAction x p b → a ≡ b) → (HasAction y p a → HasAction y p b → a ≡ b) → HasAction x p a ⊎ HasAction y p a → HasAction x p b ⊎ HasAction y p b → a ≡ b
 one_of_two x y d p a b in_x in_y (inl h) (inl k) = in_x h k
 one_of_two x y d p a b in_x in_y (inl h) (inr k) = absurd (AllDifferent_apart (positions_of x) (positions_of y) d p (has_position x p a h) (has_position y p b k))
 one_of_two x y d p a b in_x in_y (inr h) (inl k) = absurd (AllDifferent_apart (positions_of x) (positions_of y) d p (has_position x p b k) (has_position y p a h))
 one_of_two x y d p a b in_x in_y (inr h) (inr k) = in_y h k
 
--- Where no position occurs twice, one action stands at a position.
+-- If no position occurs twice, one action is at each position.
 mutual
   pub one_action : (x : Expression) → AllDifferent (positions_of x) → (p : ℕ) (a b : AbstractAction) → HasAction x p a → HasAction x p b → a ≡ b
   one_action (act q c) d p a b (inl (_, e)) (inl (_, f)) = e ∙ sym f

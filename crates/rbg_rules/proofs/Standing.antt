@@ -1,4 +1,4 @@
--- What stands at the positions of small rules, found by computing it.
+-- What is at the positions of small rules, found by computing it.
 use Rattle.rbg_base.proofs.Common.{◌≡◌, ℕ, List, [], ◌∷◌, ◌++◌, refl, sym, ap, ◌∙◌, inl, inr, ◌==◌, Bool, true, false, ◌&&◌, ◌||◌, list_any, All-cons, All-nil}
 use Rattle.std.proofs.lemmas.Bool.{or_parts, eq-eqb}
 use Rattle.std.proofs.Math.Bool.{not}
@@ -41,7 +41,7 @@ mutual
 pub true_not_false : true ≡ false → ⊥
 true_not_false e = cc
 
--- whether an action that passes the test stands at the position
+-- whether an action that passes the test is at the position
 abbrev pub has_at : (AbstractAction → Bool) → Expression → ℕ → Bool
 has_at test x p = has_such (λ q a. (q == p) && test a) x
 
@@ -61,18 +61,19 @@ no_switches rules (p ∷ w) none =
     let parts = or_parts (has_at is_switch rules p) (list_any (has_at is_switch rules) w) none in
     All-cons (λ q. ¬ IsSwitchAt rules q) p w (no_switch_at rules p parts.0) (no_switches rules w parts.1)
 
--- Where no action is a pattern, no pattern stands.
+-- If no action is a pattern, there is no pattern.
 pub no_pattern_at : (rules : Expression) (p : ℕ) → ((a : AbstractAction) → HasAction rules p a → is_pattern a ≡ false) → ¬ IsPatternAt rules p
 no_pattern_at rules p plain pattern = elim pattern.stands [
   | inl h ↦ true_not_false (plain (positive pattern.inside_it) h)
   | inr h ↦ true_not_false (plain (negative pattern.inside_it) h)
 ]
 
--- only modifiers stand at the position
+-- only modifiers are at the position
 abbrev pub ModifiesAt : Expression → ℕ → Type 0
 ModifiesAt rules p = has_at (λ a. not (is_modifier a)) rules p ≡ false
 
--- What applies at a position where only modifiers stand is one, and what applies where none stands is none.
+-- An action that applies at a position with modifiers alone is a modifier, and one that applies at a position without
+-- modifiers is none.
 pub not_quiet : {game : AbstractGame} {p : ℕ} {s t : AbstractState} → ModifiesAt game.rules p → (applied : Applies game p s t) → ¬ (is_modifier applied.action ≡ false)
 not_quiet {game} {p} modifier applied quiet = true_not_false (ap not (sym quiet) ∙ none_at (λ a. not (is_modifier a)) game.rules p modifier applied.action applied.stands)
 

@@ -1,4 +1,4 @@
--- The table has the action that stands at each position of the rules.
+-- The table has the action at each position of the rules.
 use Rattle.rbg_base.proofs.Common.{◌≡◌, ℕ, zero, suc, ◌+◌, ◌-◌, ◌<◌, ◌≤◌, List, [], ◌∷◌, length, map, fold, get_or, refl, sym, ap, ◌∙◌, subst, inl, inr, Bool, true, false, Option, Some, None, arith, IsTrue, ◌↔◌, if◌then◌else◌, leb_tells, range_with_len}
 use Rattle.rbg_rules.proofs.Common.{Action, Shift, On, Off, Assign, Compare, Switch, Positive, Negative, Rule, Rule-F, ind-Rule, map-Rule}
 use Rattle.rbg_rules.specs.Expression.{AbstractAction, shift, on, off, assignment, comparison, switch, positive, negative, Expression, act, skip, sequence, fail, choice, star}
@@ -19,7 +19,7 @@ pub record IsEntry (actions : List Action) (p : ℕ) (a : AbstractAction) : Type
 abbrev IsFound : List Action → Rule → Type 0
 IsFound actions r = (p : ℕ) (a : AbstractAction) → HasAction (expression_of actions r) p a → IsEntry actions p a
 
--- What stands inside an action stands in its inside.
+-- What is inside an action is in its inside.
 stands_within : (i : Action) (x : Expression) (p : ℕ) (a : AbstractAction) → HasInside (action_of i x) p a → HasAction x p a
 stands_within (Shift d) x p a h = absurd h
 stands_within (On pieces) x p a h = absurd h
@@ -72,7 +72,7 @@ found actions = ind-Rule (IsFound actions) (λ x y is p a h.
     let here : HasAction (layer_of actions x) p a = subst (λ (e : Expression). HasAction e p a) (rolled actions x) h in
     found_in_layer actions y p a (subst (λ (z : Rule-F Rule). HasAction (layer_of actions z) p a) (sym is) here))
 
--- At each position of an expression stands an action.
+-- An action is at each position of an expression.
 mutual
   some_action : (x : Expression) (p : ℕ) → Among p (positions_of x) → (a : AbstractAction) × HasAction x p a
   some_action (act q b) p (inl e) = (b, inl (e, refl))
@@ -124,7 +124,7 @@ stands_shown rules p a Negative x here shows = (x, subst (HasAction rules p) sho
 pub of_seen : (P : Expression → Type 0) {inside seen : Expression} {p : ℕ} → inside ≡ seen → p ≤ length (positions_of seen) → (p ≤ length (positions_of inside) → P inside) → P seen
 of_seen P {inside} {seen} {p} same there shows = subst P same (shows (subst (λ (x : Expression). p ≤ length (positions_of x)) (sym same) there))
 
--- The table has the action that stands at a position.
+-- The table has the action at a position.
 pub stands_at : (actions : List Action) (r : Rule) → IsNumbered (expression_of actions r) → length actions ≡ length (positions_of (expression_of actions r)) → (p : ℕ) (d : Action) → 0 < p → p ≤ length (positions_of (expression_of actions r)) → Stands (expression_of actions r) p (get_or actions (p - 1) d)
 stands_at actions r numbered size p d from_one there =
     let (a, here) = numbered_action (expression_of actions r) numbered p from_one there in
@@ -133,7 +133,7 @@ stands_at actions r numbered size p d from_one there =
     let action : entry.action ≡ get_or actions (p - 1) d = cc in
     subst (Stands (expression_of actions r) p) action (stands_shown (expression_of actions r) p a entry.action entry.inside here entry.shows)
 
--- The action of a position is a pattern exactly where a pattern stands there.
+-- The action of a position is a pattern exactly if a pattern is at that position.
 pub plain_stands : (rules : Expression) → IsNumbered rules → (p : ℕ) (a : AbstractAction) → is_pattern a ≡ false → HasAction rules p a → ¬ IsPatternAt rules p
 plain_stands rules numbered p a plain here pattern = elim pattern.stands [
   | inl h ↦ let same : a ≡ positive pattern.inside_it = one_stands rules numbered p a (positive pattern.inside_it) here h in not_both (sym plain ∙ ap is_pattern same)

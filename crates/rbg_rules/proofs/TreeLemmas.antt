@@ -1,4 +1,4 @@
--- Trees of rules with a table of actions: what a position stands for, and that more actions change nothing.
+-- Trees of rules with a table of actions: what a position means, and that more actions change nothing.
 use Rattle.rbg_base.proofs.Common.{◌≡◌, ℕ, zero, suc, ◌-◌, ◌<◌, ◌≤◌, List, [], ◌∷◌, ◌++◌, length, map, fold, get_or, refl, sym, ap, ◌∙◌, subst, ◌⊎◌, inl, inr, Bool, true, false, Option, Some, None, arith, Box, Vec, slice_get, if◌then◌else◌, All, Global, slice_get-get_or, slice_get_within, All-cons, le-max_left, le-max_right, max-le}
 use Rattle.rbg_rules.proofs.Common.{Action, Positive, Negative, Rule, Rule-F, roll-Rule, out-Rule, Act, outs-Act, Pattern, outs-Pattern, Then, outs-Then, Or, outs-Or, Star, outs-Star, fold_out-Rule, fold-roll-Rule, ind-Rule, map-Rule}
 use Rattle.rbg_rules.specs.Expression.{Expression, act, skip, sequence, fail, choice, star, sequence_of, choice_of}
@@ -25,7 +25,7 @@ action_there actions (suc k) d from_one there =
     let same : suc k - 1 ≡ k = omega arith in
     rw same (slice_get-get_or actions k d (omega arith))
 
--- The action at a position of the tree, where the table has one of the right kind.
+-- The action at a position of the tree, if the table has one of the right kind.
 pub act_is : (actions : List Action) (p : ℕ) (a : Action) → action_at actions p ≡ Some a → shows_pattern a ≡ false → expression_of actions (Act p) ≡ act p (action_of a skip)
 act_is actions p a at plain = expression_of-Act actions p ∙ ap (act_of p) at ∙ ap (λ (b : Bool). if b then fail else act p (action_of a skip)) plain
 
@@ -126,7 +126,7 @@ none_in_sequence parts none = (sequence_parts skip parts none).1
 pub none_in_choice : (parts : List Expression) → HasNoEmptySum (choice_of parts) → All HasNoEmptySum parts
 none_in_choice parts none = choice_parts fail parts none
 
--- The greatest position of a tree, by its parts.
+-- The maximum position of a tree, by its parts.
 last_layer : (r : Rule) (x : Rule-F Rule) → out-Rule r ≡ x → last_position r ≡ last_step (map-Rule Rule ℕ last_position x)
 unfolding last_position
 last_layer r x is = fold_out-Rule ℕ last_step r ∙ ap (λ (y : Rule-F Rule). last_step (map-Rule Rule ℕ last_position y)) is
@@ -140,7 +140,7 @@ greatest_within n [] all = omega arith
 greatest_within n (part ∷ parts) all =
     max-le (all 0 part (omega arith)).last (greatest_within n parts (λ k d h. all (suc k) d (omega arith)))
 
--- A tree is within some positions where its parts are.
+-- A tree is within some positions if its parts are.
 pub within_Act : (n p : ℕ) → p ≤ n → IsWithin n (Act p)
 within_Act n p within = record { last = rw (last_layer (Act p) (Rule-F.Act p) (outs-Act p)) within }
 

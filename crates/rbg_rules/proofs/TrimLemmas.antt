@@ -1,4 +1,4 @@
--- Where no sum is empty, each own action of an expression stands in some word of it.
+-- If no sum is empty, each own action of an expression is in some word of it.
 use Rattle.rbg_base.proofs.Common.{◌≡◌, ◌≢◌, ℕ, List, [], ◌∷◌, ◌++◌, refl, sym, ap, subst, inl, inr, append_assoc, All-nil}
 use Rattle.std.proofs.lemmas.List.{append-nil}
 use Rattle.rbg_rules.specs.Expression.{AbstractAction, positive, negative, Expression, act, skip, sequence, fail, choice, star}
@@ -71,7 +71,7 @@ empty_law rules none (after i) (a, stands) =
     let (u, v, word) = trim_law x (none_in_level rules none level x is) i a own in
     (level, u, v, record { expression = x; is_level = is; is_word = word })
 
--- No list stands before the empty one, and the empty one stands before every other.
+-- No list is before the empty one, and the empty one is before every other.
 no_prefix : (qs more : List (ℕ × ℕ)) → more ≢ [] → ¬ ([] ≡ qs ++ more)
 no_prefix [] more some e = some (sym e)
 no_prefix (q ∷ qs) more some e = cc

@@ -22,9 +22,9 @@ abbrev mutual
   -- The action takes s to t: it is valid in s, and t is s with its effect.
   --   shift: the current vertex has an edge in that direction, and becomes the edge's end
   --   on: the piece on the current vertex is in the set (never in an empty one)
-  --   off: always valid; the piece then stands on the current vertex
+  --   off: always valid; the piece is then on the current vertex
   --   assignment: the expression has a value from 0 to the variable's bound, and the variable gets it
-  --   comparison: both expressions have values, and they stand in the relation
+  --   comparison: both expressions have values, and the relation holds between them
   --   switch: always valid; that player, or the keeper, becomes the current one
   --   positive pattern: some word of its inner expression runs from s. Nothing changes.
   --   negative pattern: no word of its inner expression runs from s. Nothing changes.
@@ -60,7 +60,7 @@ abbrev mutual
   ActsIn game (choice x y) p s t = ActsIn game x p s t ⊎ ActsIn game y p s t
   ActsIn game (star x) p s t = ActsIn game x p s t
 
--- The action at position p of the game, wherever it stands, takes s to t.
+-- The action at position p of the game, also inside a pattern, takes s to t.
 pub record Applies (game : AbstractGame) (p : ℕ) (s t : AbstractState) : Type 0 where
   pub action : AbstractAction
   pub stands : HasAction game.rules p action

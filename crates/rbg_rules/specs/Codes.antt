@@ -1,5 +1,5 @@
--- Expressions as trees of numbers, one to one: what a proof tells the games that contracts see apart by. It says
--- nothing of games.
+-- Expressions as trees of numbers, one to one. A proof uses these codes to distinguish the games that contracts see.
+-- They have no meaning for play.
 use Rattle.std.specs.Prelude.{◌≡◌, ℕ, List, Option, refl}
 use Rattle.std.specs.Coded.{Coded, coded_ℕ, coded_list, coded_option, coded×, code_by}
 use Rattle.rbg_board.specs.Graph.{Graph}

@@ -77,8 +77,8 @@ nested =
     star (choice_of (act 2 (shift 3) ∷ act 3 (shift 2) ∷ [])) ∷
     act 4 (negative only_right) ∷ act 9 (off 1) ∷ act 10 (switch 2) ∷ []))
 
--- The semi-state with these pieces and this value of n, where that player stands on vertex 0; and the place after
--- the keeper's first switch: white is current, n is 0.
+-- The semi-state with these pieces and this value of n, with that player to act and the vertex 0 current; and the place
+-- after the keeper's first switch: white is current, n is 0.
 abbrev pub state_of : (player : ℕ) (pieces : List ℕ) (n : ℕ) → AbstractState
 state_of player pieces n = record { player = player; pieces = pieces; values = 0 ∷ 0 ∷ n ∷ []; vertex = 0 }
 

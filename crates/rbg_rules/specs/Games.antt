@@ -10,7 +10,7 @@ use Rattle.rbg_rules.specs.State.{AbstractGame}
 
 abbrev mutual
   -- No sum is without a part, in the expression and in its patterns, so every part has a word. (A sum of parts is the
-  -- empty sum with each part added: there alone the empty sum may stand.)
+  -- empty sum with each part added: there alone the empty sum may occur.)
   pub HasNoEmptySum : Expression → Type 0
   HasNoEmptySum (act p a) = HasNoEmptySumInside a
   HasNoEmptySum skip = Unit {0}
@@ -25,7 +25,7 @@ abbrev mutual
   HasNoEmptySumInside _ = Unit {0}
 
 abbrev mutual
-  -- Patterns stand one inside the other at most `limit` deep.
+  -- Patterns are nested at most `limit` deep, one inside the other.
   pub NestsWithin : ℕ → Expression → Type 0
   NestsWithin limit (act p a) = InsideNestsWithin limit a
   NestsWithin limit skip = Unit {0}
@@ -50,7 +50,7 @@ HasNamesOf game (difference e f) = HasNamesOf game e × HasNamesOf game f
 HasNamesOf game (product e f) = HasNamesOf game e × HasNamesOf game f
 HasNamesOf game (quotient e f) = HasNamesOf game e × HasNamesOf game f
 
--- The action speaks of directions, pieces, variables and players of the game.
+-- The action uses directions, pieces, variables and players of the game alone.
 abbrev pub IsActionOf : AbstractGame → AbstractAction → Type 0
 IsActionOf game (shift d) = d < length game.directions
 IsActionOf game (on xs) = All (λ x. x < length game.pieces) xs
@@ -62,7 +62,7 @@ IsActionOf game (positive x) = Unit {0}
 IsActionOf game (negative x) = Unit {0}
 
 -- No more players, pieces, variables, directions, vertices, positions and nested patterns than are allowed, and no
--- greater bounds. (Own.)
+-- larger bounds. (Own.)
 pub record IsWithinLimits (game : AbstractGame) : Type 0 where
   pub some_player : 0 < length game.players
   pub players : length game.players ≤ most_players
@@ -75,11 +75,11 @@ pub record IsWithinLimits (game : AbstractGame) : Type 0 where
   pub positions : length (positions_of game.rules) ≤ most_positions
   pub nesting : NestsWithin most_nested_patterns game.rules
 
--- What every accepted game keeps.
+-- What holds of every accepted game.
 --   numbered: the positions are numbered from 1 in order of text
 --   no_empty_sum: each sum has a part, so each part of the rules has a word
---   actions: the rules speak of the game's own things
---   switches: no switch stands in a pattern
+--   actions: the rules use the game's own things
+--   switches: no switch is in a pattern
 --   scores: the first variables are the players, in order
 --   variable_names, piece_names, direction_names: names of the language, and no name twice in one list
 --   bounds: each variable has a bound

@@ -9,10 +9,10 @@ use Rattle.rbg_rules.specs.Limits.{most_openings, most_modifiers}
 abbrev pub IsTooHard : AbstractGame → Question → AbstractPlace → Type 0
 IsTooHard game question place = IsHeavy game question place.state (stand_of place.last) most_openings most_modifiers
 
--- To look for a legal move is above the limits.
+-- The question for a legal move is above the limits.
 abbrev pub IsHeavyToFind : AbstractGame → AbstractPlace → Type 0
 IsHeavyToFind game place = IsTooHard game find_move place
 
--- To tell whether the move of these pairs is legal is above the limits.
+-- The question whether the move of these pairs is legal is above the limits.
 abbrev pub IsHeavyToTry : AbstractGame → AbstractPlace → List (ℕ × ℕ) → Type 0
 IsHeavyToTry game place pairs = IsTooHard game (try_move pairs) place

@@ -1,4 +1,4 @@
--- What the parts of a game keep.
+-- What holds of the parts of a game.
 use Rattle.std.specs.Prelude.{◌≡◌, length}
 use Rattle.rbg_rules.specs.declared.game.Parts.{Parts}
 use Rattle.rbg_rules.specs.Games.{IsGame}

@@ -2,7 +2,7 @@
 use Rattle.std.specs.Prelude.{◌≡◌, ℕ, List, Some, slice_get, All, IsTrue}
 use Rattle.rbg_base.specs.Names.{is_name}
 
--- No name stands twice in the list.
+-- No name is twice in the list.
 pub record AreDifferentNames (list : List (List ℕ)) : Type 0 where
   pub one_number :
       (i j : ℕ) (name : List ℕ) →

@@ -45,7 +45,7 @@ SomeLevelLaw =
     (rules : Expression) (i : ℕ) (a : AbstractAction) → HasAction rules i a →
     (level : Level) × (x : Expression) × IsLevel rules level x × HasOwnAction x i a
 
--- What runs has pairs, and what has pairs runs.
+-- A list of positions that runs leaves a list of pairs, and one that leaves pairs runs.
 abbrev pub PairsLaw : Type 0
 PairsLaw =
     (game : AbstractGame) (w : List ℕ) (s t : AbstractState) →
@@ -63,7 +63,7 @@ RunLaw =
     (game : AbstractGame) (u v : List ℕ) (s t : AbstractState) →
     Run game (u ++ v) s t ↔ ((middle : AbstractState) × Run game u s middle × Run game v middle t)
 
--- Where the positions are numbered, a run from one semi-state ends in at most one.
+-- If the positions are numbered, a run from one semi-state ends in at most one.
 abbrev pub OneRunLaw : Type 0
 OneRunLaw =
     (game : AbstractGame) → IsNumbered game.rules →
@@ -76,22 +76,21 @@ PatternLaw =
     (p : ℕ) (x : Expression) → HasAction game.rules p (positive x) ⊎ HasAction game.rules p (negative x) →
     (s t : AbstractState) → Applies game p s t → t ≡ s
 
--- A positive pattern is valid exactly where some word of its inner expression runs from there by the game's own
--- actions.
+-- A positive pattern is valid exactly if some word of its inner expression runs from there by the game's own actions.
 abbrev pub PositiveLaw : Type 0
 PositiveLaw =
     (game : AbstractGame) → IsNumbered game.rules →
     (p : ℕ) (x : Expression) → HasAction game.rules p (positive x) → (s : AbstractState) →
     Applies game p s s ↔ ((w : List ℕ) × (end : AbstractState) × Word x w × Run game w s end)
 
--- A negative pattern is valid exactly where none does.
+-- A negative pattern is valid exactly if none does.
 abbrev pub NegativeLaw : Type 0
 NegativeLaw =
     (game : AbstractGame) → IsNumbered game.rules →
     (p : ℕ) (x : Expression) → HasAction game.rules p (negative x) → (s : AbstractState) →
     Applies game p s s ↔ ((w : List ℕ) (end : AbstractState) → Word x w → ¬ Run game w s end)
 
--- Legal moves are the moves of the question at the place, and play is finished where there is none.
+-- Legal moves are the moves of the question at the place, and play is finished if there is none.
 abbrev pub MoveLaw : Type 0
 MoveLaw =
     (game : AbstractGame) (place : AbstractPlace) →
@@ -105,7 +104,8 @@ OnePlaceLaw =
     (from : AbstractPlace) (ps : List (ℕ × ℕ)) (to to' : AbstractPlace) →
     Legal game from ps to → Legal game from ps to' → to ≡ to'
 
--- Of an accepted game: the start is one of its semi-states, and what its actions make of one is one again.
+-- In an accepted game the start is one of its semi-states, and its actions lead from one of its semi-states to another
+-- one.
 abbrev pub StateLaw : Type 0
 StateLaw =
     (game : AbstractGame) → IsGame game →
@@ -116,27 +116,27 @@ StateLaw =
 abbrev pub WordLaw : Type 0
 WordLaw = (x : Expression) → HasNoEmptySum x → (w : List ℕ) × Word x w
 
--- Neighbours decide: in numbered rules a list that goes through position j follows exactly where its part up to j
--- follows and the rest follows j; and it ends a word exactly where the part up to j follows and the rest ends a word
--- after j.
+-- Neighbours decide: in numbered rules a list that goes through position j follows exactly if its part up to j follows
+-- and the rest follows j; and it ends a word exactly if the part up to j follows and the rest ends a word after j.
 abbrev pub LocalityLaw : Type 0
 LocalityLaw =
     (rules : Expression) → IsNumbered rules → (f : Start) (m : List ℕ) (j : ℕ) (later : List ℕ) →
     (Follows rules f (m ++ j ∷ later) ↔ (Follows rules f (m ++ j ∷ []) × Follows rules (after j) later)) ×
     (Ends rules f (m ++ j ∷ later) ↔ (Follows rules f (m ++ j ∷ []) × Ends rules (after j) later))
 
--- Where one may stand in the rules: at the beginning of a level, or after one of their actions.
+-- The points in the rules from which a list may follow: the beginning of a level, or the point after one of their
+-- actions.
 abbrev pub IsStart : Expression → Start → Type 0
 IsStart rules (beginning level) = (x : Expression) × IsLevel rules level x
 IsStart rules (after i) = (a : AbstractAction) × HasAction rules i a
 
--- Where no sum is empty, each own action stands in some word.
+-- If no sum is empty, each own action is in some word.
 abbrev pub TrimLaw : Type 0
 TrimLaw =
     (x : Expression) → HasNoEmptySum x → (i : ℕ) (a : AbstractAction) → HasOwnAction x i a →
     (u : List ℕ) × (v : List ℕ) × Word x (u ++ i ∷ v)
 
--- .. and so one may stop wherever one stands: the empty list follows everywhere.
+-- .. and so a list may end at any point: the empty list follows everywhere.
 abbrev pub EmptyLaw : Type 0
 EmptyLaw = (rules : Expression) → HasNoEmptySum rules → (f : Start) → IsStart rules f → Follows rules f []
 
@@ -146,8 +146,8 @@ EmptyOpeningLaw =
     (game : AbstractGame) → HasNoEmptySum game.rules → (f : Start) → IsStart game.rules f →
     (question : Question) → question ≢ try_move [] → (s : AbstractState) → Opening game question s f []
 
--- The answer of a pattern's question: a positive pattern is valid exactly where some word of its inside runs, a
--- negative one exactly where none does.
+-- The answer of a pattern's question: a positive pattern is valid exactly if some word of its inside runs, a negative
+-- one exactly if none does.
 abbrev pub AnswerLaw : Type 0
 AnswerLaw =
     (game : AbstractGame) → IsNumbered game.rules → (p : ℕ) (x : Expression) (s : AbstractState) →
@@ -169,8 +169,8 @@ pub data ByPairs (game : AbstractGame) : AbstractState → List (ℕ × ℕ) →
       ByPairs game middle ps t →
       ByPairs game s ((v, p) ∷ ps) t
 
--- Pairs fix the state: two runs from one semi-state with the same pairs end alike but for the current vertex, and the
--- end of such a run is, but for the current vertex, what the pairs' actions make at their vertices.
+-- Pairs fix the state: two runs from one semi-state with the same pairs end in the same semi-state but for the current
+-- vertex, and the end of such a run is, but for the current vertex, what the pairs' actions make at their vertices.
 abbrev pub PairsStateLaw : Type 0
 PairsStateLaw =
     (game : AbstractGame) → IsNumbered game.rules → (w : List ℕ) (s t : AbstractState) (ps : List (ℕ × ℕ)) →

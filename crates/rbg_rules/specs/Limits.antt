@@ -1,4 +1,4 @@
--- How much a game may have, and how much a question may open. (All of it is own: the paper sets no limits.)
+-- The limits on the size of a game, and on the openings of a question. (All of it is own: the paper sets no limits.)
 use Rattle.std.specs.Prelude.{ℕ}
 
 abbrev pub most_players : ℕ
@@ -20,11 +20,11 @@ most_directions = 64
 abbrev pub most_positions : ℕ
 most_positions = 20000
 
--- patterns one inside the other
+-- the maximum depth of patterns nested in each other
 abbrev pub most_nested_patterns : ℕ
 most_nested_patterns = 8
 
--- the most different openings of a question
+-- the maximum number of different openings of a question
 abbrev pub most_openings : ℕ
 most_openings = 100000
 

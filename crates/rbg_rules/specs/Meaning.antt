@@ -1,4 +1,4 @@
--- The words of the meaning that other crates use, on one page: where each is defined is said here.
+-- The words of the meaning that other crates use, on one page: each `use` names the page that defines them.
 pub use Rattle.rbg_board.specs.Limits.{most_vertices}
 pub use Rattle.rbg_rules.specs.State.{AbstractGame, AbstractState, IsStateOf, start_of}
 pub use Rattle.rbg_rules.specs.Positions.{HasAction, HasInside, HasNoModifier, HasNoSwitch, HasOwnAction, IsLevel, IsModifierAt, IsNumbered, IsPatternAt, IsPatternOf, IsSwitchAt, Level, inside, is_modifier, is_pattern, outermost, positions_inside, positions_of}

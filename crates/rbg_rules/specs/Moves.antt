@@ -27,14 +27,14 @@ pub record AbstractPlace : Type 0 where
   pub state : AbstractState
   pub last : Option ℕ
 
--- where a place stands in the rules
+-- the point in the rules at which a place is: the beginning of the rules, or after its last action
 abbrev pub stand_of : Option ℕ → Start
 stand_of None = beginning outermost
 stand_of (Some i) = after i
 
 -- The pairs are a move from one place to the other (paper): the rules allow a sequence of actions from the place that
 -- can be carried out, has its only switch last, and leaves these pairs. The new place has the semi-state that they lead
--- to, and stands after that switch. No limit is in it.
+-- to, and its last action is that switch. No limit is in it.
 pub record Legal (game : AbstractGame) (from : AbstractPlace) (ps : List (ℕ × ℕ)) (to : AbstractPlace) : Type 0 where
   pub before : List ℕ
   pub last : ℕ
@@ -48,6 +48,6 @@ pub record Legal (game : AbstractGame) (from : AbstractPlace) (ps : List (ℕ ×
 abbrev pub IsLegal : AbstractGame → AbstractPlace → List (ℕ × ℕ) → Type 0
 IsLegal game from ps = (to : AbstractPlace) × Legal game from ps to
 
--- Play is finished (paper; own: also where the keeper is to move): nothing is legal, however long.
+-- Play is finished (paper; own: also if the keeper is to move): nothing is legal, however long.
 pub record Finished (game : AbstractGame) (place : AbstractPlace) : Type 0 where
   pub no_move : (ps : List (ℕ × ℕ)) (to : AbstractPlace) → ¬ Legal game place ps to

@@ -1,4 +1,5 @@
--- Semi-states and places as tuples of numbers and lists, one to one: what proofs tell those apart by that contracts see.
+-- Semi-states and places as tuples of numbers and lists, one to one. Proofs use these codes to distinguish the values
+-- that contracts see.
 use Rattle.std.specs.Prelude.{ℕ, List, Option, refl}
 use Rattle.std.specs.Coded.{Coded, coded_ℕ, coded_list, coded_option, coded×, code_by}
 use Rattle.rbg_rules.specs.State.{AbstractState}

@@ -10,7 +10,7 @@ abbrev pub IsLastOf : Expression → Option ℕ → Type 0
 IsLastOf rules None = Unit {0}
 IsLastOf rules (Some i) = (0 < i) × (i ≤ length (positions_of rules))
 
--- The place is one of the game: its semi-state is, and the last action stands in the rules.
+-- The place is one of the game: its semi-state is, and its last action is one of the rules.
 pub record IsPlaceOf (game : AbstractGame) (place : AbstractPlace) : Type 0 where
   pub state : IsStateOf game place.state
   pub last : IsLastOf game.rules place.last

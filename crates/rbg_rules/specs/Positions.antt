@@ -1,10 +1,10 @@
--- Where the actions of an expression stand: their positions, and the levels of the rules.
+-- Where the actions of an expression are: their positions, and the levels of the rules.
 use Rattle.std.specs.Prelude.{◌≡◌, ℕ, ◌⊎◌, List, [], ◌∷◌, ◌++◌, length, Bool, true, false, All}
 use Rattle.std.specs.List.{range_with_len}
 use Rattle.rbg_rules.specs.Expression.{AbstractAction, off, assignment, switch, positive, negative, Expression, act, skip, sequence, fail, choice, star}
 
 abbrev mutual
-  -- The action a stands at position p somewhere in the expression, also inside a pattern of it.
+  -- The action a is at position p somewhere in the expression, also inside a pattern of it.
   pub HasAction : Expression → ℕ → AbstractAction → Type 0
   HasAction (act q b) p a = (p ≡ q) × (a ≡ b) ⊎ HasInside b p a
   HasAction skip p a = ⊥
@@ -19,7 +19,7 @@ abbrev mutual
   HasInside (negative x) p a = HasAction x p a
   HasInside _ p a = ⊥
 
--- The action a stands at position p of the expression itself, so not inside a pattern: it belongs directly to the
+-- The action a is at position p of the expression itself, so not inside a pattern: it belongs directly to the
 -- expression.
 abbrev pub HasOwnAction : Expression → ℕ → AbstractAction → Type 0
 HasOwnAction (act q b) p a = (p ≡ q) × (a ≡ b)
@@ -44,8 +44,8 @@ abbrev mutual
   positions_inside (negative x) = positions_of x
   positions_inside _ = []
 
--- The actions are numbered from 1 in order of text, so each number occurs once. (Own: the
--- paper tells occurrences apart without numbers.)
+-- The actions are numbered from 1 in order of text, so each number occurs once. (Own: the paper distinguishes
+-- occurrences without numbers.)
 pub record IsNumbered (x : Expression) : Type 0 where
   pub in_order : positions_of x ≡ range_with_len 1 (length (positions_of x))
 
@@ -66,13 +66,13 @@ is_pattern _ = false
 abbrev pub IsPatternOf : AbstractAction → Expression → Type 0
 IsPatternOf a x = (a ≡ positive x) ⊎ (a ≡ negative x)
 
--- A modifier stands at the position.
+-- A modifier is at the position.
 pub record IsModifierAt (rules : Expression) (p : ℕ) : Type 0 where
   pub action : AbstractAction
   pub stands : HasAction rules p action
   pub modifies : is_modifier action ≡ true
 
--- A switch stands at the position.
+-- A switch is at the position.
 pub record IsSwitchAt (rules : Expression) (p : ℕ) : Type 0 where
   pub player : ℕ
   pub stands : HasAction rules p (switch player)
@@ -95,7 +95,7 @@ abbrev pub IsLevel : Expression → Level → Expression → Type 0
 IsLevel rules outermost x = x ≡ rules
 IsLevel rules (inside p) x = HasAction rules p (positive x) ⊎ HasAction rules p (negative x)
 
--- A pattern stands at the position.
+-- A pattern is at the position.
 pub record IsPatternAt (rules : Expression) (p : ℕ) : Type 0 where
   pub inside_it : Expression
   pub stands : IsLevel rules (inside p) inside_it

@@ -1,12 +1,12 @@
--- What a question opens, and when it is heavy. (All of it is own: the paper sets no limits.)
+-- The openings of a question, and when it is heavy. (All of it is own: the paper sets no limits.)
 use Rattle.std.specs.Prelude.{◌≡◌, ℕ, ◌+◌, ◌⊎◌, ◌≢◌, List, [], ◌∷◌, ◌++◌, length, map, All, AllPairs, Bool, false}
 use Rattle.rbg_rules.specs.Positions.{IsSwitchAt, IsPatternAt, HasNoSwitch, inside}
 use Rattle.rbg_rules.specs.Words.{Start, beginning, Follows, Ends}
 use Rattle.rbg_rules.specs.State.{AbstractGame, AbstractState}
 use Rattle.rbg_rules.specs.Moves.{RunPairs}
 
--- The kinds of question, asked of a semi-state and of where one stands in the rules: whether these pairs are a move;
--- for some move; for the moves; which modifiers are reached without one; whether a word of a pattern's inside runs.
+-- The kinds of question, asked of a semi-state and of a point in the rules: whether these pairs are a move; for some
+-- move; for the moves; which modifiers are reached without one; whether a word of a pattern's inside runs.
 pub data Question : Type 0 where
   try_move : List (ℕ × ℕ) → Question
   find_move : Question
@@ -40,8 +40,7 @@ pub record IsMove (game : AbstractGame) (s : AbstractState) (f : Start) (ps : Li
   pub follows : Follows game.rules f (before ++ last ∷ [])
   pub runs : RunPairs game (before ++ last ∷ []) s end ps
 
--- Some word runs from s: a pattern's question is answered by yes (of a negative pattern that means that it is not
--- valid).
+-- Some word runs from s: the answer to a pattern's question is yes. (A negative pattern is then not valid.)
 pub record SomeWordRuns (game : AbstractGame) (s : AbstractState) (f : Start) : Type 0 where
   pub word : List ℕ
   pub end : AbstractState
@@ -120,9 +119,9 @@ IsWide game question s f openings = HasOpenings game question s f (openings + 1)
 abbrev pub IsHeavy : AbstractGame → Question → AbstractState → Start → (openings modifiers : ℕ) → Type 0
 IsHeavy game question s f openings modifiers = IsDeep game question s f modifiers ⊎ IsWide game question s f openings
 
--- The list of modifiers ps is taken up whatever the order of search: the empty list; and where the answer needs all
--- of them (it is no, or isn't cut, or is a place) every list. Where `try_move` finds no place, none is, not even the
--- empty one. Only the moves of `list_moves` can be cut.
+-- Every search that answers the question takes up the list of modifiers ps, in whatever order it searches: the empty
+-- list; and every list if the answer needs all of them (it is no, or isn't cut, or is a place). If `try_move` finds no
+-- place, no list is forced, not even the empty one. Only the moves of `list_moves` can be cut.
 abbrev pub IsForcedTo : AbstractGame → (cut : Bool) → Question → AbstractState → Start → List (ℕ × ℕ) → Type 0
 IsForcedTo game cut (try_move qs) s f ps = IsMove game s f qs
 IsForcedTo game cut find_move s f ps = (ps ≡ []) ⊎ ((qs : List (ℕ × ℕ)) → ¬ IsMove game s f qs)
@@ -130,7 +129,7 @@ IsForcedTo game cut list_moves s f ps = (ps ≡ []) ⊎ (cut ≡ false)
 IsForcedTo game cut reach s f ps = Unit {0}
 IsForcedTo game cut pattern s f ps = (ps ≡ []) ⊎ ¬ SomeWordRuns game s f
 
--- An opening that every search which answers the question takes up, where its answer is cut or not.
+-- An opening that every search which answers the question takes up, for an answer that is cut or one that isn't.
 pub data Forced (game : AbstractGame) (cut : Bool) : Question → AbstractState → Start → List Item → Type 0 where
   at :
       {question : Question} {s : AbstractState} {f : Start} {m : List ℕ} {t : AbstractState} {ps : List (ℕ × ℕ)} →

@@ -27,8 +27,8 @@ pub record AbstractState : Type 0 where
 abbrev pub start_of : AbstractGame → AbstractState
 start_of game = record { player = 0; pieces = game.board.first; values = replicate (length game.bounds) 0; vertex = 0 }
 
--- The semi-state is one of the game: it speaks of the game's players, pieces, vertices and variables, and no value is
--- above its bound.
+-- The semi-state is one of the game: it has the game's players, pieces, vertices and variables, and no value is above
+-- its bound.
 pub record IsStateOf (game : AbstractGame) (s : AbstractState) : Type 0 where
   pub player : s.player ≤ length game.players
   pub vertices : length s.pieces ≡ length game.board.first

@@ -20,7 +20,7 @@ Shows a (Switch n) = a ≡ switch n
 Shows a Positive = (x : Expression) × (a ≡ positive x)
 Shows a Negative = (x : Expression) × (a ≡ negative x)
 
--- The action stands at position p of the rules: a pattern with some inside.
+-- The action is at position p of the rules: a pattern with some inside.
 abbrev pub Stands : Expression → ℕ → Action → Type 0
 Stands rules p (Shift d) = HasAction rules p (shift d)
 Stands rules p (On pieces) = HasAction rules p (on pieces.items)
@@ -42,10 +42,10 @@ last_step (Rule-F.Then parts) = greatest parts.items
 last_step (Rule-F.Or parts) = greatest parts.items
 last_step (Rule-F.Star part) = part.value
 
--- The greatest position in a tree.
+-- The maximum position in a tree.
 unfoldable pub last_position : Rule → ℕ
 last_position tree = fold-Rule ℕ last_step tree
 
--- No position in the tree is greater than `positions`.
+-- No position in the tree is above `positions`.
 pub record IsWithin (positions : ℕ) (tree : Rule) : Type 0 where
   pub last : last_position tree ≤ positions

@@ -1,5 +1,5 @@
--- What the program's tree of checked rules stands for: the one translation to the mathematics. Each function goes
--- over the tree from its leaves; a step says what one node makes of the results of its parts.
+-- What the program's tree of checked rules means: the one translation to the mathematics. Each function goes over the
+-- tree from its leaves; a step has what one node makes of the results of its parts.
 use Rattle.std.specs.Prelude.{ℕ, zero, suc, List, fold, Option, Some, None, slice_get, Bool, true, false, if◌then◌else◌}
 use Rattle.rbg_rules.specs.declared.arithmetic.Arithmetic.{Arithmetic}
 use Rattle.rbg_rules.specs.declared.arithmetic.Arithmetic.TheOpen.{Arithmetic-F, Operation-F}
@@ -22,7 +22,7 @@ operated Minus e f = difference e f
 operated Times e f = product e f
 operated Over e f = quotient e f
 
--- An operation stands for what it makes of the value so far.
+-- An operation means what it makes of the value so far.
 abbrev pub Change : Type 0
 Change = AbstractArithmetic → AbstractArithmetic
 
@@ -46,7 +46,7 @@ arithmetic_of e = fold-Arithmetic AbstractArithmetic Change arithmetic_step oper
 unfoldable pub operation_of : Operation → Change
 operation_of o = fold-Operation AbstractArithmetic Change arithmetic_step operation_step o
 
--- The action, where x is the inside of a pattern.
+-- The action, if x is the inside of a pattern.
 abbrev pub action_of : Action → Expression → AbstractAction
 action_of (Shift d) x = shift d
 action_of (On pieces) x = on pieces.items

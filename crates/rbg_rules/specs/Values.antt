@@ -1,5 +1,5 @@
--- What arithmetic is worth in a semi-state. (Own: the range of signed 64 bits, how division rounds, and where there
--- is no value.)
+-- The value of arithmetic in a semi-state. (Own: the range of signed 64 bits, how division rounds, and when there is no
+-- value.)
 use Rattle.std.specs.Prelude.{◌≡◌, zero, ◌^◌, ◌-◌, ◌==◌, ◌&&◌, ℤ, pos, negsuc, ◌+ℤ◌, ◌-ℤ◌, ◌*ℤ◌, ◌<ℤ◌, ◌≤ℤ◌, int_le, int_div, slice_index, count_by, Option, Some, None, if◌then◌else◌, ◌≢◌}
 use Rattle.rbg_base.specs.declared.relation.Relation.{Relation}
 use Rattle.rbg_base.specs.declared.relation.Relation.TheVariants.{Equal, NotEqual, Less, LessOrEqual, Greater, GreaterOrEqual}
@@ -10,7 +10,7 @@ use Rattle.rbg_rules.specs.State.{AbstractState}
 abbrev pub if_fits : ℤ → Option ℤ
 if_fits z = if int_le (negsuc (2 ^ 63 - 1)) z && int_le z (pos (2 ^ 63 - 1)) then Some z else None
 
--- an operation on two values: no value where an operand has none
+-- an operation on two values: no value if an operand has none
 abbrev pub on_values : (ℤ → ℤ → Option ℤ) → Option ℤ → Option ℤ → Option ℤ
 on_values f (Some x) (Some y) = f x y
 on_values f (Some x) None = None
@@ -21,8 +21,8 @@ abbrev pub divided : ℤ → ℤ → Option ℤ
 divided x (pos zero) = None
 divided x y = if_fits (int_div x y)
 
--- The value of an expression in a semi-state, or none: none where any part leaves signed 64 bits, or a divisor is
--- zero. A piece's name is worth the number of vertices that hold it. A leading minus is 0 minus its factor.
+-- The value of an expression in a semi-state, or none: none if any part leaves signed 64 bits, or a divisor is zero.
+-- The value of a piece's name is the number of vertices that hold it. A leading minus is 0 minus its factor.
 abbrev pub value_of : AbstractArithmetic → AbstractState → Option ℤ
 value_of (number n) s = if_fits (pos n)
 value_of (variable v) s = if_fits (pos (slice_index s.values v))
@@ -33,7 +33,7 @@ value_of (difference e f) s = on_values (λ x y. if_fits (x -ℤ y)) (value_of e
 value_of (product e f) s = on_values (λ x y. if_fits (x *ℤ y)) (value_of e s) (value_of f s)
 value_of (quotient e f) s = on_values divided (value_of e s) (value_of f s)
 
--- x and y stand in the relation
+-- the relation holds between x and y
 abbrev pub Relates : Relation → ℤ → ℤ → Type 0
 Relates Equal x y = x ≡ y
 Relates NotEqual x y = x ≢ y

@@ -25,19 +25,19 @@ pub record WordOf (rules : Expression) (level : Level) (w : List ℕ) : Type 0 w
   pub is_level : IsLevel rules level expression
   pub is_word : Word expression w
 
--- Where one stands in the rules: at the beginning of a level, or after the action at a position.
+-- A point in the rules: the beginning of a level, or the point after the action at a position.
 pub data Start : Type 0 where
   beginning : Level → Start
   after : (position : ℕ) → Start
 
--- m goes on from there (paper: how a move goes on from the last action): at the beginning of a level it begins a word
--- of that level; after position i it follows directly after an i in a word of the level to which i belongs.
+-- m follows there (paper: how a move continues after the last action): at the beginning of a level it begins a word of
+-- that level; after position i it follows directly after an i in a word of the level to which i belongs.
 abbrev pub Follows : Expression → Start → List ℕ → Type 0
 Follows rules (beginning level) m = (z : List ℕ) × WordOf rules level (m ++ z)
 Follows rules (after i) m = (level : Level) × (u : List ℕ) × (z : List ℕ) × WordOf rules level (u ++ i ∷ (m ++ z))
 
--- m is all that follows there in a word: a whole word of a level, or what follows position i to the end of a
--- word. A word may end at position i where `Ends rules (after i) []`.
+-- m is all that follows there in a word: a whole word of a level, or what follows position i to the end of a word. A
+-- word may end at position i if `Ends rules (after i) []`.
 abbrev pub Ends : Expression → Start → List ℕ → Type 0
 Ends rules (beginning level) m = WordOf rules level m
 Ends rules (after i) m = (level : Level) × (u : List ℕ) × WordOf rules level (u ++ i ∷ m)

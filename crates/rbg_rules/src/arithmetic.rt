@@ -18,7 +18,7 @@ pub enum Arithmetic {
     },
 }
 
-/// Written out, so that letting an expression go is one call in the proofs of those who hold one, not a step for each part.
+/// Written by hand: dropping an expression is then one call in the proofs of its owners, not a step for each part.
 impl Drop for Arithmetic {
     #[cycle(arithmetic)]
     fn drop(self) {

@@ -1,4 +1,4 @@
-//! Small facts of small games, which show what the definitions say. Each function does nothing: its contract is the
+//! Small facts of small games, which show what the definitions mean. Each function does nothing: its contract is the
 //! fact.
 ghost use Rattle.std.specs.Prelude.{◌≡◌, ℕ, ◌-◌, ◌^◌, List, [], ◌∷◌, All, Contains, Some, None, Bool, pos, negsuc};
 ghost use Rattle.rbg_rules.specs.Meaning.{number, piece_count, negated, sum, difference, product, quotient, off, on, sequence_of, choice_of, act, star, IsNumbered, inside, Word, after, beginning, AbstractState, start_of, value_of, Acts, Applies, IsLegal, Finished, Item, modifier_at, pattern_at, find_move, try_move, pattern, Opening, HasOpenings, IsDeep, IsWide, Forced, HasForced, IsHeavyToFind, IsGame};
@@ -18,22 +18,22 @@ pub fn moves_through_a_star()
 {}
 
 /// A pattern's offs and steps are undone after it: in `->white {? right [w]} right {e} [w] ->black` on two squares the
-/// second one is still e, and white still stands on the first.
+/// second one is still e, and the first one is still current.
 pub fn pattern_is_undone()
     ensures legal { IsLegal looking_right (white_on (0 ∷ 0 ∷ [])) ((1, 7) ∷ (1, 8) ∷ []) }
     ensures not_its_off { ¬ IsLegal looking_right (white_on (0 ∷ 0 ∷ [])) ((1, 4) ∷ (1, 7) ∷ (1, 8)
         ∷ []) }
 {}
 
-/// In `->white {! right [w] {w}} [w] ->black` the negative pattern stops white on two squares, where a word of its
-/// inside runs, and lets it go on where there is no square to the right.
+/// In `->white {! right [w] {w}} [w] ->black` the negative pattern stops white on two squares, since a word of its
+/// inside runs there. On one square there is no square to the right, and white may move.
 pub fn negative_pattern()
     ensures holds { IsLegal (nothing_right one_square) (white_on (0 ∷ [])) ((0, 6) ∷ (0, 7) ∷ []) }
     ensures fails { Finished (nothing_right two_squares) (white_on (0 ∷ 0 ∷ [])) }
 {}
 
 /// In `->white (right + left)* {! {? right} {! left}} [w] ->black` on two squares the outer pattern stops white on the
-/// first one, where it can step to the right and not to the left.
+/// first one, from which it can step to the right and not to the left.
 pub fn nested_patterns()
     ensures second { IsLegal nested (white_on (0 ∷ 0 ∷ [])) ((1, 9) ∷ (1, 10) ∷ []) }
     ensures not_first { ¬ IsLegal nested (white_on (0 ∷ 0 ∷ [])) ((0, 9) ∷ (0, 10) ∷ []) }
@@ -50,7 +50,7 @@ pub fn division()
     ensures by_zero { value_of (quotient (number 1) (number 0)) (state_of 1 [] 0) ≡ None }
 {}
 
-/// A value outside signed 64 bits at any point gives none, also where the whole would be in range again.
+/// A value outside signed 64 bits at any point gives no value, even if the whole would be in range again.
 pub fn numbers_of_64_bits()
     ensures greatest { value_of (number (2 ^ 63 - 1)) (state_of 1 [] 0) ≡ Some (pos (2 ^ 63 - 1)) }
     ensures above { value_of (difference (sum (number (2 ^ 63 - 1)) (number 1)) (number 1))
@@ -77,8 +77,8 @@ pub fn counted_pieces()
     ensures others { value_of (piece_count 1) (state_of 1 (0 ∷ 1 ∷ 0 ∷ []) 0) ≡ Some (pos 1) }
 {}
 
-/// An assignment isn't valid where its value is above the bound: n has the bound 1, so `[$ n=n+1]` applies at 0 and
-/// not at 1.
+/// An assignment isn't valid if its value is above the bound: n has the bound 1, so `[$ n=n+1]` applies at 0 and not at
+/// 1.
 pub fn bounded_assignment()
     ensures at_zero { Applies counting 2 (state_of 1 (0 ∷ []) 0) (state_of 1 (0 ∷ []) 1) }
     ensures at_one { (t : AbstractState) → ¬ Applies counting 2 (state_of 1 (0 ∷ []) 1) t }
@@ -116,19 +116,20 @@ pub fn words()
     ensures not_alone { ¬ Word (sequence_of (act 1 (off 0) ∷ act 2 (off 1) ∷ [])) (1 ∷ []) }
 {}
 
-/// Positions go on inside a pattern, which has its own first; a number twice, or out of order, is no numbering.
+/// Positions continue inside a pattern, whose own position comes first. A number that comes twice, or out of order,
+/// makes no numbering.
 pub fn numbering()
     ensures pattern_first { IsNumbered (looking_right.rules) }
     ensures twice { ¬ IsNumbered (sequence_of (act 1 (off 0) ∷ act 1 (off 0) ∷ [])) }
     ensures out_of_order { ¬ IsNumbered (sequence_of (act 2 (off 0) ∷ act 1 (off 0) ∷ [])) }
 {}
 
-/// There is a game that keeps all that an accepted game keeps.
+/// There is a game that meets all conditions on an accepted game.
 pub fn a_game()
     ensures { IsGame looking_right }
 {}
 
-/// In `->white ([e] + [w]) ->black` white's question for a move has three openings: where it stands, and after each
+/// In `->white ([e] + [w]) ->black` white's question for a move has three openings: at its beginning, and after each
 /// off.
 pub fn openings_of_a_sum()
     ensures these { All (Opening small_sum find_move (state_of 1 (0 ∷ []) 0) (after 1))
@@ -145,7 +146,7 @@ pub fn openings_end_at_an_answer()
         → o ≡ [] }
 {}
 
-/// A pattern's question opens what the pattern's own modifiers make, after the vertex where it is asked.
+/// The question of a pattern opens the pairs of the pattern's own modifiers, after the vertex at which it is asked.
 pub fn openings_in_a_pattern()
     ensures { Opening looking_right find_move (state_of 1 (0 ∷ 0 ∷ []) 0) (after 1)
         (pattern_at 0 2 ∷ modifier_at 1 4 ∷ []) }
@@ -163,8 +164,9 @@ pub fn nothing_forced()
         ¬ Forced star_of_offs cut (try_move ((0, 2) ∷ [])) (state_of 1 (0 ∷ []) 0) (after 1) o }
 {}
 
-/// In `->white {! ([w] + [e]) {}} ->black` the pattern's question has three openings, all of them forced, since no
-/// word of the inside runs: where it is asked, and after each off. So it is wide under a budget of two.
+/// In `->white {! ([w] + [e]) {}} ->black` the pattern's question has three openings: at the vertex where it is asked,
+/// and after each off. All three are forced, since no word of the inside runs. So the question is wide under a budget
+/// of two.
 pub fn openings_of_a_pattern()
     ensures no_other { (o : List Item) →
         Opening asking_a_sum pattern (state_of 1 (0 ∷ []) 0) (beginning (inside 2)) o →

@@ -23,8 +23,8 @@ pub struct Parts {
     pub rules: Rules,
 }
 
-/// A game that was checked: its rules speak of its own players, pieces, variables and directions, and their actions
-/// are numbered.
+/// A game that was checked: its rules use its own players, pieces, variables and directions, and their actions are
+/// numbered.
 pub struct Game {
     parts: Parts,
 }
@@ -47,7 +47,7 @@ impl Model for Game {
     ghost invariant = { λ g. IsKept g.parts };
 }
 
-/// Written out, so that letting a game go is one call in the proofs of those who hold one, not a step for each part.
+/// Written by hand: dropping a game is then one call in the proofs of its owners, not a step for each part.
 impl Drop for Game {
     fn drop(self) {
         let Game { parts: _ } = self;
@@ -116,7 +116,7 @@ impl Game {
         self.parts.variables[variable as usize].as_str()
     }
 
-    /// The greatest value of a variable.
+    /// The maximum value of a variable.
     pub fn bound(&self, variable: Variable) -> u32
         requires { variable < length self.now.variables }
         ensures { slice_get self.now.bounds variable ≡ Some result }
@@ -172,7 +172,7 @@ impl Game {
         &self.parts.rules.actions[position as usize - 1]
     }
 
-    /// Whether a pattern stands at a position.
+    /// Whether a pattern is at a position.
     pub fn is_pattern(&self, position: Position) -> bool
         requires from_one { 0 < position }
         requires there { position ≤ length (positions_of self.now.rules) }

@@ -26,7 +26,7 @@ pub fn action_belongs_to_some_level()
     ensures { SomeLevelLaw }
 {}
 
-/// What runs has pairs, and what has pairs runs.
+/// A list of positions that runs leaves a list of pairs, and one that leaves pairs runs.
 pub fn runs_have_pairs()
     ensures { PairsLaw }
 {}
@@ -51,17 +51,17 @@ pub fn pattern_changes_nothing()
     ensures { PatternLaw }
 {}
 
-/// A positive pattern holds exactly where a word of its inside runs by the game's own actions.
+/// A positive pattern holds exactly if a word of its inside runs by the game's own actions.
 pub fn positive_pattern_runs()
     ensures { PositiveLaw }
 {}
 
-/// A negative pattern holds exactly where no word of its inside runs by the game's own actions.
+/// A negative pattern holds exactly if no word of its inside runs by the game's own actions.
 pub fn negative_pattern_runs()
     ensures { NegativeLaw }
 {}
 
-/// Play is finished exactly where no list of pairs is a move.
+/// Play is finished exactly if no list of pairs is a move.
 pub fn moves_and_the_end()
     ensures { MoveLaw }
 {}
@@ -81,34 +81,34 @@ pub fn rules_have_words()
     ensures { WordLaw }
 {}
 
-/// In numbered rules a list that goes through a position follows exactly where its part up to the position follows
-/// and the rest follows the position. The same holds of the ends of words.
+/// In numbered rules a list that goes through a position follows exactly if its part up to the position follows and the
+/// rest follows the position. The same holds of the ends of words.
 pub fn neighbours_decide()
     ensures { LocalityLaw }
 {}
 
-/// Where no sum is empty, each own action of an expression stands in some word of it.
+/// If no sum is empty, each own action of an expression is in some word of it.
 pub fn actions_stand_in_words()
     ensures { TrimLaw }
 {}
 
-/// Where no sum is empty, the empty list follows from everywhere.
+/// If no sum is empty, the empty list follows from everywhere.
 pub fn empty_list_follows()
     ensures { EmptyLaw }
 {}
 
-/// Where no sum is empty, the empty list is an opening everywhere, of every question but that for the move of no pairs.
+/// If no sum is empty, the empty list is an opening everywhere, of every question but that for the move of no pairs.
 pub fn empty_list_is_an_opening()
     ensures { EmptyOpeningLaw }
 {}
 
-/// A pattern is valid by the answer of its question: whether some word of its inside runs.
+/// The answer to a pattern's question decides whether the pattern is valid: whether some word of its inside runs.
 pub fn pattern_answers()
     ensures { AnswerLaw }
 {}
 
-/// Two runs from one semi-state with the same pairs end alike but for the current vertex, and the pairs alone lead
-/// there.
+/// Two runs from one semi-state with the same pairs end in the same semi-state but for the current vertex, and the
+/// pairs alone lead there.
 pub fn pairs_fix_the_state()
     ensures { PairsStateLaw }
 {}

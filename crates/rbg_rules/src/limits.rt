@@ -1,32 +1,32 @@
-//! How much a game may have, and how much a question may open.
+//! The limits on the size of a game, and on the openings of a question.
 ghost use Rattle.std.specs.Prelude.{◌≡◌};
 ghost use Rattle.rbg_board.specs.Limits.{most_vertices};
 ghost use Rattle.rbg_rules.specs.Limits.{most_players, most_pieces, most_variables, greatest_bound, most_directions, most_positions, most_nested_patterns, most_openings, most_modifiers};
 
 pub use rbg_board::MAX_VERTICES;
 
-/// The most players. The keeper isn't counted.
+/// The maximum number of players. The keeper isn't counted.
 pub const MAX_PLAYERS: usize = 8;
 
-/// The most pieces.
+/// The maximum number of pieces.
 pub const MAX_PIECES: usize = 1_000;
 
-/// The most variables. The players' scores are variables too.
+/// The maximum number of variables. The players' scores are variables too.
 pub const MAX_VARIABLES: usize = 64;
 
-/// The greatest bound of a variable.
+/// The maximum bound of a variable.
 pub const MAX_BOUND: u64 = 1_000_000_000;
 
-/// The most directions.
+/// The maximum number of directions.
 pub const MAX_DIRECTIONS: usize = 64;
 
-/// The most positions: the actions of the rules, and those inside patterns.
+/// The maximum number of positions: the actions of the rules, and those inside patterns.
 pub const MAX_POSITIONS: usize = 20_000;
 
-/// The most patterns one inside the other.
+/// The maximum depth of patterns nested in each other.
 pub const MAX_NESTED_PATTERNS: usize = 8;
 
-/// The most different openings of a question.
+/// The maximum number of different openings of a question.
 pub const MAX_OPENINGS: usize = 100_000;
 
 /// An opening with this many modifiers in a row is too deep.

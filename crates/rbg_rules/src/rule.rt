@@ -10,8 +10,7 @@ use rbg_base::{Direction, Piece, Player, Position, Relation, Variable};
 pub enum Rule {
     /// The action at this position, which isn't a pattern.
     Act(Position),
-    /// The pattern at this position, with its inside. The action at the position says whether it is positive or
-    /// negative.
+    /// The pattern at this position, with its inside. The action at the position is a positive or a negative pattern.
     Pattern {
         position: Position,
         inside: Box<Rule>,
@@ -24,7 +23,7 @@ pub enum Rule {
     Star(Box<Rule>),
 }
 
-/// Written out, so that letting a rule go is one call in the proofs of those who hold one, not a step for each part.
+/// Written by hand: dropping a rule is then one call in the proofs of its owners, not a step for each part.
 impl Drop for Rule {
     #[cycle(rule)]
     fn drop(self) {
@@ -90,7 +89,7 @@ impl Action {
     }
 }
 
-/// The rules of a game: each action once, by its position, and the tree in which the positions stand.
+/// The rules of a game: each action once, by its position, and the tree that has the positions.
 #[derive(Drop)]
 pub struct Rules {
     pub tree: Rule,

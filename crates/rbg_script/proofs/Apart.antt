@@ -103,7 +103,7 @@ event_only text (Ok (Some found)) h none event spelled = one_event text (event_o
 event_only text (Ok None) h none event spelled = absurd (none event spelled)
 event_only text (Err error) h none event spelled = tt
 
--- what an option has, and what is left where it has nothing
+-- what an option has, and what is left if it has nothing
 pub some_here : {T : Type 0} (P : T → Type 0) (answer : Option T) (x : T) → answer ≡ Some x → IfSome answer P → P x
 some_here P answer x is h = subst (λ a. IfSome a P) is h
 

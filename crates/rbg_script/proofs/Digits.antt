@@ -8,7 +8,7 @@ use Rattle.hex.proofs.HexLemmas.{decode_of-even, decode_of-encode_lower, decode_
 use Rattle.hex.proofs.Pairs.{cons_byte, decode_pairs-ok_pair}
 use Rattle.rbg_script.specs.Events.{SpellsBytes, no_bytes, one_byte, byte_text}
 
--- two digits and what follows them, where all of it is read
+-- two digits and what follows them, if all of it is read
 read_pair : (a b i : ℕ) (x y : Option ℕ) (r : Result (List ℕ) FromHexError) (bytes : List ℕ) → ((digit_or_error a i x >>= (λ h. digit_or_error b (i + 1) y >>= (λ l. Ok (h * 16 + l)))) >>= (λ byte. r >>= (λ more. Ok (byte ∷ more)))) ≡ Ok bytes → (high : ℕ) × (low : ℕ) × (rest : List ℕ) × (x ≡ Some high) × (y ≡ Some low) × (r ≡ Ok rest) × ((high * 16 + low) ∷ rest ≡ bytes)
 read_pair a b i (Some h) (Some l) (Ok rest) bytes e = (h, l, rest, refl, refl, refl, ap (λ (r : Result (List ℕ) FromHexError). result_unwrap_or r []) e)
 read_pair a b i (Some h) (Some l) (Err bad) bytes e = cc e

@@ -16,7 +16,7 @@ mark_lacks =
 marked_shape : (description script : List ℕ) → description ++ line_of mark ++ script ≡ description ++ (mark ++ 10 ∷ script)
 marked_shape description script = append_assoc description (line_of mark) script
 
--- lines without the mark, where the mark doesn't follow
+-- lines without the mark, if the mark doesn't follow
 no_mark : (xs ys : List (List ℕ)) (left script : List ℕ) → All (LacksByte 10) xs → All (λ line. line ≢ mark) xs → LacksByte 10 left → All (LacksByte 10) ys → lines_of xs ++ left ≡ lines_of ys ++ (mark ++ 10 ∷ script) → ⊥
 no_mark [] [] left script h u k m same = no_cut 10 mark script (subst (LacksByte 10) same k)
 no_mark [] (y ∷ ys) left script h u k m same =

@@ -39,7 +39,7 @@ event_there [] line after (event ∷ events) h none = none event h.0
 event_there (first ∷ before) line after [] h none = h
 event_there (first ∷ before) line after (event ∷ events) h none = event_there before line after events h.1 none
 
--- the first line that spells no event stands at one place
+-- the first line that spells no event is at one place
 same_place : (a b : List (List ℕ)) (x y : List ℕ) (c d : List (List ℕ)) (p q : List AbstractEvent) → AllZip SpellsEvent a p → AllZip SpellsEvent b q → IsNoEvent x → IsNoEvent y → a ++ x ∷ c ≡ b ++ y ∷ d → length a ≡ length b
 same_place [] [] x y c d p q h k m n same = refl
 same_place [] (l ∷ b) x y c d p [] h k m n same = absurd k

@@ -64,11 +64,11 @@ pub data SpellsEvent (text : List ℕ) : AbstractEvent → Type 0 where
 abbrev pub SpellsMessage : List ℕ → Message → Type 0
 SpellsMessage text message = HasFields text (codes "m ") message.seat message.at message.text.now
 
--- the two digits of a byte, with small letters
+-- the two digits of a byte, in lower case
 abbrev pub byte_text : ℕ → List ℕ
 byte_text byte = slice_index lower_digits (byte / 16) ∷ slice_index lower_digits (byte % 16) ∷ []
 
--- the line that is written of an event: a piece is written with small digits
+-- the line that is written for an event: a piece is written with lower-case digits
 unfoldable pub event_text : AbstractEvent → List ℕ
 event_text (piece_event seat at bytes) = fields_text (codes "p ") seat at (flat_map byte_text bytes)
 event_text (end_event seat at) = end_text seat at

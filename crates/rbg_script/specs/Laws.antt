@@ -17,7 +17,8 @@ pub record SpellingsAreApart : Type 0 where
   pub kinds : AreApart SpellsConfig SpellsEvent
   pub bytes : SpellsOne SpellsBytes
 
--- What is written of a config or an event is a line, and spells it. So does what is written of a whole script.
+-- The line that is written for a config or an event is a line, and spells it. The text that is written for a script
+-- spells it too.
 pub record WrittenIsRead : Type 0 where
   pub configs : (config : ScriptConfig) → ConfigHasSpelling config → SpellsConfig (config_text config) config
   pub events : (event : AbstractEvent) → EventHasSpelling event → SpellsEvent (event_text event) event

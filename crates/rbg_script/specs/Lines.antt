@@ -3,12 +3,12 @@ use Rattle.std.specs.Prelude.{◌≡◌, ℕ, List, [], ◌∷◌, ◌++◌, All
 use Rattle.rbg_wire.specs.Bytes.{LacksByte}
 use Rattle.rbg_wire.specs.Lines.{line_feed, lines_of}
 
--- what stands after the last line feed: one more line, or nothing
+-- what follows the last line feed: one more line, or nothing
 abbrev pub last_line : List ℕ → List (List ℕ)
 last_line [] = []
 last_line (byte ∷ bytes) = (byte ∷ bytes) ∷ []
 
--- The text has these lines: whole ones, each with its line feed, and what stands after the last line feed.
+-- The text has these lines: whole ones, each with its line feed, and what follows the last line feed.
 pub record HasLines (text : List ℕ) (lines : List (List ℕ)) : Type 0 where
   pub whole : List (List ℕ)
   pub rest : List ℕ

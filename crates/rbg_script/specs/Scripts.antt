@@ -54,7 +54,7 @@ pub data IsReason (text : List ℕ) : ScriptError → Type 0 where
   misfit : (number : ℕ) → HasMisfit text number → IsReason text (Line number)
   no_memory : IsReason text Memory
 
--- what is written of a script
+-- the text that is written for a script
 abbrev pub script_text : AbstractScript → List ℕ
 script_text script = lines_of (config_text script.config ∷ map event_text script.events)
 

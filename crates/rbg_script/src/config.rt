@@ -1,9 +1,9 @@
 //! The config of a script.
 
-/// The longest time for a turn, in milliseconds: one hour.
+/// The maximum time for a turn, in milliseconds: one hour.
 pub(crate) const MAX_TURN_MS: u64 = 3_600_000;
 
-/// The most refusals that may be allowed.
+/// The maximum number of refusals that may be allowed.
 pub(crate) const MAX_REFUSALS: u64 = 100;
 
 /// `config <turn> <refusals> <now>`: how a match begins.

@@ -8,9 +8,9 @@ use crate::config::{MAX_REFUSALS, MAX_TURN_MS};
 use rbg_base::number_of_decimal;
 use rbg_wire::{after_text, cut_number};
 
-/// The config of which the whole text is the spelling.
+/// The config that the whole text spells: `config <turn> <refusals> <now>`.
 ///
-/// Returns None if it is that of no config, as where a number is above its limit.
+/// Returns None if the text spells no config. A number above its limit spells none.
 pub fn read_config(line: &[u8]) -> Option<ScriptConfig>
     ensures { ReadsOnly (SpellsConfig line.now) result }
 {

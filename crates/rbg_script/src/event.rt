@@ -1,6 +1,6 @@
 //! The events of a script.
 
-/// An `m` line: a message that a seat says.
+/// An `m` line: a message that a seat sends.
 #[derive(Clone, Copy)]
 pub struct Message<'a> {
     pub seat: u64,

@@ -22,13 +22,13 @@ use rbg_base::{Memory, number_of_decimal};
 use rbg_wire::{after_text, cut_number};
 use std::alloc::Global;
 
-/// The message of an `m` line that is the whole text. It allocates nothing.
+/// The message of an `m` line that is the whole text. The call allocates nothing.
 ///
-/// Returns None if the text is no such line.
+/// Returns None if the text is no `m` line.
 pub fn read_message(line: &[u8]) -> Option<Message<'_>>
-    // The text is the line of the message that is returned.
+    // A message that is returned is the one whose line the text is.
     ensures found { IfSome result (SpellsMessage line.now) }
-    // The message is returned whose line this is.
+    // If the text is the line of a message, that message is returned.
     ensures only { (seat at : ℕ) (said : List ℕ)
         → HasFields line.now (codes "m ") seat at said
         → IsSomeAnd result (λ message.
@@ -37,14 +37,14 @@ pub fn read_message(line: &[u8]) -> Option<Message<'_>>
     message_in(line)
 }
 
-/// The event of which the whole text is a spelling.
+/// The event that the whole text spells.
 ///
-/// Returns None if it is that of no event.
+/// Returns None if the text spells no event.
 pub fn read_event(alloc: Global, line: &[u8]) -> Result<Option<ScriptEvent>, Memory>
-    // The text is one of the event that is returned.
+    // An event that is returned is one that the text spells.
     ensures found { IfOk result (λ read.
         IfSome read (λ event. SpellsEvent line.now (event_of event))) }
-    // The event is returned whose text this is.
+    // If the text spells an event, that event is returned.
     ensures only { (event : AbstractEvent)
         → SpellsEvent line.now event
         → IfOk result (λ read. IsSomeAnd read (λ found. event_of found ≡ event)) }
@@ -82,7 +82,7 @@ fn message_in(line: &[u8]) -> Option<Message<'_>>
     })
 }
 
-// The piece that a message is: its text and a zero byte.
+// The piece that a message makes: its text and a zero byte.
 fn piece_of(alloc: Global, message: &Message<'_>) -> Result<ScriptEvent, Memory>
     ensures { IfOk result (λ event.
         event_of event

@@ -14,7 +14,7 @@ pub struct TwoTexts<'a> {
     pub script: &'a [u8],
 }
 
-/// What stands before the first line that is exactly `%%`, and what stands after it. The line may end the input.
+/// The bytes before the first line that is exactly `%%`, and the bytes after it. The line may end the input.
 ///
 /// Returns None if there is no such line.
 pub fn cut_at_mark(input: &[u8]) -> Option<TwoTexts<'_>>
@@ -35,7 +35,7 @@ pub fn cut_at_mark(input: &[u8]) -> Option<TwoTexts<'_>>
     }
 }
 
-// What stands before the last bytes of an input, and a script.
+// The bytes before the last ones of an input, and a script.
 fn before<'a>(input: &'a [u8], last: &[u8], script: &'a [u8]) -> TwoTexts<'a>
     requires { length last.now ≤ length input.now }
     ensures description { result.description.now ≡ take (length input.now - length last.now) input.now }

@@ -19,17 +19,17 @@ pub struct Script {
     pub events: Vec<ScriptEvent>,
 }
 
-/// The script of which the whole text is a spelling.
+/// The script that the whole text spells.
 ///
-/// Returns `Line` if it is that of no script.
+/// Returns `Line` if the text spells no script.
 pub fn read_script(alloc: Global, text: &[u8]) -> Result<Script, ScriptError>
-    // The text is one of the script that is returned.
+    // A script that is returned is one that the text spells.
     ensures found { IfOk result (λ script. SpellsScript text.now (script_of script)) }
-    // The script is returned whose text this is, if memory doesn't run out.
+    // If the text spells a script, that script is returned, unless memory runs out.
     ensures only { (script : AbstractScript)
         → SpellsScript text.now script
         → MatchResult result (λ found. script_of found ≡ script) (λ error. error ≡ OutOfMemory) }
-    // The line is the first that is missing or not of its form.
+    // The line of the error is the first that is missing or not of its form.
     ensures line { IfErr result (IsReason text.now) }
 {
     script_in(alloc, text)
@@ -64,7 +64,7 @@ fn read_events(alloc: Global, text: &[u8]) -> Result<Vec<ScriptEvent>, ScriptErr
     Ok(events)
 }
 
-// Adds the event that a line spells, and says whether it spells one.
+// Adds the event that a line spells. Returns false if the line spells none.
 fn take_line(alloc: Global, line: &[u8], events: &mut Vec<ScriptEvent>) -> Result<bool, Memory>
     ensures { IfOk result (TakesLine line.now
         (map event_of events.old.items) (map event_of events.new.items)) }

@@ -14,7 +14,8 @@ use rbg_wire::{all_or_nothing, put_number};
 /// The hexadecimal digits that are written.
 const DIGITS: &[u8; 16] = b"0123456789abcdef";
 
-/// Appends the line of a config, which spells it if it is within its limits. On an error the bytes are unchanged.
+/// Appends the line of a config. It is read back as that config if its numbers are within their limits. On an error the
+/// bytes are unchanged.
 pub fn write_config(config: ScriptConfig, out: &mut Vec<u8>) -> Result<(), Memory>
     ensures { AppendsAll out.old.items out.new.items (line_of (config_text config)) result }
 {
@@ -23,7 +24,8 @@ pub fn write_config(config: ScriptConfig, out: &mut Vec<u8>) -> Result<(), Memor
     all_or_nothing(written, len, out)
 }
 
-/// Appends the line of an event. A piece is written in small hexadecimal digits. On an error the bytes are unchanged.
+/// Appends the line of an event. A piece is written in lower-case hexadecimal digits. On an error the bytes are
+/// unchanged.
 pub fn write_event(event: &ScriptEvent, out: &mut Vec<u8>) -> Result<(), Memory>
     ensures written { AppendsAll out.old.items out.new.items
         (line_of (event_text (event_of event.now))) result }
@@ -36,7 +38,8 @@ pub fn write_event(event: &ScriptEvent, out: &mut Vec<u8>) -> Result<(), Memory>
     }
 }
 
-/// Appends the line of a piece of a seat's stream, in small hexadecimal digits. On an error the bytes are unchanged.
+/// Appends the line of a piece of a seat's stream, in lower-case hexadecimal digits. On an error the bytes are
+/// unchanged.
 pub fn write_piece(seat: u64, at: u64, bytes: &[u8], out: &mut Vec<u8>) -> Result<(), Memory>
     ensures written { AppendsAll out.old.items out.new.items
         (line_of (event_text (piece_event seat at bytes.now))) result }
@@ -70,7 +73,7 @@ pub fn write_tick(at: u64, out: &mut Vec<u8>) -> Result<(), Memory>
     all_or_nothing(written, len, out)
 }
 
-/// Appends an `m` line: a message that a seat says, without its zero byte. On an error the bytes are unchanged.
+/// Appends an `m` line: a message that a seat sends, without its zero byte. On an error the bytes are unchanged.
 pub fn write_message(seat: u64, at: u64, text: &[u8], out: &mut Vec<u8>) -> Result<(), Memory>
     ensures written { AppendsAll out.old.items out.new.items
         (line_of (fields_text (codes "m ") seat at text.now)) result }
@@ -90,7 +93,7 @@ fn put_piece_line(seat: u64, at: u64, bytes: &[u8], out: &mut Vec<u8>) -> Result
     out.extend_from_slice(b"\n")
 }
 
-/// Bytes are numbers below 256. A clause that says so of all bytes of a slice asks for a walk over them.
+/// Bytes are numbers below 256. Only a walk over a slice proves that of all its bytes.
 fn are_bytes(bytes: &[u8])
     ensures { All (λ byte. byte < 256) bytes.now }
 {
@@ -145,7 +148,7 @@ fn put_piece(seat: u64, at: u64, bytes: &[u8], out: &mut Vec<u8>) -> Result<(), 
     put_digits(bytes, out)
 }
 
-// Appends what stands before the bytes of a piece, which begins with that word.
+// Appends the part of a `p` or `m` line before its bytes: the word, the seat and the moment.
 fn put_head(word: &[u8], seat: u64, at: u64, out: &mut Vec<u8>) -> Result<(), Memory>
     ensures { Appends out.old.items out.new.items
         (word.now ++ decimal seat ++ codes " " ++ decimal at ++ codes " ") result }

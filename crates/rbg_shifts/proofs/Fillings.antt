@@ -1,4 +1,4 @@
--- Nothing is missing where all was gathered, and that stays so.
+-- If all was gathered, nothing is missing, and that stays so.
 use Rattle.rbg_base.proofs.Common.{◌≡◌, ◌≢◌, ℕ, ◌+◌, ◌-◌, ◌*◌, ◌<◌, ◌≤◌, ◌⊎◌, List, length, get_or, set, Bool, true, false, refl, sym, ap, ◌∙◌, subst, inl, inr, zero, suc, arith, All, Contains, IsTrue, replicate, All-contains}
 use Rattle.std.proofs.lemmas.List.{get_or-set_same, get_or-set_other}
 use Rattle.rbg_rules.specs.Meaning.{AbstractGame}
@@ -7,7 +7,8 @@ use Rattle.rbg_shifts.proofs.Places.{below_or_not, same_or_not, one_place, same_
 use Rattle.rbg_shifts.proofs.Tabling.{entry_gathered, entry_same, entry_within, table_grown, table_shared, whole_end, within_at}
 use Rattle.rbg_shifts.proofs.Targets.{keeps_none, keeps_same, keeps_more, keeps_fewer, tells_kept, tells_before}
 
--- What one step leads to is told still where no less is told, and no more where a shift leads.
+-- Targets still record what one step leads to, if they record no less than before, and the entries to which shifts lead
+-- record no more.
 pub told_on : (game : AbstractGame) (lists : Lists) (place : ℕ) (old new : Table) (from to from_new to_new : ℕ) (one two : Bool) (v p : ℕ) → All (IsWithin place) old.entries.items → new.vertices ≡ old.vertices → Keeps place old.targets.items new.targets.items → ((j u : ℕ) → Tells old.targets.items from to j u → Tells new.targets.items from_new to_new j u) → (IsTrue one → IsTrue two) → ((w : ℕ) → IsShiftAt game.rules p → Comes game v p w → w < old.vertices → (entry_at new (get_or lists.afters.items p 0) w ≡ entry_at old (get_or lists.afters.items p 0) w) ⊎ IsUnder new (entry_at new (get_or lists.afters.items p 0) w) from_new to_new two) → IsToldBy game lists old from to one v p → IsToldBy game lists new from_new to_new two v p
 told_on game lists place old new from to from_new to_new one two v p inside vertices targets keeps more same is = record {
   plain = λ other. keeps p v (is.plain other);
@@ -33,7 +34,7 @@ told_on game lists place old new from to from_new to_new one two v p inside vert
 pub all_told_on : (game : AbstractGame) (lists : Lists) (old new : Table) (from to from_new to_new : ℕ) (one two : Bool) (v : ℕ) (list : List ℕ) → ((p : ℕ) → Contains list p → IsToldBy game lists old from to one v p → IsToldBy game lists new from_new to_new two v p) → All (IsToldBy game lists old from to one v) list → All (IsToldBy game lists new from_new to_new two v) list
 all_told_on game lists old new from to from_new to_new one two v list step all = λ k d below. step (get_or list k d) (k, below, same_item list k (get_or list k d) below ∙ sym (same_item list k d below)) (all k d below)
 
--- Where nothing was missing, nothing is missing once other entries were filled.
+-- If nothing was missing, nothing is missing after other entries were filled.
 pub closed_on : (game : AbstractGame) (lists : Lists) (old new : Table) (n v : ℕ) → new.vertices ≡ old.vertices → Keeps (length old.targets.items) old.targets.items new.targets.items → entry_at new n v ≡ entry_at old n v → ((p w : ℕ) → Contains (list_at lists.interner n) p → IsShiftAt game.rules p → Comes game v p w → w < old.vertices → entry_at new (get_or lists.afters.items p 0) w ≡ entry_at old (get_or lists.afters.items p 0) w) → IsClosed game lists old n v → IsClosed game lists new n v
 closed_on game lists old new n v vertices targets here same is =
     subst (λ (e : Entry). IsWhole game lists new n v e.start (end_of e) e.ends) (sym here) (record {
@@ -66,7 +67,7 @@ fills_more a b c n first second = record {
 pub no_vertex : (game : AbstractGame) (lists : Lists) (t : Table) (n : ℕ) → IsSoundTable game lists t → FillsUpTo game lists t t n 0
 no_vertex game lists t n sound = record { sound = sound; fills = fills_none t n; closed = λ back v below. absurd (omega (arith, below)) }
 
--- A vertex that was filled stays so where another one of its node is filled, if no shift leads there.
+-- A vertex that was filled stays so when another one of its node is filled, if no shift leads there.
 closed_still : (game : AbstractGame) (lists : Lists) (b c : Table) (n v u : ℕ) → FillsOne game lists b c n u → v ≢ u → v < b.vertices → ((p w : ℕ) → Contains (list_at lists.interner n) p → IsShiftAt game.rules p → get_or lists.afters.items p 0 ≡ n → Comes game v p w → w ≢ u) → IsClosed game lists b n v → IsClosed game lists c n v
 closed_still game lists b c n v u now differ small elsewhere was =
     closed_on game lists b c n v now.fills.vertices now.fills.targets (now.beside v differ small)
@@ -137,7 +138,7 @@ other_node vertices n v m w below small differ same = differ (one_place vertices
 other_vertex : (vertices n v w : ℕ) → w ≢ v → n * vertices + w ≢ n * vertices + v
 other_vertex vertices n v w differ same = differ (omega (arith, same))
 
--- What one step leads to is told still where targets were added.
+-- Targets still record what one step leads to after more targets were added.
 pub told_grown : (game : AbstractGame) (lists : Lists) (start : ℕ) (old new : Table) (one two : Bool) (v p : ℕ) → All (IsWithin start) old.entries.items → Grows start old new → KeepsTold start old new → (IsTrue one → IsTrue two) → IsToldFrom game lists old start one v p → IsToldFrom game lists new start two v p
 told_grown game lists start old new one two v p inside grows kept more is =
     told_on game lists start old new start (length old.targets.items) start (length new.targets.items) one two v p inside grows.vertices grows.targets kept.tells more (λ w s comes small. inl (entry_same start old new grows (get_or lists.afters.items p 0) w)) is
@@ -149,7 +150,7 @@ raise_end game lists t from to one two v p more is = record {
   shift = λ w s comes. let under = is.shift w s comes in record { tells = under.tells; ends = λ u. more (under.ends u) };
 }
 
--- A position that is no shift is told of by a target with the vertex.
+-- A position that is no shift is recorded by a target with the vertex.
 pub told_plain : (game : AbstractGame) (lists : Lists) (t : Table) (from to : ℕ) (may_end : Bool) (v p : ℕ) → ¬ IsShiftAt game.rules p → Tells t.targets.items from to p v → IsToldBy game lists t from to may_end v p
 told_plain game lists t from to may_end v p other told = record {
   plain = λ is_other. told;
@@ -157,7 +158,7 @@ told_plain game lists t from to may_end v p other told = record {
   shift = λ w s comes. absurd (other s);
 }
 
--- A shift that leads nowhere has nothing to be told.
+-- A shift that leads nowhere leaves nothing to record.
 pub told_nowhere : (game : AbstractGame) (lists : Lists) (t : Table) (from to : ℕ) (may_end : Bool) (v p : ℕ) → IsShiftAt game.rules p → ((w : ℕ) → ¬ Comes game v p w) → IsToldBy game lists t from to may_end v p
 told_nowhere game lists t from to may_end v p is nowhere = record {
   plain = λ other. absurd (other is);
@@ -165,7 +166,7 @@ told_nowhere game lists t from to may_end v p is nowhere = record {
   shift = λ w s comes. absurd (nowhere w comes);
 }
 
--- A shift that leads to one vertex, at which all was added that is told there.
+-- A shift that leads to one vertex, if all that is recorded there was added.
 pub told_after : (game : AbstractGame) (lists : Lists) (t : Table) (from to : ℕ) (may_end : Bool) (v p there : ℕ) → IsShiftAt game.rules p → ((w : ℕ) → Comes game v p w → w ≡ there) → there < t.vertices → IsUnder t (entry_at t (get_or lists.afters.items p 0) there) from to may_end → IsToldBy game lists t from to may_end v p
 told_after game lists t from to may_end v p there is only small under = record {
   plain = λ other. absurd (other is);
@@ -220,7 +221,7 @@ only_item xs x one is k d there =
     let here : 0 < length xs = omega (arith, one) in
     ap (λ (i : ℕ). get_or xs i d) first ∙ same_item xs 0 d here ∙ sym (same_item xs 0 x here) ∙ is
 
--- What was gathered from a place on is told by the entry with all targets from there on.
+-- The entry with all targets from a place on records what was gathered from there on.
 pub whole_put : (game : AbstractGame) (lists : Lists) (t : Table) (start n v : ℕ) (ends : Bool) → start ≤ length t.targets.items → IsWholeFrom game lists t start n v ends → IsWhole game lists t n v start (start + (length t.targets.items - start)) ends
 whole_put game lists t start n v ends inside whole = subst (λ (to : ℕ). IsWhole game lists t n v start to ends) (sym (whole_end start (length t.targets.items) inside)) whole
 
@@ -239,7 +240,7 @@ one_filled game lists old middle new start n v ends at_end below sound grows sha
     e : Entry
     e = record { start = start; many = length middle.targets.items - start; ends = ends }
 
--- What is told of the only position of a list is all that is told.
+-- What is recorded of the only position of a list is all that there is to record.
 pub whole_of_one : (game : AbstractGame) (lists : Lists) (t : Table) (n v p from to : ℕ) (ends : Bool) → IsOnly (list_at lists.interner n) p → (IsTrue (may_end_at lists.interner n) → IsTrue ends) → IsToldBy game lists t from to ends v p → IsWhole game lists t n v from to ends
 whole_of_one game lists t n v p from to ends only end told = record {
   ends = end;
@@ -250,7 +251,7 @@ whole_of_one game lists t n v p from to ends only end told = record {
 pub only_listed : (xs : List ℕ) (p : ℕ) → IsOnly xs p → Contains xs p
 only_listed xs p only = (0, let one = only.one in omega (arith, one), only.listed)
 
--- Marked nodes stay as they are where another node is filled.
+-- Marked nodes stay as they are when another node is filled.
 pub filled_on : (game : AbstractGame) (lists : Lists) (old new : Table) (marks : List Bool) (m : ℕ) → ¬ IsMarked marks m → FillsRightly game lists old new m → AreFilled game lists old marks → AreFilled game lists new marks
 filled_on game lists old new marks m unmarked right are = record {
   sound = right.sound;

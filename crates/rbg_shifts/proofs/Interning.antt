@@ -86,7 +86,7 @@ level_within : (game : AbstractGame) → IsNumbered game.rules → (p : ℕ) (x 
 level_within game numbered p x (inl h) = (action_within game.rules numbered p (positive x) h).1
 level_within game numbered p x (inr h) = (action_within game.rules numbered p (negative x) h).1
 
--- The node of an origin is that of the place where one stands.
+-- The node of an origin is that of its point in the rules.
 pub node_there : (game : AbstractGame) → IsNumbered game.rules → (lists : Lists) → AreListsOf game.rules lists → (origin : Origin) → IsStart game.rules (start_of origin) → IsNodeOf game.rules lists.interner (start_of origin) (origin_node lists origin)
 node_there game numbered lists are (Begin Rules) start = are.nodes.begins
 node_there game numbered lists are (Begin (Inside p)) (x, level) = let small = level_within game numbered p x level in are.nodes.inside_each p (omega (arith, small))

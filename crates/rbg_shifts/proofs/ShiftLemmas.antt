@@ -1,4 +1,4 @@
--- Which positions are shifts, and where one comes by them.
+-- Which positions are shifts, and where they lead.
 use Rattle.rbg_base.proofs.Common.{◌≡◌, ℕ, ◌+◌, ◌<◌, ◌≤◌, List, [], ◌∷◌, ◌++◌, length, get_or, zero, suc, refl, sym, ap, ◌∙◌, subst, inl, inr, arith, ◌↔◌, Option, Some, None, IfSome, IfNone, All, Contains, IsTrue, true, false, range_with_len, is_some, All-weaker, All-contains_itself}
 use Rattle.std.proofs.lemmas.List.{get_or_push, get_or_append_left, length-append}
 use Rattle.std.proofs.Math.ListN.{get_or-eq_default}
@@ -12,7 +12,7 @@ use Rattle.rbg_auto.specs.Steps.{AreAllThatFollow}
 use Rattle.rbg_shifts.proofs.Common.{IsShiftAt, AreDirections, AreDirectionsUpTo, Comes, by_shift, by_other, IsUpToLast}
 use Rattle.rbg_shifts.proofs.Cases.{no_some}
 
--- An action of a level stands in the rules.
+-- An action of a level is in the rules.
 pub level_stands : (rules : Expression) (level : Level) (x : Expression) → IsLevel rules level x → (p : ℕ) (a : AbstractAction) → HasAction x p a → HasAction rules p a
 level_stands rules outermost x same p a h = subst (λ (y : Expression). HasAction y p a) same h
 level_stands rules (inside q) x (inl stands) p a h = stands_inside rules q (positive x) stands p a h
@@ -23,7 +23,7 @@ word_stands rules level w word p h =
     let (a, own) = word_own word.expression w word.is_word p h in
     (a, level_stands rules level word.expression word.is_level p a (own_stands word.expression p a own))
 
--- What follows stands in the rules.
+-- What follows is in the rules.
 pub follower_stands : (rules : Expression) (f : Start) (p : ℕ) → Follows rules f (p ∷ []) → (a : AbstractAction) × HasAction rules p a
 follower_stands rules (beginning level) p (z, word) = word_stands rules level (p ∷ z) word p (inl refl)
 follower_stands rules (after i) p (level, u, z, word) = word_stands rules level (u ++ i ∷ p ∷ z) word p (Among_right p u (i ∷ p ∷ z) (inr (inl refl)))
@@ -52,7 +52,7 @@ pub followers_within : (rules : Expression) → IsNumbered rules → (f : Start)
 followers_within rules numbered f ps follow =
     All-weaker (Contains ps) (IsUpToLast rules) (λ p h. follower_within rules numbered f p ((follow.exact p).0 h)) ps (All-contains_itself ps)
 
--- Where a shift stands, the action is that shift.
+-- The action at the position of a shift is that shift.
 shift_is : (rules : Expression) → IsNumbered rules → (p d : ℕ) → HasAction rules p (shift d) → (action : Action) → Stands rules p action → action ≡ Shift d
 shift_is rules numbered p d h (Shift e) stands = ap Shift (same (one_stands rules numbered p (shift e) (shift d) stands h))
   where
@@ -151,7 +151,7 @@ one_direction rules numbered last directions action direction are stands only ea
     all p d (here e) small h = new p e ∙ each d (shift_is rules numbered (last + 1) d (subst (λ (q : ℕ). HasAction rules q (shift d)) e h) action stands)
     all p d (beyond far) small h = absurd (omega (arith, far, small))
 
--- Where one comes by a shift, and by a position that has no direction.
+-- Where a shift leads, and where a position without a direction leads.
 pub comes_by : (game : AbstractGame) → IsNumbered game.rules → (v p d : ℕ) → HasAction game.rules p (shift d) → (to : Option ℕ) → to ≡ next game.board v d → (u : ℕ) → (to ≡ Some u) ↔ Comes game v p u
 comes_by game numbered v p d stands to leads u = (λ e. by_shift d stands (sym leads ∙ e), back u)
   where
@@ -178,7 +178,7 @@ comes_nowhere game numbered directions are v p none u = (λ e. subst (λ (x : �
     back w (by_shift d h step) = absurd (plain (record { direction = d; stands = h }))
     back w (by_other other) = refl
 
--- A position has a direction exactly where it is a shift.
+-- A position has a direction exactly if it is a shift.
 pub shift_by : (rules : Expression) → IsNumbered rules → (directions : List (Option ℕ)) → AreDirections rules directions → (p : ℕ) (o : Option ℕ) → get_or directions p None ≡ o → IsTrue (is_some o) ↔ IsShiftAt rules p
 shift_by rules numbered directions are p (Some d) is = (λ t. record { direction = d; stands = are.shifts p d is }, λ t. refl)
 shift_by rules numbered directions are p None is = (λ t. absurd (false_not_true t), λ t. absurd (plain_at rules directions numbered are p is t))
@@ -186,7 +186,7 @@ shift_by rules numbered directions are p None is = (λ t. absurd (false_not_true
     false_not_true : false ≡ true → ⊥
     false_not_true e = cc
 
--- What stands at a position that has a direction, and that no shift stands at one without.
+-- What is at a position that has a direction, and that no shift is at one without.
 pub some_stands : (rules : Expression) (directions : List (Option ℕ)) → AreDirections rules directions → (p : ℕ) (o : Option ℕ) → get_or directions p None ≡ o → IfSome o (λ d. HasAction rules p (shift d))
 some_stands rules directions are p (Some d) is = are.shifts p d is
 some_stands rules directions are p None is = record {}

@@ -5,7 +5,7 @@ use Rattle.rbg_rules.proofs.LocalityLemmas.{locality_law}
 use Rattle.rbg_shifts.proofs.Common.{Lists, Table, IsShiftAt, Leads, stay, go, entry_at, TellsAt, IsToldAt, AreAllClosed, list_at, IsNodeOf, AreListsOf, Comes, by_shift, by_other, IsAnswerAt, IsLeapBy, EndsBy}
 use Rattle.rbg_shifts.proofs.ShiftLemmas.{follower_within}
 
--- A position that isn't a shift is a leap where one is.
+-- A position that isn't a shift is a leap to the vertex where it is asked for.
 pub leap_here : (game : AbstractGame) (list : List ℕ) (may_end : Bool) (v p : ℕ) → Contains list p → ¬ IsShiftAt game.rules p → IsLeapBy game list may_end v p v
 leap_here game list may_end v p there plain = record {
   leap = λ f answer. record { shifts = []; leads = stay; follows = (answer.follow.exact p).0 there; plain = plain };
@@ -45,7 +45,7 @@ ends_here game list may_end v is = record {
   ends = λ f answer. record { shifts = []; to = v; leads = stay; ends = answer.ends.0 is };
 }
 
--- Where nothing is missing, all leaps are told.
+-- If nothing is missing, all leaps are recorded.
 module _ (game : AbstractGame) (numbered : IsNumbered game.rules) (lists : Lists) (are : AreListsOf game.rules lists) (table : Table) (same : table.vertices ≡ length game.board.first) (closed : AreAllClosed game lists table) where
   on_board : (w : ℕ) → w < table.vertices → w < length game.board.first
   on_board w below = subst (λ (n : ℕ). w < n) same below

@@ -18,7 +18,7 @@ entry_within size t all n v = elim (below_or_not (n * t.vertices + v) (length t.
 pub within_at : (t : Table) (n v : ℕ) → IsWithin (length t.targets.items) (entry_at t n v)
 within_at t n v = entry_within (length t.targets.items) t t.within n v
 
--- The entries of a table are within its targets where no target is taken away.
+-- The entries of a table are within its targets if no target is taken away.
 pub within_kept : (place : ℕ) (es : List Entry) (old new : List Target) → Keeps place old new → All (IsWithin (length old)) es → All (IsWithin (length new)) es
 within_kept place es old new keeps all = λ i d below. record { ends = let ends = (all i d below).ends in let size = keeps.size in omega (arith, ends, size) }
 
@@ -38,7 +38,7 @@ entry_same place old new grows n v =
     ap (λ (es : List Entry). get_or es (n * new.vertices + v) no_entry) grows.are_entries
     ∙ ap (λ (k : ℕ). get_or old.entries.items (n * k + v) no_entry) grows.vertices
 
--- An entry stays sound where targets after its own are added or changed.
+-- An entry stays sound if targets after its own are added or changed.
 pub entry_grown : (game : AbstractGame) (list : List ℕ) (may_end : Bool) (v place : ℕ) (old new : Table) → Keeps place old.targets.items new.targets.items → (e : Entry) → IsWithin place e → IsSoundEntry game list may_end v old e → IsSoundEntry game list may_end v new e
 entry_grown game list may_end v place old new keeps e inside is = record {
   within = record { ends = let size = keeps.size in let within = is.within.ends in omega (arith, size, within) };
@@ -69,7 +69,7 @@ place_there nodes n vertices v there below =
 pub whole_end : (start size : ℕ) → start ≤ size → start + (size - start) ≡ size
 whole_end start size inside = omega (arith, inside)
 
--- A table is right where a right entry is put into it.
+-- A table stays right when a right entry is put into it.
 pub table_shared : (game : AbstractGame) (lists : Lists) (old new : Table) (n v : ℕ) (e : Entry) → v < old.vertices → IsSoundTable game lists old → Shares old new n v e → IsSoundEntry game (list_at lists.interner n) (may_end_at lists.interner n) v old e → IsSoundTable game lists new
 table_shared game lists old new n v e below is shares sound_here = record {
   laid_out = record {
@@ -104,7 +104,7 @@ entry_gathered game lists t start n v ends inside gathered end = record {
   ends = end;
 }
 
--- A table with nothing told.
+-- A table with nothing recorded.
 pub blank_table : (game : AbstractGame) (lists : Lists) (t : Table) (places : ℕ) → t.vertices ≡ length game.board.first → places ≡ length lists.interner.nodes.items * t.vertices → t.entries.items ≡ replicate places no_entry → IsSoundTable game lists t
 blank_table game lists t places vertices many entries = record {
   laid_out = record {
@@ -143,7 +143,7 @@ unit_sound game list may_end v p t below there plain has position vertex column 
   column = subst (λ (k : ℕ). k < row_words game) (sym column) (column_there game v below);
 }
 
--- What an entry after a shift tells is right before the shift.
+-- What an entry after a shift records is right before the shift.
 pub sound_on : (game : AbstractGame) → IsNumbered game.rules → (lists : Lists) (table : Table) (n v p w m : ℕ) (e : Entry) → Contains (list_at lists.interner n) p → IsShiftAt game.rules p → Comes game v p w → IsNodeOf game.rules lists.interner (after p) m → IsSoundEntry game (list_at lists.interner m) (may_end_at lists.interner m) w table e → AreSoundBy game (list_at lists.interner n) (may_end_at lists.interner n) v table.targets.items e.start (end_of e)
 sound_on game numbered lists table n v p w m e there is comes node sound = record {
   each = λ i beyond short. let at = sound.targets.each i beyond short in record {
@@ -176,7 +176,7 @@ entry_of_none game lists table n v ends only = record {
   ends = λ t. ends_here game (list_at lists.interner n) (may_end_at lists.interner n) v (only t);
 }
 
--- Sound targets between two places that tell of all leaps are what is asked for.
+-- Sound targets between two places that record all leaps are what is asked for.
 pub asked_between : (game : AbstractGame) (f : Start) (v : ℕ) (targets : List Target) (from to : ℕ) → to ≤ length targets → AreSound (IsLeap game f v) (row_words game) targets from to → ((j u : ℕ) → IsLeap game f v j u → Tells targets from to j u) → AreTargetsFrom game f v (slice_range targets from to)
 asked_between game f v targets from to inside are all = record {
   sound = λ t there p u is. (right t there).only p u is;
@@ -204,7 +204,7 @@ asked_between game f v targets from to inside are all = record {
               ∙ any_default targets i (target_at targets i) no_target (omega (arith, short, inside)),
         )
 
--- Where nothing is missing, sound targets are exactly those of the leaps.
+-- If nothing is missing, sound targets are exactly those of the leaps.
 module _ (game : AbstractGame) (numbered : IsNumbered game.rules) (lists : Lists) (are : AreListsOf game.rules lists) (table : Table) (filled : IsFilled game lists table) (f : Start) (n v : ℕ) (node : IsNodeOf game.rules lists.interner f n) (below : v < length game.board.first) where
   abbrev pub own : Entry
   own = entry_at table n v

@@ -1,4 +1,4 @@
--- Targets: what their bits tell, and lists to which they are added.
+-- Targets: what their bits mean, and lists to which they are added.
 use native.Mathlib.Numerals.{unary_clauses}
 use Rattle.rbg_base.proofs.Common.{◌≡◌, ◌≢◌, ℕ, ◌+◌, ◌*◌, ◌/◌, ◌%◌, ◌^◌, ◌<◌, ◌≤◌, ◌⊎◌, List, [], ◌∷◌, ◌++◌, length, set, Bool, refl, sym, ap, ◌∙◌, subst, inl, inr, zero, arith, bit_or, bit_at, w64, bit_at-zero, bit_at_set_same, bit_at_set_other}
 use Rattle.std.proofs.lemmas.List.{length-append, length-set, get_or-set_same, get_or-set_other, get_or_append_left, get_or_push}
@@ -7,7 +7,7 @@ use Rattle.rbg_shifts.proofs.Common.{Target, IsEndOf, no_target, target_at, Tell
 use Rattle.rbg_shifts.proofs.Bits.{either_bit, first_bit, second_bit}
 use Rattle.rbg_shifts.proofs.Places.{same_or_not, LastPlace, before, last, last_place}
 
--- Where joining changes nothing, each bit was there.
+-- If joining changes nothing, each bit was there.
 under_bit : (a b k : ℕ) → bit_or a b ≡ b → bit_at a k ≡ 1 → bit_at b k ≡ 1
 under_bit a b k same is = ap (λ (n : ℕ). bit_at n k) (sym same) ∙ first_bit a b k is
 
@@ -47,7 +47,7 @@ joined_first a t p u position column is = record { position = is.position ∙ po
 joined_second : (a t : Target) (p u : ℕ) → IsEndOf t p u → IsEndOf (joined t a.word) p u
 joined_second a t p u is = record { position = is.position; column = is.column; set = second_bit a.word t.word (u % 64) is.set }
 
--- Where joining changes nothing, the other word was there.
+-- If joining changes nothing, the other word was there.
 pub under_target : (a t : Target) (p u : ℕ) → a.position ≡ t.position → a.column ≡ t.column → bit_or a.word t.word ≡ a.word → IsEndOf t p u → IsEndOf a p u
 under_target a t p u position column same is = record {
   position = is.position ∙ sym position;
@@ -89,7 +89,7 @@ keeps_set place k xs t beyond = record {
     other : (i : ℕ) → i < place → i ≢ k
     other i below e = absurd (omega (arith, below, beyond, e))
 
--- What is told between two places depends on the targets there alone.
+-- What is recorded between two places depends on the targets there alone.
 pub tells_kept : (place : ℕ) (old new : List Target) (from to : ℕ) → Keeps place old new → to ≤ place → (j u : ℕ) → Tells old from to j u → Tells new from to j u
 tells_kept place old new from to keeps inside j u told = record {
   at = told.at;

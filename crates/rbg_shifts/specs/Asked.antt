@@ -1,4 +1,4 @@
--- What is told of the leaps that are asked for.
+-- What a query for leaps returns.
 use Rattle.std.specs.Prelude.{◌≡◌, ℕ, ◌/◌, ◌%◌, ◌<◌, List, Contains}
 use Rattle.std.specs.Int.{bit_at}
 use Rattle.rbg_rules.specs.Meaning.{AbstractGame, Start}

@@ -1,4 +1,4 @@
--- Where the targets of an entry stand.
+-- Where the targets of an entry are.
 use Rattle.std.specs.Prelude.{ℕ, ◌+◌, ◌≤◌}
 use Rattle.rbg_shifts.specs.declared.table.Entry.{Entry}
 

@@ -3,7 +3,7 @@ use Rattle.std.specs.Prelude.{◌≡◌, ℕ, List, [], ◌∷◌, ◌++◌, Som
 use Rattle.rbg_board.specs.Graph.{next}
 use Rattle.rbg_rules.specs.Meaning.{Expression, shift, HasAction, AbstractGame, Start, Follows, Ends}
 
--- A shift stands at the position.
+-- A shift is at the position.
 pub record IsShiftAt (rules : Expression) (p : ℕ) : Type 0 where
   pub direction : ℕ
   pub stands : HasAction rules p (shift direction)

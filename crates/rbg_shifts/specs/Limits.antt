@@ -2,7 +2,7 @@
 use Rattle.std.specs.Prelude.{ℕ, ◌+◌, ◌*◌, ◌/◌, ◌<◌, length}
 use Rattle.rbg_rules.specs.Meaning.{positions_of, AbstractGame}
 
--- how many words there may be for one row of vertices at each position and each vertex: 32 megabytes
+-- the maximum number of words for one row of vertices at each position and each vertex: 32 megabytes
 abbrev pub most_words : ℕ
 most_words = 4194304
 

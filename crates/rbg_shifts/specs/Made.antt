@@ -13,7 +13,7 @@ use Rattle.rbg_shifts.specs.Entries.{end_of, IsWithin}
 use Rattle.rbg_shifts.specs.Leaps.{EndsAcross}
 use Rattle.rbg_shifts.specs.Origin.{start_of}
 
--- The entry is that of the leaps from f and vertex v: its targets are theirs, and it tells whether a word may end.
+-- The entry is that of the leaps from f and vertex v: its targets are theirs, and it records whether a word may end.
 pub record IsEntry (game : AbstractGame) (f : Start) (v : ℕ) (targets : List Target) (e : Entry) : Type 0 where
   pub within : IsWithin (length targets) e
   pub are : AreTargetsFrom game f v (slice_range targets e.start (end_of e))
@@ -22,7 +22,7 @@ pub record IsEntry (game : AbstractGame) (f : Start) (v : ℕ) (targets : List T
 abbrev pub no_entry : Entry
 no_entry = record { start = 0; many = 0; ends = false }
 
--- The entry of a vertex in a row of entries, where each row has one for each vertex.
+-- The entry of a vertex in a row of entries, if each row has one for each vertex.
 abbrev pub entry_in : List Entry → (vertices row v : ℕ) → Entry
 entry_in entries vertices row v = slice_index_or entries (row * vertices + v) no_entry
 
@@ -36,7 +36,7 @@ abbrev pub entry_of : Leaps → Origin → (v : ℕ) → Entry
 entry_of leaps (Begin expr) v = entry_in leaps.entries.items leaps.vertices (node_of leaps expr) v
 entry_of leaps (After p) v = entry_in leaps.afters.items leaps.vertices p v
 
--- These are the leaps of the game: wherever one may stand in the rules, and at each vertex, there is their entry.
+-- These are the leaps of the game: there is their entry for each point in the rules and each vertex.
 pub record AreLeapsOf (game : AbstractGame) (leaps : Leaps) : Type 0 where
   pub entries :
       (origin : Origin) (v : ℕ) → v < length game.board.first → IsStart game.rules (start_of origin) →

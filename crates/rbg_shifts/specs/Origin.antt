@@ -1,4 +1,4 @@
--- Where one stands in the rules.
+-- A point in the rules from which leaps are asked for.
 use Rattle.rbg_rules.specs.Meaning.{Start, beginning, after}
 use Rattle.rbg_auto.specs.Steps.{level_of}
 use Rattle.rbg_shifts.specs.declared.origin.Origin.{Origin}

@@ -6,10 +6,10 @@ ghost use Rattle.rbg_shifts.specs.internal.Tables.{target_at, Keeps, AddsTarget,
 use crate::target::Target;
 use rbg_base::{Memory, Position, Vertex};
 
-/// A place that is not likely, since no list is as long.
+/// No likely place: no list is this long.
 pub(crate) const NOWHERE: usize = usize::MAX;
 
-/// The target that has a vertex alone.
+/// The target that has this vertex alone.
 #[inline(always)]
 pub(crate) fn unit(position: Position, vertex: Vertex) -> Target
     ensures has { IsEndOf result position vertex }
@@ -24,8 +24,8 @@ pub(crate) fn unit(position: Position, vertex: Vertex) -> Target
     }
 }
 
-/// Where a target between two places has the position and the column of another one. It is looked for at a likely place
-/// first: what is told after neighbours has nearly one order, so that mostly the next target is after the last one.
+/// The index of a target between two places that has the position and the column of another one. A likely index is
+/// tried first. Targets after neighbours are nearly in the same order, so the next target is mostly after the last one.
 #[inline(always)]
 pub(crate) fn find(
     targets: &[Target],
@@ -55,8 +55,8 @@ pub(crate) fn find(
     None
 }
 
-/// Adds a target to those from a place on: its word is joined with that of the same position and column, if there is one.
-/// Where that one is likely to be is given, and then where the next one is.
+/// Adds a target to those from a place on. Its word is joined with that of the target with the same position and
+/// column, if there is one. `likely` is where that one is likely to be, and then where the next one is.
 #[inline(always)]
 pub(crate) fn add(
     targets: &mut Vec<Target>,

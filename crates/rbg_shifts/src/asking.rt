@@ -1,4 +1,4 @@
-//! The leaps of a game: what is asked of them.
+//! The leaps of a game, and the queries for them.
 ghost use Rattle.std.specs.Prelude.{◌*◌, ◌<◌, ◌≤◌, ◌^◌, All, length};
 ghost use Rattle.rbg_shifts.specs.Entries.{IsWithin};
 
@@ -9,11 +9,11 @@ use crate::target::Target;
 use rbg_auto::{Expr, at_or};
 use rbg_base::{Position, Vertex};
 
-/// The leaps of a game: where shifts alone lead from each place in the rules and each vertex. `leaps` makes them once;
-/// to ask for them takes no memory.
+/// The leaps of a game: where shifts alone lead from each place in the rules and each vertex. `leaps` makes them once.
+/// A query doesn't allocate.
 #[derive(Drop)]
 pub struct Leaps {
-    /// An entry for each position, from 0 on, and each vertex: of what comes after.
+    /// For each position, from 0 on, and each vertex, the entry of what comes after the position.
     pub(crate) afters: Vec<Entry>,
     /// The node at the beginning of the rules.
     pub(crate) rules: usize,
@@ -86,7 +86,7 @@ impl Leaps {
         }
     }
 
-    /// So many targets, one after another.
+    /// `many` targets from `start` on.
     #[inline(always)]
     fn targets_from(&self, start: u32, many: u16) -> &[Target]
         requires { start + many ≤ length self.now.targets.items }

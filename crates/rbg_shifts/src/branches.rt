@@ -1,4 +1,4 @@
-//! Where one goes on from a place in the rules, by each position of its list.
+//! Where the positions of a node's list lead from there.
 ghost use Rattle.std.specs.Prelude.{IfOk};
 ghost use Rattle.rbg_shifts.specs.internal.Branches.{AreBranches};
 

@@ -11,8 +11,8 @@ use crate::table::{Entry, Table};
 use crate::target::Target;
 use rbg_base::{Position, Vertex};
 
-/// Whether an entry tells of all vertices of a target. Where it is likely to do so is given, and then where it is likely to
-/// tell of the next one.
+/// Whether an entry has all vertices of a target. `likely` is the index of the target that is likely to have them, and
+/// then that for the next one.
 fn tells(table: &Table, entry: Entry, target: Target, likely: &mut usize) -> bool
     requires { IsWithin (length table.now.targets.items) entry }
     ensures { IsTrue result → (j u : ℕ) → IsEndOf target j u → TellsAt table.now entry j u }
@@ -41,7 +41,7 @@ fn have_same_targets(entry: Entry, other: Entry) -> bool
     entry.start == other.start && entry.many == other.many
 }
 
-/// Whether an entry tells of all targets of another one.
+/// Whether an entry has all targets of another one.
 fn tells_targets(table: &Table, entry: Entry, other: Entry) -> bool
     requires within { IsWithin (length table.now.targets.items) entry }
     requires other { IsWithin (length table.now.targets.items) other }
@@ -60,7 +60,7 @@ fn tells_targets(table: &Table, entry: Entry, other: Entry) -> bool
     true
 }
 
-/// Whether an entry tells all that another one tells.
+/// Whether an entry records all that another one records.
 fn tells_all(table: &Table, entry: Entry, other: Entry) -> bool
     requires within { IsWithin (length table.now.targets.items) entry }
     requires other { IsWithin (length table.now.targets.items) other }
@@ -72,7 +72,7 @@ fn tells_all(table: &Table, entry: Entry, other: Entry) -> bool
     tells_targets(table, entry, other)
 }
 
-/// Whether an entry tells of what one step by a position leads to.
+/// Whether an entry records what one step by a position leads to.
 fn is_told(
     table: &Table,
     lists: &Lists,
@@ -96,7 +96,7 @@ fn is_told(
     }
 }
 
-/// Whether the entries of a node tell of what one step by a position leads to, at each vertex.
+/// Whether the entries of a node record what one step by a position leads to, at each vertex.
 fn is_told_everywhere(
     table: &Table,
     lists: &Lists,
@@ -117,7 +117,7 @@ fn is_told_everywhere(
     true
 }
 
-/// Whether all entries of a node tell that a word may end.
+/// Whether a word may end by all entries of a node.
 fn all_end(table: &Table, ground: &Ground<'_>, node: usize) -> bool
     ensures { IsTrue result → (v : ℕ) → v < length ground.now.board.first
         → IsTrue (entry_at table.now node v).ends }

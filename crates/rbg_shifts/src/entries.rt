@@ -5,8 +5,8 @@ ghost use Rattle.rbg_shifts.specs.Made.{no_entry};
 
 use crate::table::Entry;
 
-/// The entry in a place, if it is there. Where it is only read, it isn't copied: a copy is one word, out of which each
-/// part would be cut.
+/// The entry in a place, if it is there. A caller that only reads it need not copy it: a copy is one word, from which
+/// each part would be cut.
 #[inline(always)]
 pub(crate) fn find_entry(entries: &[Entry], place: usize) -> Option<&Entry>
     ensures some { IfSome result (λ entry. entry.now ≡ slice_index_or entries.now place no_entry) }
@@ -21,7 +21,7 @@ pub(crate) fn find_entry(entries: &[Entry], place: usize) -> Option<&Entry>
     }
 }
 
-/// The entry in a place, or an empty one where it isn't there.
+/// The entry in a place, or an empty one if it isn't there.
 #[inline(always)]
 pub(crate) fn entry_in_place(entries: &[Entry], place: usize) -> Entry
     ensures entry { result ≡ slice_index_or entries.now place no_entry }

@@ -42,8 +42,8 @@ fn fill_one(
     Ok(())
 }
 
-/// The entry of a node and a vertex with what is told after a shift of its list. What doesn't depend on the vertex is
-/// handed in.
+/// The entry of a node and a vertex, with what is recorded after a shift of its list. The caller computes once what
+/// doesn't depend on the vertex.
 #[inline(always)]
 fn entry_after(
     table: &Table,
@@ -82,7 +82,7 @@ fn entry_after(
     }
 }
 
-/// The branch that a node's list has alone.
+/// The only branch of a node's list. Returns None if there are several, or none.
 fn only_of(lists: &Lists, ground: &Ground<'_>, node: usize) -> Option<Branch>
     requires lists { AreListsOf ground.now.rules lists.now }
     requires node { node < length lists.now.interner.nodes.items }
@@ -93,7 +93,7 @@ fn only_of(lists: &Lists, ground: &Ground<'_>, node: usize) -> Option<Branch>
     if list.len() == 1 { Some(list[0]) } else { None }
 }
 
-/// Fills the entries of a node from which one shift leads on: they share what is told after it.
+/// Fills the entries of a node from which one shift leads on: they share the targets after it.
 fn share_node(
     table: &mut Table,
     lists: &Lists,
@@ -118,7 +118,7 @@ fn share_node(
     }
 }
 
-/// Puts the position that comes next alone at a node into the entry of a vertex.
+/// Records in the entry of a vertex the only position that comes next at a node.
 #[inline(always)]
 fn place_one(
     table: &mut Table,
@@ -142,7 +142,7 @@ fn place_one(
     Ok(())
 }
 
-/// Fills the entries of a node where one position alone comes next, which is no shift.
+/// Fills the entries of a node whose list is one position that is no shift.
 fn place_node(
     table: &mut Table,
     lists: &Lists,
@@ -183,8 +183,8 @@ fn fill_forwards(table: &mut Table, lists: &Lists, ground: &Ground<'_>, node: us
     Ok(())
 }
 
-/// Fills the entries of a node backwards over the vertices: that is enough where shifts lead from it to later vertices of
-/// its own alone.
+/// Fills the entries of a node backwards over the vertices. That is enough if shifts lead from it to itself only at
+/// later vertices.
 fn fill_backwards(table: &mut Table, lists: &Lists, ground: &Ground<'_>, node: usize) -> Filled
     requires { IsRightAt ground.now lists.now table.old node }
     ensures { OnOk result (FillsDownTo ground.now lists.now table.old table.new node (length ground.now.board.first)) }
@@ -275,8 +275,8 @@ pub(crate) fn repeats(lists: &Lists, ground: &Ground<'_>, node: usize, later: bo
     false
 }
 
-/// Fills the entries of a node: forwards over the vertices where shifts lead from it to earlier vertices of its own, and
-/// backwards where they lead to later ones. Where they lead one way, nothing is missing then.
+/// Fills the entries of a node: forwards over the vertices if shifts lead from it to itself at earlier vertices, and
+/// backwards if they lead to later ones. If they lead one way only, nothing is missing then.
 pub(crate) fn fill_again(
     table: &mut Table,
     lists: &Lists,
@@ -324,7 +324,7 @@ fn is_marked_or(marks: &[bool], node: usize, other: usize) -> bool
     node == other || is_marked(marks, node)
 }
 
-/// Whether all nodes to which a node's shifts lead are filled, but for itself.
+/// Whether all nodes to which a node's shifts lead are filled. The node itself isn't counted.
 fn is_ready(lists: &Lists, ground: &Ground<'_>, filled: &[bool], node: usize) -> bool
     ensures { IsTrue result → LeadsToMarked ground.now lists.now filled.now node }
 {
@@ -350,7 +350,7 @@ fn fill_node(table: &mut Table, lists: &Lists, ground: &Ground<'_>, node: usize)
     Ok(())
 }
 
-/// Fills a node that isn't filled, where it is ready. Returns whether it is filled then.
+/// Fills a node that isn't filled, if it is ready. Returns whether it is filled then.
 fn fill_next(
     table: &mut Table,
     lists: &Lists,

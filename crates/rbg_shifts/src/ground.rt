@@ -1,4 +1,4 @@
-//! A game, and what is looked up of it at each step of a shift.
+//! A game, and what each step of a shift looks up in it.
 ghost use Rattle.std.specs.Prelude.{◌≡◌, ℕ, ◌<◌, ◌≤◌, ◌↔◌, length, Some, IfSome, IfNone, IsTrue};
 ghost use Rattle.rbg_rules.specs.Meaning.{shift, HasAction, IsGame};
 ghost use Rattle.rbg_shifts.specs.Leaps.{IsShiftAt};
@@ -10,7 +10,7 @@ use rbg_board::LentBoard;
 use rbg_rules::Game;
 use std::marker::Model;
 
-/// A game, with its board and the directions of its shifts lent as slices.
+/// A game, with its board and the directions of its shifts as slices.
 #[derive(Drop)]
 pub(crate) struct Ground<'a> {
     game: &'a Game,
@@ -59,7 +59,7 @@ impl<'a> Ground<'a> {
         self.game.board().len()
     }
 
-    /// Whether a shift stands at a position.
+    /// Whether a shift is at a position.
     #[inline(always)]
     pub(crate) fn is_shift(&self, position: Position) -> bool
         ensures { IsTrue result ↔ IsShiftAt self.now.rules position }
@@ -67,7 +67,7 @@ impl<'a> Ground<'a> {
         at_or(self.directions, position, None).is_some()
     }
 
-    /// The direction of the shift at a position, if one stands there.
+    /// The direction of the shift at a position, if one is there.
     #[inline(always)]
     pub(crate) fn direction(&self, position: Position) -> Option<Direction>
         ensures some { IfSome result (λ d. HasAction self.now.rules position (shift d)) }
@@ -76,7 +76,7 @@ impl<'a> Ground<'a> {
         at_or(self.directions, position, None)
     }
 
-    /// Where a shift in a direction leads from a vertex, if it leads anywhere.
+    /// The vertex to which a shift in a direction leads from a vertex. Returns None if there is no edge.
     #[inline(always)]
     pub(crate) fn step(&self, vertex: Vertex, direction: Direction) -> Option<Vertex>
         requires { vertex < length self.now.board.first }
@@ -86,7 +86,8 @@ impl<'a> Ground<'a> {
         self.board.step(vertex, direction)
     }
 
-    /// Where one comes from a vertex by a position, if one does.
+    /// The vertex to which the action at a position leads from a vertex: the end of a shift's edge, or the same vertex
+    /// for any other action. Returns None if a shift has no edge.
     #[inline(always)]
     pub(crate) fn to(&self, vertex: Vertex, position: Position) -> Option<Vertex>
         requires { vertex < length self.now.board.first }

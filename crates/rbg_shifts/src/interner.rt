@@ -18,12 +18,12 @@ pub(crate) struct Node {
 pub(crate) struct Interner {
     pub positions: Vec<Position>,
     pub nodes: Vec<Node>,
-    /// A node by the hash of its list. Of two nodes with one hash only the later one is known.
+    /// A node by the hash of its list. If two nodes have one hash, only the later one is found.
     spots: HashMap<u64, usize>,
     ghost within: { All (IsNodeWithin (length positions.items)) nodes.items },
 }
 
-/// Written out, so that letting the lists go is one call in the proofs of those who hold one, not a step for each part.
+/// Written by hand: dropping the lists is then one call in the proofs of their owners, not a step for each part.
 impl Drop for Interner {
     fn drop(self) {
         let Interner {
@@ -35,7 +35,7 @@ impl Drop for Interner {
 }
 
 impl Node {
-    /// With an empty list.
+    /// A node with an empty list.
     pub(crate) const NONE: Node = Node {
         start: 0,
         end: 0,
@@ -57,7 +57,7 @@ impl Interner {
     ghost use Rattle.rbg_shifts.specs.internal.Spans.{no_node};
     ghost use Rattle.rbg_shifts.specs.internal.Interned.{list_at, may_end_at, IsKept, ExtendsInterner};
 
-    /// With no list.
+    /// An interner without lists.
     pub(crate) fn new(alloc: Global) -> Interner
         ensures { result.nodes.items ≡ [] }
     {
@@ -68,7 +68,7 @@ impl Interner {
         }
     }
 
-    /// A node, or an empty one where it isn't there.
+    /// A node, or an empty one if it isn't there.
     pub(crate) fn node(&self, node: usize) -> Node
         ensures node { result ≡ slice_index_or self.now.nodes.items node no_node }
         ensures within { IsNodeWithin (length self.now.positions.items) result }
@@ -95,7 +95,7 @@ impl Interner {
         self.node(node).may_end
     }
 
-    /// The node of a list, which is a new one where no node has it.
+    /// The node of a list, which is a new one if no node has it.
     pub(crate) fn keep(&mut self, positions: &[Position], may_end: bool) -> Result<usize, Memory>
         ensures extends { OnOk result (ExtendsInterner self.old self.new) }
         ensures kept { IfOk result (IsKept self.new positions.now may_end) }

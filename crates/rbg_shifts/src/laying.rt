@@ -28,8 +28,8 @@ fn lay(alloc: Global, all: &[Entry], vertices: usize, nodes: &[usize]) -> Result
     Ok(entries)
 }
 
-/// The leaps of a table that is filled. A position is asked for again and again, so its entries are found by one product,
-/// without its node.
+/// The leaps of a filled table. A position is asked for often, so its entries are found by one multiplication, without
+/// its node.
 pub(crate) fn laid_out(
     alloc: Global,
     lists: Lists,

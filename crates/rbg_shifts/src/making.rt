@@ -14,12 +14,12 @@ use rbg_base::Memory;
 use rbg_rules::Game;
 use std::alloc::Global;
 
-/// The most words for one row of vertices at each position and each vertex: 32 megabytes. A game with more has no
-/// leaps.
+/// The maximum number of words for one row of vertices at each position and each vertex: 32 megabytes. A game that
+/// needs more has no leaps.
 pub const MAX_WORDS: usize = 4_194_304;
 
-/// The leaps of a game, by the steps of its rules; none where one row of vertices at each position and each vertex would
-/// have more than `MAX_WORDS` words.
+/// The leaps of a game, by the steps of its rules. Returns None if one row of vertices for each position and each
+/// vertex has more than `MAX_WORDS` words.
 pub fn leaps<S: Steps>(alloc: Global, game: &Game, steps: &S) -> Result<Option<Leaps>, Memory>
     requires { S.of_rules steps.now game.now.rules }
     ensures made { IfOk result (λ made. IfSome made (AreLeapsOf game.now)) }

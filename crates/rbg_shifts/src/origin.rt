@@ -3,7 +3,7 @@
 use rbg_auto::Expr;
 use rbg_base::Position;
 
-/// Where one stands in the rules of a game.
+/// A point in the rules of a game.
 #[derive(Clone, Copy, PartialEq, Eq, Drop)]
 pub enum Origin {
     /// At the beginning of an expression.

@@ -12,7 +12,7 @@ use crate::table::Table;
 use rbg_base::Memory;
 use std::alloc::{AllocError, Global};
 
-/// Fills the entries of a node where anything is missing in them. Returns whether anything was.
+/// Fills the entries of a node in which anything is missing. Returns whether anything was.
 fn mend(table: &mut Table, lists: &Lists, ground: &Ground<'_>, node: usize) -> Result<bool, Memory>
     requires { IsRightAt ground.now lists.now table.old node }
     ensures fills { OnOk result (FillsRightly ground.now lists.now table.old table.new node) }
@@ -42,7 +42,7 @@ fn round(table: &mut Table, lists: &Lists, ground: &Ground<'_>) -> Result<bool, 
     Ok(missing)
 }
 
-/// Mends a node where it isn't filled. Returns whether anything was missing.
+/// Mends a node if it isn't filled. Returns whether anything was missing.
 fn mend_other(
     table: &mut Table,
     lists: &Lists,
@@ -105,8 +105,8 @@ fn leads_one_way(lists: &Lists, ground: &Ground<'_>, node: usize) -> bool
     !repeats(lists, ground, node, true) || !repeats(lists, ground, node, false)
 }
 
-/// Whether nothing is missing in a node. A node that is filled is looked at only where shifts lead from it to earlier and
-/// to later vertices of its own.
+/// Whether nothing is missing in a node. A filled node is checked only if shifts lead from it to itself at both earlier
+/// and later vertices.
 fn is_done(table: &Table, lists: &Lists, ground: &Ground<'_>, filled: &[bool], node: usize) -> bool
     requires filled { AreFilled ground.now lists.now table.now filled.now }
     ensures { IsTrue result → AreClosedAt ground.now lists.now table.now node }
@@ -128,7 +128,7 @@ fn are_done(table: &Table, lists: &Lists, ground: &Ground<'_>, filled: &[bool]) 
     true
 }
 
-/// A table of the nodes with nothing told.
+/// A table of the nodes with nothing recorded.
 fn blank(alloc: Global, lists: &Lists, ground: &Ground<'_>) -> Result<Table, Memory>
     ensures { IfOk result (IsSoundTable ground.now lists.now) }
 {
@@ -153,7 +153,7 @@ pub(crate) fn fill(alloc: Global, lists: &Lists, ground: &Ground<'_>) -> Result<
     if are_done(&table, lists, ground, &filled) {
         return Ok(table);
     }
-    // (each round but the last one adds to what is told, so there are few)
+    // (each round but the last one adds to what is recorded, so there are few)
     for _ in 0..u64::MAX {
         if !round(&mut table, lists, ground)? {
             return Ok(table);

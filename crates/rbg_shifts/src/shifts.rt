@@ -8,7 +8,7 @@ use rbg_base::{Direction, Memory, Position};
 use rbg_rules::{Action, Game};
 use std::alloc::Global;
 
-/// The direction of a shift; none of any other action.
+/// The direction of a shift. Returns None for any other action.
 fn direction_of(action: &Action) -> Option<Direction>
     ensures only { IfSome result (λ d. action.now ≡ Shift d) }
     ensures all { (d : ℕ) → action.now ≡ Shift d → result ≡ Some d }
@@ -25,7 +25,7 @@ fn direction_of(action: &Action) -> Option<Direction>
     }
 }
 
-/// The directions of the shifts of a game, by position. Nothing stands at position 0.
+/// The directions of the shifts of a game, by position. Nothing is at position 0.
 pub(crate) fn directions(alloc: Global, game: &Game) -> Result<Vec<Option<Direction>>, Memory>
     ensures { IfOk result (λ directions. AreDirections game.now.rules directions.items) }
 {

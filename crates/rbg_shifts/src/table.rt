@@ -29,7 +29,7 @@ pub(crate) struct Table {
 }
 
 impl Entry {
-    /// Without a target.
+    /// An entry without targets.
     pub(crate) const NONE: Entry = Entry {
         start: 0,
         many: 0,
@@ -61,8 +61,8 @@ impl Table {
         Ok(entries)
     }
 
-    /// With nothing told at so many places, one for each node and each vertex. Most places have one target or two, so there
-    /// is room for one each: to grow from nothing would copy them again and again.
+    /// An empty table of this many places, one for each node and each vertex. Most places have one or two targets, so
+    /// there is room for one each: a buffer that grows from nothing would copy them again and again.
     pub(crate) fn new(
         alloc: Global,
         nodes: usize,
@@ -80,7 +80,7 @@ impl Table {
         })
     }
 
-    /// Where the entry of a node and a vertex is, unless that is beyond all memory.
+    /// The index of the entry of a node and a vertex. Returns None if it is beyond all memory.
     #[inline(always)]
     fn place(&self, node: usize, vertex: Vertex) -> Option<usize>
         ensures some { IfSome result (λ place. place ≡ node * self.now.vertices + vertex) }
@@ -92,7 +92,7 @@ impl Table {
         }
     }
 
-    /// The entry of a node and a vertex, or an empty one where it isn't there.
+    /// The entry of a node and a vertex, or an empty one if it isn't there.
     #[inline(always)]
     pub(crate) fn entry(&self, node: usize, vertex: Vertex) -> Entry
         ensures entry { result ≡ entry_at self.now node vertex }
@@ -104,8 +104,8 @@ impl Table {
         }
     }
 
-    /// The entry of a node and a vertex, which is there. It is lent, since a copy would be read as one word, from which each
-    /// field is cut.
+    /// The entry of a node and a vertex, which is there. It is borrowed: a copy would be read as one word, from which
+    /// each field is cut.
     #[inline(always)]
     pub(crate) fn entry_there(&self, node: usize, vertex: Vertex) -> &Entry
         requires { node * self.now.vertices + vertex < length self.now.entries.items }
@@ -126,11 +126,11 @@ impl Table {
         self.entries[place] = entry;
     }
 
-    /// Puts the entry of a node and a vertex in its place, with all targets from a place on. Memory is said to be out where
-    /// an entry can't name them: after 4,294,967,295 targets, which take 64 gigabytes, and where they are more than 65,535,
-    /// which is never met. Up to 64 vertices each target of an entry has a position of its own, of which there are at most
-    /// 20,000; from 65 vertices on, the limit of words allows at most 4,194,304 / 65 for the positions and columns of one
-    /// entry.
+    /// Puts the entry of a node and a vertex in its place, with all targets from a place on. Returns an error if the
+    /// entry can't hold their numbers: after 4,294,967,295 targets, which take 64 gigabytes, and for more than 65,535
+    /// targets, which never occurs. Up to 64 vertices each target of an entry has a position of its own, of which there
+    /// are at most 20,000. From 65 vertices on, the limit of words allows at most 4,194,304 / 65 for the positions and
+    /// columns of one entry.
     #[inline(always)]
     pub(crate) fn put(
         &mut self,

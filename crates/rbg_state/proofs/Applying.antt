@@ -12,7 +12,7 @@ use Rattle.rbg_state.proofs.Histories.{after_nothing, after_change, capacity_aft
 use Rattle.rbg_state.specs.declared.state.actions.Applied.{Applied}
 use Rattle.rbg_state.specs.declared.state.actions.Applied.TheVariants.{Valid, Invalid}
 
--- the action that an action of the program shows, where it is no pattern
+-- the abstract action that an action of the program means, if it is no pattern
 pub record ShownAction (rules : Expression) (p : ℕ) (i : Action) : Type 0 where
   pub action : AbstractAction
   pub stands : HasAction rules p action
@@ -44,7 +44,7 @@ step_of : (h k : History) → 0 < h.room → (k ≡ h) ⊎ (k ≡ changed_to h k
 step_of h k room (inl same) = nothing_written h k same
 step_of h k room (inr is) = change_written h k room is
 
--- What an answer says of the position, from what it says of the action that stands there.
+-- What an answer means for the position, from what it means for the action at that position.
 pub record IsAnswered (game : AbstractGame) (p : ℕ) (h k : History) (answer : Applied) : Type 0 where
   pub valid : answer ≡ Valid → Applies game p h.state k.state
   pub only : (u : AbstractState) → Applies game p h.state u → u ≡ k.state

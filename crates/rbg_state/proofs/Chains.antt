@@ -1,4 +1,4 @@
--- Chains of operations: a loop that takes one operation after another, and stops where there is no value.
+-- Chains of operations: a loop that takes one operation after another, and stops when there is no value.
 use Rattle.rbg_base.proofs.Common.{◌≡◌, ℕ, zero, suc, ◌+◌, ◌<◌, List, [], ◌∷◌, length, get_or, take, map, fold, Option, None, refl, sym, ap, ◌∙◌, ℤ, arith, fold_more, Vec, Box, IfSome, Some, Global}
 use Rattle.rbg_rules.specs.Meaning.{AbstractArithmetic, on_values, value_of, AbstractState, arithmetic_of, operation_of, operated, changed}
 use Rattle.rbg_rules.specs.declared.arithmetic.Arithmetic.{Arithmetic}
@@ -20,7 +20,7 @@ module _ (s : AbstractState) where
   value_after-None [] = refl
   value_after-None (o ∷ operations) = value_after-None operations
 
-  -- where the operations up to one leave no value, all together leave none
+  -- if the operations up to one leave no value, all together leave none
   pub no_value_after : (x : Option ℤ) (operations : List Operation) (i : ℕ) → value_after s x (take i operations) ≡ None → value_after s x operations ≡ None
   unfolding value_after
   no_value_after x [] zero h = h
@@ -58,7 +58,7 @@ module _ (s : AbstractState) where
   pub value_of-Chain : (e : Arithmetic) (first : Box Arithmetic Global) (rest : Vec Operation Global) → e ≡ Chain first rest → value_of (arithmetic_of e) s ≡ value_after s (value_of (arithmetic_of first.value) s) rest.items
   value_of-Chain e first rest is = rw (is, arithmetic_of-Chain) (value_of-changed (arithmetic_of first.value) rest.items)
 
--- What a value is, where there is one.
+-- The value, if there is one.
 pub some_value : (r o : Option ℤ) → o ≡ r → IfSome r (λ v. o ≡ Some v)
 some_value (Some v) o is = is
 some_value None o is = tt

@@ -1,4 +1,4 @@
--- A piece stands on as many vertices as its row has bits.
+-- A piece is on as many vertices as its row has bits.
 use Rattle.rbg_base.proofs.Common.{◌≡◌, ℕ, zero, suc, ◌+◌, ◌*◌, ◌/◌, ◌%◌, ◌^◌, ◌<◌, ◌≤◌, ◌==◌, inl, inr, List, length, get_or, take, Some, sym, ap, subst, ◌∙◌, arith, ◌↔◌, count_by, count_ones, slice_get, bit_at, count_by_more_yes, count_by_more_no, ones_le_self, bit_at_lowest, bit_at-suc, slice_get-get_or, get_or_from_slice_get, slice_get_within, ℕ_discrete}
 use Rattle.std.specs.Int.Count.{ones_step}
 use Rattle.std.proofs.lemmas.Bool.{cases_lt, eq-eqb, eqb-true, false_from_ne_true}

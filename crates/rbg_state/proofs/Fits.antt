@@ -15,7 +15,7 @@ by_fits (Some x) (negsuc n) h = let e = within n h.0.sfits in rw e (ap Some h.1)
 by_fits None (pos n) h = let e = beyond n (λ p. h (record { sfits = p })) in rw e
 by_fits None (negsuc n) h = let e = beyond n (λ p. h (record { sfits = p })) in rw e
 
--- the same of a conversion that fails where the number does not fit
+-- the same of a conversion that fails if the number does not fit
 pub by_conversion : {E : Type 0} (r : Result ℤ E) (o : Option ℤ) (z : ℤ) → OkIff r (FitsSigned w64 z) z → o ≡ result_ok r → o ≡ if_fits z
 by_conversion (Ok x) o z h e = e ∙ by_fits (Some x) z h
 by_conversion (Err x) o z h e = e ∙ by_fits None z h

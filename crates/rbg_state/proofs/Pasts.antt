@@ -1,4 +1,4 @@
--- The states that a list of changes leads back to, where one more change is written.
+-- The states to which a list of changes leads back, when one more change is added.
 use Rattle.std.proofs.Common.{◌≡◌, ℕ, suc, ◌-◌, List, [], ◌∷◌, ◌++◌, length, get_or, refl, sym, ap, subst, ◌∙◌, arith, Vec, vec_len, vec_capacity, All, Global}
 use Rattle.std.proofs.lemmas.List.{length-set, length_push, get_or_append_left}
 use Rattle.rbg_rules.specs.Meaning.{AbstractState}
@@ -38,7 +38,7 @@ variables_kept (Vertex v) s = refl
 variables_kept (Piece v x) s = refl
 variables_kept (Value i n) s = length-set s.values i n
 
--- The changes but the last speak of what there still is when the last is made.
+-- All changes but the last are of vertices and variables that still exist when the last one is made.
 pub rest_within : (s t : AbstractState) (cs ds : List Change) (c : Change) → cs ≡ ds ++ c ∷ [] → t ≡ set c s → All (IsChangeWithin (length s.pieces) (length s.values)) cs → All (IsChangeWithin (length t.pieces) (length t.values)) ds
 rest_within s t cs ds c is made within = λ k d below.
     let rest : All (IsChangeWithin (length s.pieces) (length s.values)) (ds ++ c ∷ []) = subst (All (IsChangeWithin (length s.pieces) (length s.values))) is within in

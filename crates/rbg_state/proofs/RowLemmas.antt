@@ -1,4 +1,4 @@
--- Rows of bits stay right where a piece is put on a vertex.
+-- Rows of bits stay right when a piece is put on a vertex.
 use Rattle.rbg_base.proofs.Common.{◌≡◌, ◌≢◌, ℕ, ◌+◌, ◌*◌, ◌/◌, ◌%◌, ◌<◌, ◌^◌, ◌⊎◌, inl, inr, List, [], length, get_or, Some, sym, ap, subst, ◌∙◌, slice_set, replicate, arith, ◌↔◌, bit_or, bit_and, bit_at, bit_not, w64, div-mul-add, bit_at-zero, bit_at_set_same, bit_at_set_other, bit_at_clear_same, bit_at_clear_other, slice_get-get_or, get_or_from_slice_get, slice_get_within, ℕ_discrete}
 use Rattle.std.proofs.lemmas.List.{length-set, get_or-set_same, get_or-set_other, get_or-replicate, length-replicate}
 use Rattle.rbg_state.specs.Rows.{IsWordOf, word_of, HasBit, bit_in, AreRows, ChangesBit, ChangesWord}
@@ -126,7 +126,7 @@ rows_after_push pieces many columns old new x rows is changes = record { exact =
           | no _ ↦ omega (arith, h, other)
         ]
 
--- The piece x is put on the vertex v, where the piece o stood.
+-- The piece x is put on the vertex v, on which the piece o was.
 pub rows_after_put : (pieces : List ℕ) (columns : ℕ) (old middle new : List ℕ) (v o x : ℕ) → AreRows pieces (length pieces) columns old → v < length pieces → get_or pieces v 0 ≡ o → ChangesBit columns old middle o v 0 → ChangesBit columns middle new x v 1 → AreRows (slice_set pieces v x) (length (slice_set pieces v x)) columns new
 rows_after_put pieces columns old middle new v o x rows is_vertex stood takes adds = record { exact = λ y u has. by_vertex y u has }
   where

@@ -1,4 +1,4 @@
--- What is told of an action that is tried, and of the position where it stands.
+-- What a trial returns for an action, and for the position of the action.
 use Rattle.std.proofs.Common.{◌≡◌, ℕ, ◌<◌, true, false, sym, refl, ap, subst, ◌∙◌, length, Option, Some, None, IfSome, IfNone}
 use Rattle.rbg_base.specs.declared.relation.Relation.{Relation}
 use Rattle.rbg_rules.specs.Meaning.{AbstractArithmetic, number, variable, piece_count, negated, sum, difference, product, quotient, AbstractAction, comparison, HasAction, IsPatternAt, is_modifier, AbstractGame, AbstractState, IsStateOf, Acts, value_of, IsGame, IsActionOf, shows_pattern, Shows, Stands}
@@ -13,7 +13,7 @@ use Rattle.rbg_state.specs.declared.state.trials.Trial.{Trial}
 use Rattle.rbg_state.specs.declared.state.trials.Trial.TheVariants.{Invalid, Modifies, LeadsTo}
 use Rattle.rbg_state.proofs.Applying.{ShownAction, shown_action}
 
--- Arithmetic has the same value wherever one stands.
+-- Arithmetic has the same value at every current vertex.
 pub same_value : (e : AbstractArithmetic) (s : AbstractState) (v : ℕ) → value_of e (at_vertex s v) ≡ value_of e s
 same_value (number n) s v = refl
 same_value (variable x) s v = refl
@@ -24,7 +24,7 @@ same_value (difference e f) s v = rw (same_value e s v, same_value f s v) refl
 same_value (product e f) s v = rw (same_value e s v, same_value f s v) refl
 same_value (quotient e f) s v = rw (same_value e s v, same_value f s v) refl
 
--- A comparison does the same wherever one stands.
+-- A comparison has the same result at every current vertex.
 pub compares_there : (game : AbstractGame) (e f : AbstractArithmetic) (r : Relation) (s : AbstractState) (v : ℕ) → Acts game (comparison e r f) s s → Acts game (comparison e r f) (at_vertex s v) (at_vertex s v)
 compares_there game e f r s v (x, y, left, right, holds, same) = (x, y, same_value e s v ∙ left, same_value f s v ∙ right, holds, refl)
 
@@ -40,12 +40,12 @@ module _ (game : AbstractGame) (lawful : IsGame game) (p : ℕ) (i : Action) (st
   tried_by s Modifies here (modifies, (t, acts)) = (record { action = here.action; stands = here.stands; modifies = modifies }, (t, record { action = here.action; stands = here.stands; acts = acts }))
   tried_by s (LeadsTo v) here (quiet, acts) = ((λ m. true_not_false (sym m.modifies ∙ ap is_modifier (one_stands game.rules lawful.numbered p m.action here.action m.stands here.stands) ∙ quiet)), record { action = here.action; stands = here.stands; acts = acts })
 
-  -- What is told of an action that is shown at a position is told of the position.
+  -- A trial that is right for the action at a position is right for the position.
   pub tried : (s : AbstractState) (told : Option Trial) → IfSome told (λ trial. (a : AbstractAction) → Shows a i → Tells game a s trial) → IfSome told (λ _. shows_pattern i ≡ false) → IfSome told (IsTrial game s p)
   tried s None tells plain = _
   tried s (Some trial) tells plain = let here = shown_action game.rules p i plain stands in tried_by s trial here (tells here.action here.shown)
 
-  -- Something is told exactly where no pattern stands.
+  -- There is a trial exactly if the action is no pattern.
   pub tried_plain : (told : Option Trial) → IfSome told (λ _. shows_pattern i ≡ false) → IfSome told (λ _. ¬ IsPatternAt game.rules p)
   tried_plain None plain = _
   tried_plain (Some trial) plain = λ is. true_not_false (sym ((pattern_stands game.rules lawful.numbered p i stands).1 is) ∙ plain)
@@ -65,7 +65,7 @@ named_here game lawful p (Switch n) stands a shown = lawful.actions p a (subst (
 named_here game lawful p Positive stands a (x, shown) = subst (IsActionOf game) (sym shown) _
 named_here game lawful p Negative stands a (x, shown) = subst (IsActionOf game) (sym shown) _
 
--- The vertex where an action leads is one of the board.
+-- The vertex to which an action leads is one of the board.
 pub leads_within : (game : AbstractGame) (lawful : IsGame game) (p : ℕ) (s : AbstractState) (v : ℕ) → IsStateOf game s → v < length s.pieces → (told : Option Trial) → IfSome told (IsTrial game (at_vertex s v) p) → IfSome told (λ trial. (u : ℕ) → trial ≡ LeadsTo u → u < length s.pieces)
 leads_within game lawful p s v fits below None told = _
 leads_within game lawful p s v fits below (Some trial) told = λ u is.

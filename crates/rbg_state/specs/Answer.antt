@@ -1,4 +1,4 @@
--- What is answered of an action.
+-- The result of applying an action.
 use Rattle.std.specs.Prelude.{◌≡◌, ◌⊎◌}
 use Rattle.rbg_rules.specs.Meaning.{AbstractAction, AbstractGame, AbstractState, Acts}
 use Rattle.rbg_state.specs.History.{History, changed_to}

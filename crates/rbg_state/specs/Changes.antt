@@ -12,7 +12,7 @@ set (Vertex v) s = record s { vertex = v }
 set (Piece v x) s = record s { pieces = slice_set s.pieces v x }
 set (Value i n) s = record s { values = slice_set s.values i n }
 
--- The change speaks of a vertex and a variable that there is.
+-- The vertex or the variable of the change exists.
 abbrev pub IsChangeWithin : (vertices variables : ℕ) → Change → Type 0
 IsChangeWithin vertices variables (Player p) = Unit {0}
 IsChangeWithin vertices variables (Vertex v) = Unit {0}

@@ -14,7 +14,7 @@ is_same_state s t =
     && (pointwise nat_eq s.pieces t.pieces
     && pointwise nat_eq s.values t.values))
 
--- they do, whatever their changes are
+-- the states of two histories are the same, whatever their changes are
 abbrev pub is_same_present : History → History → Bool
 is_same_present h k = is_same_state h.state k.state
 

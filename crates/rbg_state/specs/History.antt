@@ -5,7 +5,7 @@ use Rattle.rbg_rules.specs.Meaning.{AbstractState}
 -- A semi-state that changes in place.
 --   state: the semi-state at present
 --   past: the states before each of the changes that can be taken back, the oldest first
---   room: how many changes the list of changes still takes
+--   room: how many more changes the list of changes has room for
 -- A mark is a number: it names the state with that index, from 0, in the past followed by the present state.
 pub record History : Type 0 where
   pub state : AbstractState

@@ -1,4 +1,4 @@
--- What the contracts of this crate cite beside the meaning of a game.
+-- What the contracts of this crate cite apart from the meaning of a game.
 pub mod History
 pub mod Changes
 pub mod Equality

@@ -1,12 +1,12 @@
--- Rows of bits that tell on which vertices a piece stands.
+-- Rows of bits: on which vertices each piece is.
 use Rattle.std.specs.Prelude.{◌≡◌, ℕ, ◌+◌, ◌*◌, ◌/◌, ◌%◌, ◌<◌, ◌⊎◌, ◌↔◌, ◌≢◌, List, length, slice_get, slice_index, Some}
 use Rattle.std.specs.Int.{bit_at}
 
--- The word has a bit for each vertex of a column of 64 on which the piece stands, and no other.
+-- The word has a bit for each vertex of a column of 64 on which the piece is, and no other.
 abbrev pub IsWordOf : (pieces : List ℕ) → (piece column word : ℕ) → Type 0
 IsWordOf pieces piece column word = (b : ℕ) → b < 64 → (bit_at word b ≡ 1) ↔ (slice_get pieces (column * 64 + b) ≡ Some piece)
 
--- the word that has the bit of a piece and a vertex, where a row has so many words
+-- the word that has the bit of a piece and a vertex, if a row has `columns` words
 abbrev pub word_of : (columns : ℕ) → (piece v : ℕ) → ℕ
 word_of columns piece v = piece * columns + v / 64
 
@@ -19,7 +19,7 @@ pub record HasBit (columns size piece v : ℕ) : Type 0 where
 abbrev pub bit_in : (columns : ℕ) → (words : List ℕ) → (piece v : ℕ) → ℕ
 bit_in columns words piece v = bit_at (slice_index words (word_of columns piece v)) (v % 64)
 
--- The rows of the first pieces, one after another, as they stand on the first `many` vertices.
+-- The rows of the first pieces, one after another, for the pieces on the first `many` vertices.
 pub record AreRows (pieces : List ℕ) (many columns : ℕ) (words : List ℕ) : Type 0 where
   pub exact :
       (piece v : ℕ) → HasBit columns (length words) piece v →

@@ -1,4 +1,4 @@
--- What an action would do where it is tried.
+-- What an action would do if it were tried.
 use Rattle.std.specs.Prelude.{◌≡◌, ℕ, true, false}
 use Rattle.rbg_rules.specs.Meaning.{AbstractAction, is_modifier, IsModifierAt, AbstractGame, AbstractState, Acts, Applies}
 use Rattle.rbg_state.specs.declared.state.trials.Trial.{Trial}
@@ -8,7 +8,7 @@ use Rattle.rbg_state.specs.declared.state.trials.Trial.TheVariants.{Invalid, Mod
 abbrev pub at_vertex : AbstractState → ℕ → AbstractState
 at_vertex s v = record s { vertex = v }
 
--- What is told of an action in s, which is no pattern.
+-- What a trial means for an action in s that is no pattern.
 --   Invalid: the action takes s nowhere
 --   Modifies: it is a modifier, and takes s somewhere
 --   LeadsTo: it is no modifier, and takes s to this vertex; nothing else changes

@@ -16,7 +16,7 @@ pub(crate) enum Change {
     Value { variable: Variable, value: u32 },
 }
 
-/// The name of a state that a semi-state has passed through. A lesser mark names an earlier state.
+/// The name of a state that a semi-state has passed through. A smaller mark names an earlier state.
 #[derive(Clone, Copy, Debug, PartialEq, Eq, PartialOrd, Ord)]
 pub struct Mark {
     changes: usize,

@@ -13,7 +13,7 @@ use std::mem::replace;
 #[derive(Drop)]
 pub(crate) struct Occupancy {
     pieces: Vec<Piece>,
-    /// The vertices on which each piece of the game stands.
+    /// The vertices on which each piece of the game is.
     rows: Rows,
 }
 
@@ -32,7 +32,7 @@ impl Model for Occupancy {
 }
 
 impl Occupancy {
-    /// The pieces that stand on a board when play begins, with a row for each of the first `kinds` pieces.
+    /// The pieces on a board when play begins, with a row for each of the first `kinds` pieces.
     pub(crate) fn start(alloc: Global, board: &Board, kinds: usize) -> Result<Occupancy, Memory>
         ensures { IfOk result (λ occupancy. occupancy ≡ board.now.first) }
     {
@@ -58,7 +58,7 @@ impl Occupancy {
         })
     }
 
-    /// Becomes a copy of another one. Memory is taken only where there is no room for it.
+    /// Becomes a copy of another one. Allocates only if its buffers have no room.
     pub(crate) fn copy_from(&mut self, other: &Occupancy) -> Result<(), Memory>
         ensures { IfOk result (λ _. self.new ≡ other.now) }
     {
@@ -67,7 +67,7 @@ impl Occupancy {
             self.rows.copy_over(&other.rows);
             return Ok(());
         }
-        // With no rows nothing is wrong, also where memory is refused below.
+        // With no rows nothing is wrong, even if memory is refused below.
         self.rows.clear_for(&other.rows);
         refill(&mut self.pieces, &other.pieces)?;
         self.rows.fill(&other.rows)
@@ -99,7 +99,7 @@ impl Occupancy {
         self.rows.row_word(piece, column)
     }
 
-    /// Puts a piece on a vertex, and returns the piece that stood there.
+    /// Puts a piece on a vertex, and returns the piece that was on it.
     pub(crate) fn put(&mut self, vertex: Vertex, piece: Piece) -> Piece
         requires vertex { vertex < length self.old }
         ensures put { self.new ≡ slice_set self.old vertex piece }
@@ -112,7 +112,7 @@ impl Occupancy {
     }
 }
 
-/// The pieces that stand on a board when play begins.
+/// The pieces on a board when play begins.
 fn pieces_at_start(alloc: Global, board: &Board) -> Result<Vec<Piece>, Memory>
     ensures pieces { IfOk result (λ pieces. pieces.items ≡ board.now.first) }
     ensures few { length board.now.first < 2 ^ 16 }
@@ -131,7 +131,7 @@ fn counted(pieces: &[Piece], piece: Piece) -> usize
     pieces.iter().filter(|other| **other == piece).count()
 }
 
-/// Makes these the items of a buffer. Memory is taken only where it has no room for them.
+/// Makes these the items of a buffer. Allocates only if it has no room for them.
 #[inline(always)]
 pub(crate) fn refill<T: Copy + Drop>(buffer: &mut Vec<T>, items: &[T]) -> Result<(), Memory>
     ensures done { IfOk result (λ _. buffer.new.items ≡ items.now) }

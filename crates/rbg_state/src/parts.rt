@@ -12,7 +12,7 @@ use std::alloc::Global;
 use std::marker::Model;
 use std::mem::replace;
 
-/// Who is to act, what stands on each vertex, what each variable holds, and the current vertex.
+/// The current player, the piece on each vertex, the value of each variable, and the current vertex.
 #[derive(Drop)]
 pub(crate) struct StateParts {
     player: Player,
@@ -45,7 +45,7 @@ impl StateParts {
         })
     }
 
-    /// The parts where there is no board.
+    /// The parts of a state without a board: no vertices and no variables.
     pub(crate) fn empty(alloc: Global) -> StateParts {
         StateParts {
             player: 0,
@@ -66,7 +66,7 @@ impl StateParts {
         })
     }
 
-    /// Become a copy of others. Memory is taken only where there is no room for it.
+    /// Becomes a copy of others. Allocates only if its buffers have no room.
     pub(crate) fn copy_from(&mut self, other: &StateParts) -> Result<(), Memory>
         ensures { IfOk result (λ _. self.new ≡ other.now) }
     {

@@ -1,4 +1,4 @@
-//! The vertices on which each piece of the game stands, as rows of bits.
+//! The vertices on which each piece of the game is, as rows of bits.
 ghost use Rattle.std.specs.Prelude.{◌≡◌, ℕ, List, ◌≤◌, ◌<◌, ◌^◌, ◌*◌, ◌/◌, ◌==◌, [], count_by, count_ones, length, IfOk, IfSome, IfNone, OnErr, IsTrue, if◌then◌else◌};
 ghost use Rattle.rbg_state.specs.Rows.{IsWordOf, word_of, HasBit, AreRows, ChangesBit, ChangesWord};
 
@@ -6,7 +6,7 @@ use crate::occupancy::refill;
 use rbg_base::{Memory, Piece, Vertex};
 use std::alloc::Global;
 
-/// For each of the first pieces a row of bits: the vertices on which it stands, 64 in a word.
+/// For each of the first pieces a row of bits: the vertices on which it is, 64 in a word.
 #[derive(Drop)]
 pub(crate) struct Rows {
     /// How many words a row has.
@@ -16,7 +16,7 @@ pub(crate) struct Rows {
 }
 
 impl Rows {
-    /// The rows of the first `kinds` pieces, where these stand on the vertices.
+    /// The rows of the first `kinds` pieces, for these pieces on the vertices.
     pub(crate) fn of(alloc: Global, pieces: &[Piece], kinds: usize) -> Result<Rows, Memory>
         requires few { length pieces.now < 2 ^ 16 }
         ensures rows { IfOk result (λ rows. AreRows pieces.now (length pieces.now) rows.columns rows.words.items) }
@@ -31,7 +31,7 @@ impl Rows {
         Ok(rows)
     }
 
-    /// Places each piece on its vertex, where none stands on any.
+    /// Sets the bit of each piece and its vertex, in rows without any bit.
     fn place_all(&mut self, pieces: &[Piece])
         requires few { length pieces.now < 2 ^ 16 }
         requires wide { length pieces.now ≤ self.old.columns * 64 }
@@ -64,7 +64,7 @@ impl Rows {
         })
     }
 
-    /// Whether there are as many words as in others.
+    /// Whether there are as many words as in the other rows.
     #[inline(always)]
     pub(crate) fn are_as_many(&self, other: &Rows) -> bool
         ensures { IsTrue result → length self.now.words.items ≡ length other.now.words.items }
@@ -72,7 +72,7 @@ impl Rows {
         self.words.len() == other.words.len()
     }
 
-    /// Become a copy of others, of which there are as many words.
+    /// Becomes a copy of other rows, which have as many words.
     #[inline(always)]
     pub(crate) fn copy_over(&mut self, other: &Rows)
         requires { length self.old.words.items ≡ length other.now.words.items }
@@ -83,7 +83,7 @@ impl Rows {
         self.words.copy_from_slice(&other.words);
     }
 
-    /// Lets go of all rows, to become a copy of these by `fill`.
+    /// Drops all rows. After that `fill` makes a copy of these.
     pub(crate) fn clear_for(&mut self, other: &Rows)
         ensures columns { self.new.columns ≡ other.now.columns }
         ensures words { self.new.words.items ≡ [] }
@@ -92,7 +92,7 @@ impl Rows {
         self.words.clear();
     }
 
-    /// Become a copy of others. Memory is taken only where there is no room for it.
+    /// Becomes a copy of others. Allocates only if its buffer has no room.
     pub(crate) fn fill(&mut self, other: &Rows) -> Result<(), Memory>
         ensures columns { self.new.columns ≡ other.now.columns }
         ensures words { IfOk result (λ _. self.new.words.items ≡ other.now.words.items) }
@@ -118,7 +118,7 @@ impl Rows {
         }
     }
 
-    /// On how many vertices a piece stands, if it has a row.
+    /// The number of vertices on which a piece is. Returns None if the piece has no row.
     pub(crate) fn count(&self, piece: Piece) -> Option<usize>
         ensures { (pieces : List ℕ) → AreRows pieces (length pieces) self.now.columns self.now.words.items
             → length pieces ≤ self.now.columns * 64
@@ -153,7 +153,7 @@ impl Rows {
         }
     }
 
-    /// From now on the piece stands on the vertex, or doesn't.
+    /// Sets the bit of a piece and a vertex, or clears it.
     #[inline(always)]
     pub(crate) fn change(&mut self, piece: Piece, vertex: Vertex, stands: bool)
         requires { vertex / 64 < self.old.columns }

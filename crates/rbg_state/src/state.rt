@@ -1,5 +1,5 @@
-//! A semi-state: who is to act, what stands on each vertex, what each variable holds, and the current
-//! vertex. It changes in place and keeps a list of its changes, so that they can be taken back.
+//! A semi-state: the current player, the piece on each vertex, the value of each variable, and the current vertex. It
+//! changes in place and keeps a list of its changes, so that they can be taken back.
 ghost use Rattle.std.specs.Prelude.{◌≡◌, ◌*◌, ◌-◌, ◌<◌, ◌≤◌, ◌==◌, [], length, take, count_by, slice_get, Some, IfOk, IfSome, OnOk, OnErr};
 ghost use Rattle.rbg_rules.specs.Meaning.{AbstractGame, start_of, IsStateOf};
 ghost use Rattle.rbg_state.specs.History.{History, states_of, capacity_of, changed_to, IsAfter};
@@ -19,8 +19,8 @@ use std::alloc::Global;
 use std::marker::Model;
 pub use trials::Trial;
 
-/// A semi-state of a game. Two of them are equal if they have the same player, vertex, pieces and
-/// values, whatever their changes are.
+/// A semi-state of a game. Two of them are equal if they have the same player, vertex, pieces and values: their changes
+/// don't count.
 pub struct SemiState {
     parts: StateParts,
     /// The changes that lead back, the latest change last.
@@ -40,7 +40,7 @@ impl Model for SemiState {
     ghost invariant = { λ s. All (IsChangeWithin (length s.parts.pieces) (length s.parts.values)) s.changes.items };
 }
 
-/// Written out, so that letting a semi-state go is one call in the proofs of those who hold one, not a step for each part.
+/// Written by hand: dropping a semi-state is then one call in the proofs of its owners, not a step for each part.
 impl Drop for SemiState {
     fn drop(self) {
         let SemiState {
@@ -63,7 +63,7 @@ impl SemiState {
         })
     }
 
-    /// A semi-state of no board. It takes no memory, and is there to become a copy of another one.
+    /// A semi-state of no board. It allocates nothing, and can become a copy of another one.
     pub fn empty(alloc: Global) -> SemiState
         ensures { result.past ≡ [] }
     {
@@ -84,8 +84,8 @@ impl SemiState {
         })
     }
 
-    /// Becomes a copy of another semi-state, with no change to take back. Memory is taken only where there is no room for
-    /// it. Where it is refused, what is left is no use.
+    /// Becomes a copy of another semi-state, with no change to take back. Allocates only if its buffers have no room.
+    /// After an error the contents are unspecified.
     pub fn copy_from(&mut self, other: &SemiState) -> Result<(), Memory>
         ensures state { IfOk result (λ _. self.new.state ≡ other.now.state) }
         ensures past { self.new.past ≡ [] }
@@ -108,7 +108,7 @@ impl SemiState {
         self.parts.vertex()
     }
 
-    /// The piece that stands on a vertex.
+    /// The piece on a vertex.
     pub fn piece(&self, vertex: Vertex) -> Piece
         requires { vertex < length self.now.state.pieces }
         ensures { slice_get self.now.state.pieces vertex ≡ Some result }
@@ -123,7 +123,7 @@ impl SemiState {
         self.parts.pieces()
     }
 
-    /// What a variable holds.
+    /// The value of a variable.
     pub fn value(&self, variable: Variable) -> u32
         requires { variable < length self.now.state.values }
         ensures { slice_get self.now.state.values variable ≡ Some result }
@@ -138,7 +138,8 @@ impl SemiState {
         self.parts.count(piece)
     }
 
-    /// A word of a piece's row: on which of the 64 vertices of a column it stands. None for what is no piece of the game.
+    /// A word of a piece's row: a bit for each of the 64 vertices of a column, set if the piece is on it. Returns None
+    /// if the piece has no row.
     #[inline(always)]
     pub fn row_word(&self, piece: Piece, column: usize) -> Option<u64>
         requires { column * 64 < length self.now.state.pieces }
@@ -147,7 +148,7 @@ impl SemiState {
         self.parts.row_word(piece, column)
     }
 
-    /// What a player has scored. Players are numbered from 1.
+    /// The score of a player. Players are numbered from 1.
     pub fn score(&self, player: Player) -> u32
         requires from_one { 0 < player }
         requires there { player ≤ length self.now.state.values }
@@ -156,14 +157,14 @@ impl SemiState {
         self.parts.value(player - 1)
     }
 
-    /// How many changes the list of changes still takes.
+    /// How many more changes the list of changes has room for.
     pub fn room(&self) -> usize
         ensures { result ≡ self.now.room }
     {
         self.changes.capacity() - self.changes.len()
     }
 
-    /// Makes room for this many changes. If memory is refused, nothing changes.
+    /// Makes room for this many changes. On an error nothing changes.
     pub fn reserve(&mut self, changes: usize) -> Result<(), Memory>
         ensures kept { self.new ≡ record self.old { room = self.new.room } }
         ensures room { OnOk result (changes ≤ self.new.room) }
@@ -180,14 +181,13 @@ impl SemiState {
         Mark::after(self.changes.len())
     }
 
-    /// Takes back every change since a mark. The mark is one of this semi-state that was not undone
-    /// since.
+    /// Takes back every change since a mark of this semi-state. The mark must not have been undone since.
     pub fn undo_to(&mut self, mark: Mark)
         requires { mark ≤ length self.old.past }
         ensures state { slice_get (states_of self.old) mark ≡ Some self.new.state }
         ensures past { self.new.past ≡ take mark self.old.past }
         ensures capacity { capacity_of self.new ≡ capacity_of self.old }
-        // What was marked is given back, whatever was done since.
+        // The marked state is back, whatever was done since.
         ensures given_back { (marked : History) → mark ≡ length marked.past
             → IsAfter marked self.old
             → self.new ≡ record marked { room = self.new.room } }

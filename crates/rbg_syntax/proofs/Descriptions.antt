@@ -24,7 +24,7 @@ use Rattle.rbg_grammar.proofs.SectionMisfits.{players_judged, pieces_judged, var
 use Rattle.rbg_grammar.proofs.OneDescription.{variables_read}
 use Rattle.rbg_grammar.proofs.RuleReaders.{EndsRules, nothing_ends_rules, rules_read}
 
--- a section of a kind is the only one where none stands twice
+-- a section of a kind is the only one if none occurs twice
 only_one : (xs : List SectionTokens) (s : SectionTokens) → length xs ≤ 1 → slice_get xs 0 ≡ Some s → xs ≡ s ∷ []
 only_one [] s h e = cc
 only_one (x ∷ []) s h e = let same : x ≡ s = cc in rw same
@@ -141,7 +141,7 @@ pub variables_spelt : {A : Type 0} (all : List SectionTokens) (view : A → List
     → GivesAt (start_of (sections_of Variables all)) view (Ok x) (variables_at (sections_of Variables all)) → MayHaveVariables all (view x)
 variables_spelt all view x different h = spelt_variables all view x different (placed_ok view (variables_at (sections_of Variables all)) (start_of (sections_of Variables all)) h.0 x (sym h.1) h.2)
 
--- where there is no section of variables, nothing is refused but by want of memory
+-- without a section of variables, the only refusal is out of memory
 none_refused : {A : Type 0} (all : List SectionTokens) (view : A → List SpeltBounded) (r : Result A ReadError) (e : SyntaxError) → Gives view r (Ok []) → placed 0 r ≡ Err e → HasFault all e
 none_refused all view (Ok x) e h same = cc
 none_refused all view (Err (faults.Misfit place what)) e h same = cc

@@ -18,7 +18,7 @@ pub Gives-from_err : {A B C : Type 0} (view : A → B) (r : Result A ReadError) 
 Gives-from_err view (Ok x) e part whole is more h = absurd is
 Gives-from_err view (Err d) e part whole is more h = rw is (Fails-from e part whole more h)
 
--- The same, where brackets may be nested too deep.
+-- The same, if brackets may be nested too deep.
 pub FailsWithin-from : {A B : Type 0} (e : ReadError) (r : Result A Fault) (whole : Result B Fault) → ((f : Fault) → r ≡ Err f → whole ≡ Err f) → FailsWithin e r → FailsWithin e whole
 FailsWithin-from (errors.Misfit at what) r whole more h = more (misfit at) h
 FailsWithin-from (errors.TooDeep at) r whole more h = more (too_deep at) h

@@ -1,4 +1,4 @@
--- Where a fault stands, the sections spell no description.
+-- If the sections have a fault, they spell no description.
 use Rattle.std.proofs.Common.{◌≡◌, ◌≤◌, List, [], ◌∷◌, length, Result, Ok, Err, refl, sym, ap, ◌∙◌, arith, inl, inr, IsErrAnd, IfErr}
 use Rattle.rbg_macro.specs.Token.{Lexeme}
 use Rattle.rbg_macro.specs.Sections.{SectionTokens}
@@ -54,7 +54,7 @@ fault sections d (errors.SectionTwice which) s h = absurd (omega (arith, twice_c
 fault sections d (errors.TooDeep at) s h = absurd (too_deep_spells_nothing h.ts at d.rules h.deep (spelt_here h.has s.rules))
 fault sections d errors.Memory s h = refl
 
--- beside a description, what returns an error that stands is out of memory
+-- if there is a description, the only error that can be returned is out of memory
 answer_err : (d : SpeltDescription) (r : Result Description SyntaxError) (e : SyntaxError) → IsErrAnd r (λ f. f ≡ e) → e ≡ errors.Memory → IsAnswer d r
 answer_err d (Ok x) e is h = absurd is
 answer_err d (Err f) e is h = is ∙ h

@@ -16,7 +16,7 @@ further_stops : {X : Type 0} (x : X) (test : TokenKind → Bool) (read : List Le
 unfolding further_at
 further_stops x test read ts e = repeated_ends test read (x ∷ []) ts e
 
--- what is read of a whole, where it is a first part and further ones put together
+-- what is read of a whole, if it is a first part and further ones put together
 module _ {A X : Type 0} (whole r : Reading A) (first : A → X) (test : TokenKind → Bool) (read : List Lexeme → Reading X) (of : List X → A)
     (same : whole ≡ (r >>= λ e. further_at (first e.0) test read e.1 >>= λ es. Ok (of es.0, es.1))) (one : (x : A) → of (first x ∷ []) ≡ x) where
   pub parts_fail : (f : Fault) → r ≡ Err f → whole ≡ Err f

@@ -68,7 +68,7 @@ module _ {B : Type 0} (P : List Lexeme → B → List Lexeme → Type 0) (read :
       go (Err (misfit (Some b))) k e = cc
       go (Err (too_deep b)) k e = cc
 
-  -- what is refused stands where the error says
+  -- what is refused is at the place that the error names
   module _ (kind : SectionKind) (see : (ts : List Lexeme) (x : B) → P ts x [] → IsSpelt kind ts) (refuted : (ts : List Lexeme) (place : Option ℕ) → whole_at read ts ≡ Err (misfit place) → IsSpelt kind ts → ⊥)
       (all : List SectionTokens) (s : SectionTokens) (only : sections_of kind all ≡ s ∷ []) where
     pub misspelt : (place : Option ℕ) (what : Expectation) → whole_at read s.tokens ≡ Err (misfit place) → HasFault all (error_in s.at (faults.Misfit place what))
@@ -98,12 +98,12 @@ module _ {B : Type 0} (P : List Lexeme → B → List Lexeme → Type 0) (read :
 pub one_error : {A : Type 0} (x y : SyntaxError) → ◌≡◌ {A = Result A SyntaxError} (Err x) (Err y) → x ≡ y
 one_error x y e = cc
 
--- what was read, where it was placed
+-- what was read, at the place where it was read
 pub placed_ok : {A B : Type 0} (view : A → B) (read : Result B Fault) (start : ℕ) (r : Result A ReadError) (x : A) → placed start r ≡ Ok x → Gives view r read → read ≡ Ok (view x)
 placed_ok view read start (Ok y) x same h = let one : y ≡ x = cc in h ∙ ap (λ z. Ok (view z)) one
 placed_ok view read start (Err d) x same h = cc
 
--- the same, where brackets may be nested too deep
+-- the same, if brackets may be nested too deep
 pub placed_within : {A B : Type 0} (view : A → B) (read : Result B Fault) (start : ℕ) (r : Result A ReadError) (x : A) → placed start r ≡ Ok x → GivesWithin view r read → read ≡ Ok (view x)
 placed_within view read start (Ok y) x same h = let one : y ≡ x = cc in h ∙ ap (λ z. Ok (view z)) one
 placed_within view read start (Err d) x same h = cc

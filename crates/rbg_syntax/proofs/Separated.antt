@@ -1,4 +1,4 @@
--- The turns of a loop that reads a part, and goes on where the symbol between two parts is next.
+-- The turns of a loop that reads a part, and continues if the symbol between two parts is next.
 use Rattle.rbg_base.proofs.Common.{◌≡◌, ◌<◌, List, [], ◌∷◌, ◌++◌, length, drop, true, false, Ok, Err, refl, sym, ap, ◌∙◌, arith, append_assoc, length-drop}
 use Rattle.rbg_macro.proofs.TextCommon.{Lexeme, is_symbol}
 use Rattle.rbg_macro.specs.declared.token.Symbol.{Symbol}

@@ -19,11 +19,11 @@ IsTwice sections (errors.SectionTwice which) = IsFirstTwice sections which
 IsTwice sections (errors.TooDeep at) = ⊥
 IsTwice sections errors.Memory = ⊥
 
--- the error says that there is no section of this kind
+-- the error means that there is no section of this kind
 abbrev pub IsMissing : SectionKind → List SectionTokens → SyntaxError → Type 0
 IsMissing kind sections e = (e ≡ errors.MissingSection kind) × (sections_of kind sections ≡ [])
 
--- The fault that an error names stands. Running out of memory is no fault of the sections.
+-- The sections have the fault that an error names. Running out of memory is no fault of the sections.
 abbrev pub HasFault : List SectionTokens → SyntaxError → Type 0
 HasFault sections (errors.Expected at what) = IsMisspelt sections at
 HasFault sections (errors.MissingSection which) = (sections_of which sections ≡ []) × (which ≢ Variables)

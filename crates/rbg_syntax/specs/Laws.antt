@@ -7,7 +7,7 @@ use Rattle.rbg_syntax.specs.Faults.{HasFault}
 use Rattle.rbg_syntax.specs.declared.error.SyntaxError.{SyntaxError}
 use Rattle.rbg_syntax.specs.declared.error.SyntaxError.TheVariants as errors
 
--- Where a fault stands, the sections spell no description. So an error beside a description is out of memory.
+-- If the sections have a fault, they spell no description. So if they spell one, an error is out of memory.
 abbrev pub FaultLaw : Type 0
 FaultLaw =
     (sections : List SectionTokens) (d : SpeltDescription) (e : SyntaxError)

@@ -1,4 +1,4 @@
--- What a refusal calls the part that is needed where a token doesn't fit.
+-- The name that a refusal has for the part that is needed at a token that doesn't fit.
 use Rattle.std.specs.Prelude.{ℕ, List, codes}
 use Rattle.rbg_syntax.specs.declared.error.Expectation.{Expectation}
 use Rattle.rbg_syntax.specs.declared.error.Expectation.TheVariants as parts

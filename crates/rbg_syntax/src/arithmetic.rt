@@ -39,7 +39,7 @@ impl<'a> Parser<'a> {
         Ok(in_chain(operands))
     }
 
-    /// The operands after a first one, and that one before them.
+    /// The operands after a first one, and the first one before them.
     #[cycle(sum)]
     fn further_operands(
         &mut self,
@@ -138,7 +138,7 @@ impl<'a> Parser<'a> {
         Ok(Expression::Name(name))
     }
 
-    /// An operator of this rank. Its callers have seen that one is next, so the misfit is never told.
+    /// An operator of this rank. Its callers have checked that one is next, so the misfit is never reported.
     #[tactic(auto, unfolding(rbg_grammar::specs::Reading::one_of_at))]
     fn operator(&mut self, rank: Rank) -> Reading<Operator>
         ensures { Gives (λ o. (o, self.new)) result (one_of_at (operator_of rank) self.old) }

@@ -33,7 +33,7 @@ impl<'a> Parser<'a> {
         self.generated(alloc, Generator::Graph, b"graph")
     }
 
-    /// The board that a generator makes of what stands in the parentheses after its name.
+    /// The board that a generator makes of what is in the parentheses after its name.
     #[tactic(auto, unfolding(rbg_grammar::specs::Reading::generated_at, rbg_grammar::specs::Reading::within_at))]
     fn generated(&mut self, alloc: Global, generator: Generator, name: &[u8]) -> Reading<Board<'a>>
         ensures { Gives (λ b. (board_of b, self.new)) result

@@ -26,10 +26,10 @@ pub enum SyntaxError {
     Memory,
 }
 
-/// What is needed where a token doesn't fit. It prints itself by its own name, as `Closing`.
+/// What is needed at a token that doesn't fit. Its text is the name of the variant, such as `Closing`.
 #[derive(Clone, Copy, Debug, PartialEq, Eq)]
 pub enum Expectation {
-    /// A name; also after the `{` of an on, where `}` fits too.
+    /// A name; also after the `{` of an on, at which `}` fits too.
     Name,
     /// The number of a bound.
     Number,
@@ -53,7 +53,7 @@ pub enum Expectation {
 }
 
 impl Expectation {
-    /// Its name in a refusal, as `Closing`.
+    /// Its name in a refusal, such as `Closing`.
     #[tactic(auto, unfolding(crate::specs::Names::part_name))]
     pub fn name(self) -> &'static str
         ensures { result.now ≡ part_name self }
@@ -84,7 +84,7 @@ impl fmt::Display for Expectation {
 /// Why a reader stops. `parse` makes a `SyntaxError` of it.
 #[derive(Clone, Copy)]
 pub(crate) enum ReadError {
-    /// The token at this offset doesn't fit. With no offset, the section's tokens end where more are needed.
+    /// The token at this offset doesn't fit. With no offset, the section's tokens end too early.
     Misfit {
         at: Option<usize>,
         what: Expectation,
@@ -115,7 +115,7 @@ impl ReadError {
     }
 }
 
-/// Whatever says that memory is refused, as a failed allocation does.
+/// An error of a refused allocation becomes `Memory`.
 impl<E: Into<Memory> + Drop> From<E> for ReadError {
     ghost from_gives = { λ _ e. e ≡ errors.Memory };
 

@@ -106,7 +106,7 @@ fn read_pieces(alloc: Global, section: Section<'_>) -> Reading<Vec<Name<'_>>>
     Ok(pieces)
 }
 
-/// The variables. There are none where they have no section.
+/// The variables. There are none if they have no section.
 fn variables_of<'a>(alloc: Global, source: &'a Source<'_>) -> Result<Vec<Bounded<'a>>, SyntaxError>
     ensures { GivesAt (start_of (sections_of Variables source.now)) bounded_list_of result
         (variables_at (sections_of Variables source.now)) }

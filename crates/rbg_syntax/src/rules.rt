@@ -44,7 +44,7 @@ impl<'a> Parser<'a> {
         Ok(joined(level, parts))
     }
 
-    /// The parts after a first one, and that one before them.
+    /// The parts after a first one, and the first one before them.
     #[cycle(rules)]
     fn further(
         &mut self,
@@ -102,7 +102,7 @@ impl<'a> Parser<'a> {
         }
     }
 
-    /// An atom, and the `*` after it where there is one.
+    /// An atom, and the `*` after it if there is one.
     #[cycle(rules)]
     #[tactic(auto, using(rbg_grammar::proofs::Trees::stars), unfolding(rbg_grammar::specs::RuleReading::item_at))]
     fn item(&mut self, alloc: Global, brackets: u8) -> Reading<Rule<'a>>
@@ -131,7 +131,7 @@ impl<'a> Parser<'a> {
         self.bracket_atom(alloc, brackets - 1)
     }
 
-    /// An atom in brackets, in which at most so many further ones may be open.
+    /// An atom in brackets, in which at most this many further ones may be open.
     #[cycle(rules)]
     #[tactic(auto, unfolding(rbg_grammar::specs::RuleReading::bracket_atom_at, rbg_grammar::specs::Reading::within_at))]
     fn bracket_atom(&mut self, alloc: Global, brackets: u8) -> Reading<Rule<'a>>

@@ -5,7 +5,7 @@ ghost use Rattle.rbg_grammar.specs.Views.{rule_of};
 
 use rbg_grammar::Rule;
 
-/// The only part, or the parts where there isn't one alone.
+/// The only part, or all parts as an error if there isn't exactly one.
 pub(crate) fn only_part<T: Drop>(mut parts: Vec<T>) -> Result<T, Vec<T>>
     ensures one { IfOk result (λ part. parts.items ≡ part ∷ []) }
     ensures several { IfErr result (λ all. vec_len all ≡ 1 → ⊥) }

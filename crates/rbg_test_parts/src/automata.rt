@@ -1,5 +1,5 @@
-//! What no contract says of the automaton of a game: equal lists are in it once, it lends its answers, and common actions
-//! are told at a glance. Its two forms give the same answers.
+//! Tests of what no contract states about the automaton of a game: equal lists are in it once, it lends its answers,
+//! and common actions are known at a glance. Its two forms give the same answers.
 use rbg_auto::{Expr, Glance, Steps, compact, compile};
 use rbg_base::Position;
 use rbg_game::load;
@@ -14,7 +14,7 @@ const HEAD: &str = "#players = white(100), black(100)
 #board = rectangle(up,down,left,right,[w,e])
 #rules = ";
 
-/// Macros of texts with long rules: what they are given, some times; choices; and sums of 271 and of 368.
+/// Macros for long rules: three repeat their argument, and the others make choices, and sums of 271 and of 368 parts.
 const MACROS: &str = "
 #six(x) = x x x x x x
 #nine(x) = x x x x x x x x x
@@ -117,13 +117,13 @@ fn game_of(alloc: Global, rules: &str) -> Result<Game, Fail> {
     Ok(load(alloc, text.as_bytes())?)
 }
 
-/// Whether the automaton of a game has so many entries, and lends its answers.
+/// Whether the automaton of a game has this many entries, and lends its answers.
 fn has_entries(alloc: Global, game: &Game, entries: usize) -> Result<bool, Fail> {
     let automaton = compact(alloc, game)?;
     Ok(automaton.entries() == entries && automaton.lend().is_some())
 }
 
-/// Whether the automaton of the game of these rules has so many entries, and lends its answers.
+/// Whether the automaton of the game of these rules has this many entries, and lends its answers.
 fn shares_lists(alloc: Global, rules: &str, entries: usize) -> Result<bool, Fail> {
     has_entries(alloc, &game_of(alloc, rules)?, entries)
 }
@@ -133,14 +133,14 @@ fn same_first(one: &impl Steps, other: &impl Steps, expr: Expr) -> bool {
     one.first(expr) == other.first(expr) && one.may_be_empty(expr) == other.may_be_empty(expr)
 }
 
-/// Whether two automata give the same answers for the position, and for the pattern that may stand there.
+/// Whether two automata give the same answers for the position, and for a pattern at it.
 fn same_at(one: &impl Steps, other: &impl Steps, position: Position) -> bool {
     one.next(position) == other.next(position)
         && one.may_end(position) == other.may_end(position)
         && same_first(one, other, Expr::Inside(position))
 }
 
-/// Whether two automata give the same answers for the rules, and for each position to the last and for one on either side.
+/// Whether two automata give the same answers for the rules, and for each position from 0 to the one after the last.
 fn agree(one: &impl Steps, other: &impl Steps, last: Position) -> bool {
     let mut same = same_first(one, other, Expr::Rules);
     for position in 0..=last.saturating_add(1) {
@@ -182,7 +182,7 @@ fn equal_lists_are_kept_once(rt: HostRuntime) -> Result<(), Fail> {
 const ACTIONS: &str =
     "->white {w} {w,e} {? right} right [w] {w,e,b} {$ n < 2} [$ n = n + 1] ->black";
 
-/// What is told at a glance of the positions of these rules, from 0 on to the one after the last.
+/// The glances at the positions of these rules, from 0 on to the one after the last.
 const TOLD: [Glance; 13] = [
     Glance::Unknown,
     Glance::Modifies,
@@ -199,7 +199,7 @@ const TOLD: [Glance; 13] = [
     Glance::Unknown,
 ];
 
-/// Whether the positions are told so.
+/// Whether an automaton has these glances.
 fn tells(automaton: &impl Steps) -> bool {
     let mut same = true;
     for position in 0..13 {
@@ -209,7 +209,7 @@ fn tells(automaton: &impl Steps) -> bool {
     same
 }
 
-/// Whether the positions of a game are told so.
+/// Whether the automaton of a game has these glances.
 fn tells_of(alloc: Global, game: &Game) -> Result<bool, Fail> {
     Ok(tells(&compact(alloc, game)?))
 }

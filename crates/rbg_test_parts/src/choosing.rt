@@ -1,12 +1,12 @@
-//! A player that hears its stream byte by byte says the move that its chooser chooses. That the move is legal, and that each
-//! error is answered again, is proved; what is said to a whole piece stands in cases of rbg_cases.
+//! A player that receives its stream byte by byte sends the move that its chooser chooses. It is proved that the move
+//! is legal, and that each error is returned again. Cases of rbg_cases have what a player sends after a whole piece.
 ghost use Rattle.std.specs.Prelude.{◌<◌};
 
 use rbg_player::{Chooser, Heard, MAX_CHOICES, Player};
 use std::alloc::Global;
 
-/// What white hears up to its turn, in a game in which it has 70 moves. The least one, with the off, is found last. The
-/// macros give what they are given nine times, and six times ten times.
+/// The stream of white up to its turn, in a game in which it has 70 moves. The least one, with the off, is found last.
+/// The macros repeat their argument nine times, and six times ten times.
 const STREAM: &[u8] = b"W1 white\0G#players = white(100), black(100)
 #pieces = e, w
 #board = rectangle(up,down,left,right,[e])
@@ -16,7 +16,8 @@ const STREAM: &[u8] = b"W1 white\0G#players = white(100), black(100)
 #rules = ->white ([w] ->black sixty(+ ->black) nine(+ ->black)) {}
 \0L1000 3\0M0 1\0";
 
-/// Which move is chosen, and what white says. The moves are those of the 64 that are found first, in order of their pairs.
+/// Which move is chosen, and what white sends. The moves are those of the 64 that are found first, in order of their
+/// pairs.
 const CHOICES: [(usize, &[u8]); 4] = [
     (0, b"M0 4\0"),
     (40, b"M0 44\0"),
@@ -41,7 +42,7 @@ impl Chooser for Nth {
     }
 }
 
-/// Whether a new player goes on after each byte of the stream. What it says is appended to `said`.
+/// Whether play continues after each byte of the stream, for a new player. What it sends is appended to `said`.
 fn goes_on(alloc: Global, chooser: &mut Nth, said: &mut Vec<u8>) -> bool {
     let mut player = Player::new(alloc);
     let mut going = true;
@@ -52,7 +53,7 @@ fn goes_on(alloc: Global, chooser: &mut Nth, said: &mut Vec<u8>) -> bool {
     going
 }
 
-/// Whether white says this where the move of a number is chosen, of as many as there may be.
+/// Whether white sends this if the move of a number is chosen, out of the maximum number of choices.
 fn is_said(alloc: Global, chosen: usize, says: &[u8]) -> bool {
     let mut chooser = Nth { chosen, choices: 0 };
     let mut said = Vec::new(alloc);

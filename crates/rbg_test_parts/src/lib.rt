@@ -1,5 +1,5 @@
-//! Tests of what no contract says, or of all cases that there are: of the automaton of positions, of short messages, of a
-//! player, of serving over lines in memory, of logs in memory, and why no match and no hall is made.
+//! Tests of what no contract states, or of all cases that there are: of the automaton of positions, of short messages,
+//! of a player, of serving over lines in memory, of logs in memory, and why no match and no hall is made.
 #![tactic(auto)]
 
 #[cfg(test)]

@@ -1,4 +1,4 @@
-//! A log in memory takes what it has room for, and of what it hasn't room for nothing.
+//! A log in memory takes bytes whole if it has room for them, and otherwise none of them.
 
 use rbg_serving::{Log, MemoryLog};
 use std::alloc::Global;

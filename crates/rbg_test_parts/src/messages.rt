@@ -1,4 +1,4 @@
-//! No message of one byte or of two is a move: the mover that sends it is told so, whatever the bytes are.
+//! No message of one or two bytes is a move: the mover that sends it is sent a refusal, whatever the bytes are.
 use rbg_match::{Config, Event, MAX_REFUSALS};
 use rbg_referee::referee;
 use std::alloc::Global;
@@ -23,10 +23,10 @@ const OPENING: &[u8] = b"W1 white\0G#players = white(100), black(100)
 #rules = ->white {e}[w][$ white=100] ->black right {e}[b] ->> {}
 \0L1000 100\0M0 1\0";
 
-/// The last bytes of messages that one match hears, the first one and the last. A match allows 100 refusals.
+/// The last bytes of the messages to one match: the first one and the last. A match allows 100 refusals.
 const LAST: [(u8, u8); 3] = [(1, 85), (86, 170), (171, 255)];
 
-/// How many messages a match hears.
+/// How many messages a match receives.
 const HEARD: usize = 85;
 
 /// Messages of the same first bytes and each of these last ones.
@@ -41,7 +41,7 @@ fn messages(alloc: Global, first: &[u8], last: (u8, u8)) -> Result<Vec<u8>, Fail
     Ok(bytes)
 }
 
-/// What white is sent in all where each message is refused.
+/// What white is sent in all if each message is refused.
 fn refused(alloc: Global) -> Result<Vec<u8>, Fail> {
     let mut bytes = Vec::from_slice(alloc, OPENING)?;
     for _ in 0..HEARD {

@@ -1,4 +1,5 @@
-//! Why a match or a hall is not made. The programs read no config that is outside its limits, and no more than 16 files.
+//! Why a match or a hall can't be made. The programs read no config that is outside its limits, and no more than 16
+//! files.
 use crate::tables::tables;
 use rbg_hall::{HallError, whole_hall};
 use rbg_match::{Config, MAX_REFUSALS, MAX_TURN_MS};

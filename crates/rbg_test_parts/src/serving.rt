@@ -49,7 +49,7 @@ fn open(alloc: Global, text: &[u8]) -> Result<(Match, Outbox), Fail> {
     Ok(Match::new(alloc, game, text, CONFIG, 0)?)
 }
 
-/// What a line gives that gives these bytes at its first poll.
+/// What a line gives: these bytes at its first poll.
 fn given(alloc: Global, said: &[u8]) -> Result<Vec<Give>, Fail> {
     let mut gives = Vec::new(alloc);
     gives.push(Give::Bytes(Vec::from_slice(alloc, said)?))?;
@@ -62,14 +62,14 @@ fn line(alloc: Global, said: &[u8]) -> Result<MemoryLine, Fail> {
     Ok(MemoryLine::new(alloc, given(alloc, said)?, takes, SENT)?)
 }
 
-/// The lines of the two seats, the second of which fails at its call of that number, or never at 0.
+/// The lines of the two seats, the second of which fails at its call of that number, or never for 0.
 fn two_lines(alloc: Global, call: u64) -> Result<[Faulty<MemoryLine>; 2], Fail> {
     let first = line(alloc, MOVES[0])?;
     let second = line(alloc, MOVES[1])?;
     Ok([Faulty::new(first, 0), Faulty::new(second, call)])
 }
 
-/// Serves a match over as many lines as it has players, by a clock that tells 0.
+/// Serves a match over as many lines as it has players, with a clock that shows 0.
 fn serve_over<L: Line>(
     alloc: Global,
     lines: &mut [L],
@@ -92,9 +92,9 @@ fn serve_match(
     Ok(serve_over(alloc, lines, &mut opened, &mut outbox))
 }
 
-/// How serving ends where seat 2's line fails at that call, or never at 0. The opening is put to it before the first round, and
-/// then white's move; then it is polled, and black's move and the end are put to it. It is whole where no put failed: a
-/// seat whose stream has ended is sent nothing more.
+/// How serving ends if seat 2's line fails at that call, or never for 0. The opening is put to the line before the
+/// first round, and then white's move; then it is polled, and black's move and the end are put to it. The result is
+/// whole if no put failed: a seat whose stream has ended is sent nothing more.
 fn served_at(call: u64) -> Served {
     Served {
         rounds: (call == 0 || call > OPENED) as u64,
@@ -102,7 +102,7 @@ fn served_at(call: u64) -> Served {
     }
 }
 
-/// How many bytes of the whole match seat 1 is sent where seat 2's line fails at that call, or never at 0.
+/// How many bytes of the whole match seat 1 is sent if seat 2's line fails at that call, or never for 0.
 fn sent_at(call: u64) -> usize {
     if call == 0 || call > POLLED {
         SENT
@@ -113,7 +113,7 @@ fn sent_at(call: u64) -> usize {
     }
 }
 
-/// Whether seat 1 took so much of the whole match, and then that seat 2's stream ended, unless it took all.
+/// Whether seat 1 took this much of the whole match and then that seat 2's stream ended, or all of the match.
 fn is_taken(took: &[u8], sent: usize) -> bool {
     if sent == SENT {
         return took == WHOLE;
@@ -124,7 +124,7 @@ fn is_taken(took: &[u8], sent: usize) -> bool {
     }
 }
 
-/// Whether a match is served right where seat 2's line fails at that call, or never at 0.
+/// Whether a match is served right if seat 2's line fails at that call, or never for 0.
 fn fails_at(alloc: Global, call: u64) -> Result<bool, Fail> {
     let mut lines = two_lines(alloc, call)?;
     let answer = serve_match(alloc, &mut lines)?;

@@ -1,4 +1,4 @@
--- Parts that are told by their fields, and what they leave to be cut.
+-- Parts by their fields, and what is left to be cut after them.
 use Rattle.std.proofs.Common.{◌≡◌, ℕ, suc, ◌+◌, ◌-◌, ◌<◌, ◌≤◌, Bool, true, false, List, [], ◌∷◌, ◌++◌, length, map, take, drop, get_or, ap, ◌∙◌, sym, subst, append_assoc, arith, if◌then◌else◌}
 use Rattle.std.proofs.lemmas.Bool.{true≢false}
 use Rattle.std.proofs.lemmas.List.{take_rest, length-drop, map-append}
@@ -6,7 +6,7 @@ use Rattle.std.proofs.Math.Seq.{drop-cons, drop-drop}
 use Rattle.rbg_macro.specs.declared.token.Token.{Token}
 use Rattle.rbg_warnings.specs.Actions.{AreCut, action, none, IsPart, single, to_player, to_nobody, pattern, braces, open_braces, change, open_change, between, marks_pattern}
 
--- an action with so many further tokens
+-- an action with this many further tokens
 pub told : (t : Token) (ts : List Token) (is_action : Bool) (m n : ℕ) → is_action ≡ true → m ≡ n → IsPart t ts true n → IsPart t ts is_action m
 told t ts is_action m n is same part = rw is (rw same part)
 
@@ -57,7 +57,7 @@ step_at rules at further is_action d tokens old new below are part grown so_far 
     let whole : tokens ≡ get_or rules at d ∷ take further (drop (at + 1) rules) = are ∙ (rw count (ap (take (suc further)) here)) in
     step rules at further is_action (get_or rules at d) (drop (at + 1) rules) tokens old new here (sym (drop-drop further (at + 1) rules)) whole (subst (λ ts. IsPart (get_or rules at d) ts is_action further) rest part) grown so_far
 
--- the actions so far, told by what they refer to
+-- the actions so far, by what they refer to
 pub grown : {A B : Type 0} (f : A → B) (is_action : Bool) (old new : List A) (x : A) → new ≡ (if is_action then old ++ x ∷ [] else old) → map f new ≡ (if is_action then map f old ++ f x ∷ [] else map f old)
 grown f true old new x is = ap (map f) is ∙ map-append f old (x ∷ [])
 grown f false old new x is = ap (map f) is

@@ -8,7 +8,7 @@ use Rattle.rbg_warnings.specs.declared.named_thing.NamedThing.{NamedThing}
 use Rattle.rbg_warnings.specs.Warnings.{IsWritten, HasTooGreat, uses, assigns_too_much}
 use Rattle.rbg_warnings.specs.internal.Walking.{IsUnusedUpTo}
 
--- the action that stands, with some inside
+-- the action at a position, with some inside
 pub standing : (rules : Expression) (p : ℕ) (i : Action) → Stands rules p i → (x : Expression) × HasAction rules p (action_of i x)
 standing rules p (Shift d) h = (skip, h)
 standing rules p (On xs) h = (skip, h)

@@ -18,7 +18,7 @@ is_change kind = is_symbol OpenBracket kind || is_symbol Comma kind
 abbrev pub ends_change : TokenKind → Bool
 ends_change kind = is_symbol CloseBracket kind || is_symbol Comma kind
 
--- what stands after the `{` of a pattern
+-- what follows the `{` of a pattern
 abbrev pub is_mark : TokenKind → Bool
 is_mark kind = is_symbol Question kind || is_symbol Exclamation kind
 
@@ -41,7 +41,7 @@ EndsOn t = t.kind ≡ Symbol CloseBrace
 abbrev pub EndsChange : Token → Type 0
 EndsChange t = ends_change t.kind ≡ true
 
--- What a token begins, with some tokens after it: an action, to which so many further tokens belong, or none.
+-- What a token begins, with some tokens after it: an action, to which `further` more tokens belong, or none.
 pub data IsPart (t : Token) (ts : List Token) : (is_action : Bool) → (further : ℕ) → Type 0 where
   single : is_single t.kind ≡ true → IsPart t ts true 0
   -- `->` and the player

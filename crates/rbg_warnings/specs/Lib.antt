@@ -1,6 +1,6 @@
 pub mod Actions
 pub mod Excerpts
--- What an author is warned of.
+-- The warnings of a game for its author.
 pub mod Sifting
 pub mod Warnings
 pub mod internal

@@ -1,4 +1,5 @@
--- What an author is warned of in a game: what it has and its rules never use, and numbers that a variable can't hold.
+-- The warnings of a game for its author: things that it has and its rules never use, and numbers that a variable can't
+-- have.
 use Rattle.std.specs.Prelude.{ℕ, ◌-◌, ◌==◌, ◌||◌, nat_lt, Bool, false, IsTrue, List, ◌++◌, map, length, slice_index, Contains}
 use Rattle.std.specs.List.{range_with_len}
 use Rattle.rbg_rules.specs.Meaning.{AbstractArithmetic, number, variable, piece_count, negated, sum, difference, product, quotient, AbstractAction, shift, off, assignment, comparison, switch, HasAction, positions_of, AbstractGame}
@@ -52,7 +53,7 @@ abbrev pub assigns_too_much : List ℕ → AbstractAction → Bool
 assigns_too_much bounds (assignment v e) = is_number_above (slice_index bounds v) e
 assigns_too_much bounds _ = false
 
--- such an action stands at the position
+-- such an action is at the position
 pub record HasTooGreat (game : AbstractGame) (position : ℕ) : Type 0 where
   pub action : AbstractAction
   pub stands : HasAction game.rules position action

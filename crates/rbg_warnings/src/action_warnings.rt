@@ -1,4 +1,4 @@
-//! What single actions do.
+//! Checks of single actions for warnings.
 ghost use Rattle.std.specs.Prelude.{◌≡◌, slice_index};
 ghost use Rattle.rbg_rules.specs.Meaning.{Expression, action_of, arithmetic_of};
 ghost use Rattle.rbg_warnings.specs.Warnings.{assigns_too_much as is_too_much, is_number_above, uses as is_used};

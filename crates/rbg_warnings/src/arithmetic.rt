@@ -1,4 +1,4 @@
-//! What arithmetic names.
+//! The names in arithmetic.
 ghost use Rattle.std.specs.Prelude.{◌≡◌};
 ghost use Rattle.rbg_rules.specs.Meaning.{arithmetic_of};
 ghost use Rattle.rbg_warnings.specs.Warnings.{names_variable as names};
@@ -37,7 +37,7 @@ fn some_operand_names(operations: &[Operation], variable: Variable) -> bool
     false
 }
 
-/// The number that arithmetic is, if it is a number alone.
+/// The number of arithmetic that is a number alone.
 #[tactic(auto, using(rbg_rules::proofs::Bridge::translation))]
 pub(crate) fn number_of(arithmetic: &Arithmetic) -> Option<u64>
     ensures { result ≡ number_in (arithmetic_of arithmetic.now) }

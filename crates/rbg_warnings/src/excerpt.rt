@@ -10,7 +10,7 @@ const MOST_BEFORE: usize = 80;
 /// How many bytes of a line are shown from the place on.
 const MOST_AFTER: usize = 80;
 
-/// A part of a line: what stands at a place in it.
+/// A part of a line: some bytes at a place in it.
 #[derive(Clone, Copy)]
 pub struct Excerpt<'a> {
     /// The line's number.
@@ -19,7 +19,7 @@ pub struct Excerpt<'a> {
     pub bytes: &'a [u8],
     /// The offset of the place in the line.
     pub offset: usize,
-    /// How many bytes stand there.
+    /// The number of bytes at the place.
     pub width: usize,
 }
 
@@ -48,7 +48,7 @@ impl<'a> Excerpt<'a> {
         output.extend_from_slice(b"\n")
     }
 
-    /// The carets stand after as many blanks as the number has digits.
+    /// The carets come after as many blanks as the number has digits.
     fn write_carets(
         &self,
         alloc: Global,
@@ -63,7 +63,7 @@ impl<'a> Excerpt<'a> {
         output.extend_from_slice(b"\n")
     }
 
-    /// What is shown of the line before the place.
+    /// The shown part of the line before the place.
     fn before(&self) -> &'a [u8] {
         let first = self.offset.saturating_sub(MOST_BEFORE);
         let before = self.bytes.get(first..self.offset);
@@ -76,20 +76,20 @@ impl<'a> Excerpt<'a> {
         rest.unwrap_or(&[])
     }
 
-    /// The part after the place that is shown.
+    /// The shown part from the place on.
     fn after(&self) -> &'a [u8] {
         let rest = self.rest();
         let after = rest.get(..MOST_AFTER);
         after.unwrap_or(rest)
     }
 
-    /// What is written before the part of the line that is shown.
+    /// The mark before the shown part of the line.
     fn mark(&self) -> &'static [u8] {
         cut_mark(self.offset > MOST_BEFORE)
     }
 }
 
-/// What stands where a part of the line is left out.
+/// The mark in place of a part of the line that is left out.
 fn cut_mark(is_cut: bool) -> &'static [u8] {
     if is_cut { b".." } else { b"" }
 }

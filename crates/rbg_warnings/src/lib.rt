@@ -1,5 +1,5 @@
-//! Passages of a text: the actions that the tokens of its rules spell, and lines with carets below a place. And what an
-//! author is warned of in right rules.
+//! Passages of a text, which are the actions that the tokens of its rules spell, and lines with carets below a place;
+//! and the warnings of a game for its author.
 #![tactic(auto)]
 
 mod action_warnings;

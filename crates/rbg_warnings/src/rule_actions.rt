@@ -42,14 +42,14 @@ fn push_part<'a>(
     Ok(())
 }
 
-/// What a token begins: an action, to which so many further tokens belong, or none.
+/// What a token begins: an action, to which `further` more tokens belong, or none.
 #[derive(Clone, Copy)]
 struct Part {
     is_action: bool,
     further: usize,
 }
 
-/// An action with so many further tokens.
+/// An action with this many further tokens.
 fn action(further: usize) -> Part
     ensures further { result.further ≡ further }
     ensures is_action { result.is_action ≡ true }
@@ -186,7 +186,7 @@ pub fn push_action(output: &mut Vec<u8>, action: &[Token<'_>]) -> Result<(), All
     }
 }
 
-/// Adds the tokens with a space where one stands by custom.
+/// Adds the tokens, with the usual spaces: around the operators of arithmetic, and after a comma elsewhere.
 fn push_spaced(output: &mut Vec<u8>, tokens: &[Token<'_>]) -> Result<(), AllocError> {
     let is_arithmetic = tokens.iter().any(|token| token.is(Symbol::Dollar)
         || token.is(Symbol::Equals));
@@ -205,7 +205,7 @@ fn push_spaced(output: &mut Vec<u8>, tokens: &[Token<'_>]) -> Result<(), AllocEr
     Ok(())
 }
 
-/// Whether no space stands before the token.
+/// Whether no space comes before the token.
 fn closes(token: &Token<'_>) -> bool {
     token.kind.closes() || token.is(Symbol::Comma)
 }

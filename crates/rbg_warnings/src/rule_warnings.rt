@@ -48,7 +48,7 @@ fn sift_positions(game: &Game, found: &mut Vec<Warning>) -> Result<(), Memory>
     Ok(())
 }
 
-/// Adds the warnings of things of a kind, so many from the first number on.
+/// Adds the warnings of things of a kind: those of `count` numbers from the first one on.
 fn sift_things(
     game: &Game,
     kind: Kind,

@@ -3,7 +3,7 @@
 use crate::named_thing::NamedThing;
 use rbg_base::Position;
 
-/// What an author is warned of.
+/// A warning for an author about a game without a fault.
 #[derive(Clone, Copy)]
 pub enum Warning {
     /// At the position a number is assigned to a variable whose bound is smaller, so the assignment never runs.

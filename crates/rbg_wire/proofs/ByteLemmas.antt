@@ -47,7 +47,7 @@ same_bytes text other test = (bytes_eq-Decides text other).0 (sym test)
 pub other_bytes : (text other : List ℕ) → false ≡ bytes_eq text other → text ≡ other → ⊥
 other_bytes text other test same = let apart : false ≡ true = test ∙ (bytes_eq-Decides text other).1 same in cc
 
--- what stands before the first such byte begins with no other byte that it lacks
+-- the part before the first such byte begins with no other byte that it lacks
 pub other_first : (byte first : ℕ) (a x rest : List ℕ) → LacksByte first a → byte ≢ first → a ++ byte ∷ x ≡ first ∷ rest → ⊥
 other_first byte first [] x rest lacks other same = let parts : byte ∷ x ≡ first ∷ rest = same in other (cc)
 other_first byte first (c ∷ a) x rest lacks other same =

@@ -37,7 +37,7 @@ looked_end cursor bytes at h place =
       clear = subst (LacksByte 0) (sym more) (All-append (λ other. other ≢ 0) seen (take at left) h.clear place.first);
     }
 
--- where no zero byte is left, none is after the start
+-- if no zero byte is left, none is after the start
 pub looked_none : (cursor : Cursor) (bytes : List ℕ) → IsCursorOf cursor bytes → LacksByte 0 (drop cursor.looked bytes) → LacksByte 0 (drop cursor.start bytes)
 looked_none cursor bytes h lacks = subst (LacksByte 0) (sym (looked_parts bytes cursor.start cursor.looked h.ordered)) (All-append (λ other. other ≢ 0) (slice_range bytes cursor.start cursor.looked) (drop cursor.looked bytes) h.clear lacks)
 
@@ -52,7 +52,7 @@ cursor_at_all bytes start d ordered lacks = record {
 pub cursor_at_end : (bytes : List ℕ) (start end : ℕ) (d : Bool) → IsEnd bytes start end → IsCursorOf (record { start = start; looked = end; dropping = d }) bytes
 cursor_at_end bytes start end d h = record { ordered = h.ordered; within = omega (arith, h.within); clear = h.clear }
 
--- dropping goes on to the end of the bytes, or ends after a zero byte
+-- dropping continues to the end of the bytes, or ends after a zero byte
 pub skipped_all : (limit : ℕ) (bytes : List ℕ) (start end : ℕ) → LacksByte 0 (drop start bytes) → length bytes ≤ end → cut limit dropping (drop end bytes) ≡ cut limit dropping (drop start bytes)
 skipped_all limit bytes start end lacks past = ap (cut limit dropping) (drop_all end bytes past) ∙ (cut-none limit dropping ∙ sym (cut-dropping limit (drop start bytes) lacks))
 
@@ -71,7 +71,7 @@ range_earlier bytes start count end ordered =
     let sum : (start + count) - start ≡ count = omega arith in
     ap (λ n. take n (drop start bytes)) sum ∙ sym (take-take count (end - start) (drop start bytes) (omega arith))
 
--- where more than the limit has no zero byte, the message is too long
+-- if more bytes than the limit are not zero, the message is too long
 pub cursor_too_long : (bytes : List ℕ) (limit : ℕ) (cursor : Cursor) → IsCursorOf cursor bytes → limit < cursor.looked - cursor.start → IsCursorOf (record { start = cursor.start + (limit + 1); looked = cursor.looked; dropping = true }) bytes
 cursor_too_long bytes limit cursor h over = record {
   ordered = omega (arith, h.ordered);

@@ -7,7 +7,7 @@ use Rattle.rbg_wire.proofs.NumberLemmas.{lacks_byte-decimal}
 pub space_lacks : (n : ℕ) → n < 2 ^ 64 → LacksByte 32 (decimal n)
 space_lacks n small = lacks_byte-decimal 32 n (omega arith) small
 
--- A text that is cut at its first space, where it is a number, a space and more.
+-- A text that is cut at its first space, if it is a number, a space and more.
 pub cut_fields : (text word rest : List ℕ) → text ≡ word ++ 32 ∷ rest → LacksByte 32 word → (n : ℕ) (more : List ℕ) → n < 2 ^ 64 → text ≡ decimal n ++ 32 ∷ more → (word ≡ decimal n) × (rest ≡ more)
 cut_fields text word rest cut lacks n more small is = same_cut 32 word (decimal n) rest more lacks (space_lacks n small) (sym cut ∙ is)
 

@@ -10,7 +10,7 @@ kept_after old more mid new grown kept =
     let whole : new ≡ old ++ (more ++ rest) = sym (take-append-drop (length mid) new) ∙ (ap (λ front. front ++ rest) (kept ∙ grown) ∙ append_assoc old more rest) in
     ap (take (length old)) whole ∙ take-append_seam old (more ++ rest)
 
--- Where one of several calls fails, whatever was to be written, the bytes from before them are still there.
+-- If one of several calls fails, the bytes from before them are still there, whatever was to be written.
 pub broken_off : {E : Type 0} (P : E → Type 0) (old more mid new text : List ℕ) (result : Result (Unit {0}) E) → IsErrAnd result P → mid ≡ old ++ more → take (length mid) new ≡ mid → Appends old new text result
 broken_off P old more mid new text result failed grown kept = record {
   written = rw (err_from_is_err_and result failed).1 tt;

@@ -5,7 +5,7 @@ use Rattle.rbg_wire.proofs.Common.{LacksByte, WireError, Malformed, TooManyPairs
 use Rattle.rbg_wire.proofs.NumberLemmas.{lacks_byte-decimal}
 use Rattle.rbg_wire.proofs.WordLemmas.{words_of-spaced, same_words, some_word}
 
--- where no short number is the first word, or the second, the words are those of no pairs
+-- if no short number is the first word, or the second, the words are those of no pairs
 pub first_no_number : (word : List ℕ) (rest : List (List ℕ)) → ((n : ℕ) → n < 10 ^ 9 → word ≡ decimal n → ⊥) → (pairs : List (ℕ × ℕ)) → ArePairWords (word ∷ rest) pairs → ⊥
 first_no_number word rest none [] h = let same : word ∷ rest ≡ [] = h.are in cc
 first_no_number word rest none (p ∷ ps) h =
@@ -52,7 +52,7 @@ words_of-pairs_text p ps short =
     ap words_of (pair_text-more p (flat_map (λ q. codes " " ++ pair_text q) ps) ∙ ap (λ more. decimal p.0 ++ 32 ∷ (decimal p.1 ++ more)) (spaced_pairs ps))
     ∙ words_of-spaced (decimal p.0) (decimal p.1 ∷ pair_words ps) lack.0 lack.1
 
--- a text spells pairs exactly where its words are theirs
+-- a text spells pairs exactly if its words are theirs
 pub words_from_spelled : (text : List ℕ) (pairs : List (ℕ × ℕ)) → SpellsPairs text pairs → ArePairWords (words_of text) pairs
 words_from_spelled text [] h = absurd (omega (arith, h.are.some))
 words_from_spelled text (p ∷ ps) h = record { short = h.are.short; are = ap words_of h.is ∙ words_of-pairs_text p ps h.are.short }
@@ -138,7 +138,7 @@ HasRead-full text pairs too_many left after p h full short next = record {
   stands = stands_full too_many pairs h.all p full h.stands;
 }
 
--- where no word is left, the result is what was read
+-- if no word is left, the result is what was read
 pub HasRead-spelled : (text : List ℕ) (pairs : List (ℕ × ℕ)) → HasRead text pairs false [] → SpellsPairs text pairs × (length pairs ≤ 200)
 HasRead-spelled text pairs h =
     let spelled : SpellsPairs text h.all = spelled_from_words text h.all (record { short = h.short; are = h.words ∙ append-nil (pair_words h.all) }) in
@@ -151,7 +151,7 @@ HasRead-too_many text pairs h = record {
   more = h.stands;
 }
 
--- where the words that are left are those of no pairs, neither is the text
+-- if the words that are left are those of no pairs, neither is the text
 pub HasRead-none : (text : List ℕ) (pairs : List (ℕ × ℕ)) (too_many : Bool) (left : List (List ℕ)) → HasRead text pairs too_many left → ((qs : List (ℕ × ℕ)) → ArePairWords left qs → ⊥) → (qs : List (ℕ × ℕ)) → SpellsPairs text qs → ⊥
 HasRead-none text pairs too_many left h none qs spelled =
     let are = words_from_spelled text qs spelled in

@@ -54,7 +54,7 @@ HasScores-push text scores left after score h room small next = record {
       ∙ ap (λ ws. ws ++ after) (sym (map-append decimal scores (score ∷ [])))));
 }
 
--- where no word is left, the scores are spelled
+-- if no word is left, the scores are spelled
 pub HasScores-spelled : (text : List ℕ) (scores : List ℕ) → HasScores text scores [] → SpellsScores (32 ∷ text) scores
 HasScores-spelled text scores h = scores_from_words text scores h.few h.small (h.words ∙ append-nil (map decimal scores))
 

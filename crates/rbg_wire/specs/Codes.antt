@@ -1,5 +1,5 @@
--- Outcomes, and the rests of streams, as sums of numbers and lists, one to one: what proofs tell those apart by that
--- contracts see.
+-- Outcomes, and the rests of streams, as sums of numbers and lists, one to one. Proofs use these codes to distinguish
+-- the values that contracts see.
 use Rattle.std.specs.Prelude.{◌≡◌, ◌⊎◌, ℕ, List, refl}
 use mathlib.Core.Logic.{inl, inr}
 use base.Stored.{coded_unit}

@@ -36,7 +36,7 @@ IsWithin bytes TooLong = Unit {0}
 -- What a cursor finds in the buffer.
 --   cursor: it is still one of this buffer
 --   found: it is the first item that is complete, and the cursor is after it
---   within: a message that is found lies in the buffer
+--   within: a message that is found is within the buffer
 --   none: no item is complete, and the unread bytes are cut as before
 pub record FindsNext (limit : ℕ) (bytes : List ℕ) (old new : Cursor) (result : Option Found) : Type 0 where
   pub cursor : IsCursorOf new bytes

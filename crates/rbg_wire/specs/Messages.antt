@@ -54,7 +54,8 @@ reason_number NotLegal = 3
 reason_number MoveTooLong = 4
 reason_number NoSeat = 5
 
--- the letters with which messages begin: `W`, `G`, `L`, `M` and `E`
+-- The letters with which messages begin are `W`, `G`, `L`, `M`, `R`, `E` and `H`. These are the codes of those that a
+-- proof names: all but `R` and `H`.
 abbrev pub who_letter : ℕ
 who_letter = 87
 
@@ -84,7 +85,7 @@ message_text (join_message table) = codes "H" ++ decimal table
 unfoldable pub spelling : AbstractMessage → List ℕ
 spelling message = message_text message ++ 0 ∷ []
 
--- the most digits of a vertex or a position in a message
+-- the maximum number of digits of a vertex or a position in a message
 abbrev pub most_pair_digits : ℕ
 most_pair_digits = 9
 

@@ -1,4 +1,4 @@
--- What the calls return that read a text.
+-- What the calls that read a text return.
 use Rattle.std.specs.Prelude.{◌≡◌, ℕ, ◌<◌, ◌≤◌, ◌^◌, ◌↔◌, IfOk, IsErrOf, List, [], ◌∷◌, ◌++◌, length, Option, Some, None, Result, Ok, Err, codes, decimal, All}
 use Rattle.std.specs.List.{flat_map}
 use Rattle.rbg_base.specs.Move.{most_pairs}
@@ -36,13 +36,14 @@ pub record SpellsTooMany (Spells : List (ℕ × ℕ) → Type 0) : Type 0 where
   pub spelled : Spells pairs
   pub more : most_pairs < length pairs
 
--- the pairs that the text spells, if a move has as many; or the error for more pairs; or the error for no pairs
+-- the pairs that the text spells, if a move may have that many; or the error for more pairs; or the error for no pairs
 abbrev pub ReadsPairs : (List (ℕ × ℕ) → Type 0) → Result (List (ℕ × ℕ)) WireError → Type 0
 ReadsPairs Spells (Ok pairs) = Spells pairs × (length pairs ≤ most_pairs)
 ReadsPairs Spells (Err TooManyPairs) = SpellsTooMany Spells
 ReadsPairs Spells (Err Malformed) = (pairs : List (ℕ × ℕ)) → Spells pairs → ⊥
 
--- what a reader of pairs tells: the pairs that the text spells, if a move may have so many, and else why there are none
+-- what a reader of pairs returns: the pairs that the text spells, if a move may have that many, and otherwise the
+-- reason
 pub record TellsPairs (Spells : List (ℕ × ℕ) → Type 0) (answer : Result (List (ℕ × ℕ)) WireError) : Type 0 where
   pub found : IfOk answer (λ pairs. Spells pairs × (length pairs ≤ most_pairs))
   pub only : (pairs : List (ℕ × ℕ)) → Spells pairs → length pairs ≤ most_pairs → answer ≡ Ok pairs
@@ -64,7 +65,7 @@ abbrev pub ReadsAfterLetter : ℕ → List ℕ → Option Message → Type 0
 ReadsAfterLetter letter text (Some message) = SpellsMessage (letter ∷ text) (message_of message) × HasFewPairs (message_of message)
 ReadsAfterLetter letter text None = (message : AbstractMessage) → SpellsMessage (letter ∷ text) message → ⊥
 
--- what is read of a text: its message, or that it has more pairs than a move may, or that it is no message
+-- what the reading of a text returns: its message, or that it has more pairs than a move may, or that it is no message
 abbrev pub ReadsMessage : List ℕ → Result Message WireError → Type 0
 ReadsMessage text (Ok message) = SpellsMessage text (message_of message) × HasFewPairs (message_of message)
 ReadsMessage text (Err TooManyPairs) = SpellsTooMany (SpellsMove text)

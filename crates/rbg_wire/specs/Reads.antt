@@ -14,7 +14,7 @@ SpellsOne {T} Spells = (text : List ℕ) (a b : T) → Spells text a → Spells 
 abbrev pub AreApart : {S T : Type 0} → (List ℕ → S → Type 0) → (List ℕ → T → Type 0) → Type 0
 AreApart {S} {T} One Other = (text : List ℕ) (a : S) (b : T) → One text a → Other text b → ⊥
 
--- what a call finds that reads a whole text: what is found is spelt, and whatever is spelt is found
+-- what a call that reads a whole text returns: the thing that the text spells, and None only if there is none
 pub record ReadsOnly {T : Type 0} (Spells : T → Type 0) (answer : Option T) : Type 0 where
   pub found : IfSome answer Spells
   pub only : (x : T) → Spells x → answer ≡ Some x

@@ -29,7 +29,7 @@ next_byte limit dropping byte = record { items = []; rest = if byte == 0 then in
 abbrev pub after_items : List Item → Cut → Cut
 after_items items c = record { items = items ++ c.items; rest = c.rest }
 
--- the items and the rest of the bytes that follow a rest, where a message has at most `limit` bytes
+-- the items and the rest of the bytes that follow a rest, if a message has at most `limit` bytes
 unfoldable pub cut : ℕ → Rest → List ℕ → Cut
 cut limit rest [] = record { items = []; rest = rest }
 cut limit rest (byte ∷ bytes) =

@@ -12,7 +12,7 @@ space = 32
 abbrev pub words_of : List ℕ → List (List ℕ)
 words_of text = slice_split (λ byte. byte == space) text
 
--- the words that are still to come
+-- the words that were not returned yet
 abbrev pub words_left : Words → List (List ℕ)
 words_left words = option_map_or (λ text. words_of text.now) words.left []
 

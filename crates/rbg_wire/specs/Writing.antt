@@ -1,4 +1,4 @@
--- What a call leaves that writes at the end of a list of bytes.
+-- What a call that writes at the end of a list of bytes leaves.
 use Rattle.std.specs.Prelude.{◌≡◌, List, ℕ, ◌++◌, length, take, Result, OnOk, OnErr}
 
 -- The text is added to the old bytes. After an error the old bytes are still there, and others may follow them.

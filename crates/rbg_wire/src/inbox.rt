@@ -17,8 +17,8 @@ pub enum Took<'a> {
     TooLong,
 }
 
-/// The bytes of one stream, from which the messages are taken in order. Contracts see the limit, the items that are
-/// complete and not taken yet, and the rest.
+/// The bytes of one stream. Its messages are taken in order. Contracts see the limit, the items that are complete and
+/// not taken yet, and the rest.
 #[derive(Drop)]
 pub struct Inbox {
     limit: usize,

@@ -11,15 +11,15 @@ use crate::outcome_reader::outcome_after_letter;
 use crate::{Message, Reason, WireError};
 use rbg_base::{is_name, number_of_decimal};
 
-/// The message of which the whole text is the spelling, without its zero byte.
+/// The message that the whole text spells, without its zero byte.
 ///
 /// Returns `TooManyPairs` if the text is the message of a move of more than 200 pairs, and `Malformed` if it is no
 /// message.
 pub fn read_message(text: &[u8]) -> Result<Message<'_>, WireError>
-    // The text is that of the message that is returned.
+    // A message that is returned is the one that the text spells.
     ensures found { IfOk result (λ m. SpellsMessage text.now (message_of m)
         × HasFewPairs (message_of m)) }
-    // The message is returned whose text this is.
+    // If the text spells a message, that message is returned.
     ensures only { (message : AbstractMessage)
         → SpellsMessage text.now message
         → HasFewPairs message

@@ -47,8 +47,8 @@ pub fn write_number(number: u64, out: &mut Vec<u8>) -> Result<(), Memory>
     out.extend_from_slice(buffer.format(number).as_bytes())
 }
 
-/// Appends the pairs, as in a message of a move, also where no such message is theirs. On an error the bytes are
-/// unchanged.
+/// Appends the pairs, as in a message of a move. They need not have a spelling: there may be none of them, or numbers
+/// of more than 9 digits. On an error the bytes are unchanged.
 pub fn write_pairs(pairs: &[Pair], out: &mut Vec<u8>) -> Result<(), Memory>
     ensures { AppendsAll out.old.items out.new.items (pairs_text pairs.now) result }
 {
@@ -57,7 +57,8 @@ pub fn write_pairs(pairs: &[Pair], out: &mut Vec<u8>) -> Result<(), Memory>
     all_or_nothing(written, len, out)
 }
 
-/// Appends the outcome, as in its message, also where no such message is its own. On an error the bytes are unchanged.
+/// Appends the outcome, as in its message. It need not have a spelling: it may have no scores. On an error the bytes
+/// are unchanged.
 pub fn write_outcome(outcome: &Outcome, out: &mut Vec<u8>) -> Result<(), Memory>
     ensures { AppendsAll out.old.items out.new.items (outcome_text outcome.now) result }
 {

@@ -9,9 +9,9 @@ use crate::number_reader::short_number;
 use crate::words::Words;
 use rbg_base::{Move, Pair};
 
-/// The move of which the whole text is the message: `M<pairs>`.
+/// The move whose message is the whole text: `M<pairs>`.
 ///
-/// Returns `TooManyPairs` if the text is the message of more than 200 pairs, and `Malformed` if it is the message of no
+/// Returns `TooManyPairs` if the text is the message of more than 200 pairs, and `Malformed` if it is no message of a
 /// move.
 pub fn read_move(text: &[u8]) -> Result<Move, WireError>
     ensures { TellsPairs (SpellsMove text.now) result }
@@ -19,10 +19,9 @@ pub fn read_move(text: &[u8]) -> Result<Move, WireError>
     move_of(text)
 }
 
-/// The pairs of which the whole text is the spelling, as in a message of a move.
+/// The pairs that the whole text spells, as in a message of a move.
 ///
-/// Returns `TooManyPairs` if the text is the spelling of more than 200 pairs, and `Malformed` if it is that of no
-/// pairs.
+/// Returns `TooManyPairs` if the text spells more than 200 pairs, and `Malformed` if it spells no pairs.
 pub fn read_pairs(text: &[u8]) -> Result<Move, WireError>
     ensures { TellsPairs (SpellsPairs text.now) result }
 {
@@ -41,7 +40,7 @@ fn move_of(text: &[u8]) -> Result<Move, WireError>
     pairs_of(pairs)
 }
 
-// Text that is malformed after the 200th pair is malformed, so all pairs are read.
+// A text may be malformed after the 200th pair, so all pairs are read.
 pub(crate) fn pairs_of(text: &[u8]) -> Result<Move, WireError>
     ensures { ReadsPairs (SpellsPairs text.now) result }
 {

@@ -7,16 +7,16 @@ use crate::WireError;
 use crate::bytes::cut_at;
 use rbg_base::number_of_decimal;
 
-/// The most digits of a vertex or a position in a message.
+/// The maximum number of digits of a vertex or a position in a message.
 const MAX_PAIR_DIGITS: usize = 9;
 
-/// The number of which the whole text is the decimal form: `0`, or a digit 1 to 9 followed by digits.
+/// The number whose decimal form is the whole text: `0`, or a digit 1 to 9 followed by digits.
 ///
 /// Returns `Malformed` if the text is not the decimal form of a number below 2^64.
 pub fn read_number(text: &[u8]) -> Result<u64, WireError>
-    // The text is the decimal form of the number that is returned.
+    // A number that is returned has the text as its decimal form.
     ensures found { IfOk result (λ n. text.now ≡ decimal n) }
-    // The number is returned whose decimal form the text is.
+    // If the text is the decimal form of a number, that number is returned.
     ensures only { (n : ℕ) → n < 2 ^ 64 → text.now ≡ decimal n → result ≡ Ok n }
     ensures err { IfErr result (λ e. e ≡ WireError.Malformed) }
 {

@@ -10,13 +10,13 @@ use crate::words::Words;
 use crate::{MAX_SCORES, Outcome, Scores, WireError};
 use rbg_base::number_of_decimal;
 
-/// The outcome of which the whole text is the message, without its zero byte.
+/// The outcome that the whole text spells, without its zero byte.
 ///
-/// Returns `Malformed` if the text is the message of no outcome.
+/// Returns `Malformed` if the text spells no outcome.
 pub fn read_outcome(text: &[u8]) -> Result<Outcome, WireError>
-    // The text is that of the outcome that is returned.
+    // An outcome that is returned is the one that the text spells.
     ensures found { IfOk result (SpellsOutcome text.now) }
-    // The outcome is returned whose text this is.
+    // If the text spells an outcome, that outcome is returned.
     ensures only { (outcome : AnyOutcome) → SpellsOutcome text.now outcome → result ≡ Ok outcome }
     ensures err { IfErr result (λ e. e ≡ WireError.Malformed) }
 {

@@ -4,7 +4,7 @@ ghost use Rattle.rbg_wire.specs.Limits.{most_scores};
 
 use std::marker::Model;
 
-/// The most scores that an outcome has.
+/// The maximum number of scores of an outcome.
 pub const MAX_SCORES: usize = 8;
 
 /// Up to 8 scores, in order of players. Contracts see the list.

@@ -6,7 +6,7 @@ use rbg_base::Memory;
 
 /// Takes back the bytes after the first `len`, if the writing failed.
 ///
-/// A writer that may leave a part of its text where it fails so becomes one that leaves all of it or nothing.
+/// A writer that may stop in the middle of its text becomes one that writes all of it or nothing.
 pub fn all_or_nothing(
     written: Result<(), Memory>,
     len: usize,

@@ -19,11 +19,11 @@ use Rattle.rbg_auto.specs.internal.Tables.{IsSpan, Keeps, IsKept, Grows, laid_at
 abbrev pub laid_in : Table → ℕ → Laid
 laid_in t = laid_at t.entries.items t.nodes.items t.insides.items
 
--- What the table tells of the action at each position.
+-- The glance that the table has of the action at each position.
 abbrev pub told_in : Table → ℕ → Glance
 told_in t = told_at t.nodes.items
 
--- The table has the same positions, its lists are where they were, and of actions of which nothing was told, nothing is.
+-- The table has the same positions, its lists are where they were, and an action without a glance still has none.
 pub record Extends (old new : Table) : Type 0 where
   pub entries : Grows old.entries.items new.entries.items
   pub size : length new.nodes.items ≡ length old.nodes.items
@@ -40,7 +40,7 @@ pub record SetsNode (old new : Table) (p : ℕ) (node : Node) (inside : Opening)
   pub there : p < length old.nodes.items → laid_in new p ≡ laid_of old.entries.items node inside
   pub others : (q : ℕ) → ¬ (q ≡ p) → laid_in new q ≡ laid_in old q
 
--- The node with this list, of whose action nothing is told.
+-- The node with this list, with no glance of its action.
 abbrev pub node_of : Span → Bool → Node
 node_of s end = record { next = s; may_end = end; glance = Unknown }
 
@@ -52,7 +52,7 @@ pub record LaysAt (old new : Table) (p : ℕ) (inside : Opening) (rest : Rest) :
   pub keeps : Keeps middle.entries.items next rest.positions.items
   pub sets : SetsNode middle new p (node_of next rest.may_end) inside
 
--- The action at the position was told of, if the table has it, and nothing else was changed.
+-- The glance of the action at the position was recorded, if the table has the position, and nothing else was changed.
 pub record Tells (old new : Table) (p : ℕ) (glance : Glance) : Type 0 where
   pub size : length new.nodes.items ≡ length old.nodes.items
   pub entries : new.entries.items ≡ old.entries.items
@@ -68,7 +68,7 @@ pub record LaysSequence (old new : Table) (parts : List Rule) (k : List ℕ) (en
   pub extends : Extends old new
   pub lays : LaysAll (length old.nodes.items) (laid_in old) (laid_in new) (in_sequence parts) k end
 
--- The same where a rest comes after them.
+-- The same if a rest comes after them.
 abbrev pub LaysBefore : Table → Table → Rule → Rest → Type 0
 LaysBefore old new tree rest = LaysTree old new tree rest.positions.items rest.may_end
 
@@ -79,7 +79,7 @@ LaysPartsBefore old new parts rest = LaysSequence old new parts rest.positions.i
 abbrev pub IsKeptOf : Table → Option Span → Rest → Type 0
 IsKeptOf t kept rest = IsKept t.entries.items kept rest.positions.items
 
--- The tree is laid as a level of its own, whose words begin as the opening says.
+-- The tree is laid as a level of its own, whose words begin as the opening has it.
 pub record LaysLevel (old new : Table) (tree : Rule) (opening : Opening) : Type 0 where
   pub extends : Extends old new
   pub within : IsSpan (length new.entries.items) opening.first

@@ -15,7 +15,7 @@ use Rattle.rbg_auto.specs.internal.Building.{laid_in, told_in}
 pub record MayBeLent (rules : Expression) (steps : List Step) (entries : List ℕ) : Type 0 where
   pub right : (lent : LentSteps) → lent.steps.now ≡ steps → lent.entries.now ≡ entries → IsLentOf rules lent
 
--- The lists of the automaton are the steps of the rules, what it tells of actions is right, it has a node for each
+-- The lists of the automaton are the steps of the rules, its glances of actions are right, it has a node for each
 -- position, and what was prepared of them, if it was, is right to lend.
 pub record IsCompactOf (c : Compact) (rules : Expression) : Type 0 where
   pub steps :

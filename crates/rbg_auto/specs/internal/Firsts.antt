@@ -11,7 +11,7 @@ may_be_empty fail = false
 may_be_empty (choice x y) = may_be_empty x || may_be_empty y
 may_be_empty (star x) = true
 
--- the list, where the expression before it may be empty
+-- the list, if the expression before it may be empty
 abbrev pub past : Expression → List ℕ → List ℕ
 past x k = if may_be_empty x then k else []
 

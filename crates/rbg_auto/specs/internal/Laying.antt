@@ -12,14 +12,14 @@ pub record Laid : Type 0 where
   pub first : List ℕ
   pub may_be_empty : Bool
 
--- What comes before y, where k comes after y: m.
+-- What comes before y, if k comes after y: m.
 pub record ComesBefore (y : Expression) (k : List ℕ) (end : Bool) (m : List ℕ) (may_end : Bool) : Type 0 where
   pub positions : Joins (firsts y) (past y k) m
   pub ends : may_end ≡ (may_be_empty y && end)
 
 abbrev mutual
-  -- Each action of the expression has its lists, where the list k comes after the expression, and the words that it
-  -- stands in may end there or not.
+  -- Each action of the expression has its lists, if the list k comes after the expression; and the words in which it is
+  -- may end there or not.
   pub IsLaid : (ℕ → Laid) → Expression → List ℕ → Bool → Type 0
   IsLaid at (act p a) k end = ((at p).next ≡ k) × ((at p).may_end ≡ end) × IsLaidInside at p a
   IsLaid at skip k end = Unit {0}
@@ -48,7 +48,7 @@ pub record Lays (old new : ℕ → Laid) (x : Expression) (k : List ℕ) (end : 
   pub laid : IsLaid new x k end
   pub others : (q : ℕ) → ¬ Among q (positions_of x) → new q ≡ old q
 
--- What is laid where nothing stands.
+-- What is laid at a position without an action.
 abbrev pub nothing : Laid
 nothing = record { next = []; may_end = false; first = []; may_be_empty = false }
 

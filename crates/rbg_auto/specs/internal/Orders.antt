@@ -12,6 +12,6 @@ pub record IsUnion (a b all : List ℕ) : Type 0 where
   pub order : Ascends all
   pub exact : (j : ℕ) → Among j all ↔ (Among j a ⊎ Among j b)
 
--- The list is the union of both, where they are in increasing order.
+-- The list is the union of both, if they are in increasing order.
 abbrev pub Joins : List ℕ → List ℕ → List ℕ → Type 0
 Joins a b all = Ascends a → Ascends b → IsUnion a b all

@@ -44,7 +44,7 @@ no_span = record { start = 0; end = 0 }
 abbrev pub no_inside : Opening
 no_inside = record { first = no_span; may_be_empty = false }
 
--- The node of a position that doesn't stand in the rules.
+-- The node of a position that isn't in the rules.
 abbrev pub no_node : Node
 no_node = record { next = no_span; may_end = false; glance = Unknown }
 
@@ -59,6 +59,6 @@ laid_of entries node inside = record {
 abbrev pub laid_at : List ℕ → List Node → List Opening → ℕ → Laid
 laid_at entries nodes insides p = laid_of entries (slice_index_or nodes p no_node) (slice_index_or insides p no_inside)
 
--- What is told of the action at each position.
+-- The glance of the action at each position.
 abbrev pub told_at : List Node → ℕ → Glance
 told_at nodes p = (slice_index_or nodes p no_node).glance

@@ -1,4 +1,4 @@
--- What is read off a tree of the program, whatever actions stand at its positions.
+-- What is read off a tree of the program, whatever actions are at its positions.
 use Rattle.std.specs.Prelude.{◌≡◌, ℕ, List, ◌++◌, Bool, map}
 use Rattle.rbg_rules.specs.declared.rule.Action.{Action}
 use Rattle.rbg_rules.specs.declared.rule.Rule.{Rule}
@@ -28,7 +28,7 @@ pub record GivesFirstsOfSum (parts : List Rule) (old new : List ℕ) (empty : Bo
       (actions : List Action) → HasNoEmptySum (choice_of (map (expression_of actions) parts)) →
       AppendsFirsts (choice_of (map (expression_of actions) parts)) old new empty
 
--- What each table of actions makes of a tree is laid, where it is lawful.
+-- What each table of actions makes of a tree is laid, if it is lawful.
 abbrev pub LaysAll :
     ℕ → (ℕ → Laid) → (ℕ → Laid) → (List Action → Expression) → List ℕ → Bool → Type 0
 LaysAll size old new x k end =
@@ -44,13 +44,13 @@ in_sequence parts actions = sequence_of (map (expression_of actions) parts)
 abbrev pub in_sum : List Rule → List Action → Expression
 in_sum parts actions = choice_of (map (expression_of actions) parts)
 
--- What comes before the tree, where k comes after it.
+-- What comes before the tree, if k comes after it.
 pub record IsBefore (tree : Rule) (k : List ℕ) (end : Bool) (m : List ℕ) (may_end : Bool) : Type 0 where
   pub before :
       (actions : List Action) → HasNoEmptySum (expression_of actions tree) →
       ComesBefore (expression_of actions tree) k end m may_end
 
--- What comes after each turn of a star of the tree, where k comes after the star.
+-- What comes after each turn of a star of the tree, if k comes after the star.
 pub record IsAgain (tree : Rule) (k m : List ℕ) : Type 0 where
   pub again :
       (actions : List Action) → HasNoEmptySum (expression_of actions tree) →

@@ -27,7 +27,7 @@ abbrev pub player_names : Option SpeltName → List SpeltName
 player_names None = []
 player_names (Some name) = name ∷ []
 
--- What is wrong with an action, where so many patterns may still be opened.
+-- What is wrong with an action, if `left` patterns may still be opened.
 pub data HasActionFault (names : Names) (left : ℕ) : SpeltAction → NumberingError → Type 0 where
   of_use : {action : SpeltAction} {purpose : Purpose} {used : List SpeltName} {error : NumberingError}
       → Uses action purpose used
@@ -43,7 +43,7 @@ pub data HasActionFault (names : Names) (left : ℕ) : SpeltAction → Numbering
   no_memory : {action : SpeltAction}
       → HasActionFault names left action Memory
 
--- The action by numbers, which is no pattern and may stand where so many patterns may still be opened.
+-- The action by numbers, which is no pattern and is allowed at a point at which `left` patterns may still be opened.
 pub record IsActionHere (names : Names) (left : ℕ) (spelt : SpeltAction) (action : Action) : Type 0 where
   pub is_action : ActionIs names spelt (action_of action skip)
   pub no_pattern : shows_pattern action ≡ false
@@ -56,7 +56,7 @@ pub record OpensPattern (left : ℕ) (pattern : Action) (old new : List Action) 
   pub few : length new ≤ most_positions
   pub position : p ≡ length new
 
--- Why the pattern at this offset is not added to a table of so many actions.
+-- Why the pattern at this offset is not added to a table of `before` actions.
 pub data HasOpeningFault (left at before : ℕ) : NumberingError → Type 0 where
   too_many :
       most_positions ≤ before

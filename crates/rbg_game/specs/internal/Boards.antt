@@ -19,7 +19,8 @@ pub record HasVertices (board : Graph) : Type 0 where
   pub some_vertex : 0 < length board.first
   pub limit : length board.first ≤ most_vertices
 
--- The board with these names of directions is the one that is spelt, and has what every game asks of its board.
+-- The board with these names of directions is the one that is spelt, and meets the conditions on the board of every
+-- game.
 pub record MakesBoard
     (pieces : List (List ℕ))
     (spelt : SpeltBoard)
@@ -32,22 +33,22 @@ pub record MakesBoard
   pub vertices : HasVertices board
   pub first_pieces : All (λ x. x < length pieces) board.first
 
--- n is the number of the text in the new table, which is the old one, or, where that lacks the text, the old one with
--- the text after it.
+-- n is the number of the text in the new table, which is the old one, or, if that lacks the text, the old one with the
+-- text after it.
 pub record Joins (old new : List (List ℕ)) (text : List ℕ) (n : ℕ) : Type 0 where
   pub number : slice_get new n ≡ Some text
   pub table :
       ((n < length old) × (new ≡ old))
       ⊎ ((n ≡ length old) × (new ≡ old ++ text ∷ []) × (¬ Contains old text))
 
--- Names by their numbers in a table of different names: where the numbers differ, the table is the names in order.
+-- Names by their numbers in a table of different names: if the numbers differ, the table is the names in order.
 pub record NumbersDirections (names : List SpeltName) (numbers : List ℕ) (table : List (List ℕ)) : Type 0 where
   pub few : length table ≤ length names
   pub differ : AreDifferentNames table
   pub named : AllZip (IsNumberOf table) names numbers
   pub in_order : AreDifferent numbers → (numbers ≡ range_with_len 0 (length names)) × (table ≡ texts_of names)
 
--- what a board's own refusal is called here: out of memory has one name in every layer
+-- the error of a refused board; refused memory is `Memory`, as in every layer
 abbrev pub refusal_of : BoardError → GameError
 refusal_of board_errors.Memory = errors.Memory
 refusal_of error = errors.Board error
@@ -59,7 +60,7 @@ pub record IsNamed (table : List (List ℕ)) (made : Result Graph BoardError) (n
   pub names : AreLawfulNames table
   pub vertices : HasVertices named.board
 
--- what a generator was given is refused, and this is the error
+-- a generator refuses its arguments, and this is the error
 pub record IsRefusedFor (made : Result Graph BoardError) (error : GameError) : Type 0 where
   pub cause : BoardError
   pub is : made ≡ Err cause

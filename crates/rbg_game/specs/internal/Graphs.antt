@@ -14,7 +14,7 @@ edge_directions edges = map (λ edge. edge.direction.text) edges
 pub record AddsInOrder (names old new : List (List ℕ)) : Type 0 where
   pub in_order : (used : List (List ℕ)) → IsOrderOfFirstUse used old → IsOrderOfFirstUse (used ++ names) new
 
--- the number of the vertex of that name, or, where there is none, a number that no vertex has
+-- the number of the vertex of that name, or a number that no vertex has if there is none
 pub record IsTarget (vertices : List (List ℕ)) (target : SpeltName) (n : ℕ) : Type 0 where
   pub cases : IsNumberOf vertices target n ⊎ ((¬ Contains vertices target.text) × (n ≡ length vertices))
 

@@ -12,8 +12,8 @@ use Rattle.rbg_game.specs.Rules.{RuleIs}
 use Rattle.rbg_game.specs.RuleFaults.{HasUnknown, Purpose, names_for, Uses, HasExpression, HasArithmeticFault, HasSpeltAction, HasPattern, HasPatternInside, HasSwitch, actions_in}
 
 abbrev mutual
-  -- At most so many patterns are opened, and no switch stands in a pattern: where fewer than the most may be opened, one
-  -- is open already.
+  -- At most `left` patterns are opened, and no switch is in a pattern: if fewer than the maximum may be opened, one is
+  -- open already.
   pub IsLawful : ℕ → Expression → Type 0
   IsLawful left (act p a) = IsLawfulAction left a
   IsLawful left (sequence x y) = IsLawful left x × IsLawful left y
@@ -33,8 +33,8 @@ abbrev pub actions_in_list : List SpeltRule → ℕ
 actions_in_list [] = 0
 actions_in_list (r ∷ rs) = actions_in r + actions_in_list rs
 
--- The expression has the meaning; its positions are so many after those before, in order of text; and it may stand where
--- so many patterns may still be opened.
+-- The expression has the meaning; its positions are the next `many` after those before, in order of text; and it is
+-- allowed at a point at which `left` patterns may still be opened.
 pub record Numbers (Is : Expression → Type 0) (left before many : ℕ) (x : Expression) : Type 0 where
   pub means : Is x
   pub positions : positions_of x ≡ range_with_len (before + 1) many
@@ -67,7 +67,7 @@ pub record AddsParts (names : Names) (left : ℕ) (rs : List SpeltRule) (old new
   pub within : All (IsWithin (length new)) xs
   pub numbers : AreNumbered names left rs (length old) (map (expression_of new) xs)
 
--- What is wrong with a rule that stands after so many actions, where so many patterns may still be opened.
+-- What is wrong with a rule after `before` actions, if `left` patterns may still be opened.
 pub data HasFaultFrom (names : Names) (left before : ℕ) (rule : SpeltRule) : NumberingError → Type 0 where
   from_use : {action : SpeltAction} {purpose : Purpose} {used : List SpeltName} {at : ℕ}
       → HasSpeltAction rule action

@@ -1,4 +1,4 @@
--- What a table of names keeps: its names, and a map with the number of each.
+-- What a table of names has: its names, and a map with the number of each.
 use Rattle.std.specs.Prelude.{ℕ, List, Vec, Option, Some, slice_get, ◌≡◌, Contains, MatchOption}
 use Rattle.std.specs.BTreeMap.{BTreeMap, get_by}
 use Rattle.std.specs.Cmp.Lexicographic.{slice_cmp}

@@ -7,7 +7,7 @@ use Rattle.rbg_game.specs.declared.checking.names.Things.{Things}
 use Rattle.rbg_game.specs.NameNumbers.{texts_of}
 use Rattle.rbg_game.specs.Descriptions.{holder_names, holders_of, AreBounds}
 
--- The bounds of the players or variables stand after the others, and none is too great.
+-- The bounds of the players or variables come after the others, and none is too large.
 pub record AddsBounds (holders : List SpeltBounded) (old new : List ℕ) : Type 0 where
   pub added : List ℕ
   pub after : new ≡ old ++ added

@@ -45,7 +45,7 @@ fn number_rows(
     Ok(numbers)
 }
 
-/// What a board is refused for. Out of memory has one name in every layer.
+/// The error of a board that is refused. A refused allocation becomes `Memory`, as in every layer.
 fn refusal_of(error: BoardError) -> GameError
     ensures { result ≡ refusal_of error }
 {
@@ -67,7 +67,7 @@ fn name_board(directions: NameTable, board: Board) -> NamedBoard
     NamedBoard { directions, board }
 }
 
-/// The board that a generator made, with the names of its directions, or what it is refused for.
+/// The board that a generator made, with the names of its directions, or the error of the generator.
 pub(crate) fn named(
     directions: NameTable,
     made: Result<Board, BoardError>,

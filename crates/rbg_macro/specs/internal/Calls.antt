@@ -26,8 +26,8 @@ pub record AreArguments (ts : List Lexeme) (lists : List (List Lexeme)) (n : ℕ
   pub rest : found.rest ≡ drop n ts
   pub within : n ≤ length ts
 
--- Of the macro with this template, whatever its name, these tokens after it are a call with these arguments, which takes
--- so many of the tokens.
+-- For a macro with this template, whatever its name, these tokens after it are a call with these arguments, which takes
+-- `n` of the tokens.
 pub record IsCall (template : Template) (ts : List Lexeme) (lists : List (List Lexeme)) (n : ℕ) : Type 0 where
   pub meets : (name : List ℕ) → met (Some (macro_of name template)) ts
       ≡ Calls (filled (map item_in template.body.items) lists) (drop n ts)

@@ -23,7 +23,8 @@ lexeme_in_word w = w.lexeme
 abbrev pub word_of : ReadToken → Word
 word_of t = record { lexeme = read_lexeme t; macro_number = t.macro_number }
 
--- The token names the macro with this number. The name itself is left open, since equal bytes may lie in two places.
+-- The token names the macro with this number. The name itself is left open, since equal bytes may be at two places in
+-- memory.
 pub record IsNumberOf (macros : List Macro) (t : Lexeme) (n : ℕ) : Type 0 where
   pub name : List ℕ
   pub numbered : Macro
@@ -56,11 +57,11 @@ pub record IsTemplateAt (macros : List Macro) (n : ℕ) (template : Template) : 
 abbrev pub AreMarkedLists : List Macro → List (Bor (List ReadToken)) → Type 0
 AreMarkedLists macros lists = All (λ l. All (IsMarked macros) l.now) lists
 
--- the lists are cut from tokens, and where those are marked these are
+-- the lists are cut from tokens, and if those are marked these are
 pub record KeepsMarks (tokens : List ReadToken) (lists : List (Bor (List ReadToken))) : Type 0 where
   pub keeps : (macros : List Macro) → All (IsMarked macros) tokens → AreMarkedLists macros lists
 
--- the tokens are made of items and arguments, and where those are marked these are
+-- the tokens are made of items and arguments, and if those are marked these are
 pub record FillsMarks (body : List KeptItem) (arguments : List (Bor (List ReadToken))) (tokens : List ReadToken) : Type 0 where
   pub fills : (macros : List Macro) → All (IsMarkedItem macros) body → AreMarkedLists macros arguments →
       All (IsMarked macros) tokens

@@ -1,4 +1,4 @@
--- States of a match as pairs, sums and lists of numbers, one to one. Proofs tell states apart by them.
+-- States of a match as pairs, sums and lists of numbers, one to one. Proofs use them to distinguish states.
 use Rattle.std.specs.Prelude.{ℕ, Bool, List, Option, refl}
 use Rattle.std.specs.Coded.{Coded, coded_ℕ, coded_bool, coded_list, coded_option, coded×, code_by}
 use Rattle.rbg_wire.specs.declared.outcome.Outcome.{Outcome}

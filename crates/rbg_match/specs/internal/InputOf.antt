@@ -1,4 +1,4 @@
--- What the inputs of the code stand for.
+-- What the inputs of the code mean.
 use Rattle.std.specs.Prelude.{ℕ, ◌≤◌}
 use Rattle.rbg_wire.specs.Inboxes.{item_of}
 use Rattle.rbg_match.specs.declared.input.Input.{Input}

@@ -1,4 +1,4 @@
--- What a match is made of: its referee before play goes on, and its streams around the referee.
+-- What a match is made of: its referee before play begins, and its streams around the referee.
 use Rattle.std.specs.Prelude.{ℕ, List, [], replicate, false}
 use Rattle.rbg_wire.specs.Streams.{incomplete}
 use Rattle.rbg_rules.specs.Meaning.{AbstractGame}

@@ -1,4 +1,4 @@
--- The state of play that the code's `Play` stands for.
+-- The state of play that the code's `Play` means.
 use Rattle.rbg_match.specs.declared.play.Play.{Play}
 use Rattle.rbg_match.specs.Play.{AbstractPlay}
 

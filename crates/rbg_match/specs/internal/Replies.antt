@@ -1,4 +1,4 @@
--- What a referee works on, and what a call of it says and makes of play.
+-- What a referee has, and what a call of it sends and makes of play.
 use Rattle.std.specs.Prelude.{◌≡◌, ℕ, ◌<◌, ◌≤◌, List, length, Result, IfOk}
 use Rattle.rbg_wire.specs.declared.outcome.Outcome.{Outcome}
 use Rattle.rbg_wire.specs.Messages.{end_message, move_message}
@@ -40,19 +40,19 @@ pub record IsReferee (game : AbstractGame) (config : Config) (moment : ℕ) (pla
 abbrev pub gone_on : RefereeState → AbstractPlay → List Delivery → RefereeState
 gone_on referee play said = record referee { play = play; outbox = delivered referee.outbox said }
 
--- What comes of a call that returns a value: the state of play after it, and the messages.
+-- The effect of a call that returns a value: the state of play after it, and the messages.
 abbrev pub Reply : Type 0 → Type 1
 Reply T = RefereeState → T → (after : AbstractPlay) → (said : List Delivery) → Type 0
 
--- A call changes the state of play and queues messages, and nothing else. On `Ok` both are as they are to be. On `Err`
--- they may be others.
+-- A call changes the state of play and queues messages, and nothing else. If it succeeds, both are those of its reply.
+-- After an error they may be others.
 pub record Replies {T E : Type 0} (old new : RefereeState) (result : Result T E) (IsReply : Reply T) : Type 0 where
   pub after : AbstractPlay
   pub said : List Delivery
   pub becomes : new ≡ gone_on old after said
   pub whole : IfOk result (λ value. IsReply old value after said)
 
--- The match ends with that outcome, and each seat is told so.
+-- The match ends with that outcome, which is sent to each seat.
 abbrev pub Ends : {T : Type 0} → Outcome → Reply T
 Ends outcome referee _ after said =
     (after ≡ ended referee.play outcome) × (said ≡ to_each (seats_of referee.game) (end_message outcome))
@@ -74,7 +74,7 @@ pub record KeeperMoves (referee : RefereeState) (in_a_row : ℕ) (after : Abstra
   pub short : length pairs ≤ most_pairs
   pub makes : Makes referee pairs after said
 
--- One step of play, as it goes on: it was a move of the keeper, or play has settled.
+-- One step of play: it was a move of the keeper, or play has settled.
 abbrev pub PlaysOnOnce : (in_a_row : ℕ) → Reply Progress
 PlaysOnOnce n referee KeeperMoved after said = KeeperMoves referee n after said
 PlaysOnOnce n referee Settled after said = PlaysOn referee.game referee.moment n referee.play after said

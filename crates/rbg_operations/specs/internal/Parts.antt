@@ -1,4 +1,4 @@
--- What the parts of an answer and of a reading promise.
+-- What the parts of an answer and of a reading have to meet.
 use Rattle.std.specs.Global.{Global}
 use Rattle.std.specs.Prelude.{◌≡◌, ◌≢◌, ℕ, ◌<◌, ◌≤◌, List, length, Option, Some, None, Vec, Result, Ok, Err}
 use Rattle.rbg_console.specs.Files.{KnownFiles, MayBe}
@@ -52,7 +52,7 @@ AnswersTexts command description told text status =
     → IsReadOf most_input told script
     → IsTaskAnswer (task_of command whole script) text status
 
--- the answer where a record is too long, to any other command than `referee`
+-- the answer if a record is too long, to any other command than `referee`
 abbrev pub AnswersLongRecord : Option (Vec ℕ Global) → (text : List ℕ) → Status → Type 0
 AnswersLongRecord read text status = (command : FileCommand) → command ≢ Referee → AnswersLong command read text status
 
@@ -61,23 +61,23 @@ abbrev pub AnswersMatch : (description script text : List ℕ) → Status → Ty
 AnswersMatch description script text status =
     length script ≤ most_input → IsTaskAnswer (task_of Referee description script) text status
 
--- the line of a description that is not loaded; nothing answers refused memory
+-- the line of a description that is not loaded; refused memory has none
 abbrev pub SaysUnloaded : LoadError → (text : List ℕ) → Status → Type 0
 SaysUnloaded error text status = (¬ IsMemory error) × (text ≡ refused_line error) × (status ≡ Refused)
 
--- the line of a fault of a record; nothing answers refused memory
+-- the line of a fault of a record; refused memory has none
 abbrev pub SaysFault : RecordError → (text : List ℕ) → Status → Type 0
 SaysFault (Form line) text status = (text ≡ form_line line) × (status ≡ BadInput)
 SaysFault (Over line) text status = (text ≡ over_line line) × (status ≡ BadInput)
 SaysFault Memory text status = ⊥
 
--- the line of what is told of a record
+-- the line of the verdict on a record
 abbrev pub SaysChecked : Result Checked RecordError → (text : List ℕ) → Status → Type 0
 SaysChecked (Ok Good) text status = (text ≡ good_line) × (status ≡ Success)
 SaysChecked (Ok (Bad line)) text status = (text ≡ bad_line line) × (status ≡ BadInput)
 SaysChecked (Err error) text status = SaysFault error text status
 
--- what a reading gives: None where there is too much, and nothing where the device failed
+-- what a reading gives: None if there is too much, and nothing if the device failed
 abbrev pub Gives : Input → Option (Vec ℕ Global) → Type 0
 Gives (Whole bytes) read = read ≡ Some bytes
 Gives TooLong read = read ≡ None
@@ -139,7 +139,7 @@ OpensTexts description told (Both game record_bytes) =
 OpensTexts description told (Answered answer) =
     (command : FileCommand) → command ≢ Referee → AnswersTexts command description told answer.text.items answer.status
 
--- the answer where a file can't be read
+-- the answer if a file can't be read
 abbrev pub OpensNone : Opened → Type 0
 OpensNone (Both game told) = ⊥
 OpensNone (Answered answer) = (answer.text.items ≡ device_line) × (answer.status ≡ DeviceStatus)

@@ -1,4 +1,4 @@
--- What the parts of an answer with a record promise.
+-- What the parts of an answer with a record have to meet.
 use Rattle.std.specs.Prelude.{◌≡◌, ◌≢◌, ℕ, ◌≤◌, List, length, Option, Some, None}
 use Rattle.rbg_console.specs.Inputs.{most_input}
 use Rattle.rbg_console.specs.declared.status.Status.{Status}
@@ -31,7 +31,7 @@ pub data RecordsMatch (tells : Type 0) (after : Option (List ℕ)) (description 
       → RecordsMatch tells after description script text status
   failed : text ≡ device_line → status ≡ Device → RecordsMatch tells after description script text status
 
--- the same where the file is created first
+-- the same if the file is created first
 pub data RecordsTexts (tells : Type 0) (known after : Option (List ℕ)) (description script text : List ℕ) (status : Status) : Type 0 where
   created : known ≡ None
       → RecordsMatch tells after description script text status

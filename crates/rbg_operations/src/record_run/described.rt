@@ -1,4 +1,4 @@
-//! Refereeing with a record, where a file has the description and standard input the script.
+//! Refereeing with a record if a file has the description and standard input the script.
 ghost use Rattle.std.specs.Prelude.{ℕ, List, IfOk};
 ghost use Rattle.rbg_console.specs.Inputs.{most_input};
 ghost use Rattle.rbg_macro.specs.TextLimits.{longest_text};

@@ -1,4 +1,4 @@
-//! Refereeing with a record, where standard input holds the description, a line `%%` and the script.
+//! Refereeing with a record if standard input holds the description, a line `%%` and the script.
 ghost use Rattle.std.specs.Prelude.{IfOk};
 ghost use Rattle.rbg_operations.specs.internal.RecordParts.{RecordsInput};
 

@@ -1,4 +1,4 @@
--- Players as pairs and sums of numbers and lists, one to one. Proofs tell players apart by them.
+-- Players as pairs and sums of numbers and lists, one to one. Proofs use them to distinguish players.
 use Rattle.std.specs.Prelude.{◌≡◌, ◌⊎◌, ◌==◌, if◌then◌else◌, ℕ, refl}
 use mathlib.Core.Logic.{inl, inr}
 use base.Stored.{coded_unit}

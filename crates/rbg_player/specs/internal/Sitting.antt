@@ -12,7 +12,7 @@ use Rattle.rbg_player.specs.Limits.{most_choices}
 use Rattle.rbg_player.specs.Players.{AbstractSeat, moved_to}
 use Rattle.rbg_player.specs.Hearing.{IsMover, HasMoveToMake}
 
--- the error of a player whose question was given up
+-- the error of a player whose question wasn't answered
 abbrev pub error_of : Over → PlayerError
 error_of Deep = errors.Over
 error_of Wide = errors.Over

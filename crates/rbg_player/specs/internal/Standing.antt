@@ -1,4 +1,4 @@
--- Where the code's player stands, and what its calls do to the bytes that it writes.
+-- The stage of the code's player, and what its calls do to the bytes that it writes.
 use Rattle.std.specs.Prelude.{◌≡◌, ℕ, List, [], ◌++◌, Result, IfErr, OnErr, OnOk}
 use Rattle.std.specs.List.{flat_map}
 use Rattle.rbg_wire.specs.Messages.{AbstractMessage, spelling}
@@ -11,7 +11,7 @@ use Rattle.rbg_player.specs.Players.{Stage, unnamed, named, seated, playing, end
 use Rattle.rbg_player.specs.Hearing.{HasFault, Hears}
 use Rattle.rbg_player.specs.Streams.{IsReadAs}
 
--- where the code's stage stands
+-- the abstract stage of the code's stage
 abbrev pub stage_of : CodeStage → Stage
 stage_of Unnamed = unnamed
 stage_of (Named player) = named player
@@ -20,24 +20,24 @@ stage_of (Playing seat) = playing seat
 stage_of (Ended outcome) = ended outcome
 stage_of (Failed error) = failed error
 
--- the player that stands there, with this inbox
+-- the player at that stage, with this inbox
 abbrev pub player_of : CodeStage → Stream → AbstractPlayer
 player_of stage inbox = record { stage = stage_of stage; rest = inbox.rest }
 
--- A message is heard, and what is said stands after the bytes that were there.
+-- A message is accepted, and what is sent follows the bytes that were there.
 pub record HearsAndSays (old : Stage) (message : AbstractMessage) (new : Stage) (before after : List ℕ) : Type 0 where
   pub said : List AbstractMessage
   pub hears : Hears old message new said
   pub told : after ≡ before ++ flat_map spelling said
 
--- A message is heard so, or there is a fault, and then the bytes are as they were.
+-- A message is accepted in this way, or there is a fault, and then the bytes are as they were.
 pub record HearsOrFails (old : Stage) (message : AbstractMessage) (new : Stage) (before after : List ℕ)
     (result : Result (Unit {0}) PlayerError) : Type 0 where
   pub ok : OnOk result (HearsAndSays old message new before after)
   pub fault : IfErr result (HasFault old message)
   pub out : OnErr result (after ≡ before)
 
--- An item is read as a message that is heard, and what is said stands after the bytes that were there.
+-- An item is read as a message that is accepted, and what is sent follows the bytes that were there.
 pub record HearsItem (old : Stage) (item : Item) (new : Stage) (before after : List ℕ) : Type 0 where
   pub text : List ℕ
   pub message : AbstractMessage

@@ -4,7 +4,7 @@ use Rattle.rbg_macro.specs.Text.{HasTokens}
 use Rattle.rbg_macro.specs.Token.{Lexeme}
 use Rattle.rbg_position.specs.Boards.{BeginsBoard}
 
--- No `#board` stands in the text.
+-- There is no `#board` in the text.
 pub record HasNoBoard (text : List ℕ) : Type 0 where
   pub tokens : List Lexeme
   pub cut : HasTokens text tokens

@@ -15,12 +15,12 @@ pub data IsNoText (text : List ℕ) (game : AbstractGame) : PositionError → Ty
   other_game : {other : AbstractGame} → Loads text other → other ≢ game → IsNoText text game Refused
   no_memory : IsNoText text game Memory
 
--- It is none, or the game begins otherwise than play stands at the place.
+-- It is none, or the game doesn't begin as play is at the place.
 pub data IsNoBeginning (text : List ℕ) (game : AbstractGame) (place : AbstractPlace) : PositionError → Type 0 where
   no_text : {error : PositionError} → IsNoText text game error → IsNoBeginning text game place error
   otherwise : {error : PositionError} → BeginsOtherwise game place error → IsNoBeginning text game place error
 
--- the error where the keeper's moves lead to no place
+-- the error if the keeper's moves lead to no place
 abbrev pub error_of : Why → PositionError
 error_of whys.Heavy = Unsettled
 error_of whys.Endless = Unsettled

@@ -7,13 +7,13 @@ use Rattle.rbg_macro.specs.declared.token.Symbol.TheVariants.{OpenBracket, Close
 use Rattle.rbg_macro.specs.declared.token.TokenKind.{TokenKind}
 use Rattle.rbg_macro.specs.declared.token.TokenKind.TheVariants.{Symbol}
 
--- whether what stands after a token is in brackets, where the token itself is or isn't
+-- whether the token after this one is in brackets, if this one is or isn't
 abbrev pub is_inside_after : (inside : Bool) → TokenKind → Bool
 is_inside_after inside (Symbol OpenBracket) = true
 is_inside_after inside (Symbol CloseBracket) = false
 is_inside_after inside _ = inside
 
--- what stands before a row: another one, or the comma after it
+-- what comes before a row: the end of another one, or the comma after it
 abbrev pub ends_row : TokenKind → Bool
 ends_row kind = is_symbol Comma kind || is_symbol CloseBracket kind
 

@@ -1,4 +1,4 @@
--- The faults of a line, and what is told of a record that has one.
+-- The faults of a line, and the verdict on a record that has one.
 use Rattle.std.specs.Prelude.{◌≡◌, ℕ, Result, Ok, Err}
 use Rattle.rbg_search.specs.declared.over.Over.{Over as OverLimits}
 use Rattle.rbg_search.specs.declared.over.Over.TheVariants.{Deep, Wide}
@@ -19,7 +19,7 @@ fault_of limits.Memory = Memory
 abbrev pub IsFaultOf : OverLimits → LineFault → Type 0
 IsFaultOf over fault = fault ≡ fault_of over
 
--- what is told of a record with a fault at a line
+-- the verdict on a record with a fault at a line
 abbrev pub told_at : LineFault → (line : ℕ) → Result Checked RecordError
 told_at Form line = Err (error.Form line)
 told_at Bad line = Ok (checked.Bad line)

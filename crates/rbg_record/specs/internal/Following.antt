@@ -9,7 +9,7 @@ pub data EndsAt (game : AbstractGame) : (texts : List (List ℕ)) → (place : A
       LeadTo game before (entry_next standing) →
       EndsAt game (before ++ last ∷ []) standing.place
 
--- the moves of these lines, which lead there, lead to this place; before the first move nothing is said
+-- the moves of these lines, which lead there, lead to this place; before the first move nothing is claimed
 abbrev pub IsAt : AbstractGame → (texts : List (List ℕ)) → Reached → AbstractPlace → Type 0
 IsAt game texts (entry_next standing) place = standing.place ≡ place
 IsAt game texts nothing_next place = EndsAt game texts place

@@ -1,4 +1,4 @@
--- What was migrated of a record.
+-- What was migrated of a record so far.
 use Rattle.std.specs.Prelude.{◌≡◌, ℕ, List, [], ◌∷◌, ◌++◌, map, All, Option}
 use Rattle.rbg_wire.specs.declared.outcome.Outcome.{Outcome}
 use Rattle.rbg_rules.specs.Meaning.{AbstractGame}
@@ -24,7 +24,7 @@ IsPlainNext (nexts.Entry One) = Unit {0}
 IsPlainNext nexts.Nothing = Unit {0}
 IsPlainNext _ = ⊥
 
--- where one is in a record of version 1 when this comes next
+-- the point in a record of version 1 at which this comes next
 abbrev pub part_of : Next → PlainPart
 part_of nexts.Version = before_version
 part_of nexts.Nothing = beyond_end
@@ -35,7 +35,7 @@ abbrev pub head_texts : AbstractGame → List (List ℕ)
 head_texts game =
     version_text Two ∷ players_text game.players ∷ start_text (record { turn_ms = 1; now = 0 }) ∷ []
 
--- A line with this text leads on, and this is what version 2 has after it.
+-- A line with this text is accepted, and this is what version 2 has after it.
 pub data Migrates (game : AbstractGame) : PlainPart → (text : List ℕ) → PlainPart → (old new : List ℕ) → Type 0 where
   version : {text old new : List ℕ} →
       text ≡ version_text One →
@@ -50,7 +50,7 @@ pub data Migrates (game : AbstractGame) : PlainPart → (text : List ℕ) → Pl
       new ≡ old ++ line_of (timed_text (with_moment (End outcome))) →
       Migrates game among_moves text beyond_end old new
 
--- the texts of version 1 that tell these moves, and then this end
+-- the texts of version 1 of these moves, and then this end
 abbrev pub moves_texts : List PlainMove → List (List ℕ)
 moves_texts moves = version_text One ∷ map entry_text (map plain_entry moves)
 
@@ -84,7 +84,7 @@ pub record AreMigrated (game : AbstractGame) (texts : List (List ℕ)) (so_far :
   pub lead : IsPlainSoFar texts (part_of so_far.0)
   pub told : IsTold game (part_of so_far.0) texts so_far.1
 
--- A line leads on where that comes next, and what it is in version 2 was written.
+-- A line is accepted at this point, and what it is in version 2 was written.
 pub record MigratesLine (game : AbstractGame) (next : Next) (text : List ℕ) (to : Next) (old new : List ℕ) : Type 0 where
   pub migrates : Migrates game (part_of next) text (part_of to) old new
   pub plain : IsPlainNext to

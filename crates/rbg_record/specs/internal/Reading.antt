@@ -1,4 +1,4 @@
--- What else the reading of one line speaks of.
+-- More definitions for the reading of one line.
 use Rattle.std.specs.Prelude.{◌≡◌, ℕ, Bool, true, false, List, length, take, Option, Some, None}
 use Rattle.rbg_wire.specs.declared.outcome.Outcome.{Outcome}
 use Rattle.rbg_wire.specs.declared.outcome.Outcome.TheVariants.{Finished, Time, Refusals, Gone, Heavy}
@@ -8,8 +8,8 @@ use Rattle.rbg_rules.specs.Meaning.{AbstractGame, AbstractPlace, IsLegal}
 abbrev pub SomeIsLegal : AbstractGame → AbstractPlace → Type 0
 SomeIsLegal game place = (pairs : List (ℕ × ℕ)) × IsLegal game place pairs
 
--- The match could end so at the place, where play is finished or is not. After a question that was too heavy to be
--- answered it could at any place.
+-- The match could end with this outcome at the place, whether play is finished there or not. After a question that was
+-- above the limits it could at any place.
 abbrev pub EndsSo : AbstractGame → AbstractPlace → (finished : Bool) → Option Outcome → Type 0
 EndsSo game place finished None = finished ≡ false
 EndsSo game place finished (Some (Finished scores)) =

@@ -1,4 +1,4 @@
--- What was told of a record in its script so far.
+-- What was written of a record into its script so far.
 use Rattle.std.specs.Prelude.{◌≡◌, ℕ, List, [], ◌∷◌, ◌++◌, All, Option}
 use Rattle.std.specs.List.{flat_map, AllZip}
 use Rattle.rbg_wire.specs.declared.outcome.Outcome.{Outcome}
@@ -66,16 +66,16 @@ IsTold nexts.Start texts out = TellsPlayers texts out
 IsTold (nexts.Entry version) texts out = TellsMoves version texts out
 IsTold nexts.Nothing texts out = TellsWhole texts out
 
--- A line leads on, and what was written of it is told.
+-- A line is accepted, and what was written of it is right.
 pub record TellsNext (from : Next) (text : List ℕ) (to : Next) (old new : List ℕ) : Type 0 where
   pub leads : LeadsOn from text to
   pub told : (texts : List (List ℕ)) → IsTold from texts old → IsTold to (texts ++ text ∷ []) new
 
--- Lines of these texts are told: this comes next, and this was written of them.
+-- Lines of these texts were written into the script: this comes next, and this was written of them.
 abbrev pub AreTold : (texts : List (List ℕ)) → Next × List ℕ → Type 0
 AreTold texts so_far = LeadThere texts so_far.0 × IsTold so_far.0 texts so_far.1
 
--- why a line isn't told: it isn't of the form, or memory ran out
+-- why nothing is written of a line: it isn't of the form, or memory ran out
 abbrev pub RefusesLine : Next → RecordLine → ScriptingError → Type 0
 RefusesLine next line (Form number) = (number ≡ line.number) × ¬ HasForm next line.text.now
 RefusesLine next line Memory = Unit {0}

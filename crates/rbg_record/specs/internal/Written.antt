@@ -10,7 +10,7 @@ use Rattle.rbg_record.specs.declared.heading.Version.TheVariants.{One, Two}
 use Rattle.rbg_record.specs.Entries.{entry_text, moment_text}
 use Rattle.rbg_wire.specs.Lines.{line_of}
 
--- the moment as a version tells it: version 1 tells none
+-- the moment as a version writes it: version 1 has none
 abbrev pub told_moment : Version → ℕ → Option ℕ
 told_moment One at = None
 told_moment Two at = Some at

@@ -1,4 +1,4 @@
--- Where the calls stand that read line by line.
+-- How far the calls that read line by line have read.
 use Rattle.std.specs.Prelude.{◌≡◌, ◌≢◌, ℕ, ◌+◌, Bool, true, false, List, [], ◌∷◌, ◌++◌, length, All}
 use Rattle.std.specs.List.{AllZip}
 use Rattle.rbg_wire.specs.Bytes.{LacksByte}

@@ -33,7 +33,7 @@ pub record IsKept (interner : Interner) (list : List ℕ) (may_end : Bool) (n : 
   pub list_is : list_at interner n ≡ list
   pub may_end_is : may_end_at interner n ≡ may_end
 
--- What was there stays where it was.
+-- What was there keeps its place.
 pub record ExtendsInterner (old new : Interner) : Type 0 where
   pub positions : Extends old.positions.items new.positions.items
   pub nodes : Extends old.nodes.items new.nodes.items
@@ -51,7 +51,7 @@ pub record AreListsUpTo (rules : Expression) (many : ℕ) (interner : Interner) 
   pub after_each : (p : ℕ) → p < many → IsNodeOf rules interner (after p) (slice_index_or afters p 0)
   pub inside_each : (p : ℕ) → p < many → IsNodeOf rules interner (beginning (inside p)) (slice_index_or insides p 0)
 
--- The node of a place in the rules: places where the same positions come next have one.
+-- The node of a point in the rules: points after which the same positions come next share one.
 abbrev pub origin_node : Lists → Origin → ℕ
 origin_node lists (Begin Rules) = lists.rules
 origin_node lists (Begin (Inside p)) = slice_index_or lists.insides.items p 0

@@ -1,4 +1,4 @@
--- Where the list of a node stands.
+-- Where the list of a node is.
 use Rattle.std.specs.Prelude.{ℕ, ◌≤◌, false}
 use Rattle.rbg_shifts.specs.declared.interner.Node.{Node}
 

@@ -19,7 +19,7 @@ pub record AreDirectionsUpTo (rules : Expression) (last : ℕ) (directions : Lis
 abbrev pub AreDirections : Expression → List (Option ℕ) → Type 0
 AreDirections rules = AreDirectionsUpTo rules (length (positions_of rules))
 
--- From vertex v one comes to vertex u by position p: a shift leads there, and any other action is tried where one is.
+-- Position p leads from vertex v to vertex u: a shift leads to the end of its edge, and any other action stays at v.
 pub data Comes (game : AbstractGame) : (v p u : ℕ) → Type 0 where
   by_shift : {v p u : ℕ} (d : ℕ) → HasAction game.rules p (shift d) → next game.board v d ≡ Some u → Comes game v p u
   by_other : {v p : ℕ} → ¬ IsShiftAt game.rules p → Comes game v p v
@@ -29,11 +29,13 @@ pub record IsAnswerAt (rules : Expression) (f : Start) (list : List ℕ) (may_en
   pub follow : AreAllThatFollow rules f list
   pub ends : IsTrue may_end ↔ Ends rules f []
 
--- A leap from vertex v, wherever the list comes next and words may end so.
+-- A leap from vertex v, from every point in the rules after which the list comes next and words may end as `may_end`
+-- has it.
 pub record IsLeapBy (game : AbstractGame) (list : List ℕ) (may_end : Bool) (v j u : ℕ) : Type 0 where
   pub leap : (f : Start) → IsAnswerAt game.rules f list may_end → IsLeap game f v j u
 
--- A word may end with shifts alone from vertex v, wherever the list comes next and words may end so.
+-- A word may end with shifts alone from vertex v, from every point in the rules after which the list comes next and
+-- words may end as `may_end` has it.
 pub record EndsBy (game : AbstractGame) (list : List ℕ) (may_end : Bool) (v : ℕ) : Type 0 where
   pub ends : (f : Start) → IsAnswerAt game.rules f list may_end → EndsAcross game f v
 

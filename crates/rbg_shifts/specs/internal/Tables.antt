@@ -1,4 +1,4 @@
--- What a table that is being made tells, whether it is right so far, and whether anything is missing.
+-- What a table records while it is made: whether it is right so far, and whether anything is missing.
 use Rattle.std.specs.Prelude.{◌≡◌, ◌≢◌, ℕ, ◌+◌, ◌*◌, ◌<◌, ◌≤◌, ◌⊎◌, List, length, slice_index_or, Bool, true, false, IsTrue, All, Contains}
 use Rattle.rbg_rules.specs.Meaning.{IsGame, AbstractGame}
 use Rattle.rbg_shifts.specs.declared.lists.Lists.{Lists}
@@ -19,7 +19,7 @@ no_target = record { position = 0; column = 0; word = 0 }
 abbrev pub target_at : List Target → ℕ → Target
 target_at targets i = slice_index_or targets i no_target
 
--- One of the targets between two places tells of position j at vertex u.
+-- One of the targets between two places has position j at vertex u.
 pub record Tells (targets : List Target) (from to j u : ℕ) : Type 0 where
   pub at : ℕ
   pub beyond : from ≤ at
@@ -32,11 +32,11 @@ pub record IsTargetOf (Leap : ℕ → ℕ → Type 0) (columns : ℕ) (t : Targe
   pub some : (u : ℕ) × IsEndOf t t.position u
   pub column : t.column < columns
 
--- Between two places the targets tell of nothing but these leaps.
+-- Between two places the targets have nothing but these leaps.
 pub record AreSound (Leap : ℕ → ℕ → Type 0) (columns : ℕ) (targets : List Target) (from to : ℕ) : Type 0 where
   pub each : (i : ℕ) → from ≤ i → i < to → IsTargetOf Leap columns (target_at targets i)
 
--- The target tells of nothing but leaps from vertex v where the list comes next.
+-- The target has nothing but leaps from vertex v, at a node with that list.
 abbrev pub IsTargetBy : AbstractGame → (list : List ℕ) → (may_end : Bool) → (v : ℕ) → Target → Type 0
 IsTargetBy game list may_end v = IsTargetOf (IsLeapBy game list may_end v) (row_words game)
 
@@ -48,11 +48,11 @@ AreSoundBy game list may_end v = AreSound (IsLeapBy game list may_end v) (row_wo
 abbrev pub entry_at : Table → (node v : ℕ) → Entry
 entry_at table node v = entry_in table.entries.items table.vertices node v
 
--- The targets of an entry tell of position j at vertex u.
+-- The targets of an entry have position j at vertex u.
 abbrev pub TellsAt : Table → Entry → (j u : ℕ) → Type 0
 TellsAt table e = Tells table.targets.items e.start (end_of e)
 
--- Nothing but leaps from vertex v are told where the list comes next.
+-- The entry has nothing but leaps from vertex v, at a node with that list.
 pub record IsSoundEntry (game : AbstractGame) (list : List ℕ) (may_end : Bool) (v : ℕ) (table : Table) (e : Entry) : Type 0 where
   pub within : IsWithin (length table.targets.items) e
   pub targets : AreSoundBy game list may_end v table.targets.items e.start (end_of e)
@@ -63,14 +63,14 @@ pub record IsLaidOut (game : AbstractGame) (lists : Lists) (table : Table) : Typ
   pub vertices : table.vertices ≡ length game.board.first
   pub size : length table.entries.items ≡ length lists.interner.nodes.items * table.vertices
 
--- The table tells of nothing but leaps.
+-- The table has nothing but leaps.
 pub record IsSoundTable (game : AbstractGame) (lists : Lists) (table : Table) : Type 0 where
   pub laid_out : IsLaidOut game lists table
   pub sound :
       (n v : ℕ) → n < length lists.interner.nodes.items → v < table.vertices →
       IsSoundEntry game (list_at lists.interner n) (may_end_at lists.interner n) v table (entry_at table n v)
 
--- What is asked wherever the table of a game is filled: the nodes are those of its rules, and nothing wrong is told.
+-- What every filling of a game's table starts from: the nodes are those of its rules, and nothing wrong is recorded.
 abbrev pub IsRightSoFar : AbstractGame → Lists → Table → Type 0
 IsRightSoFar game lists table = record {
   lawful : IsGame game;
@@ -83,13 +83,13 @@ pub record IsRightAt (game : AbstractGame) (lists : Lists) (table : Table) (n : 
   pub right : IsRightSoFar game lists table
   pub node : n < length lists.interner.nodes.items
 
--- What an entry tells, the targets between two places tell, and also whether a word may end.
+-- What an entry records, the targets between two places record too, and `may_end` is set if the entry lets a word end.
 pub record IsUnder (table : Table) (one : Entry) (from to : ℕ) (may_end : Bool) : Type 0 where
   pub tells : (j u : ℕ) → TellsAt table one j u → Tells table.targets.items from to j u
   pub ends : IsTrue one.ends → IsTrue may_end
 
--- The targets between two places tell of what one step by position p leads to from vertex v: of p itself where it is no
--- shift, and of all that is told where a shift leads.
+-- The targets between two places record what one step by position p leads to from vertex v: p itself if it is no shift,
+-- and all that is recorded at the vertex to which a shift leads.
 pub record IsToldBy
     (game : AbstractGame) (lists : Lists) (table : Table) (from to : ℕ) (may_end : Bool) (v p : ℕ)
     : Type 0
@@ -100,11 +100,11 @@ pub record IsToldBy
         (w : ℕ) → IsShiftAt game.rules p → Comes game v p w →
         IsUnder table (entry_at table (slice_index_or lists.afters.items p 0) w) from to may_end
 
--- The entry tells of it.
+-- The entry records it.
 abbrev pub IsToldAt : AbstractGame → Lists → Table → Entry → (v p : ℕ) → Type 0
 IsToldAt game lists table e = IsToldBy game lists table e.start (end_of e) e.ends
 
--- All targets from a place on tell of it.
+-- All targets from a place on record it.
 abbrev pub IsToldFrom : AbstractGame → Lists → Table → (start : ℕ) → Bool → (v p : ℕ) → Type 0
 IsToldFrom game lists table start = IsToldBy game lists table start (length table.targets.items)
 
@@ -136,7 +136,7 @@ pub record Grows (place : ℕ) (old new : Table) : Type 0 where
   pub are_entries : new.entries.items ≡ old.entries.items
   pub targets : Keeps place old.targets.items new.targets.items
 
--- What is gathered at a node and a vertex: targets from a place on that tell of nothing but leaps.
+-- What is gathered at a node and a vertex: targets from a place on that have nothing but leaps.
 abbrev pub IsGathered : AbstractGame → Lists → Table → (start n v : ℕ) → Type 0
 IsGathered game lists table start n v =
     AreSoundBy game (list_at lists.interner n) (may_end_at lists.interner n) v table.targets.items start (length table.targets.items)
@@ -151,11 +151,11 @@ pub record Shares (old new : Table) (n v : ℕ) (e : Entry) : Type 0 where
       (i : ℕ) → i ≢ n * old.vertices + v →
       slice_index_or new.entries.items i no_entry ≡ slice_index_or old.entries.items i no_entry
 
--- What the targets from a place on told, they tell.
+-- The targets from a place on record all that they recorded before.
 pub record TellsStill (start : ℕ) (old new : List Target) : Type 0 where
   pub tells : (j u : ℕ) → Tells old start (length old) j u → Tells new start (length new) j u
 
--- The table still tells, from a place on, all that it told.
+-- The table still records, from a place on, all that it recorded before.
 abbrev pub KeepsTold : (start : ℕ) → Table → Table → Type 0
 KeepsTold start old new = TellsStill start old.targets.items new.targets.items
 
@@ -188,21 +188,21 @@ abbrev pub LeadsAway : AbstractGame → Lists → (n : ℕ) → Type 0
 LeadsAway game lists n =
     (p : ℕ) → Contains (list_at lists.interner n) p → IsShiftAt game.rules p → slice_index_or lists.afters.items p 0 ≢ n
 
--- By position p one comes from no vertex to a later one.
+-- Position p leads from no vertex to a later one.
 abbrev pub StepsBack : AbstractGame → (p : ℕ) → Type 0
 StepsBack game p = (v w : ℕ) → v < length game.board.first → Comes game v p w → w ≤ v
 
--- By position p one comes from no vertex to an earlier one.
+-- Position p leads from no vertex to an earlier one.
 abbrev pub StepsForth : AbstractGame → (p : ℕ) → Type 0
 StepsForth game p = (v w : ℕ) → v < length game.board.first → Comes game v p w → v ≤ w
 
--- Where a shift of the node's list leads to the node again, it leads to no later vertex.
+-- If a shift of the node's list leads to the node again, it leads to no later vertex.
 abbrev pub LeadsBack : AbstractGame → Lists → (n : ℕ) → Type 0
 LeadsBack game lists n =
     (p : ℕ) → Contains (list_at lists.interner n) p → IsShiftAt game.rules p →
     slice_index_or lists.afters.items p 0 ≡ n → StepsBack game p
 
--- Where a shift of the node's list leads to the node again, it leads to no earlier vertex.
+-- If a shift of the node's list leads to the node again, it leads to no earlier vertex.
 abbrev pub LeadsForth : AbstractGame → Lists → (n : ℕ) → Type 0
 LeadsForth game lists n =
     (p : ℕ) → Contains (list_at lists.interner n) p → IsShiftAt game.rules p →
@@ -239,7 +239,7 @@ pub record FillsDownTo (game : AbstractGame) (lists : Lists) (old new : Table) (
       LeadsForth game lists n → (v : ℕ) → v < length game.board.first → length game.board.first ≤ v + many →
       IsClosed game lists new n v
 
--- The entries of a node were filled, and nothing wrong is told.
+-- The entries of a node were filled, and nothing wrong is recorded.
 pub record FillsRightly (game : AbstractGame) (lists : Lists) (old new : Table) (n : ℕ) : Type 0 where
   pub sound : IsSoundTable game lists new
   pub fills : Fills old new n
@@ -268,7 +268,7 @@ pub record AreFilledSoFar (game : AbstractGame) (lists : Lists) (table : Table) 
   pub nodes : AreListsOf game.rules lists
   pub filled : AreFilled game lists table marks
 
--- The entries of a node tell of what one step by position p leads to, at each vertex.
+-- The entries of a node record what one step by position p leads to, at each vertex.
 abbrev pub IsToldEverywhere : AbstractGame → Lists → Table → (n p : ℕ) → Type 0
 IsToldEverywhere game lists table n p =
     (v : ℕ) → v < length game.board.first → IsToldAt game lists table (entry_at table n v) v p
@@ -282,7 +282,7 @@ pub record StaysClosed (game : AbstractGame) (lists : Lists) (old new : Table) (
   pub same : new ≡ old
   pub closed : AreClosedAt game lists new n
 
--- Nothing is missing in the entries of the last nodes, of which there are so many.
+-- Nothing is missing in the entries of the last `many` nodes.
 abbrev pub AreClosedFrom : AbstractGame → Lists → Table → (many : ℕ) → Type 0
 AreClosedFrom game lists table many =
     (n v : ℕ) → length lists.interner.nodes.items ≤ n + many → n < length lists.interner.nodes.items →

@@ -43,7 +43,7 @@ impl SemiState {
         self.act(game, game.board(), game.action(position))
     }
 
-    /// Does what an action says.
+    /// Applies an action.
     fn act(&mut self, game: &Game, board: &Board, action: &Action) -> Applied
         requires lawful { IsGame game.now }
         requires board { board.now ≡ game.now.board }
@@ -139,7 +139,7 @@ impl SemiState {
             → value_of (arithmetic_of expression.now) self.now.state ≡ Some (pos n)
             → ¬ (n ≤ bound)) }
     {
-        // a number alone is what most assignments have
+        // most assignments have a number alone
         let value = match expression {
             Arithmetic::Number(number) => i64::try_from(*number).ok()?,
             _ => self.evaluate(expression)?,
@@ -150,7 +150,7 @@ impl SemiState {
         Some(value as u32)
     }
 
-    /// Tests whether two expressions have values that stand in a relation.
+    /// Tests whether a relation holds between the values of two expressions.
     #[inline(always)]
     pub(super) fn compare(
         &self,
@@ -170,7 +170,7 @@ impl SemiState {
         }
     }
 
-    /// As `compare`, in a call of its own, since a comparison is seldom applied.
+    /// As `compare`, but never inlined, since a comparison is seldom applied.
     #[inline(never)]
     fn compare_apart(&self, left: &Arithmetic, relation: Relation, right: &Arithmetic) -> Applied
         requires { ReadsBelow (length self.now.state.values) (arithmetic_of left.now)
@@ -192,7 +192,7 @@ impl SemiState {
     }
 }
 
-/// Whether two values stand in a relation.
+/// Whether a relation holds between two values.
 fn relates(relation: Relation, x: i64, y: i64) -> bool
     ensures { IsTrue result ↔ Relates relation x y }
 {

@@ -1,4 +1,4 @@
-//! The arithmetic of a game: whole numbers of 64 bits with a sign, and no value where one does not fit.
+//! The arithmetic of a game: whole numbers of 64 bits with a sign, and no value if one does not fit.
 ghost use Rattle.std.specs.Prelude.{◌≡◌, Some, length, All, IfSome};
 ghost use Rattle.rbg_rules.specs.Meaning.{value_of, arithmetic_of};
 ghost use Rattle.rbg_state.specs.Reads.{ReadsBelow};
@@ -8,7 +8,7 @@ use super::SemiState;
 use rbg_rules::{Arithmetic, Operation, Operator};
 
 impl SemiState {
-    /// The value of an expression, or none where a part of it does not fit 64 bits or a divisor is 0.
+    /// The value of an expression. Returns None if a part of it does not fit 64 bits or a divisor is 0.
     #[cycle(evaluate)]
     #[tactic(auto, using(rbg_rules::proofs::Bridge::translation, crate::proofs::Fits::by_conversion))]
     pub(super) fn evaluate(&self, expression: &Arithmetic) -> Option<i64>
@@ -24,7 +24,7 @@ impl SemiState {
         }
     }
 
-    /// As `evaluate`. A number or a variable alone, as most operands are, takes no call.
+    /// As `evaluate`. A number or a variable alone, as most operands are, needs no call.
     #[cycle(evaluate)]
     #[inline(always)]
     pub(super) fn evaluated(&self, expression: &Arithmetic) -> Option<i64>
@@ -37,7 +37,7 @@ impl SemiState {
         }
     }
 
-    /// As `evaluated`. One operation on numbers or variables alone, as `most + 1`, takes no call either.
+    /// As `evaluated`. One operation on numbers or variables alone, as `most + 1`, needs no call either.
     #[inline(always)]
     pub(super) fn joined(&self, expression: &Arithmetic) -> Option<i64>
         requires { ReadsBelow (length self.now.state.values) (arithmetic_of expression.now) }
@@ -49,7 +49,8 @@ impl SemiState {
         }
     }
 
-    /// The value of one operation on numbers or variables alone; none of any other expression, or where it has no value.
+    /// The value of an expression of one operation on numbers or variables. Returns None for any other expression, and
+    /// if there is no value.
     #[inline(always)]
     fn plain_chain(&self, expression: &Arithmetic) -> Option<i64>
         requires { ReadsBelow (length self.now.state.values) (arithmetic_of expression.now) }
@@ -62,8 +63,8 @@ impl SemiState {
         }
     }
 
-    /// What an operation alone makes of a value, where its operand is a number or a variable alone; none of any other
-    /// operations, or where it has no value.
+    /// What one operation makes of a value, if its operand is a number or a variable. Returns None for any other
+    /// operations, and if there is no value.
     #[inline(always)]
     fn plain_step(&self, first: i64, operations: &[Operation]) -> Option<i64>
         requires { All (λ o.
@@ -80,7 +81,7 @@ impl SemiState {
         }
     }
 
-    /// The value of a number or a variable alone; none of any other expression.
+    /// The value of a number or a variable. Returns None for any other expression.
     #[inline(always)]
     #[tactic(auto, using(rbg_rules::proofs::Bridge::translation, crate::proofs::Fits::by_conversion))]
     fn plain_value(&self, expression: &Arithmetic) -> Option<i64>

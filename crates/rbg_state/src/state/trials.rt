@@ -23,8 +23,8 @@ pub enum Trial {
 }
 
 impl SemiState {
-    /// What the action at a position of the game would do if the vertex were the current one; none where it is a pattern.
-    /// Nothing changes.
+    /// What the action at a position of the game would do if the vertex were the current one. Returns None if it is a
+    /// pattern. Nothing changes.
     #[inline(always)]
     pub fn try_at(&self, game: &Game, vertex: Vertex, position: Position) -> Option<Trial>
         requires fits { IsStateOf game.now self.now.state }
@@ -41,7 +41,7 @@ impl SemiState {
         self.tell(game, game.board(), game.action(position), vertex)
     }
 
-    /// What an action would do at a vertex; none where it is a pattern.
+    /// What an action would do at a vertex. Returns None if it is a pattern.
     #[inline(always)]
     fn tell(&self, game: &Game, board: &Board, action: &Action, vertex: Vertex) -> Option<Trial>
         requires lawful { IsGame game.now }
@@ -86,7 +86,7 @@ impl SemiState {
         }
     }
 
-    /// What a comparison would do at a vertex, in a call of its own, so that it stays out of the loops around it.
+    /// What a comparison would do at a vertex. It is never inlined, so that it stays out of the loops around it.
     #[inline(never)]
     fn tell_compare(
         &self,
@@ -122,7 +122,7 @@ impl SemiState {
     }
 }
 
-/// Whether a piece is one of these. They are few, and a call to look for it would cost more than the look.
+/// Whether a piece is one of these. They are few, so a call costs more than the loop.
 #[inline(always)]
 fn is_among(pieces: &[Piece], piece: Piece) -> bool
     ensures { IsTrue result ↔ Contains pieces.now piece }

@@ -1,4 +1,4 @@
--- What stands in the parentheses after the name of a generator of boards.
+-- What is in the parentheses after the name of a generator of boards.
 use Rattle.std.specs.Prelude.{List}
 use Rattle.rbg_macro.specs.Token.{Lexeme}
 use Rattle.rbg_grammar.specs.Reading.{Reading, graph_at, hexagon_at, rectangle_at}

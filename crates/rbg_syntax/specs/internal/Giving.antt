@@ -18,7 +18,7 @@ abbrev pub Gives : {A B : Type 0} → (A → B) → Result A ReadError → Resul
 Gives view (Ok x) read = read ≡ Ok (view x)
 Gives view (Err e) read = Fails e read
 
--- The same, where the fault may also be a bracket that is one too many.
+-- The same, if the fault may also be a bracket that is one too many.
 abbrev pub FailsWithin : {B : Type 0} → ReadError → Result B Fault → Type 0
 FailsWithin (faults.Misfit at what) read = read ≡ Err (misfit at)
 FailsWithin (faults.TooDeep at) read = read ≡ Err (too_deep at)

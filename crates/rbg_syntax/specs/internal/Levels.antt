@@ -10,7 +10,7 @@ use Rattle.rbg_grammar.specs.Tree.{SpeltRule}
 use Rattle.rbg_syntax.specs.declared.rules.Level.{Level}
 use Rattle.rbg_syntax.specs.declared.rules.Level.TheVariants.{Sum, Sequence}
 
--- the whole, where so many further brackets may be open
+-- the whole, if n further brackets may be open
 abbrev pub list_at : Level → ℕ → List Lexeme → Reading SpeltRule
 list_at Sum n = rules_at n
 list_at Sequence n = sequence_at (atom_at n)

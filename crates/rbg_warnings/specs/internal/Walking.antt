@@ -22,7 +22,8 @@ abbrev pub IsUnusedUpTo : AbstractGame → NamedThing → ℕ → Type 0
 IsUnusedUpTo game thing last =
     (p : ℕ) (a : AbstractAction) → p ≤ last → HasAction game.rules p a → IsTrue (uses thing a) → ⊥
 
--- A list of warnings goes on by those that the game has of these: whatever warnings it has of some, it then has of both.
+-- A list of warnings is extended by those that the game has of these: if it had all the warnings of some before, it
+-- then has all of both.
 abbrev pub Sifts : AbstractGame → List Warning → List Warning → List Warning → Type 0
 Sifts game these old new =
     (before : List Warning) → Keeps (IsWarned game) before old → Keeps (IsWarned game) (before ++ these) new

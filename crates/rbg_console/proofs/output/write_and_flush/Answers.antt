@@ -1,4 +1,4 @@
--- All that was written stays where the flush fails.
+-- All that was written stays if the flush fails.
 use Rattle.std.proofs.Common.{rules}
 use Rattle.std.proofs.KnownBytes.{Appends-kept}
 use Rattle.rbg_console.proofs.OutputLemmas.{front_whole}

@@ -1,4 +1,4 @@
--- A comment between marks becomes lines, and a line feed where it is needed.
+-- A comment between marks becomes lines, and a line feed if it is needed.
 use Rattle.std.proofs.Common.{◌≡◌, List, ℕ, ◌++◌, OnOk, subst, drop}
 use Rattle.std.proofs.lemmas.List.{take_rest}
 use Rattle.rbg_import.specs.Comments.{feed_before}

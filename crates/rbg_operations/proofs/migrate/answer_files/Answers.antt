@@ -1,4 +1,4 @@
--- What is said of the game and the record is the answer.
+-- What is answered about the game and the record is the answer.
 use Rattle.std.proofs.Common.{ℕ, List, subst}
 use Rattle.std.proofs.lemmas.Result.{IfOk-weaker}
 use Rattle.rbg_operations.specs.Answers.{IsGamesAnswer}

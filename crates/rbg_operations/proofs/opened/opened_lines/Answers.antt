@@ -1,4 +1,4 @@
--- The lines of the opening, and then of how play can go on.
+-- The lines of the opening, and then of how play can continue.
 use Rattle.std.proofs.Common.{◌≡◌, ◌++◌, rules, flat_map}
 use Rattle.rbg_operations.specs.Lines.{made_line}
 use Rattle.rbg_operations.proofs.opened.opened_lines.Goals as goal

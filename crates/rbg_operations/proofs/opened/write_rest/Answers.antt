@@ -1,4 +1,4 @@
--- How the match ended, or how it can go on.
+-- How the match ended, or how it can continue.
 use Rattle.rbg_base.proofs.Common.{◌∙◌, sym, on_ok_weaker}
 use Rattle.rbg_operations.specs.Lines.{end_text}
 use Rattle.rbg_operations.specs.Openings.GoesOn.{ended}

@@ -1,4 +1,4 @@
--- Too long a record is told of, or the refusal of the description.
+-- A record that is too long is reported, or the refusal of the description.
 use Rattle.std.proofs.Common.{◌≡◌, subst, sym, IfOk}
 use Rattle.std.proofs.lemmas.Result.{IfOk-weaker}
 use Rattle.rbg_console.specs.declared.status.Status.TheVariants.{BadInput}

@@ -1,4 +1,4 @@
--- The scores where no move was found, or the moves.
+-- The scores if no move was found, or the moves.
 use Rattle.rbg_base.proofs.Common.{◌≡◌, ◌∙◌, ◌++◌, ap, subst, on_ok_weaker, flat_map, ◌==◌}
 use Rattle.rbg_operations.specs.Lines.{move_line, cut_text}
 use Rattle.rbg_operations.specs.After.GoesOnAt.{finished, listed}

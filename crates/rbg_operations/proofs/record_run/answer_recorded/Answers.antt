@@ -1,4 +1,4 @@
--- The texts are where the words say: what was read of them is answered.
+-- The texts are where the words have them: what was read of them is answered.
 use Rattle.std.proofs.Common.{refl, subst}
 use Rattle.std.proofs.lemmas.Result.{IfOk-weaker}
 use Rattle.rbg_referee.proofs.RunCallerLemmas.{both}

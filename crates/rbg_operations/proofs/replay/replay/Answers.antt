@@ -1,4 +1,4 @@
--- What is told of the record is true of the game that was passed.
+-- The verdict on the record is true for the game that was passed.
 use Rattle.std.proofs.Common.{subst}
 use Rattle.std.proofs.lemmas.Result.{IfOk-weaker}
 use Rattle.rbg_operations.proofs.JudgingLemmas.{Judges, checked_answer}

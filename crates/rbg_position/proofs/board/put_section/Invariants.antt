@@ -1,4 +1,4 @@
--- So many tokens are written.
+-- The tokens so far are written.
 use Rattle.std.proofs.Common.{◌≤◌}
 use Rattle.rbg_position.proofs.Sections.{AreWritten}
 use Rattle.rbg_position.proofs.board.put_section.Given as goal

@@ -1,4 +1,4 @@
--- A step that fails says why there is no description.
+-- A step that fails returns why there is no description.
 use Rattle.std.proofs.Common.{◌≡◌, ℕ, ◌++◌, List, codes, sym, subst, ◌∙◌, Option, Some, None, IfSome, IfNone, Vec, Global}
 use Rattle.rbg_game.specs.Loading.{Loads}
 use Rattle.rbg_macro.proofs.TextCommon.{HasTokens, Lexeme}

@@ -1,4 +1,4 @@
--- Both tokens stand there.
+-- Both tokens are there.
 use Rattle.rbg_position.proofs.Tokens.{begins_here}
 use Rattle.rbg_position.proofs.new_text.begins_board.Goals as goal
 

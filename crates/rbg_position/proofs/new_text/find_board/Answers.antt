@@ -1,4 +1,4 @@
--- No `#board` stands anywhere.
+-- There is no `#board`.
 use Rattle.std.proofs.Common.{arith}
 use Rattle.rbg_position.proofs.Tokens.{begins_nowhere}
 use Rattle.rbg_position.proofs.new_text.find_board.Goals as goal

@@ -1,4 +1,4 @@
--- No `#board` stands before this index.
+-- There is no `#board` before this index.
 use Rattle.std.proofs.Common.{ℕ, ◌<◌, map}
 use Rattle.rbg_macro.specs.Token.{lexeme_of}
 use Rattle.rbg_position.specs.Boards.{BeginsBoard}

@@ -1,4 +1,4 @@
--- No `#` stands before this index.
+-- There is no `#` before this index.
 use Rattle.std.proofs.Common.{◌≡◌, ℕ, ◌+◌, ◌<◌, ◌≤◌, false, map, slice_get, Some}
 use Rattle.rbg_macro.proofs.TextCommon.{is_symbol, Lexeme, lexeme_of}
 use Rattle.rbg_macro.specs.declared.token.Symbol.TheVariants as symbols

@@ -1,4 +1,4 @@
--- A step that fails says why the game doesn't begin so.
+-- A step that fails returns why the game doesn't begin as play is at the place.
 use Rattle.std.proofs.Common.{subst}
 use Rattle.rbg_moves.specs.Settling.{Settles}
 use Rattle.rbg_position.specs.Refusals.{IsUnsettled}

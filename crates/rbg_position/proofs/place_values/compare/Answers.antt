@@ -1,4 +1,4 @@
--- Something stands otherwise.
+-- Something differs.
 use Rattle.std.proofs.Common.{sym, ◌∙◌}
 use Rattle.rbg_position.specs.Refusals.StandsOtherwise.{pieces, player}
 use Rattle.rbg_position.proofs.Faults.{differ_text}

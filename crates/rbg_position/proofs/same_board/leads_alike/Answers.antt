@@ -1,4 +1,4 @@
--- Boards lead alike where their ways are the same.
+-- Boards lead to the same vertices if their ways are the same.
 use Rattle.std.proofs.Common.{◌≡◌, ℕ, sym, subst, ◌∙◌, arith}
 use Rattle.rbg_board.specs.Graph.{Graph, HasWidth}
 use Rattle.rbg_position.proofs.SameBoards.{same_ways, lead_alike}

@@ -1,4 +1,4 @@
--- The boards of games, where one game is the other with other pieces.
+-- The boards of games, if one game is the other with other pieces.
 use Rattle.std.proofs.Common.{◌≡◌, ℕ, List, sym, ap, subst, ◌∙◌}
 use Rattle.rbg_board.specs.Graph.{Graph}
 use Rattle.rbg_rules.specs.Meaning.{AbstractGame}

@@ -1,4 +1,4 @@
--- Rules are the same where their keys are.
+-- Rules are the same if their keys are.
 use Rattle.rbg_base.proofs.Common.{rules, ◌≡◌, Decides, ◌∙◌, slice_eq-Decides}
 use Rattle.rbg_position.specs.contracts.key_mark.KeyMarkPartialEq.TheImpl as equality
 use Rattle.rbg_position.specs.declared.key_mark.KeyMark.{KeyMark}

@@ -1,4 +1,4 @@
--- A match in play goes on to the moment.
+-- A match in play continues to the moment.
 use Rattle.std.proofs.Common.{Option, subst, sym, OnOk}
 use Rattle.rbg_wire.specs.declared.outcome.Outcome.{Outcome}
 use Rattle.rbg_script.specs.Events.{tick_event}

@@ -1,4 +1,4 @@
--- The player says its move.
+-- The player sends its move.
 use Rattle.std.proofs.Common.{◌∙◌}
 use Rattle.rbg_record.proofs.EventLines.{made_told}
 use Rattle.rbg_record.proofs.entries.write_made.Goals as goal

@@ -1,4 +1,4 @@
--- Two numbers stand after the word, the first before the first space.
+-- Two numbers follow the word, the first before the first space.
 use Rattle.std.proofs.Common.{◌∙◌}
 use Rattle.rbg_wire.proofs.FieldLemmas.{same_fields, with_rest}
 use Rattle.rbg_wire.proofs.ReadsLemmas.{reads_found, reads_none}

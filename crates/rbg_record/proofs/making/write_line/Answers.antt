@@ -1,4 +1,4 @@
--- Each line is told.
+-- The lines for the script are written of each line.
 use Rattle.std.proofs.Common.{refl, sym, ◌∙◌}
 use Rattle.std.proofs.lemmas.Bool.{true≢false}
 use Rattle.rbg_record.proofs.TellingLemmas.{version_tells, players_tell, start_tells, no_start, entry_spelled, entry_tells}

@@ -1,4 +1,4 @@
--- The lines of the messages so far are printed, and the others stand in what is left.
+-- The lines of the messages so far are printed, and the others are in what is left.
 use Rattle.std.proofs.Common.{length}
 use Rattle.rbg_referee.proofs.PrintedLemmas.{ArePrintedOf}
 use Rattle.rbg_referee.proofs.printed.push_seat.Given as goal

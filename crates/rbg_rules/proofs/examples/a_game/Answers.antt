@@ -10,7 +10,7 @@ use Rattle.rbg_rules.proofs.ExampleLemmas.{differs}
 use Rattle.rbg_rules.proofs.LookingRight.{right_off, numbered}
 use Rattle.rbg_rules.proofs.examples.a_game.Goals as goal
 
--- Each action speaks of what the game has, and the one pattern is the one that steps and puts.
+-- Each action uses things that the game has, and the one pattern is the one that steps and puts.
 abbrev IsRight : AbstractAction → Type 0
 IsRight (positive x) = x ≡ right_off
 IsRight (negative x) = ⊥

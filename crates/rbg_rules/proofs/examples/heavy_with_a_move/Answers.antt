@@ -93,7 +93,7 @@ in_front v [] more h = absurd h
 in_front v (q ∷ qs) more (inl e) = inl e
 in_front v (q ∷ qs) more (inr h) = inr (in_front v qs more h)
 
--- What stands in a branch is no switch, and a branch has the position 3 or the position 4.
+-- What is in a branch is no switch, and a branch has the position 3 or the position 4.
 in_branch : (b : List ℕ) → Word either b → (p : ℕ) → Among p b → ¬ IsSwitchAt heavy_choice.rules p
 in_branch b in_b p h = no_switch_at heavy_choice.rules p (of_word (has_at is_switch heavy_choice.rules) either refl b in_b p h)
 

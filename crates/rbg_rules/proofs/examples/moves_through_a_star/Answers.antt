@@ -53,7 +53,7 @@ returns-clause-no_switch c (to, legal) =
     let same = snoc_same [] last.before (0, 2) (last.vertex, legal.last) last.joined in
     no_switch_at star_of_offs.rules 2 refl (subst (IsSwitchAt star_of_offs.rules) (sym (ap (λ (q : ℕ × ℕ). q.1) same.1)) legal.switches)
 
--- The switch to white would stand before the move's last position.
+-- The switch to white would be before the move's last position.
 pub returns-clause-two_switches : goal.returns-clause-two_switches
 returns-clause-two_switches c (to, legal) =
     let cut = RunPairs-append legal.before (legal.last ∷ []) legal.runs in

@@ -114,7 +114,7 @@ no_pairs stay none = refl
 no_pairs (modify {p} applied modifies run) none = absurd (not_modifier (none p (inl refl)) applied modifies)
 no_pairs (pass applied quiet run) none = no_pairs run (λ q h. none q (inr h))
 
--- The pattern and then the off: the off's pair tells where the pattern was asked.
+-- The pattern and then the off: the off's pair has the vertex at which the pattern was asked.
 off_at : (w : List ℕ) (s t : AbstractState) (v : ℕ) (qs : List (ℕ × ℕ)) → RunPairs nested (9 ∷ w) s t ((v, 9) ∷ qs) → s.vertex ≡ v
 off_at w s t v qs (modify applied modifies run) = refl
 off_at w s t v qs (pass applied quiet run) = absurd (not_quiet refl applied quiet)

@@ -5,7 +5,7 @@ use Rattle.rbg_rules.specs.ExampleGames.{star_of_offs, state_of}
 use Rattle.rbg_rules.proofs.Standing.{none_such, no_switches, no_pattern_at}
 use Rattle.rbg_rules.proofs.examples.openings_end_at_an_answer.Goals as goal
 
--- The switch to black stands after no modifier.
+-- The switch to black comes after no modifier.
 answer : AnswersAfter star_of_offs find_move (state_of 1 (0 ∷ []) 0) (after 1) []
 answer = (
   [],

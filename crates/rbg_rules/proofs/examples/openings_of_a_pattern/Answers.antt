@@ -96,7 +96,7 @@ short m s t ps (z, word) run = elim (of_level (m ++ z) word) [ inl e ↦ by_fron
     by_front p (inl (inr is)) one = one is
     by_front p (inr (rest, is)) one = absurd (stopped_then p rest s t ps (subst (λ (v : List ℕ). RunPairs asking_a_sum v s t ps) is run))
 
--- No pattern stands inside the pattern.
+-- No pattern is inside the pattern.
 no_pattern_follows : (m : List ℕ) (p : ℕ) → Follows asking_a_sum.rules asked (m ++ p ∷ []) → ¬ IsPatternAt asking_a_sum.rules p
 no_pattern_follows m p (z, word) =
     let among : Among p ((m ++ p ∷ []) ++ z) = Among_left p (m ++ p ∷ []) z (Among_right p m (p ∷ []) (inl refl)) in

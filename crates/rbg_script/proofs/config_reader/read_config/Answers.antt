@@ -1,4 +1,4 @@
--- Three numbers stand after the word, and two of them have limits.
+-- Three numbers follow the word, and two of them have limits.
 use Rattle.std.proofs.Common.{◌∙◌, sym, ◌≡◌, true, false}
 use Rattle.rbg_wire.proofs.ReadsLemmas.{reads_found, reads_none}
 use Rattle.rbg_script.proofs.Apart.{one_config}

@@ -1,4 +1,4 @@
--- Two numbers stand after the word, the first before the first space.
+-- Two numbers follow the word, the first before the first space.
 use Rattle.std.proofs.Common.{◌∙◌}
 use Rattle.rbg_script.proofs.Parts.{end_shape, end_fields, beyond_first, spells_end}
 use Rattle.rbg_script.proofs.event_reader.end_in.Goals as goal

@@ -1,4 +1,4 @@
--- The digits stand after the moment.
+-- The digits follow the moment.
 use Rattle.rbg_script.specs.Events.{SpellsBytes, by_digits}
 use Rattle.rbg_script.proofs.Apart.{bad_digits, some_here, none_here}
 use Rattle.rbg_script.proofs.event_reader.piece_in.Goals as goal

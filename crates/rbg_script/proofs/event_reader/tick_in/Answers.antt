@@ -1,4 +1,4 @@
--- The moment stands after the word.
+-- The moment follows the word.
 use Rattle.std.proofs.Common.{◌∙◌}
 use Rattle.rbg_script.proofs.Parts.{tick_shape, tick_field, spells_tick}
 use Rattle.rbg_script.proofs.event_reader.tick_in.Goals as goal

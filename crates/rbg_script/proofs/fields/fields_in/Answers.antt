@@ -1,4 +1,4 @@
--- Two numbers stand after the word, with a space after each.
+-- Two numbers follow the word, with a space after each.
 use Rattle.std.proofs.Common.{◌∙◌}
 use Rattle.rbg_script.proofs.Parts.{fields_shape, after_word, beyond_first, has_fields}
 use Rattle.rbg_script.proofs.fields.fields_in.Goals as goal

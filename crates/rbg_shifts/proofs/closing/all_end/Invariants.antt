@@ -1,4 +1,4 @@
--- The entries so far tell that a word may end.
+-- The entries so far record that a word may end.
 use Rattle.std.proofs.Common.{◌<◌, ℕ, IsTrue}
 use Rattle.rbg_shifts.specs.internal.Tables.{entry_at}
 use Rattle.rbg_shifts.proofs.closing.all_end.Given as goal

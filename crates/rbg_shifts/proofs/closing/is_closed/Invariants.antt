@@ -1,4 +1,4 @@
--- The positions so far are told of.
+-- The positions so far are recorded.
 use Rattle.std.proofs.Common.{take, All}
 use Rattle.rbg_shifts.specs.internal.Tables.{IsToldEverywhere}
 use Rattle.rbg_shifts.proofs.closing.is_closed.Given as goal

@@ -1,4 +1,4 @@
--- The vertices so far are told of.
+-- The position is recorded at the vertices so far.
 use Rattle.std.proofs.Common.{◌<◌, ℕ}
 use Rattle.rbg_shifts.specs.internal.Tables.{entry_at, IsToldAt}
 use Rattle.rbg_shifts.proofs.closing.is_told_everywhere.Given as goal

@@ -1,4 +1,4 @@
--- The entry tells of all vertices of the targets so far.
+-- The entry has all vertices of the targets so far.
 use Rattle.std.proofs.Common.{◌<◌, ◌≤◌, ℕ}
 use Rattle.rbg_shifts.proofs.Common.{IsEndOf, target_at, TellsAt}
 use Rattle.rbg_shifts.proofs.closing.tells_targets.Given as goal

@@ -27,7 +27,7 @@ entry_there-entry-requires c =
 pub add_all-requires-clause-before : goal.add_all-requires-clause-before
 add_all-requires-clause-before c = (c.entry_there-entry.ensures.within c.args.start c.requires.within).ends
 
--- The branch is a shift that leads to one vertex, with what is told after it.
+-- The branch is a shift that leads to one vertex, with what is recorded after it.
 is_shift : (c : goal.In_ok-add_all) → IsShiftAt c.args.ground.now.rules c.args.branch.now.position
 is_shift c = record { direction = c.in-Some.direction; stands = c.requires.branch.stands c.in-Some.direction c.in-Some.is }
 

@@ -1,4 +1,4 @@
--- Where nothing was missing so far, nothing is missing at the nodes so far.
+-- If nothing was missing so far, nothing is missing at the nodes so far.
 use Rattle.std.proofs.Common.{◌≡◌, false}
 use Rattle.rbg_shifts.specs.internal.Tables.{IsSoundTable, AreClosedFrom}
 use Rattle.rbg_shifts.proofs.rounds.round.Given as goal

@@ -1,4 +1,4 @@
--- A chain is a number where it has no operation.
+-- A chain is a number if it has no operation.
 use Rattle.rbg_warnings.proofs.Names.{chain_alone, chain_long}
 use Rattle.rbg_warnings.proofs.arithmetic.+number_of.Goals as goal
 

@@ -1,4 +1,4 @@
--- The action that stands at the position is the only one.
+-- The action at the position is the only one.
 use Rattle.rbg_warnings.proofs.Standing.{too_great}
 use Rattle.rbg_warnings.proofs.rule_warnings.has_too_great.Goals as goal
 

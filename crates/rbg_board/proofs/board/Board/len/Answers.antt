@@ -1,4 +1,4 @@
--- What the table of a board says of the whole graph.
+-- What the table of a board means for the whole graph.
 use Rattle.std.proofs.Common.{subst}
 use Rattle.rbg_board.specs.Graph.{IsClosed, HasOneWidth}
 use Rattle.rbg_board.proofs.Tables.{closed, has_width}

@@ -5,7 +5,7 @@ use Rattle.rbg_game.specs.NameNumbers.{IsNumberOf}
 use Rattle.rbg_game.proofs.Common.{board_pieces, IsCell}
 use Rattle.rbg_game.proofs.checking.graphs.number_cells.Given as goal
 
--- where the numbers are those of the pieces in a table
+-- if the numbers are those of the pieces in a table
 abbrev pub invariant-loop-place : goal.invariant-loop-place
 invariant-loop-place l =
     (table : List (List ℕ))

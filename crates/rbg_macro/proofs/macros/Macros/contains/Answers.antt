@@ -1,4 +1,4 @@
--- A look-up in the map finds a name where the list has it.
+-- A look-up in the map finds a name exactly if the list has it.
 use Rattle.rbg_base.proofs.Common.{◌∙◌, ap, List, list_any, bytes_eq}
 use Rattle.rbg_macro.specs.Macro.{Macro}
 use Rattle.rbg_macro.proofs.Names.{has_lookup}

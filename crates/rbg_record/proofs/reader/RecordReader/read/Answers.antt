@@ -1,4 +1,4 @@
--- Where what is left has no line, or one that isn't of the form.
+-- If what is left has no line, or one that isn't of the form.
 use Rattle.std.proofs.Common.{refl, sym, ◌∙◌}
 use Rattle.std.proofs.lemmas.Bool.{true≢false}
 use Rattle.rbg_record.proofs.Stopping.{ends_early, not_empty, not_formed}

@@ -1,4 +1,4 @@
--- Each atom in brackets has one bracket less to open, and the parts of a sum are sequences. What a loop has read stands
+-- Each atom in brackets has one bracket less to open, and the parts of a sum are sequences. What a loop has read comes
 -- before what it will read.
 use Rattle.std.proofs.Common.{ℕ, ◌+◌, ◌*◌, length, map}
 use Rattle.rbg_grammar.specs.Views.{rule_of}
@@ -8,11 +8,11 @@ use Rattle.rbg_syntax.specs.declared.rules.Level.TheVariants as levels
 use Rattle.rbg_syntax.specs.internal.Levels.{further_part_at, goes_on}
 use Rattle.rbg_syntax.proofs.parser.Parser.+rules.Given as goal
 
--- the place of a call among those that may stand one inside the other: there are fourteen in a bracket
+-- the place of a call among those that may be nested in each other: there are fourteen in a bracket
 abbrev pub place : ℕ → ℕ → ℕ
 place brackets k = 14 * brackets + k
 
--- the calls of a sequence that stand inside one of this level: four in a sum, none in a sequence
+-- the calls of a sequence that are inside one of this level: four in a sum, none in a sequence
 abbrev pub below : Level → ℕ
 below levels.Sequence = 0
 below levels.Sum = 4

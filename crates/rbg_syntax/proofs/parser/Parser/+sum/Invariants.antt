@@ -1,5 +1,5 @@
--- Each sum in parentheses has one bracket less to open, and the operands of a sum are products. What a loop has read stands
--- before what it will read.
+-- Each sum in parentheses has one bracket less to open, and the operands of a sum are products. What a loop has read
+-- comes before what it will read.
 use Rattle.std.proofs.Common.{ℕ, ◌+◌, ◌*◌, length, map}
 use Rattle.rbg_grammar.specs.declared.expression.Rank.{Rank}
 use Rattle.rbg_grammar.specs.declared.expression.Rank.TheVariants as ranks
@@ -7,7 +7,7 @@ use Rattle.rbg_grammar.proofs.Common.{further_operand_at, is_operator, operand_a
 use Rattle.rbg_grammar.proofs.Turns.{ReadsOn}
 use Rattle.rbg_syntax.proofs.parser.Parser.+sum.Given as goal
 
--- the calls of a product that stand inside one of this rank: four in a sum, none in a product
+-- the calls of a product that are inside one of this rank: four in a sum, none in a product
 abbrev pub below : Rank → ℕ
 below ranks.Product = 0
 below ranks.Sum = 4

@@ -1,4 +1,4 @@
--- Where all bytes are dropped, none is left.
+-- If all bytes are dropped, none is left.
 use Rattle.std.proofs.Common.{rules, ◌∙◌, sym, ap}
 use Rattle.rbg_wire.proofs.CursorLemmas.{nothing_left}
 use Rattle.rbg_wire.proofs.cursor.Cursor.next.Goals as goal

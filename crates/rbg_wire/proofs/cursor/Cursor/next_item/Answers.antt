@@ -1,4 +1,4 @@
--- The item that ends at the zero byte, or where the limit is passed.
+-- The item that ends at the zero byte, or at which the limit is passed.
 use Rattle.std.proofs.Common.{rules, ◌≤◌, ◌-◌, length, arith, refl}
 use Rattle.rbg_wire.proofs.CursorLemmas.{cursor_too_long, passed_too_long, passed_message, nothing_complete}
 use Rattle.rbg_wire.proofs.cursor.Cursor.next_item.Goals as goal
