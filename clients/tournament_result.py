@@ -165,7 +165,7 @@ def good_record(plan: Plan, game: Path, record: Path) -> Optional[str]:
     >>> import tempfile
     >>> with tempfile.TemporaryDirectory() as folder:
     ...     rbg, record = Path(folder) / "rbg", Path(folder) / "record"
-    ...     for script in ("echo good", "echo form 2; exit 2", "kill -INT $$"):
+    ...     for script in ("echo good", "echo form 2; exit 2", "kill -TERM $$"):
     ...         _ = record.write_text("rbg 2\\n"), rbg.write_text(f"#!/bin/sh\\n{script}\\n"), rbg.chmod(0o755)
     ...         try:
     ...             print(repr(good_record(Plan(str(rbg), "", {}, {}), Path("g"), record)))
@@ -173,7 +173,7 @@ def good_record(plan: Plan, game: Path, record: Path) -> Optional[str]:
     ...             print(str(fault).removeprefix(folder))
     'rbg 2\\n'
     None
-    /rbg replay ended with signal 2
+    /rbg replay ended with signal 15
     """
     try:
         text = record.read_text()

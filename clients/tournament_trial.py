@@ -11,6 +11,7 @@ import argparse
 import os
 import resource
 import shutil
+import signal
 import sys
 import tempfile
 import time
@@ -67,6 +68,8 @@ def main() -> int:
     parser.add_argument("names", nargs="*", metavar="NAME", help=", ".join([*TRIALS, "overhead"]))
     parser.add_argument("--keep", type=Path, metavar="DIR", help="a new folder in which the files are left")
     words = parser.parse_args()
+    # what is ignored here, as under nohup or in a shell's background, would be ignored by each program too
+    signal.signal(signal.SIGINT, signal.default_int_handler)
     trials = {**TRIALS, "overhead": try_overhead}
     names = words.names or list(TRIALS)
     unknown = [name for name in names if name not in trials]
