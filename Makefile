@@ -127,9 +127,11 @@ lib:
 	@cd crates/rbg_c && $(RT) lib
 	@RT='$(RT)' tools/library --prefix $(PREFIX)
 
+# OVER=FOLDER makes the archive over the libraries that `rt ci` has proved in a checkout, and not that of `make lib`.
+OVER :=
 library:
 	$(call needs,$(RBG))
-	@RT='$(RT)' tools/library --prefix $(PREFIX)
+	@RT='$(RT)' tools/library --prefix $(PREFIX) $(OVER:%=--over %)
 	@TEXTS=$(TEXTS) CALLS=$(CALLS) python3 clients/c/trials.py $(call data,chess tictactoe)
 	@python3 clients/languages.py --rbg $(RBG) $(call data,tictactoe breakthrough)
 
