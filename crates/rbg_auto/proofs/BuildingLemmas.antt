@@ -14,7 +14,7 @@ use Rattle.rbg_auto.specs.declared.table.Table.{Table}
 use Rattle.rbg_auto.specs.internal.Firsts.{firsts}
 use Rattle.rbg_auto.specs.internal.Laying.{IsLawful, Lays}
 use Rattle.rbg_auto.specs.internal.Trees.{GivesFirsts, LaysAll, of_tree, IsBefore, IsAgain}
-use Rattle.rbg_auto.specs.internal.Tables.{IsSpan, IsNextWithin, IsFirstWithin, listed, laid_of, Keeps, IsKept, Grows, no_span, no_node, no_inside, laid_at, told_at}
+use Rattle.rbg_auto.specs.internal.Tables.{IsSpan, IsNextWithin, IsFirstWithin, listed, laid_of, Keeps, IsKept, Grows, no_span, no_node, no_inside, laid_at, glance_at}
 use Rattle.rbg_auto.specs.internal.Building.{laid_in, Extends, AddsList, LaysAt, LaysTree, LaysBefore, LaysSequence, LaysLevel}
 use Rattle.rbg_auto.proofs.LayTreeLemmas.{plain_laid, pattern_laid, BeginsTree, act_laid, pattern_laid_whole, then_laid, or_laid, star_laid, SumLaid, sum_laid_none, sum_laid_more, sum_laid_all, SequenceOwed, sequence_owed_all, sequence_owed_fewer, sequence_owed_none, resized}
 
@@ -53,10 +53,10 @@ pub kept_some : (entries : List ℕ) (kept : Option Span) (s : Span) (k : List �
 kept_some entries kept s k is keeps = record { keeps = λ t e. let same : s ≡ t = cc (is, e) in subst (λ (u : Span). Keeps entries u k) same keeps }
 
 pub Extends-refl : (t : Table) → Extends t t
-Extends-refl t = record { entries = Grows-refl t.entries.items; size = refl; untold = λ q none. none }
+Extends-refl t = record { entries = Grows-refl t.entries.items; size = refl; unknown = λ q none. none }
 
 pub Extends-trans : (a b c : Table) → Extends a b → Extends b c → Extends a c
-Extends-trans a b c one other = record { entries = Grows-trans a.entries.items b.entries.items c.entries.items one.entries other.entries; size = other.size ∙ one.size; untold = λ q none. other.untold q (one.untold q none) }
+Extends-trans a b c one other = record { entries = Grows-trans a.entries.items b.entries.items c.entries.items one.entries other.entries; size = other.size ∙ one.size; unknown = λ q none. other.unknown q (one.unknown q none) }
 
 pub AddsList-refl : (t : Table) → AddsList t t
 AddsList-refl t = record { extends = Extends-refl t; same = λ q. refl }
@@ -83,7 +83,7 @@ adds_list old new more entries nodes insides = record {
   extends = record {
     entries = record { more = more; is = entries };
     size = ap (λ (ns : Vec Node Global). length ns.items) nodes;
-    untold = λ q none. subst (λ (ns : Vec Node Global). told_at ns.items q ≡ Unknown) (sym nodes) none;
+    unknown = λ q none. subst (λ (ns : Vec Node Global). glance_at ns.items q ≡ Unknown) (sym nodes) none;
   };
   same = λ q. ap (λ (xs : List ℕ). laid_at xs new.nodes.items new.insides.items q) entries ∙ ap (λ (ns : Vec Node Global). laid_at (old.entries.items ++ more) ns.items new.insides.items q) nodes ∙ ap (λ (os : Vec Opening Global). laid_at (old.entries.items ++ more) old.nodes.items os.items q) insides ∙ stays q;
 }

@@ -12,9 +12,9 @@ use Rattle.rbg_auto.specs.declared.steps.Glance.{Glance}
 use Rattle.rbg_auto.specs.declared.steps.Glance.TheVariants.{Unknown}
 use Rattle.rbg_auto.specs.Steps.{AreStepsOf, IsGlance}
 use Rattle.rbg_auto.specs.internal.Laying.{Laid, nothing, IsLawful, first_at, empty_at, IsWhole}
-use Rattle.rbg_auto.specs.internal.Tables.{listed, laid_of, told_at, no_node, no_inside}
+use Rattle.rbg_auto.specs.internal.Tables.{listed, laid_of, glance_at, no_node, no_inside}
 use Rattle.rbg_auto.specs.internal.Compacts.{IsCompactOf, MayBeLent}
-use Rattle.rbg_auto.specs.internal.Building.{laid_in, told_in, LaysLevel, Tells}
+use Rattle.rbg_auto.specs.internal.Building.{laid_in, glance_in, LaysLevel, SetsGlance}
 use Rattle.rbg_auto.proofs.WholeLemmas.{numbered_ascends, whole_steps}
 
 get_or-replicate : {X : Type 0} (x : X) (n q : ℕ) → get_or (replicate n x) q x ≡ x
@@ -71,17 +71,17 @@ has_each tree positions count same old new opening blank lays =
     omega (arith, size, same)
 
 -- The walk records no glance of any action.
-pub untold : (rules : Expression) (tree : Rule) (old new : Table) (opening : Opening) (n : ℕ) → IsBlank old n → LaysLevel old new tree opening → (p : ℕ) → IsGlance rules p (told_in new p)
-untold rules tree old new opening n blank lays p =
-    let none : told_in old p ≡ Unknown = ap (λ (ns : List Node). told_at ns p) blank.nodes ∙ ap (λ (node : Node). node.glance) (get_or-replicate no_node n p) in
-    subst (IsGlance rules p) (sym (lays.extends.untold p none)) tt
+pub unknown : (rules : Expression) (tree : Rule) (old new : Table) (opening : Opening) (n : ℕ) → IsBlank old n → LaysLevel old new tree opening → (p : ℕ) → IsGlance rules p (glance_in new p)
+unknown rules tree old new opening n blank lays p =
+    let none : glance_in old p ≡ Unknown = ap (λ (ns : List Node). glance_at ns p) blank.nodes ∙ ap (λ (node : Node). node.glance) (get_or-replicate no_node n p) in
+    subst (IsGlance rules p) (sym (lays.extends.unknown p none)) tt
 
 -- The lists and what is laid are the steps of the rules.
 abbrev StepsBy : Expression → List ℕ → Bool → (ℕ → Laid) → Type 0
 StepsBy rules first may at = AreStepsOf rules (first_at first at) (λ i. (at i).next) (λ i. (at i).may_end) (empty_at may at)
 
 -- Recording a right glance keeps the steps right.
-pub tells_right : (old new : Compact) (rules : Expression) (p : ℕ) (glance : Glance) → new.rules ≡ old.rules → new.prepared ≡ old.prepared → Tells old.table new.table p glance → IsGlance rules p glance → IsCompactOf old rules → IsCompactOf new rules
+pub tells_right : (old new : Compact) (rules : Expression) (p : ℕ) (glance : Glance) → new.rules ≡ old.rules → new.prepared ≡ old.prepared → SetsGlance old.table new.table p glance → IsGlance rules p glance → IsCompactOf old rules → IsCompactOf new rules
 tells_right old new rules p glance opening prepared tells right is = record {
   steps =
       subst (λ (o : Opening). StepsBy rules (listed new.table.entries.items o.first) o.may_be_empty (laid_in new.table)) (sym opening)
@@ -95,6 +95,6 @@ tells_right old new rules p glance opening prepared tells right is = record {
     same : laid_in new.table ≡ laid_in old.table
     same = λ i q. tells.laid q i
 
-    told : (q : ℕ) → (told_in new.table q ≡ told_in old.table q) ⊎ ((q ≡ p) × (told_in new.table q ≡ glance)) → IsGlance rules q (told_in new.table q)
+    told : (q : ℕ) → (glance_in new.table q ≡ glance_in old.table q) ⊎ ((q ≡ p) × (glance_in new.table q ≡ glance)) → IsGlance rules q (glance_in new.table q)
     told q (inl e) = subst (IsGlance rules q) (sym e) (is.told q)
     told q (inr (here, e)) = subst (IsGlance rules q) (sym e) (subst (λ (n : ℕ). IsGlance rules n glance) (sym here) right)

@@ -4,7 +4,7 @@ use Rattle.std.proofs.lemmas.List.{append-nil}
 use Rattle.rbg_rules.specs.Meaning.{AbstractAction, Expression, act, skip, sequence, fail, choice, star, positions_of, HasOwnAction, HasNoEmptySum, Word, Repeats, done, again}
 use Rattle.rbg_rules.proofs.CutLemmas.{Cut, in_first, in_second, cut_at, single, word_position}
 use Rattle.rbg_rules.proofs.PositionLemmas.{Among, has_position}
-use Rattle.rbg_rules.proofs.PatternLemmas.{own_stands}
+use Rattle.rbg_rules.proofs.PatternLemmas.{own_is_action}
 use Rattle.rbg_rules.proofs.StateLemmas.{word_law}
 use Rattle.rbg_auto.specs.internal.Orders.{Ascends, IsUnion}
 use Rattle.rbg_auto.specs.internal.Firsts.{may_be_empty, past, firsts}
@@ -33,7 +33,7 @@ pub record IsRight (laid : Laid) (x : Expression) (k : List ℕ) (end : Bool) (i
   pub ended : EndsWith x i → end ≡ true → laid.may_end ≡ true
 
 own_among : (x : Expression) (i : ℕ) (a : AbstractAction) → HasOwnAction x i a → Among i (positions_of x)
-own_among x i a own = has_position x i a (own_stands x i a own)
+own_among x i a own = has_position x i a (own_is_action x i a own)
 
 no_neighbours : (u : List ℕ) (i j : ℕ) (v : List ℕ) (q : ℕ) → ¬ (u ++ i ∷ j ∷ v ≡ q ∷ [])
 no_neighbours u i j v q e = let (_, none, _) = single u i (j ∷ v) q e in absurd (cc none)

@@ -1,6 +1,6 @@
 //! The automaton of a game, made in one walk over its rules.
 ghost use Rattle.std.specs.Prelude.{ℕ, ◌<◌, ◌^◌, IfOk};
-ghost use Rattle.rbg_rules.specs.Meaning.{Expression, on, HasAction, Stands};
+ghost use Rattle.rbg_rules.specs.Meaning.{Expression, on, HasAction, IsActionAt};
 ghost use Rattle.rbg_auto.specs.OfTree.{HoldsOfTree};
 ghost use Rattle.rbg_auto.specs.Steps.{IsGlance};
 
@@ -42,7 +42,7 @@ fn glance_of_on(pieces: &[Piece]) -> Glance
 
 /// What is known of an action.
 fn glance_of(action: &Action) -> Glance
-    ensures { (rules : Expression) (p : ℕ) → Stands rules p action.now → IsGlance rules p result }
+    ensures { (rules : Expression) (p : ℕ) → IsActionAt rules p action.now → IsGlance rules p result }
 {
     match action {
         Action::Shift { direction } => Glance::Shift(*direction),
@@ -55,14 +55,14 @@ fn glance_of(action: &Action) -> Glance
 }
 
 /// Records what is known of the action at each position of the game.
-fn tell_all(automaton: &mut Compact, game: &Game)
+fn set_glances(automaton: &mut Compact, game: &Game)
     requires { ⟦<Compact as Steps>⟧.of_rules automaton.old game.now.rules }
     ensures { ⟦<Compact as Steps>⟧.of_rules automaton.new game.now.rules }
 {
     for index in 0..game.positions() {
         let position = index as Position + 1;
         let glance = glance_of(game.action(position));
-        automaton.table.tell(position, glance);
+        automaton.table.set_glance(position, glance);
     }
 }
 
@@ -72,7 +72,7 @@ pub fn compact(alloc: Global, game: &Game) -> Result<Compact, Memory>
     ensures { IfOk result (λ automaton. ⟦<Compact as Steps>⟧.of_rules automaton game.now.rules) }
 {
     let mut automaton = compact_tree(alloc, &game.rules().tree, game.positions())?;
-    tell_all(&mut automaton, game);
+    set_glances(&mut automaton, game);
     automaton.prepared = Some(prepare(alloc, &automaton.table)?);
     Ok(automaton)
 }

@@ -34,7 +34,7 @@ impl Drop for Table {
 impl Table {
     ghost use Rattle.std.specs.Prelude.{[], replicate};
     ghost use Rattle.rbg_auto.specs.internal.Tables.{Keeps, IsSpan, IsNextWithin, IsFirstWithin, listed, no_node, no_inside};
-    ghost use Rattle.rbg_auto.specs.internal.Building.{AddsList, SetsNode, Tells};
+    ghost use Rattle.rbg_auto.specs.internal.Building.{AddsList, SetsNode, SetsGlance};
 
     /// A table of that many nodes, with nothing laid.
     pub(crate) fn new(alloc: Global, nodes: usize) -> Result<Table, Memory>
@@ -87,7 +87,7 @@ impl Table {
     pub(crate) fn set(&mut self, position: Position, node: Node, inside: Opening)
         requires within { IsNextWithin (length self.old.entries.items) node }
         requires inside_within { IsFirstWithin (length self.old.entries.items) inside }
-        requires untold { node.glance ≡ Unknown }
+        requires unknown { node.glance ≡ Unknown }
         ensures { SetsNode self.old self.new position node inside }
     {
         let index = position as usize;
@@ -98,8 +98,8 @@ impl Table {
     }
 
     /// Records what is known of the action at a position, if the table has it.
-    pub(crate) fn tell(&mut self, position: Position, glance: Glance)
-        ensures { Tells self.old self.new position glance }
+    pub(crate) fn set_glance(&mut self, position: Position, glance: Glance)
+        ensures { SetsGlance self.old self.new position glance }
     {
         let index = position as usize;
         if index < self.nodes.len() {

@@ -32,7 +32,7 @@ pub fn run<F: Files, N: Network, R: Read, W: Write>(
     devices: &mut Devices<F, N, R, W>,
 ) -> Status
     ensures { (wish : Wish) → Asks (map string_bytes words.now) wish →
-        IsRunFor wish F.tells_new (F.told devices.old.files) (F.told devices.new.files)
+        IsRunFor wish F.knows_new (F.told devices.old.files) (F.told devices.new.files)
         (R.remaining devices.old.input) (R.remaining devices.new.input)
         (W.contents devices.old.output) (W.contents devices.new.output) result }
 {
@@ -59,7 +59,7 @@ fn obey<F: Files, N: Network, R: Read, W: Write>(
     devices: &mut Devices<F, N, R, W>,
 ) -> Status
     ensures { (wish : Wish) → wish_of command.entry ≡ Some wish →
-        IsRunFor wish F.tells_new (F.told devices.old.files) (F.told devices.new.files)
+        IsRunFor wish F.knows_new (F.told devices.old.files) (F.told devices.new.files)
         (R.remaining devices.old.input) (R.remaining devices.new.input)
         (W.contents devices.old.output) (W.contents devices.new.output) result }
 {

@@ -18,7 +18,7 @@ pub trait Files {
     ghost told: { Self → (name : List ℕ) → Option (List ℕ) } = { λ _ _. None };
 
     /// Whether the bytes of created files are known. What is written to the system's files isn't.
-    ghost tells_new: { Type 0 } = { ⊥ };
+    ghost knows_new: { Type 0 } = { ⊥ };
 
     /// Reads a file to its end, or until more than `limit` bytes have come.
     fn read_file(&mut self, alloc: Global, name: &str, limit: usize) -> Result<Input, AllocError>
@@ -28,12 +28,12 @@ pub trait Files {
     /// Creates an empty file. Returns an error if there is a file of this name, which stays as it is.
     fn create_file(&mut self, alloc: Global, name: &str) -> io::Result<Self::NewFile>
         ensures absent { OnOk result (told self.old name.now ≡ None) }
-        ensures empty { IfOk result (λ file. tells_new → Self.NewFile.contents file ≡ Some []) }
+        ensures empty { IfOk result (λ file. knows_new → Self.NewFile.contents file ≡ Some []) }
         ensures kept { KeepsFiles (told self.old) (told self.new) };
 
     /// Finishes a file that was created by this name. On an error each file has the bytes that it had.
     fn close_file(&mut self, alloc: Global, name: &str, file: Self::NewFile) -> io::Result<()>
-        ensures closed { OnOk result (tells_new → told self.new name.now ≡ Self.NewFile.contents file) }
+        ensures closed { OnOk result (knows_new → told self.new name.now ≡ Self.NewFile.contents file) }
         ensures failed { OnErr result (KeepsFiles (told self.old) (told self.new)) }
         ensures others { KeepsOthers name.now (told self.old) (told self.new) };
 
@@ -63,8 +63,8 @@ pub fn fill_file<F: Files>(
     file: F::NewFile,
     bytes: &[u8],
 ) -> io::Result<()>
-    requires { F.tells_new → F.NewFile.contents file ≡ Some [] }
-    ensures filled { OnOk result (F.tells_new → F.told files.new name.now ≡ Some bytes.now) }
+    requires { F.knows_new → F.NewFile.contents file ≡ Some [] }
+    ensures filled { OnOk result (F.knows_new → F.told files.new name.now ≡ Some bytes.now) }
     ensures failed { OnErr result (KeepsFiles (F.told files.old) (F.told files.new)) }
     ensures others { KeepsOthers name.now (F.told files.old) (F.told files.new) }
 {

@@ -52,7 +52,7 @@ impl Files for MemoryFiles {
 
     ghost told = { bytes_in };
 
-    ghost tells_new = { Unit {0} };
+    ghost knows_new = { Unit {0} };
 
     /// Reads a file. Returns `Input::Device` only if there is none of this name.
     fn read_file(&mut self, alloc: Global, name: &str, limit: usize) -> Result<Input, AllocError>

@@ -3,7 +3,7 @@ use Rattle.rbg_base.proofs.Common.{◌≡◌, ℕ, List, [], ◌∷◌, ◌++◌
 use Rattle.rbg_board.specs.Graph.{next}
 use Rattle.rbg_rules.specs.Meaning.{AbstractAction, shift, on, off, assignment, comparison, switch, positive, negative, IsNumbered, IsModifierAt, HasNoModifier, HasAction, is_modifier, Start, after, Follows, Ends, AbstractGame, AbstractState, rest, step, Acts, Applies, Run}
 use Rattle.rbg_rules.proofs.RunLemmas.{Runs_join}
-use Rattle.rbg_rules.proofs.PositionLemmas.{one_stands}
+use Rattle.rbg_rules.proofs.PositionLemmas.{one_action_at}
 use Rattle.rbg_rules.proofs.LocalityLemmas.{locality_law}
 use Rattle.rbg_shifts.specs.Leaps.{IsShiftAt, Leads, stay, go, IsLeap, EndsAcross}
 use Rattle.rbg_flat.proofs.Common.{IsCandidate, MayEnd, at_vertex, Holds, IsMet, first, then, EndsMet, ChainLaw}
@@ -20,7 +20,7 @@ is_shift _ = false
 module _ (game : AbstractGame) (numbered : IsNumbered game.rules) where
   no_shift : (q : ℕ) (a : AbstractAction) → HasAction game.rules q a → is_shift a ≡ false → ¬ IsShiftAt game.rules q
   unfolding is_shift
-  no_shift q a stands plain other = true_not_false (ap is_shift (one_stands game.rules numbered q (shift other.direction) a other.stands stands) ∙ plain)
+  no_shift q a stands plain other = true_not_false (ap is_shift (one_action_at game.rules numbered q (shift other.direction) a other.stands stands) ∙ plain)
     where
       true_not_false : true ≡ false → ⊥
       true_not_false e = cc
@@ -80,7 +80,7 @@ module _ (game : AbstractGame) (numbered : IsNumbered game.rules) where
 
   -- Shifts run along.
   shift_quiet : (q d : ℕ) → HasAction game.rules q (shift d) → ¬ IsModifierAt game.rules q
-  shift_quiet q d stands other = not_so (ap is_modifier (one_stands game.rules numbered q (shift d) other.action stands other.stands) ∙ other.modifies)
+  shift_quiet q d stands other = not_so (ap is_modifier (one_action_at game.rules numbered q (shift d) other.action stands other.stands) ∙ other.modifies)
     where
       not_so : false ≡ true → ⊥
       not_so e = cc

@@ -1,7 +1,7 @@
 -- What is found in the end.
 use Rattle.rbg_base.proofs.Common.{◌≡◌, ℕ, ◌+◌, ◌*◌, ◌/◌, ◌^◌, ◌<◌, ◌≤◌, ◌⊎◌, inl, inr, List, [], Bool, true, false, length, refl, sym, ap, subst, ◌∙◌, arith, IsTrue, ◌↔◌, mul-le}
 use Rattle.rbg_rules.specs.Meaning.{AbstractAction, shift, on, off, assignment, comparison, switch, positive, negative, IsGame, HasAction, IsModifierAt, IsNumbered, is_modifier, positions_of, AbstractGame, AbstractState, Acts, Applies, Start}
-use Rattle.rbg_rules.proofs.PositionLemmas.{one_stands}
+use Rattle.rbg_rules.proofs.PositionLemmas.{one_action_at}
 use Rattle.rbg_state.proofs.Trying.{same_value}
 use Rattle.rbg_flat.proofs.Common.{IsFound, AreFound, HasCandidates, most_candidates, IsBegun, Lists, at_position, Gathers, Keeps, IsGone, IsKept, Gathered, Counted, CountsMet, AreOn, SetsOfVertices, IsMarked, IsOpen, ForgetsPlace, IsMetAt}
 use Rattle.rbg_flat.proofs.Countings.{InRow, row_listed, row_apart, row_cases, row_earlier, row_here, counted_more, counted_all, counted_both, few_on}
@@ -27,7 +27,7 @@ module _ (game : AbstractGame) (numbered : IsNumbered game.rules) (s : AbstractS
 
   pub everywhere : IsModifierAt game.rules p → Applies game p (record s { vertex = v }) t → (u : AbstractState) × Applies game p (record s { vertex = w }) u
   everywhere modifies applies =
-      let same : modifies.action ≡ applies.action = one_stands game.rules numbered p modifies.action applies.action modifies.stands applies.stands in
+      let same : modifies.action ≡ applies.action = one_action_at game.rules numbered p modifies.action applies.action modifies.stands applies.stands in
       by_action applies.action applies.stands (sym (ap is_modifier same) ∙ modifies.modifies) applies.acts
 
 -- What was gathered was counted.

@@ -1,9 +1,9 @@
 -- Of which kind the actions of the program are.
 use Rattle.std.proofs.Common.{IsTrue, ◌≡◌, ◌<◌, ℕ, List, ◌⊎◌, Bool, true, false, inl, inr, refl, sym, ap, subst, ◌∙◌, arith}
-use Rattle.rbg_rules.specs.Meaning.{AbstractAction, shift, on, off, comparison, switch, positive, negative, Expression, HasAction, IsNumbered, IsModifierAt, IsPatternAt, is_modifier, is_pattern, AbstractGame, AbstractState, Stands}
+use Rattle.rbg_rules.specs.Meaning.{AbstractAction, shift, on, off, comparison, switch, positive, negative, Expression, HasAction, IsNumbered, IsModifierAt, IsPatternAt, is_modifier, is_pattern, AbstractGame, AbstractState, IsActionAt}
 use Rattle.rbg_rules.specs.declared.rule.Action.{Action}
 use Rattle.rbg_rules.specs.declared.rule.Action.TheVariants.{Shift, On, Off, Assign, Compare, Switch, Positive, Negative}
-use Rattle.rbg_rules.proofs.PositionLemmas.{one_stands}
+use Rattle.rbg_rules.proofs.PositionLemmas.{one_action_at}
 use Rattle.rbg_shifts.proofs.ShiftLemmas.{action_within}
 use Rattle.rbg_flat.proofs.Common.{Facts, Kind, AreShown, IsKind, IsComparisonAt, IsSureAt, Keeps, ShowsFacts, HasNoPieces, HasPieces}
 use Rattle.rbg_flat.specs.declared.paths.Kind.TheVariants.{OnEither, Modifier, Pattern, On as OnOne, Comparison, Plain}
@@ -13,12 +13,12 @@ true_not_false e = cc
 
 -- Where an action stands that is neither, no modifier and no pattern stands.
 no_modifier : (rules : Expression) → IsNumbered rules → (p : ℕ) (a : AbstractAction) → HasAction rules p a → is_modifier a ≡ false → ¬ IsModifierAt rules p
-no_modifier rules numbered p a stands plain other = true_not_false (sym other.modifies ∙ ap is_modifier (one_stands rules numbered p other.action a other.stands stands) ∙ plain)
+no_modifier rules numbered p a stands plain other = true_not_false (sym other.modifies ∙ ap is_modifier (one_action_at rules numbered p other.action a other.stands stands) ∙ plain)
 
 no_pattern : (rules : Expression) → IsNumbered rules → (p : ℕ) (a : AbstractAction) → HasAction rules p a → is_pattern a ≡ false → ¬ IsPatternAt rules p
 no_pattern rules numbered p a stands plain pattern = elim pattern.stands [
-  | inl is ↦ true_not_false (ap is_pattern (one_stands rules numbered p (positive pattern.inside_it) a is stands) ∙ plain)
-  | inr is ↦ true_not_false (ap is_pattern (one_stands rules numbered p (negative pattern.inside_it) a is stands) ∙ plain)
+  | inl is ↦ true_not_false (ap is_pattern (one_action_at rules numbered p (positive pattern.inside_it) a is stands) ∙ plain)
+  | inr is ↦ true_not_false (ap is_pattern (one_action_at rules numbered p (negative pattern.inside_it) a is stands) ∙ plain)
 ]
 
 -- Where another action stands, no on does.
@@ -27,7 +27,7 @@ is_on (on xs) = true
 is_on _ = false
 
 no_on_of : (rules : Expression) → IsNumbered rules → (p : ℕ) (a : AbstractAction) → HasAction rules p a → is_on a ≡ false → (wanted : List ℕ) → ¬ HasAction rules p (on wanted)
-no_on_of rules numbered p a stands other wanted there = true_not_false (ap is_on (one_stands rules numbered p (on wanted) a there stands) ∙ other)
+no_on_of rules numbered p a stands other wanted there = true_not_false (ap is_on (one_action_at rules numbered p (on wanted) a there stands) ∙ other)
 
 -- Nor does a comparison.
 abbrev is_comparison : AbstractAction → Bool
@@ -35,7 +35,7 @@ is_comparison (comparison e r f) = true
 is_comparison _ = false
 
 pub no_comparison_of : (rules : Expression) → IsNumbered rules → (p : ℕ) (a : AbstractAction) → HasAction rules p a → is_comparison a ≡ false → ¬ IsComparisonAt rules p
-no_comparison_of rules numbered p a stands other is = true_not_false (ap is_comparison (one_stands rules numbered p (comparison is.left is.relation is.right) a is.stands stands) ∙ other)
+no_comparison_of rules numbered p a stands other is = true_not_false (ap is_comparison (one_action_at rules numbered p (comparison is.left is.relation is.right) a is.stands stands) ∙ other)
 
 pub no_comparison_on : (rules : Expression) → IsNumbered rules → (p : ℕ) (wanted : List ℕ) → HasAction rules p (on wanted) → ¬ IsComparisonAt rules p
 no_comparison_on rules numbered p wanted stands = no_comparison_of rules numbered p (on wanted) stands refl
@@ -85,7 +85,7 @@ not_sure : (rules : Expression) (p : ℕ) → IsTrue false → IsSureAt rules p
 not_sure rules p is = absurd (true_not_false (sym is))
 
 -- What the facts of an action tell is so at its position.
-pub facts_stand : (rules : Expression) → IsNumbered rules → (p : ℕ) (i : Action) → Stands rules p i → (told : Facts) → ShowsFacts i told → AreShown rules p told
+pub facts_stand : (rules : Expression) → IsNumbered rules → (p : ℕ) (i : Action) → IsActionAt rules p i → (told : Facts) → ShowsFacts i told → AreShown rules p told
 facts_stand rules numbered p (Shift d) stands told is = no_pieces rules p Plain false told is (λ e. cc) (plain_kind rules numbered p (shift d) stands refl refl refl refl) (not_sure rules p)
 facts_stand rules numbered p (On pieces) stands told is = on_facts rules p pieces.items stands told is
 facts_stand rules numbered p (Off x) stands told is = no_pieces rules p Modifier true told is (λ e. cc) (record { action = off x; stands = stands; modifies = refl }) (λ _. record { stands = inl (x, stands) })
@@ -98,8 +98,8 @@ facts_stand rules numbered p Negative (x, stands) told is = no_pieces rules p Pa
 -- A pattern is no modifier.
 pub pattern_opens : (rules : Expression) → IsNumbered rules → (p : ℕ) → IsPatternAt rules p → ¬ IsModifierAt rules p
 pattern_opens rules numbered p pattern m = elim pattern.stands [
-  | inl stands ↦ true_not_false (sym m.modifies ∙ ap is_modifier (one_stands rules numbered p m.action (positive pattern.inside_it) m.stands stands))
-  | inr stands ↦ true_not_false (sym m.modifies ∙ ap is_modifier (one_stands rules numbered p m.action (negative pattern.inside_it) m.stands stands))
+  | inl stands ↦ true_not_false (sym m.modifies ∙ ap is_modifier (one_action_at rules numbered p m.action (positive pattern.inside_it) m.stands stands))
+  | inr stands ↦ true_not_false (sym m.modifies ∙ ap is_modifier (one_action_at rules numbered p m.action (negative pattern.inside_it) m.stands stands))
 ]
 
 -- Where a pattern stands, the kind tells so, and where a modifier stands.
@@ -154,7 +154,7 @@ sure_keeps game s p sure = elim sure.stands [
 ]
 
 -- Where an on stands, the program's action is one.
-pub other_never : (rules : Expression) → IsNumbered rules → (p : ℕ) (i : Action) → Stands rules p i → ((pieces : _) → ¬ (i ≡ On pieces)) → (wanted : List ℕ) → ¬ HasAction rules p (on wanted)
+pub other_never : (rules : Expression) → IsNumbered rules → (p : ℕ) (i : Action) → IsActionAt rules p i → ((pieces : _) → ¬ (i ≡ On pieces)) → (wanted : List ℕ) → ¬ HasAction rules p (on wanted)
 other_never rules numbered p (Shift d) stands none = no_on_of rules numbered p (shift d) stands refl
 other_never rules numbered p (On pieces) stands none = absurd (none pieces refl)
 other_never rules numbered p (Off x) stands none = no_on_of rules numbered p (off x) stands refl

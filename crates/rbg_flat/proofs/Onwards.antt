@@ -1,7 +1,7 @@
 -- What comes next after a position, where that is one modifier alone.
 use Rattle.rbg_base.proofs.Common.{◌≡◌, ℕ, ◌<◌, ◌≤◌, inl, inr, List, [], ◌∷◌, ◌++◌, true, false, length, get_or, refl, sym, subst, ◌∙◌, arith, IsTrue, slice_get, Some, cases_lt, slice_get-get_or, slice_get_within, get_or_from_slice_get, length_push, get_or_push}
 use Rattle.rbg_base.proofs.CallerLemmas.{slice_get-append_left}
-use Rattle.rbg_rules.specs.Meaning.{Expression, off, IsNumbered, IsSwitchAt, Stands, after, Ends}
+use Rattle.rbg_rules.specs.Meaning.{Expression, off, IsNumbered, IsSwitchAt, IsActionAt, after, Ends}
 use Rattle.rbg_rules.specs.declared.rule.Action.{Action}
 use Rattle.rbg_rules.specs.declared.rule.Action.TheVariants.{Shift, On, Off, Assign, Compare, Switch as SwitchAction, Positive, Negative}
 use Rattle.rbg_auto.specs.Steps.{AreNext}
@@ -45,7 +45,7 @@ module _ (rules : Expression) (numbered : IsNumbered rules) (p : ℕ) where
   told_as : (told o : Onward) → told ≡ o → IsOnwardTo rules p o → IsOnwardTo rules p told
   told_as told o is holds = subst (λ (x : Onward). IsOnwardTo rules p x) (sym is) holds
 
-  pub onward_stands : (i : Action) → Stands rules p i → (told : Onward) → ShowsOnward p i told → IsOnwardTo rules p told
+  pub onward_stands : (i : Action) → IsActionAt rules p i → (told : Onward) → ShowsOnward p i told → IsOnwardTo rules p told
   onward_stands (Off x) stands told is =
       told_as told (Modifier p) is (refl, record { action = off x; stands = stands; modifies = refl }, no_switch (stands_switch rules numbered p (Off x) stands).1)
   onward_stands (Assign v e) stands told is =

@@ -4,7 +4,7 @@ use Rattle.rbg_rules.specs.Meaning.{on, comparison, AbstractArithmetic, Acts, Is
 use Rattle.rbg_base.specs.declared.relation.Relation.{Relation}
 use Rattle.rbg_state.proofs.Trying.{same_value}
 use Rattle.rbg_rules.proofs.MoveLemmas.{applied_acts}
-use Rattle.rbg_rules.proofs.PositionLemmas.{one_stands}
+use Rattle.rbg_rules.proofs.PositionLemmas.{one_action_at}
 use Rattle.rbg_flat.specs.internal.Passing.{Passes, IsOneOf}
 use Rattle.rbg_shifts.proofs.Bits.{either_bit, first_bit, second_bit}
 
@@ -88,7 +88,7 @@ module _ (game : AbstractGame) (numbered : IsNumbered game.rules) (s : AbstractS
   true_not_false e = cc
 
   quiet : ¬ IsModifierAt game.rules q
-  quiet m = true_not_false (sym m.modifies ∙ ap is_modifier (one_stands game.rules numbered q m.action (on wanted) m.stands stands))
+  quiet m = true_not_false (sym m.modifies ∙ ap is_modifier (one_action_at game.rules numbered q m.action (on wanted) m.stands stands))
 
   pub on_passes : (v : ℕ) → IsOneOf wanted s.pieces v → Passes game s v q
   on_passes v one = record {

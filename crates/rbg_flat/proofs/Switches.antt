@@ -1,9 +1,9 @@
 -- Where switches stand, and shifts.
 use Rattle.std.proofs.Common.{◌≡◌, ℕ, Bool, true, false, refl, sym, ap, ◌∙◌, IsTrue, ◌↔◌}
-use Rattle.rbg_rules.specs.Meaning.{AbstractAction, shift, off, switch, positive, negative, Expression, HasAction, IsNumbered, IsSwitchAt, Stands}
+use Rattle.rbg_rules.specs.Meaning.{AbstractAction, shift, off, switch, positive, negative, Expression, HasAction, IsNumbered, IsSwitchAt, IsActionAt}
 use Rattle.rbg_rules.specs.declared.rule.Action.{Action}
 use Rattle.rbg_rules.specs.declared.rule.Action.TheVariants.{Shift, On, Off, Assign, Compare, Switch, Positive, Negative}
-use Rattle.rbg_rules.proofs.PositionLemmas.{one_stands}
+use Rattle.rbg_rules.proofs.PositionLemmas.{one_action_at}
 use Rattle.rbg_shifts.specs.Leaps.{IsShiftAt}
 use Rattle.rbg_flat.specs.internal.Shown.{shows_shift, shows_switch}
 
@@ -20,7 +20,7 @@ module _ (rules : Expression) (numbered : IsNumbered rules) (p : ℕ) where
   other_stands : (kind : AbstractAction → Bool) (Is : Type 0) → (Is → (b : AbstractAction) × HasAction rules p b × (kind b ≡ true)) → (a : AbstractAction) → HasAction rules p a → kind a ≡ false → IsTrue false ↔ Is
   other_stands kind Is of a stands plain = (
     (λ e. absurd (true_not_false (sym e))),
-    (λ is. let (b, other, so) = of is in absurd (true_not_false (sym so ∙ ap kind (one_stands rules numbered p b a other stands) ∙ plain))),
+    (λ is. let (b, other, so) = of is in absurd (true_not_false (sym so ∙ ap kind (one_action_at rules numbered p b a other stands) ∙ plain))),
   )
     where
       true_not_false : true ≡ false → ⊥
@@ -33,7 +33,7 @@ module _ (rules : Expression) (numbered : IsNumbered rules) (p : ℕ) where
   no_switch = other_stands switches (IsSwitchAt rules p) (λ is. (switch is.player, is.stands, refl))
 
   -- A shift stands at a position exactly where the program's action there is one.
-  pub stands_shift : (i : Action) → Stands rules p i → IsTrue (shows_shift i) ↔ IsShiftAt rules p
+  pub stands_shift : (i : Action) → IsActionAt rules p i → IsTrue (shows_shift i) ↔ IsShiftAt rules p
   stands_shift (Shift d) stands = ((λ _. record { direction = d; stands = stands }), (λ _. refl))
   stands_shift (On pieces) stands = no_shift _ stands refl
   stands_shift (Off x) stands = no_shift (off x) stands refl
@@ -44,7 +44,7 @@ module _ (rules : Expression) (numbered : IsNumbered rules) (p : ℕ) where
   stands_shift Negative (x, stands) = no_shift (negative x) stands refl
 
   -- So does a switch.
-  pub stands_switch : (i : Action) → Stands rules p i → IsTrue (shows_switch i) ↔ IsSwitchAt rules p
+  pub stands_switch : (i : Action) → IsActionAt rules p i → IsTrue (shows_switch i) ↔ IsSwitchAt rules p
   stands_switch (Shift d) stands = no_switch (shift d) stands refl
   stands_switch (On pieces) stands = no_switch _ stands refl
   stands_switch (Off x) stands = no_switch (off x) stands refl

@@ -1,7 +1,7 @@
 -- How a flat part that is being found goes on by the sets that hold it.
 use Rattle.rbg_base.proofs.Common.{◌≡◌, ℕ, ◌+◌, ◌*◌, ◌/◌, ◌%◌, ◌<◌, ◌≤◌, ◌⊎◌, inl, inr, List, Bool, true, false, get_or, refl, sym, subst, arith, bit_at, IsTrue, ◌↔◌, bit_at-zero, ℕ_discrete, cases_lt}
 use Rattle.rbg_flat.proofs.Common.{Passes, IsToTry, Holds, IsMet, first, then, IsBegun, LearnsEnd, SetsOfVertices, IsMarked, IsOpen, IsInWord, Meets, ClosesWord, HasBitAt, weight}
-use Rattle.rbg_rules.specs.Meaning.{shift, on, off, assignment, comparison, switch, positive, negative, Expression, IsStart, Stands, arithmetic_of, IsGame, IsModifierAt, IsNumbered, AbstractGame, AbstractState, IsStateOf, Start, after, Applies}
+use Rattle.rbg_rules.specs.Meaning.{shift, on, off, assignment, comparison, switch, positive, negative, Expression, IsStart, IsActionAt, arithmetic_of, IsGame, IsModifierAt, IsNumbered, AbstractGame, AbstractState, IsStateOf, Start, after, Applies}
 use Rattle.rbg_rules.specs.declared.rule.Action.{Action}
 use Rattle.rbg_rules.specs.declared.rule.Action.TheVariants.{Shift, On, Off, Assign, Compare, Switch, Positive, Negative}
 use Rattle.rbg_shifts.specs.Leaps.{IsShiftAt, IsLeap, EndsAcross}
@@ -54,7 +54,7 @@ bit_decided columns words v p = elim (cases_lt (v / 64) columns) [
     no_less far below = omega (arith, far, below)
 
 -- An action of the program stands where one may go on.
-pub goes_on : (rules : Expression) (p : ℕ) (i : Action) → Stands rules p i → IsStart rules (after p)
+pub goes_on : (rules : Expression) (p : ℕ) (i : Action) → IsActionAt rules p i → IsStart rules (after p)
 goes_on rules p (Shift d) stands = (shift d, stands)
 goes_on rules p (On pieces) stands = (on pieces.items, stands)
 goes_on rules p (Off x) stands = (off x, stands)

@@ -3,7 +3,7 @@ use Rattle.std.proofs.Common.{◌≡◌, ℕ, ◌<◌, inl, inr, List, true, fal
 use Rattle.rbg_board.specs.Graph.{IsClosed}
 use Rattle.rbg_base.specs.declared.relation.Relation.{Relation}
 use Rattle.rbg_rules.specs.Meaning.{on, comparison, positive, negative, Expression, AbstractArithmetic, IsGame, HasAction, IsModifierAt, IsNumbered, IsPatternAt, is_modifier, is_pattern, AbstractGame, AbstractState, IsStateOf, Start}
-use Rattle.rbg_rules.proofs.PositionLemmas.{one_stands}
+use Rattle.rbg_rules.proofs.PositionLemmas.{one_action_at}
 use Rattle.rbg_flat.proofs.Common.{Holds, IsMet, first, then, IsComparisonAt, Passes, IsOneOf, IsToTry}
 use Rattle.rbg_flat.proofs.Leaping.{leads_on_board}
 use Rattle.rbg_flat.proofs.ModifierLemmas.{pattern_opens, comparison_quiet, no_comparison_on, no_comparison_pattern}
@@ -15,8 +15,8 @@ true_not_false e = cc
 -- No on stands where a pattern stands.
 no_on : (rules : Expression) → IsNumbered rules → (p : ℕ) → IsPatternAt rules p → (wanted : List ℕ) → ¬ HasAction rules p (on wanted)
 no_on rules numbered p pattern wanted stands = elim pattern.stands [
-  | inl is ↦ true_not_false (ap is_pattern (one_stands rules numbered p (positive pattern.inside_it) (on wanted) is stands))
-  | inr is ↦ true_not_false (ap is_pattern (one_stands rules numbered p (negative pattern.inside_it) (on wanted) is stands))
+  | inl is ↦ true_not_false (ap is_pattern (one_action_at rules numbered p (positive pattern.inside_it) (on wanted) is stands))
+  | inr is ↦ true_not_false (ap is_pattern (one_action_at rules numbered p (negative pattern.inside_it) (on wanted) is stands))
 ]
 
 module _ (game : AbstractGame) (numbered : IsNumbered game.rules) (s : AbstractState) (p : ℕ) where
@@ -51,8 +51,8 @@ module _ (game : AbstractGame) (numbered : IsNumbered game.rules) (s : AbstractS
   pub on_to_try : (wanted : List ℕ) → HasAction game.rules p (on wanted) → (v : ℕ) → IsOneOf wanted s.pieces v ↔ IsToTry game s v p
   on_to_try wanted stands v = (
     λ one. record {
-      quiet = λ m. true_not_false (sym m.modifies ∙ ap is_modifier (one_stands game.rules numbered p m.action (on wanted) m.stands stands));
-      stands = λ others there. by_same others (one_stands game.rules numbered p (on wanted) (on others) stands there) one;
+      quiet = λ m. true_not_false (sym m.modifies ∙ ap is_modifier (one_action_at game.rules numbered p m.action (on wanted) m.stands stands));
+      stands = λ others there. by_same others (one_action_at game.rules numbered p (on wanted) (on others) stands there) one;
       holds = none_holds (no_comparison_on game.rules numbered p wanted stands) v;
     },
     λ is. is.stands wanted stands,

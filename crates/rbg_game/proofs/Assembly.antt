@@ -3,7 +3,7 @@
 use Rattle.rbg_base.proofs.Common.{◌≡◌, ℕ, ◌≤◌, List, ◌++◌, length, take, refl, sym, ap, ◌∙◌, subst, arith, All, take-append_seam, map-append, length-map}
 use Rattle.std.proofs.lemmas.Slice.Zip.{AllZip-long}
 use Rattle.rbg_grammar.proofs.Common.{IsWhole, SpeltBounded, SpeltBoard, rectangle, hexagon, graph, SpeltName, SpeltDescription}
-use Rattle.rbg_rules.specs.Meaning.{Expression, IsGame, IsWithinLimits, greatest_bound}
+use Rattle.rbg_rules.specs.Meaning.{Expression, IsGame, IsWithinLimits, max_bound}
 use Rattle.rbg_game.specs.declared.checking.boards.NamedBoard.{NamedBoard}
 use Rattle.rbg_game.proofs.Common.{Things, GameError, game_error_of, HasBoardFault, board_directions, names_spelt, HasFault, in_board, in_rules, MakesBoard, AreThingsOf, game_by_numbers}
 use Rattle.rbg_game.specs.declared.numbering_error.NumberingError.{NumberingError}
@@ -45,7 +45,7 @@ module _ (d : SpeltDescription) (things : Things) (board : NamedBoard) (rules : 
   limits =
       let players = ap length are.players ∙ length-map d.players (λ (h : SpeltBounded). h.name.text) in
       let pieces = ap length are.pieces ∙ length-map d.pieces (λ (n : SpeltName). n.text) in
-      let P : List ℕ → Type 0 = λ bounds. All (λ bound. bound ≤ greatest_bound) bounds in
+      let P : List ℕ → Type 0 = λ bounds. All (λ bound. bound ≤ max_bound) bounds in
       record {
         some_player = omega (arith, players, whole.some_player);
         players = are.player_limit;

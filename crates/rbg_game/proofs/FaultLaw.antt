@@ -4,8 +4,8 @@ use Rattle.rbg_board.proofs.Common.{Rows, HasTwice, MakesRows, RowsRefusal, Rect
 use Rattle.rbg_board.specs.declared.error.BoardError.{BoardError}
 use Rattle.rbg_board.specs.declared.error.BoardError.TheVariants as board_errors
 use Rattle.rbg_grammar.proofs.Common.{SpeltName, SpeltBounded, SpeltEdge, SpeltVertex, SpeltBoard, rectangle, hexagon, graph, SpeltDescription}
-use Rattle.rbg_rules.specs.Meaning.{AbstractGame, greatest_bound, most_directions, AreDifferentNames, AreLawfulNames}
-use Rattle.rbg_game.proofs.Common.{GameError, game_error_of, Memory, names_in, NamedBoard, board_in, IsRowsBoard, IsRectangleBoard, IsHexagonBoard, IsGraphBoard, VertexIs, BoardIs, directions_named, holder_names, holders_of, AreBounds, IsGameOf, StandsAgain, HasGreatBound, HaveOneName, HasRowsFault, HasBoardFault, unknown_piece, many_directions, no_rectangle, no_hexagon, no_graph, board_memory, board_directions, board_pieces, names_of_holders, names_spelt, same_holder, same_piece, great_bound, many_players, many_pieces, many_variables, in_board, in_rules, memory, NoGameWithFaultLaw}
+use Rattle.rbg_rules.specs.Meaning.{AbstractGame, max_bound, most_directions, AreDifferentNames, AreLawfulNames}
+use Rattle.rbg_game.proofs.Common.{GameError, game_error_of, Memory, names_in, NamedBoard, board_in, IsRowsBoard, IsRectangleBoard, IsHexagonBoard, IsGraphBoard, VertexIs, BoardIs, directions_named, holder_names, holders_of, AreBounds, IsGameOf, OccursAgain, HasGreatBound, HaveOneName, HasRowsFault, HasBoardFault, unknown_piece, many_directions, no_rectangle, no_hexagon, no_graph, board_memory, board_directions, board_pieces, names_of_holders, names_spelt, same_holder, same_piece, great_bound, many_players, many_pieces, many_variables, in_board, in_rules, memory, NoGameWithFaultLaw}
 use Rattle.rbg_game.proofs.NumberingCommon.{texts_of, Purpose, as_direction, as_piece, as_player, as_variable, names_for}
 use Rattle.rbg_base.proofs.CallerLemmas.{Contains-from_get, get_from-Contains, slice_get-map_at}
 use Rattle.rbg_game.proofs.Lists.{map_entry, fellow}
@@ -18,17 +18,17 @@ use Rattle.rbg_game.proofs.BoardNames.{unnumbered_rows, rows_once}
 -- Names and bounds.
 
 -- Lawful names differ.
-again_unlawful : (names : List SpeltName) (at : ℕ) → StandsAgain names at → AreDifferentNames (texts_of names) → ⊥
+again_unlawful : (names : List SpeltName) (at : ℕ) → OccursAgain names at → AreDifferentNames (texts_of names) → ⊥
 again_unlawful names at h differ =
     let second : slice_get (texts_of names) h.j ≡ Some h.earlier.text = slice_get-map_at (λ (m : SpeltName). m.text) names h.j h.later h.second ∙ ap (λ (text : List ℕ). Some text) (sym h.same) in
     let one : h.i ≡ h.j = differ.one_number h.i h.j h.earlier.text (slice_get-map_at (λ (m : SpeltName). m.text) names h.i h.earlier h.first) second in
     absurd (omega (arith, h.before))
 
 -- Bounds of a game are within the limit.
-bound_unlawful : (holders : List SpeltBounded) (bounds : List ℕ) (at : ℕ) → HasGreatBound holders at → AreBounds holders bounds → All (λ bound. bound ≤ greatest_bound) bounds → ⊥
+bound_unlawful : (holders : List SpeltBounded) (bounds : List ℕ) (at : ℕ) → HasGreatBound holders at → AreBounds holders bounds → All (λ bound. bound ≤ max_bound) bounds → ⊥
 bound_unlawful holders bounds at h are within =
     let bound = fellow (λ (holder : SpeltBounded) (bound : ℕ). holder.bound.value ≡ Some bound) holders bounds h.holder are h.stands in
-    let small : bound.0 ≤ greatest_bound = All-contains (λ b. b ≤ greatest_bound) bounds bound.0 within bound.1 in
+    let small : bound.0 ≤ max_bound = All-contains (λ b. b ≤ max_bound) bounds bound.0 within bound.1 in
     absurd (omega (arith, h.too_great bound.0 bound.2))
 
 lawful_holders : (d : SpeltDescription) (game : AbstractGame) → IsGameOf d game → AreLawfulNames (texts_of (names_of_holders d))

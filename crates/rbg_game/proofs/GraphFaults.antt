@@ -6,15 +6,15 @@ use Rattle.rbg_board.proofs.Common.{AreDifferent, Written, directions_in}
 use Rattle.rbg_board.specs.declared.error.BoardError.{BoardError}
 use Rattle.rbg_grammar.specs.Tree.{SpeltName, SpeltEdge, SpeltVertex}
 use Rattle.rbg_rules.specs.Meaning.{AreDifferentNames}
-use Rattle.rbg_game.proofs.Common.{NamedBoard, EdgeIs, VertexIs, vertex_names, IsGraphBoard, StandsTwice, HasGraphFault, no_vertex, many_vertices, same_vertex, same_direction, unknown_vertex}
+use Rattle.rbg_game.proofs.Common.{NamedBoard, EdgeIs, VertexIs, vertex_names, IsGraphBoard, OccursTwice, HasGraphFault, no_vertex, many_vertices, same_vertex, same_direction, unknown_vertex}
 use Rattle.rbg_game.proofs.Lists.{AllZip-at, fellow}
 
 -- different names occur once
-once : (names : List (List ℕ)) → StandsTwice names → ¬ AreDifferentNames names
+once : (names : List (List ℕ)) → OccursTwice names → ¬ AreDifferentNames names
 once names h differ = absurd (omega (arith, h.before, differ.one_number h.i h.j h.text h.first h.second))
 
 -- a vertex by numbers has no two edges of one direction
-edges_fail : (b : NamedBoard) (names : List (List ℕ)) (vertex : SpeltVertex) (w : Written) → AreDifferentNames b.directions → VertexIs b names vertex w → StandsTwice (map (λ edge. edge.direction.text) vertex.edges) → ¬ AreDifferent (directions_in w.edges)
+edges_fail : (b : NamedBoard) (names : List (List ℕ)) (vertex : SpeltVertex) (w : Written) → AreDifferentNames b.directions → VertexIs b names vertex w → OccursTwice (map (λ edge. edge.direction.text) vertex.edges) → ¬ AreDifferent (directions_in w.edges)
 unfolding AreDifferent
 edges_fail b names vertex w differ is h differs =
     let none : SpeltName = record { text = []; at = 0 } in

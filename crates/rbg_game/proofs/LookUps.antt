@@ -2,7 +2,7 @@
 use Rattle.rbg_base.proofs.Common.{◌≡◌, ℕ, zero, suc, List, [], ◌∷◌, ◌++◌, Some, take, append-nil, refl, sym, ap, ◌∙◌, subst, arith, slice_get, Contains, slice_get_within}
 use Rattle.rbg_grammar.specs.Tree.{SpeltName}
 use Rattle.rbg_game.proofs.NumberingCommon.{NumberingError, UnknownName, SameName, texts_of}
-use Rattle.rbg_game.specs.NameTables.{HasLookUpFault, not_there, no_memory as look_up_memory, StandsAfter, HasNameFault, same_name, no_memory}
+use Rattle.rbg_game.specs.NameTables.{HasLookUpFault, not_there, no_memory as look_up_memory, OccursAfter, HasNameFault, same_name, no_memory}
 use Rattle.rbg_game.proofs.Lists.{Contains-one}
 
 -- Names that are looked up.
@@ -22,7 +22,7 @@ pub same_name_alone : (table : List (List ℕ)) (name : SpeltName) → Contains 
 same_name_alone table name had = same_name (record { k = 0; name = name; stands = refl; again = subst (λ l. Contains l name.text) (sym (append-nil table)) had; place = refl })
 
 -- a name that is added alone and occurs again is in the table
-pub again_alone : (table : List (List ℕ)) (name : SpeltName) (at : ℕ) → StandsAfter table (name ∷ []) at → Contains table name.text × (name.at ≡ at)
+pub again_alone : (table : List (List ℕ)) (name : SpeltName) (at : ℕ) → OccursAfter table (name ∷ []) at → Contains table name.text × (name.at ≡ at)
 again_alone table name at h = at_place h.k h.name h.stands h.again h.place
   where
     at_place : (k : ℕ) (n : SpeltName) → slice_get (name ∷ []) k ≡ Some n → Contains (table ++ texts_of (take k (name ∷ []))) n.text → n.at ≡ at → Contains table name.text × (name.at ≡ at)

@@ -2,10 +2,10 @@
 use Rattle.rbg_base.proofs.Common.{◌≡◌, ℕ, ◌+◌, ◌<◌, ◌≤◌, List, [], ◌∷◌, ◌++◌, inl, inr, Some, length, get_or, take, map, append-nil, refl, sym, ap, ◌∙◌, subst, append_assoc, arith, slice_get, Contains, take-map, map-append, All-append, Contains-append_left, Contains-append_right, Contains-append_cases, slice_get_within}
 use Rattle.rbg_grammar.proofs.Common.{SpeltName, SpeltBounded, SpeltDescription, bounded_of}
 use Rattle.rbg_grammar.specs.declared.description.Bounded.{Bounded}
-use Rattle.rbg_rules.specs.Meaning.{greatest_bound}
-use Rattle.rbg_game.proofs.Common.{GameError, game_error_of, holder_names, holders_of, StandsAgain, HasGreatBound, names_of_holders, HasFault, same_holder, same_piece, great_bound, memory, HasHolderFault, by_name, by_bound, AddsBounds}
+use Rattle.rbg_rules.specs.Meaning.{max_bound}
+use Rattle.rbg_game.proofs.Common.{GameError, game_error_of, holder_names, holders_of, OccursAgain, HasGreatBound, names_of_holders, HasFault, same_holder, same_piece, great_bound, memory, HasHolderFault, by_name, by_bound, AddsBounds}
 use Rattle.rbg_game.specs.declared.numbering_error.NumberingError.{NumberingError}
-use Rattle.rbg_game.proofs.NumberingCommon.{texts_of, StandsAfter, HasNameFault, same_name, no_memory}
+use Rattle.rbg_game.proofs.NumberingCommon.{texts_of, OccursAfter, HasNameFault, same_name, no_memory}
 use Rattle.rbg_game.proofs.LookUps.{name_fault_at}
 use Rattle.rbg_base.proofs.CallerLemmas.{slice_get-map_at, Contains-from_get, get_from-Contains, slice_get-append_left, slice_get-append_right, AllZip-append}
 use Rattle.rbg_game.proofs.Lists.{Contains-one, map_entry, entry_of_front, slice_get-map_read}
@@ -39,7 +39,7 @@ holder_fault_in_loop earlier table holders k holder error within is before =
     holder_fault_at earlier table (map bounded_of holders) k (bounded_of holder) error (slice_get-map_read bounded_of holders k holder within is) (before ∙ same)
 
 -- Names that occur again after others occur twice in the whole list.
-pub again_in_all : (before names after : List SpeltName) (at : ℕ) → StandsAfter (texts_of before) names at → StandsAgain ((before ++ names) ++ after) at
+pub again_in_all : (before names after : List SpeltName) (at : ℕ) → OccursAfter (texts_of before) names at → OccursAgain ((before ++ names) ++ after) at
 again_in_all before names after at h =
     let whole = (before ++ names) ++ after in
     let here : slice_get whole (length before + h.k) ≡ Some h.name = slice_get-append_left (before ++ names) after (length before + h.k) h.name (slice_get-append_right before names h.k h.name h.stands) in
@@ -83,10 +83,10 @@ module _ (d : SpeltDescription) (before here after : List SpeltBounded) (all : h
       ap names_in_list all ∙ map-append (λ (h : SpeltBounded). h.name) (before ++ here) after
       ∙ ap (λ l. l ++ names_in_list after) (map-append (λ (h : SpeltBounded). h.name) before here)
 
-  again_there : (at : ℕ) → StandsAfter (holder_names before) (names_in_list here) at → StandsAgain (names_of_holders d) at
+  again_there : (at : ℕ) → OccursAfter (holder_names before) (names_in_list here) at → OccursAgain (names_of_holders d) at
   again_there at h =
-      let P : List SpeltName → Type 0 = λ l. StandsAgain l at in
-      let Q : List (List ℕ) → Type 0 = λ l. StandsAfter l (names_in_list here) at in
+      let P : List SpeltName → Type 0 = λ l. OccursAgain l at in
+      let Q : List (List ℕ) → Type 0 = λ l. OccursAfter l (names_in_list here) at in
       subst P (sym whole_names)
       (again_in_all (names_in_list before) (names_in_list here) (names_in_list after) at (subst Q (sym (texts_of-names before)) h))
 
@@ -116,7 +116,7 @@ variables_fault d = holders_fault d d.players d.variables [] (sym (append-nil (d
 
 pub pieces_fault : (d : SpeltDescription) (error : NumberingError) → HasNameFault [] d.pieces error → HasFault d (game_error_of error)
 pieces_fault d _ (same_name {at = at} h) =
-    let P : List SpeltName → Type 0 = λ l. StandsAgain l at in
+    let P : List SpeltName → Type 0 = λ l. OccursAgain l at in
     same_piece (subst P (append-nil d.pieces) (again_in_all [] d.pieces [] at h))
 pieces_fault d _ no_memory = memory
 
@@ -127,5 +127,5 @@ AddsBounds-append first second a b c h k =
       added = h.added ++ k.added;
       after = k.after ∙ ap (λ l. l ++ k.added) h.after ∙ append_assoc a h.added k.added;
       bounds = AllZip-append _ first second h.added k.added h.bounds k.bounds;
-      limit = All-append (λ bound. bound ≤ greatest_bound) h.added k.added h.limit k.limit;
+      limit = All-append (λ bound. bound ≤ max_bound) h.added k.added h.limit k.limit;
     }

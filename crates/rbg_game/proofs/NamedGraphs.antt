@@ -7,7 +7,7 @@ use Rattle.rbg_board.specs.declared.error.BoardError.TheVariants as board_errors
 use Rattle.rbg_grammar.specs.Tree.{SpeltName, SpeltEdge, SpeltVertex, graph}
 use Rattle.rbg_rules.specs.Meaning.{most_directions, AreDifferentNames, AreLawfulNames}
 use Rattle.rbg_game.specs.NameNumbers.{IsNumberOf}
-use Rattle.rbg_game.proofs.Common.{NamedBoard, EdgeIs, VertexIs, vertex_names, directions_named, IsOrderOfFirstUse, StandsTwice, HasGraphFault, no_vertex, many_vertices, same_vertex, same_direction, unknown_vertex, HasVertices, MakesBoard, edge_directions, IsTarget, IsEdge, IsCell}
+use Rattle.rbg_game.proofs.Common.{NamedBoard, EdgeIs, VertexIs, vertex_names, directions_named, IsOrderOfFirstUse, OccursTwice, HasGraphFault, no_vertex, many_vertices, same_vertex, same_direction, unknown_vertex, HasVertices, MakesBoard, edge_directions, IsTarget, IsEdge, IsCell}
 use Rattle.rbg_game.proofs.Lists.{AllZip-at}
 
 -- Lists that go together.
@@ -48,7 +48,7 @@ abbrev AreNumbered : List (List ℕ) → List (List ℕ) → List ℕ → Type 0
 AreNumbered known texts numbers = AllZip (λ text n. slice_get known n ≡ Some text) texts numbers
 
 -- if a number occurs twice, so does a text
-twice_named : (known texts : List (List ℕ)) (numbers : List ℕ) → AreNumbered known texts numbers → HasTwice numbers → StandsTwice texts
+twice_named : (known texts : List (List ℕ)) (numbers : List ℕ) → AreNumbered known texts numbers → HasTwice numbers → OccursTwice texts
 twice_named known texts numbers named t =
     let long = AllZip-long (λ text n. slice_get known n ≡ Some text) texts numbers named in
     let later : t.later < length texts = omega (arith, long, t.within) in

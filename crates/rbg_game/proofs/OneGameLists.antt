@@ -14,8 +14,8 @@ front_differs xs ys differ = record { one_number = λ i j name at_i at_j. differ
     in_front (z ∷ zs) (suc i) name at = in_front zs i name at
 
 -- the name is in the list
-abbrev Stands : List (List ℕ) → List ℕ → Type 0
-Stands xs x = (i : ℕ) × (slice_get xs i ≡ Some x)
+abbrev IsNameIn : List (List ℕ) → List ℕ → Type 0
+IsNameIn xs x = (i : ℕ) × (slice_get xs i ≡ Some x)
 
 -- if the later name is used at a place, the earlier one was used before
 abbrev IsUsedBefore : List (List ℕ) → List ℕ → List ℕ → Type 0
@@ -23,7 +23,7 @@ IsUsedBefore used earlier later = (k : ℕ) → slice_get used k ≡ Some later 
 
 -- the names of the list are used, each before those that follow it
 record IsInOrder (used xs : List (List ℕ)) : Type 0 where
-  are_used : (x : List ℕ) → Stands xs x → Stands used x
+  are_used : (x : List ℕ) → IsNameIn xs x → IsNameIn used x
   in_order : (i j : ℕ) (x y : List ℕ) → slice_get xs i ≡ Some x → slice_get xs j ≡ Some y → i < j → IsUsedBefore used x y
 
 -- of two used names only one is used before the other
@@ -34,10 +34,10 @@ not_both used x y x_before y_before (suc most) k below at =
     let (l, l_below, at_l) = x_before m at_m in
     not_both used x y x_before y_before most l (omega (arith, below, m_below, l_below)) at_l
 
-never_both : (used : List (List ℕ)) (x y : List ℕ) → IsUsedBefore used x y → IsUsedBefore used y x → ¬ Stands used x
+never_both : (used : List (List ℕ)) (x y : List ℕ) → IsUsedBefore used x y → IsUsedBefore used y x → ¬ IsNameIn used x
 never_both used x y x_before y_before (k, at) = not_both used x y x_before y_before (suc k) k (omega arith) at
 
-first_or_later : (y : List ℕ) (ys : List (List ℕ)) (x : List ℕ) → Stands (y ∷ ys) x → (y ≡ x) ⊎ Stands ys x
+first_or_later : (y : List ℕ) (ys : List (List ℕ)) (x : List ℕ) → IsNameIn (y ∷ ys) x → (y ≡ x) ⊎ IsNameIn ys x
 first_or_later y ys x (zero, at) = inl (cc at)
 first_or_later y ys x (suc i, at) = inr (i, at)
 
@@ -49,11 +49,11 @@ rest_in_order used x xs order =
     }
 
 -- the first is used before all that follow
-first_before : (used : List (List ℕ)) (x : List ℕ) (xs : List (List ℕ)) (y : List ℕ) → IsInOrder used (x ∷ xs) → Stands xs y → IsUsedBefore used x y
+first_before : (used : List (List ℕ)) (x : List ℕ) (xs : List (List ℕ)) (y : List ℕ) → IsInOrder used (x ∷ xs) → IsNameIn xs y → IsUsedBefore used x y
 first_before used x xs y order (i, at) = order.in_order 0 (suc i) x y refl at (omega arith)
 
 -- two lists in order with the same names have the same first
-first_once : (used : List (List ℕ)) (x y : List ℕ) (xs ys : List (List ℕ)) → IsInOrder used (x ∷ xs) → IsInOrder used (y ∷ ys) → Stands (y ∷ ys) x → Stands (x ∷ xs) y → x ≡ y
+first_once : (used : List (List ℕ)) (x y : List ℕ) (xs ys : List (List ℕ)) → IsInOrder used (x ∷ xs) → IsInOrder used (y ∷ ys) → IsNameIn (y ∷ ys) x → IsNameIn (x ∷ xs) y → x ≡ y
 first_once used x y xs ys left right there back = elim (first_or_later y ys x there) [
   | inl same ↦ sym same
   | inr later ↦ elim (first_or_later x xs y back) [
@@ -63,7 +63,7 @@ first_once used x y xs ys left right there back = elim (first_or_later y ys x th
 ]
 
 -- what comes after the first of one list comes after that of the other
-beyond_first : (used : List (List ℕ)) (x y : List ℕ) (xs ys : List (List ℕ)) → IsInOrder used (x ∷ xs) → x ≡ y → ((z : List ℕ) → Stands (x ∷ xs) z → Stands (y ∷ ys) z) → (z : List ℕ) → Stands xs z → Stands ys z
+beyond_first : (used : List (List ℕ)) (x y : List ℕ) (xs ys : List (List ℕ)) → IsInOrder used (x ∷ xs) → x ≡ y → ((z : List ℕ) → IsNameIn (x ∷ xs) z → IsNameIn (y ∷ ys) z) → (z : List ℕ) → IsNameIn xs z → IsNameIn ys z
 beyond_first used x y xs ys order same there z (i, at) = elim (first_or_later y ys z (there z (suc i, at))) [
   | inl is ↦
       let before : IsUsedBefore used x x = subst (IsUsedBefore used x) (sym (same ∙ is)) (first_before used x xs z order (i, at)) in
@@ -71,7 +71,7 @@ beyond_first used x y xs ys order same there z (i, at) = elim (first_or_later y 
   | inr later ↦ later
 ]
 
-in_order_once : (used xs ys : List (List ℕ)) → IsInOrder used xs → IsInOrder used ys → ((z : List ℕ) → Stands xs z → Stands ys z) → ((z : List ℕ) → Stands ys z → Stands xs z) → xs ≡ ys
+in_order_once : (used xs ys : List (List ℕ)) → IsInOrder used xs → IsInOrder used ys → ((z : List ℕ) → IsNameIn xs z → IsNameIn ys z) → ((z : List ℕ) → IsNameIn ys z → IsNameIn xs z) → xs ≡ ys
 in_order_once used [] [] left right there back = refl
 in_order_once used [] (y ∷ ys) left right there back = let (i, at) = back y (0, refl) in absurd (cc at)
 in_order_once used (x ∷ xs) [] left right there back = let (i, at) = there x (0, refl) in absurd (cc at)
@@ -81,10 +81,10 @@ in_order_once used (x ∷ xs) (y ∷ ys) left right there back =
     in_order_once used xs ys (rest_in_order used x xs left) (rest_in_order used y ys right) (beyond_first used x y xs ys left same there) (beyond_first used y x ys xs right (sym same) back) in
     cc
 
-stands : (xs : List (List ℕ)) (x : List ℕ) → Contains xs x → Stands xs x
+stands : (xs : List (List ℕ)) (x : List ℕ) → Contains xs x → IsNameIn xs x
 stands xs x has = get_from-Contains xs x has
 
-contains : (xs : List (List ℕ)) (x : List ℕ) → Stands xs x → Contains xs x
+contains : (xs : List (List ℕ)) (x : List ℕ) → IsNameIn xs x → Contains xs x
 contains xs x (i, at) = Contains-from_get xs i x at
 
 is_in_order : (used names : List (List ℕ)) → IsOrderOfFirstUse used names → IsInOrder used names

@@ -9,7 +9,7 @@ use Rattle.rbg_board.specs.declared.error.BoardError.{BoardError}
 use Rattle.rbg_board.specs.declared.error.BoardError.TheVariants as board_errors
 use Rattle.rbg_grammar.specs.Tree.{SpeltName, SpeltNumber, SpeltBounded, SpeltEdge, SpeltVertex}
 use Rattle.rbg_grammar.specs.Tree.{SpeltBoard, rectangle, hexagon, graph, SpeltDescription}
-use Rattle.rbg_rules.specs.Meaning.{most_players, most_pieces, most_variables, greatest_bound, most_directions, most_vertices}
+use Rattle.rbg_rules.specs.Meaning.{most_players, most_pieces, most_variables, max_bound, most_directions, most_vertices}
 use Rattle.rbg_game.specs.declared.game_error.GameError.{GameError}
 use Rattle.rbg_game.specs.declared.game_error.GameError.TheVariants.{UnknownName, SameName, Bound, TooMany, Memory, Board}
 use Rattle.rbg_game.specs.declared.game_error.Thing.TheVariants.{Players, Pieces, Variables, Directions}
@@ -20,7 +20,7 @@ use Rattle.rbg_game.specs.GameErrors.{game_error_of}
 use Rattle.rbg_game.specs.Descriptions.{holder_names, holders_of, vertex_names, directions_named, IsOrderOfFirstUse}
 
 -- The name is in the list at this offset, and the same name is before it.
-pub record StandsAgain (list : List SpeltName) (at : ℕ) : Type 0 where
+pub record OccursAgain (list : List SpeltName) (at : ℕ) : Type 0 where
   pub i : ℕ
   pub j : ℕ
   pub earlier : SpeltName
@@ -33,7 +33,7 @@ pub record StandsAgain (list : List SpeltName) (at : ℕ) : Type 0 where
 
 -- The number is too large for a bound.
 abbrev pub IsNoBound : SpeltNumber → Type 0
-IsNoBound n = (bound : ℕ) → n.value ≡ Some bound → greatest_bound < bound
+IsNoBound n = (bound : ℕ) → n.value ≡ Some bound → max_bound < bound
 
 -- One of the bounds, at this offset, is too large.
 pub record HasGreatBound (holders : List SpeltBounded) (at : ℕ) : Type 0 where
@@ -82,7 +82,7 @@ pub record HasRowsFault
   pub is_fault : error ≢ board_errors.Memory
 
 -- One text is twice in the list.
-pub record StandsTwice (list : List (List ℕ)) : Type 0 where
+pub record OccursTwice (list : List (List ℕ)) : Type 0 where
   pub i : ℕ
   pub j : ℕ
   pub text : List ℕ
@@ -100,11 +100,11 @@ pub data HasGraphFault (vertices : List SpeltVertex) : BoardError → Type 0 whe
       most_vertices < length vertices
       → HasGraphFault vertices board_errors.TooManyVertices
   same_vertex :
-      StandsTwice (vertex_names vertices)
+      OccursTwice (vertex_names vertices)
       → HasGraphFault vertices board_errors.SameVertex
   same_direction : {vertex : SpeltVertex}
       → Contains vertices vertex
-      → StandsTwice (map (λ edge. edge.direction.text) vertex.edges)
+      → OccursTwice (map (λ edge. edge.direction.text) vertex.edges)
       → HasGraphFault vertices board_errors.SameDirection
   unknown_vertex : {vertex : SpeltVertex} {edge : SpeltEdge}
       → Contains vertices vertex
@@ -151,10 +151,10 @@ names_spelt d =
 -- The description has the fault that an error names. Memory is no fault of the description, and may run out with any.
 pub data HasFault (d : SpeltDescription) : GameError → Type 0 where
   same_holder : {at : ℕ}
-      → StandsAgain (names_of_holders d) at
+      → OccursAgain (names_of_holders d) at
       → HasFault d (SameName at)
   same_piece : {at : ℕ}
-      → StandsAgain d.pieces at
+      → OccursAgain d.pieces at
       → HasFault d (SameName at)
   great_bound : {at : ℕ}
       → HasGreatBound (holders_of d) at

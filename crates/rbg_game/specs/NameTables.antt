@@ -20,7 +20,7 @@ pub data HasLookUpFault (known : List (List ℕ)) (names : List SpeltName) : Num
       HasLookUpFault known names Memory
 
 -- A name of the list is at this offset, and the same name is before it, in the list or among the earlier texts.
-pub record StandsAfter (earlier : List (List ℕ)) (names : List SpeltName) (at : ℕ) : Type 0 where
+pub record OccursAfter (earlier : List (List ℕ)) (names : List SpeltName) (at : ℕ) : Type 0 where
   pub k : ℕ
   pub name : SpeltName
   pub stands : slice_get names k ≡ Some name
@@ -30,7 +30,7 @@ pub record StandsAfter (earlier : List (List ℕ)) (names : List SpeltName) (at 
 -- What is wrong with names that are added after the earlier ones.
 pub data HasNameFault (earlier : List (List ℕ)) (names : List SpeltName) : NumberingError → Type 0 where
   same_name : {at : ℕ}
-      → StandsAfter earlier names at
+      → OccursAfter earlier names at
       → HasNameFault earlier names (SameName at)
   no_memory :
       HasNameFault earlier names Memory

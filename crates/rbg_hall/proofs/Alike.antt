@@ -252,10 +252,10 @@ module _ {game : AbstractGame} {text : List ℕ} {config : Config} {events : Lis
     same_handed : one.handed ≡ other.handed
     same_handed = all_handed differ (hands_on one.hands) (hands_on (subst (λ all. HandsEach all one.beginning.after other.handed) (sym same_seats) (subst (λ all. HandsEach seats' all other.handed) (sym same_after) other.hands)))
 
-    same_said : one.said ≡ other.said
-    same_said = (one_transcript game text config one.beginning.at one.handed playing.play playing'.play one.said other.said numbered one.transcript
-        (subst (λ moment. Transcript game text config moment one.handed playing'.play other.said) (sym same_at)
-        (subst (λ handed. Transcript game text config other.beginning.at handed playing'.play other.said) (sym same_handed) other.transcript))
+    same_said : one.outgoing ≡ other.outgoing
+    same_said = (one_transcript game text config one.beginning.at one.handed playing.play playing'.play one.outgoing other.outgoing numbered one.transcript
+        (subst (λ moment. Transcript game text config moment one.handed playing'.play other.outgoing) (sym same_at)
+        (subst (λ handed. Transcript game text config other.beginning.at handed playing'.play other.outgoing) (sym same_handed) other.transcript))
         alike.light alike.other_light alike.keeper).1
 
     same_bytes : (line : ℕ) → bytes_to line told ≡ bytes_to line told'

@@ -72,6 +72,6 @@ begun_matches_hold_transcripts starts events state told run index start table pl
       holds = holds;
       on_seats = λ place line sits. by_test (asks_for (length starts) (1 + index) line events)
           (λ asked. told_there stands index line asked ∙ holds.on_seats place line sits
-          ∙ ap (λ early. early ++ bytes_for (place + 1) holds.said) (early_so holds.beginning place line (own_joins (length starts) (1 + index) line events) sits))
+          ∙ ap (λ early. early ++ bytes_for (place + 1) holds.outgoing) (early_so holds.beginning place line (own_joins (length starts) (1 + index) line events) sits))
           (λ unasked. absurd ((all_unmoved line found.2 (unasked_lacks (length starts) (1 + index) line events unasked)).0 place sits));
     }))

@@ -21,8 +21,8 @@ pub no_marks : (seats : ℕ) → AreMarks (replicate seats []) (replicate 8 0)
 no_marks seats i within = zero_at 8 i ∙ sym (ap length (nothing_at seats i))
 
 -- an outbox is emptied
-pub emptied : (seats : ℕ) (said : List Delivery) (old new : List (List ℕ)) → old ≡ queued seats said → ((before : List (List ℕ)) (told : List Delivery) → old ≡ delivered before told → AreMarks before (replicate 8 0) → new ≡ before) → new ≡ replicate seats []
-emptied seats said old new has cut = cut (replicate seats []) said (has ∙ sym (delivered-queued seats said)) (no_marks seats)
+pub emptied : (seats : ℕ) (outgoing : List Delivery) (old new : List (List ℕ)) → old ≡ queued seats outgoing → ((before : List (List ℕ)) (told : List Delivery) → old ≡ delivered before told → AreMarks before (replicate 8 0) → new ≡ before) → new ≡ replicate seats []
+emptied seats outgoing old new has cut = cut (replicate seats []) outgoing (has ∙ sym (delivered-queued seats outgoing)) (no_marks seats)
 
 -- a match that opened, whose outbox was emptied
 pub opened_running : (game : AbstractGame) (text : List ℕ) (config : Config) (at : ℕ) (playing : MatchState) (outbox new : List (List ℕ)) → Opens game text config at playing outbox → HasHistory playing → ((before : List (List ℕ)) (told : List Delivery) → outbox ≡ delivered before told → AreMarks before (replicate 8 0) → new ≡ before) → IsRunning playing new

@@ -101,10 +101,10 @@ passed_on (Ok done) P error is holds = tt
 passed_on (Err other) P error is holds = subst P (sym is) holds
 
 -- a match is played, so it has begun
-played_not : {old new : TableState} {event : AbstractEvent} {said : List Telling} → Plays old event new said → new.begun ≡ None → ⊥
+played_not : {old new : TableState} {event : AbstractEvent} {outgoing : List Telling} → Plays old event new outgoing → new.begun ≡ None → ⊥
 played_not play none = none-some play.after (sym none ∙ ap (λ (table : TableState). table.begun) play.is)
 
-loads_on : {old new : TableState} {event : OwnEvent} {said : List Telling} → Hears old event new said → (old.begun ≡ None → Loads old.text old.game) → new.begun ≡ None → Loads new.text new.game
+loads_on : {old new : TableState} {event : OwnEvent} {outgoing : List Telling} → Hears old event new outgoing → (old.begun ≡ None → Loads old.text old.game) → new.begun ≡ None → Loads new.text new.game
 loads_on (waits waiting) loads none = loads none
 loads_on (ticks play) loads none = absurd (played_not play none)
 loads_on (sits index other waiting nowhere free taken) loads none = loads none
@@ -123,13 +123,13 @@ loads_on (is_unheard nowhere) loads none = loads none
 loads_on (goes_unheard nowhere) loads none = loads none
 
 -- a table with no log hears an event
-pub no_log_on : {old new : TableState} {event : OwnEvent} {said : List Telling} → Hears old event new said → HasNoLog old → HasNoLog new
+pub no_log_on : {old new : TableState} {event : OwnEvent} {outgoing : List Telling} → Hears old event new outgoing → HasNoLog old → HasNoLog new
 no_log_on hears has = record { differ = one_differ hears has.differ; loads = loads_on hears has.loads }
 
 -- a table that works hears an event, or something fails
 pub kept_hears : {W : Type 0} {told : W → List ℕ → Type 0} {was old new : KeptState W} {event : OwnEvent} {before after : List (List ℕ)} → was ≡ old → old.ledger.standing ≡ Works → new.ledger.standing ≡ Works → HearsFor was.table event new.table before after → Changes (λ first last. IsWritten told first last was.table event new.table) was.ledger.log new.ledger.log → KeptHearsFor told old event new before after
 kept_hears {W} {told} {was} {old} {new} {event} {before} {after} is worked works hears writes = subst (λ (one : KeptState W). KeptHearsFor told one event new before after) is (record {
-  said = hears.told;
+  outgoing = hears.told;
   hears = record { worked = ap (λ (one : KeptState W). one.ledger.standing) is ∙ worked; works_still = works; hears = hears.hears; writes = writes };
   queued = hears.queued;
 })

@@ -363,12 +363,12 @@ module _ {starts : List AbstractTable} {events : List AbstractHallEvent} {event 
   bytes_on : (line : ℕ) → line < lines_in_all → bytes_to line (told ++ next) ≡ refusal_for (length starts) (stream_of line (events ++ event ∷ [])).items ++ told_by (joined stands.tolds steps.by_tables) line (first_request (length starts) (stream_of line (events ++ event ∷ [])).items)
   bytes_on line within =
       let refused = refused_by (length starts) (λ one. line_after (length starts) one events) event in
-      let said = flat_map (λ one. one) steps.by_tables in
+      let outgoing = flat_map (λ one. one) steps.by_tables in
       let asked = first_request (length starts) (stream_of line events).items in
-      let is_told : next ≡ refused ++ said = steps.is_told ∙ ap (λ first. first ++ said) (refused_same (length old.tables) (length starts) (line_at old.lines) (λ one. line_after (length starts) one events) event tables_count stands.lines) in
+      let is_told : next ≡ refused ++ outgoing = steps.is_told ∙ ap (λ first. first ++ outgoing) (refused_same (length old.tables) (length starts) (line_at old.lines) (λ one. line_after (length starts) one events) event tables_count stands.lines) in
       bytes_to-append line told next
-      ∙ (λ i. stands.bytes line within i ++ (ap (bytes_to line) is_told ∙ bytes_to-append line refused said) i)
-      ∙ crossed (refusal_for (length starts) (stream_of line events).items) (told_by stands.tolds line asked) (bytes_to line refused) (bytes_to line said) (in_order line asked within refl)
+      ∙ (λ i. stands.bytes line within i ++ (ap (bytes_to line) is_told ∙ bytes_to-append line refused outgoing) i)
+      ∙ crossed (refusal_for (length starts) (stream_of line events).items) (told_by stands.tolds line asked) (bytes_to line refused) (bytes_to line outgoing) (in_order line asked within refl)
       ∙ (λ i. sym (refusal_step (length starts) line events event within) i ++ sym (told_part line asked (first_request (length starts) (stream_of line (events ++ event ∷ [])).items) refl refl) i)
     where
       crossed : (a b c d : List ℕ) → b ++ c ≡ c ++ b → (a ++ b) ++ (c ++ d) ≡ (a ++ c) ++ (b ++ d)

@@ -15,15 +15,15 @@ set_twice (z ∷ xs) zero x y = refl
 set_twice (z ∷ xs) (suc i) x y = ap (λ others. z ∷ others) (set_twice xs i x y)
 
 -- what tables and their ledgers hear, of the tables alone and of the ledgers
-each_state : {W : Type 0} {tells : W → List ℕ → Type 0} {old new : KeptState W} {events : List OwnEvent} {said : List Telling} → KeptHearsEach tells old events new said → HearsEach old.table events new.table said
+each_state : {W : Type 0} {tells : W → List ℕ → Type 0} {old new : KeptState W} {events : List OwnEvent} {outgoing : List Telling} → KeptHearsEach tells old events new outgoing → HearsEach old.table events new.table outgoing
 each_state ledgers.none = halls.none
 each_state (ledgers.more each hears) = halls.more (each_state each) hears.hears
 
-pub all_states : {W : Type 0} {tells : W → List ℕ → Type 0} {heard : ℕ → List OwnEvent} {number : ℕ} {olds news : List (KeptState W)} {said : List (List Telling)} → EachKeptHears tells heard number olds news said → EachHears heard number (states_of olds) (states_of news) said
+pub all_states : {W : Type 0} {tells : W → List ℕ → Type 0} {heard : ℕ → List OwnEvent} {number : ℕ} {olds news : List (KeptState W)} {outgoing : List (List Telling)} → EachKeptHears tells heard number olds news outgoing → EachHears heard number (states_of olds) (states_of news) outgoing
 all_states hearing.none = halls.none
 all_states (hearing.more each hear) = halls.more (each_state each) (all_states hear)
 
-pub all_write : {W : Type 0} {tells : W → List ℕ → Type 0} {heard : ℕ → List OwnEvent} {number : ℕ} {olds news : List (KeptState W)} {said : List (List Telling)} → EachKeptHears tells heard number olds news said → EachWrites tells heard number (states_of olds) (ledgers_of olds) (states_of news) (ledgers_of news) said
+pub all_write : {W : Type 0} {tells : W → List ℕ → Type 0} {heard : ℕ → List OwnEvent} {number : ℕ} {olds news : List (KeptState W)} {outgoing : List (List Telling)} → EachKeptHears tells heard number olds news outgoing → EachWrites tells heard number (states_of olds) (ledgers_of olds) (states_of news) (ledgers_of news) outgoing
 all_write hearing.none = ledgers.none
 all_write (hearing.more each hear) = ledgers.more each (all_write hear)
 
@@ -84,7 +84,7 @@ module _ {W : Type 0} (tells : W → List ℕ → Type 0) (tables : List (KeptSt
     each = all_write none_ended;
   }
 
-  pub past_said : (said : Option (List ℕ)) → HallWrites tells (hall_of tables lines) (ledgers_of tables) (said_by line at said) (hall_of tables lines) (ledgers_of tables) queues queues
+  pub past_said : (outgoing : Option (List ℕ)) → HallWrites tells (hall_of tables lines) (ledgers_of tables) (said_by line at outgoing) (hall_of tables lines) (ledgers_of tables) queues queues
   past_said (Some bytes) = past_sends bytes
   past_said None = past_ends
 

@@ -49,26 +49,26 @@ pub record Kept (game : AbstractGame) (text : List ℕ) (config : Config) (event
   pub began : (playing : MatchState) → state.begun ≡ Some playing → Began game text config events state.seats playing told
 
 -- what a seat has, followed by the bytes of messages to it
-pub delivered_at : (seat : ℕ) (box : List (List ℕ)) (said : List Delivery) (index : ℕ) → index < length box → get_or (delivered_from seat box said) index [] ≡ get_or box index [] ++ bytes_for (seat + index) said
-delivered_at seat box said index within = extended_at (λ one. bytes_for one said) (λ first all. delivered_from first all said) (λ first bytes others. refl) seat box index within
+pub delivered_at : (seat : ℕ) (box : List (List ℕ)) (outgoing : List Delivery) (index : ℕ) → index < length box → get_or (delivered_from seat box outgoing) index [] ≡ get_or box index [] ++ bytes_for (seat + index) outgoing
+delivered_at seat box outgoing index within = extended_at (λ one. bytes_for one outgoing) (λ first all. delivered_from first all outgoing) (λ first bytes others. refl) seat box index within
 
 nothing_at : (n i : ℕ) → get_or {A = List ℕ} (replicate n []) i [] ≡ []
 nothing_at zero i = refl
 nothing_at (suc n) zero = refl
 nothing_at (suc n) (suc i) = nothing_at n i
 
-pub from_nothing : (n index : ℕ) (said : List Delivery) → index < n → get_or (delivered (replicate n []) said) index [] ≡ bytes_for (1 + index) said
-from_nothing n index said within =
-    delivered_at 1 (replicate n []) said index (subst (λ count. index < count) (sym (length-replicate {A = List ℕ} n [])) within)
-    ∙ ap (λ had. had ++ bytes_for (1 + index) said) (nothing_at n index)
+pub from_nothing : (n index : ℕ) (outgoing : List Delivery) → index < n → get_or (delivered (replicate n []) outgoing) index [] ≡ bytes_for (1 + index) outgoing
+from_nothing n index outgoing within =
+    delivered_at 1 (replicate n []) outgoing index (subst (λ count. index < count) (sym (length-replicate {A = List ℕ} n [])) within)
+    ∙ ap (λ had. had ++ bytes_for (1 + index) outgoing) (nothing_at n index)
 
 -- a match that has ended says nothing, whatever the seats had
-silent_on : {old new : MatchState} {event : AbstractEvent} {before after : List (List ℕ)} (others : List (List ℕ)) (step : Steps old event new before after) (outcome : Outcome) → old.play.outcome ≡ Some outcome → delivered others step.said ≡ others
+silent_on : {old new : MatchState} {event : AbstractEvent} {before after : List (List ℕ)} (others : List (List ℕ)) (step : Steps old event new before after) (outcome : Outcome) → old.play.outcome ≡ Some outcome → delivered others step.outgoing ≡ others
 silent_on {old = old} {new = new} {event = event} others step outcome is =
-    ap (delivered others) (ended_play_stays old.game old.config old.play new.play outcome (timed_inputs_in old.streams event) step.said is step.handles).1 ∙ delivered-none others
+    ap (delivered others) (ended_play_stays old.game old.config old.play new.play outcome (timed_inputs_in old.streams event) step.outgoing is step.handles).1 ∙ delivered-none others
 
 -- a step says the same, whatever the seats had
-pub step_on : {old new : MatchState} {event : AbstractEvent} {before after : List (List ℕ)} (others : List (List ℕ)) → (step : Steps old event new before after) → Steps old event new others (delivered others step.said)
+pub step_on : {old new : MatchState} {event : AbstractEvent} {before after : List (List ℕ)} (others : List (List ℕ)) → (step : Steps old event new before after) → Steps old event new others (delivered others step.outgoing)
 step_on others step = search (silent_on others step)
 
 -- what is told after what a line was told
@@ -123,25 +123,25 @@ module _ (game : AbstractGame) (text : List ℕ) (config : Config) (events : Lis
       handed = began.handed ++ handed ∷ [];
       opened = began.opened;
       first = began.first;
-      last = delivered began.last step.said;
+      last = delivered began.last step.outgoing;
       opens = began.opens;
       steps = matches.more began.steps (step_on began.last step);
-      count = length-delivered began.last step.said ∙ began.count;
+      count = length-delivered began.last step.outgoing ∙ began.count;
     };
     hands = laws.more began.hands hands;
     on_seats = λ index one there. on_seat index one there;
     elsewhere = λ one nowhere. further one began.beginning.early told (to_lines seats queues) began.beginning.after (began.elsewhere one nowhere) (none_on one seats queues nowhere ∙ sym (quiet one));
   }
     where
-      on_seat : (index one : ℕ) → slice_get seats index ≡ Some (Some one) → bytes_to one (told ++ to_lines seats queues) ≡ bytes_to one began.beginning.early ++ get_or (delivered began.last step.said) index []
+      on_seat : (index one : ℕ) → slice_get seats index ≡ Some (Some one) → bytes_to one (told ++ to_lines seats queues) ≡ bytes_to one began.beginning.early ++ get_or (delivered began.last step.outgoing) index []
       on_seat index one there =
           let there_is : index < seats_of game = subst (λ n. index < n) seated (there_within seats index (Some one) there) in
           let there_was : index < length began.last = subst (λ n. index < n) (sym began.count) there_is in
-          let own : bytes_to one (to_lines seats queues) ≡ bytes_for (1 + index) step.said =
-          own_on one seats queues index differ there ∙ ap (λ all. get_or all index []) step.told ∙ from_nothing (seats_of game) index step.said there_is in
-          beyond one told (to_lines seats queues) (bytes_to one began.beginning.early ++ get_or began.last index []) (bytes_for (1 + index) step.said) (began.on_seats index one there) own
-          ∙ append_assoc (bytes_to one began.beginning.early) (get_or began.last index []) (bytes_for (1 + index) step.said)
-          ∙ ap (λ all. bytes_to one began.beginning.early ++ all) (sym (delivered_at 1 began.last step.said index there_was))
+          let own : bytes_to one (to_lines seats queues) ≡ bytes_for (1 + index) step.outgoing =
+          own_on one seats queues index differ there ∙ ap (λ all. get_or all index []) step.told ∙ from_nothing (seats_of game) index step.outgoing there_is in
+          beyond one told (to_lines seats queues) (bytes_to one began.beginning.early ++ get_or began.last index []) (bytes_for (1 + index) step.outgoing) (began.on_seats index one there) own
+          ∙ append_assoc (bytes_to one began.beginning.early) (get_or began.last index []) (bytes_for (1 + index) step.outgoing)
+          ∙ ap (λ all. bytes_to one began.beginning.early ++ all) (sym (delivered_at 1 began.last step.outgoing index there_was))
 
   -- the table stays as it is
   unheard : (old : TableState) (told next : List Telling) → Hands old.seats event [] → ((index one : ℕ) → slice_get old.seats index ≡ Some (Some one) → bytes_to one next ≡ []) → ((one : ℕ) → SitsNowhere one old.seats → bytes_to one next ≡ late_refusal one event) → Kept game text config events old told → Kept game text config (events ++ event ∷ []) old (told ++ next)
@@ -277,7 +277,7 @@ run_holds_transcript game text config events told hall playing is =
       beginning = began.beginning;
       handed = began.handed;
       hands = began.hands;
-      said = stepped.0;
+      outgoing = stepped.0;
       transcript = stepped.1;
       of_game = handled.same_game ∙ began.opens.of_game;
       of_config = handled.same_config ∙ began.opens.of_config;

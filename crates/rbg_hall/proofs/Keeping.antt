@@ -71,7 +71,7 @@ module _ {W : Type 0} (told : W → List ℕ → Type 0) (first middle last : W)
   begins_now : (was : Option MatchState) (opened : MatchState) (queues : List (List ℕ)) → was ≡ None → lines ≡ [] → at < 2 ^ 64 → Opens game text config at opened queues → Appends told middle last (first_for (is_none was) (Some opened) config at) → IsLoggedSo told first text game was → IsLogged told last text opened
   begins_now None opened queues is unwritten small opens appends logged = record {
     held = first_line config at;
-    said = queues;
+    outgoing = queues;
     tells = appends [] (empty_still unwritten logged.1);
     is = log_begins game text config at opened queues logged.0 small opens;
   }
@@ -84,11 +84,11 @@ module _ {W : Type 0} (told : W → List ℕ → Type 0) (first middle last : W)
       let step' : Steps playing one after seats queues = subst (λ (state : MatchState). Steps state one after seats queues) (sym (same playing before is)) step in
       record {
         held = logged.held ++ event_lines (written playing one);
-        said = delivered logged.said step'.said;
+        outgoing = delivered logged.outgoing step'.outgoing;
         tells = subst (told last) (append-nil (logged.held ++ event_lines (written playing one)))
             (appends (logged.held ++ event_lines (written playing one))
             (subst (λ (these : List AbstractEvent). told middle (logged.held ++ event_lines these)) noted (logs.lines logged.held logged.tells)));
-        is = log_on text logged.held playing after logged.said (delivered logged.said step'.said) one logged.is (step_on logged.said step')
+        is = log_on text logged.held playing after logged.outgoing (delivered logged.outgoing step'.outgoing) one logged.is (step_on logged.outgoing step')
             (subst (λ (these : List AbstractEvent). All EventHasSpelling (map scripted these)) noted logs.spelled);
       }
     where
@@ -100,7 +100,7 @@ module _ {W : Type 0} (told : W → List ℕ → Type 0) (first middle last : W)
   stands_still None unwritten appends logged = (logged.0, appends [] (empty_still unwritten logged.1))
   stands_still (Some playing) unwritten appends logged = record {
     held = logged.held;
-    said = logged.said;
+    outgoing = logged.outgoing;
     tells = subst (told last) (append-nil logged.held)
         (appends logged.held
         (subst (told middle) (append-nil logged.held)

@@ -82,9 +82,9 @@ begun_by old middle new index line at before after idle nowhere first is taken b
 pub early : (table : TableState) (line at index : ℕ) (item : Item) (before after : List (List ℕ)) → is_none table.begun ≡ true → SitsAt table line index → after ≡ told_to before (refusal_to line OutOfTurn) → HearsFor table (says line at item) table before after
 early table line at index item before after idle seat queued = record { told = refusal_to line OutOfTurn; hears = is_early index seat (none_by table.begun idle); queued = queued }
 
-pub said : (old new : TableState) (line at index : ℕ) (item : Item) (bytes : List ℕ) (before after : List (List ℕ)) → is_none old.begun ≡ false → SitsAt old line index → bytes ≡ whole_item message_limit item → PlaysFor old (piece (index + 1) at bytes) new before after → HearsFor old (says line at item) new before after
-said old new line at index item bytes before after begun seat whole (hearing.nothing none) = absurd (true≢false (ap is_none (sym none) ∙ begun))
-said old new line at index item bytes before after begun seat whole (hearing.plays told play queued) = record {
+pub outgoing : (old new : TableState) (line at index : ℕ) (item : Item) (bytes : List ℕ) (before after : List (List ℕ)) → is_none old.begun ≡ false → SitsAt old line index → bytes ≡ whole_item message_limit item → PlaysFor old (piece (index + 1) at bytes) new before after → HearsFor old (says line at item) new before after
+outgoing old new line at index item bytes before after begun seat whole (hearing.nothing none) = absurd (true≢false (ap is_none (sym none) ∙ begun))
+outgoing old new line at index item bytes before after begun seat whole (hearing.plays told play queued) = record {
   told = told;
   hears = tables.plays index seat (subst (λ text. Plays old (piece (index + 1) at text) new told) whole play);
   queued = queued;

@@ -28,26 +28,26 @@ use Rattle.rbg_hall.proofs.Silence.{all_unmoved}
 data EachKept {W : Type 0} (told : W → List ℕ → Type 0) (heard : (table : ℕ) → List OwnEvent) : (table : ℕ) → List AbstractTable → List TableState → List (Ledger W) → List (List Telling) → Type 0 where
   no_table : {table : ℕ} →
       EachKept told heard table [] [] [] []
-  one_more : {table : ℕ} {start : AbstractTable} {starts : List AbstractTable} {state : TableState} {states : List TableState} {ledger : Ledger W} {others : List (Ledger W)} {said : List Telling} {says : List (List Telling)} →
-      KeptRun told start.game start.text start.config (heard table) (kept state ledger) said →
+  one_more : {table : ℕ} {start : AbstractTable} {starts : List AbstractTable} {state : TableState} {states : List TableState} {ledger : Ledger W} {others : List (Ledger W)} {outgoing : List Telling} {says : List (List Telling)} →
+      KeptRun told start.game start.text start.config (heard table) (kept state ledger) outgoing →
       EachKept told heard (suc table) starts states others says →
-      EachKept told heard table (start ∷ starts) (state ∷ states) (ledger ∷ others) (said ∷ says)
+      EachKept told heard table (start ∷ starts) (state ∷ states) (ledger ∷ others) (outgoing ∷ says)
 
 module _ {W : Type 0} {told : W → List ℕ → Type 0} where
-  run_more : {start : AbstractTable} {heard : List OwnEvent} {old : KeptState W} {further : List OwnEvent} {new : KeptState W} {said first : List Telling} → KeptRun told start.game start.text start.config heard old said → KeptHearsEach told old further new first → KeptRun told start.game start.text start.config (heard ++ further) new (said ++ first)
-  run_more {start} {heard} {old = old} {said = said} run ledgers.none =
-      subst (λ events. KeptRun told start.game start.text start.config events old (said ++ [])) (sym (append-nil heard))
-      (subst (λ all. KeptRun told start.game start.text start.config heard old all) (sym (append-nil said)) run)
-  run_more {start} {heard} {new = new} {said = said} run (ledgers.more {events} {event} {first = first} {next = next} each hears) =
-      subst (λ all. KeptRun told start.game start.text start.config all new (said ++ (first ++ next))) (append_assoc heard events (event ∷ []))
-      (subst (λ all. KeptRun told start.game start.text start.config ((heard ++ events) ++ event ∷ []) new all) (append_assoc said first next)
+  run_more : {start : AbstractTable} {heard : List OwnEvent} {old : KeptState W} {further : List OwnEvent} {new : KeptState W} {outgoing first : List Telling} → KeptRun told start.game start.text start.config heard old outgoing → KeptHearsEach told old further new first → KeptRun told start.game start.text start.config (heard ++ further) new (outgoing ++ first)
+  run_more {start} {heard} {old = old} {outgoing = outgoing} run ledgers.none =
+      subst (λ events. KeptRun told start.game start.text start.config events old (outgoing ++ [])) (sym (append-nil heard))
+      (subst (λ all. KeptRun told start.game start.text start.config heard old all) (sym (append-nil outgoing)) run)
+  run_more {start} {heard} {new = new} {outgoing = outgoing} run (ledgers.more {events} {event} {first = first} {next = next} each hears) =
+      subst (λ all. KeptRun told start.game start.text start.config all new (outgoing ++ (first ++ next))) (append_assoc heard events (event ∷ []))
+      (subst (λ all. KeptRun told start.game start.text start.config ((heard ++ events) ++ event ∷ []) new all) (append_assoc outgoing first next)
       (runs.more (run_more run each) hears))
 
   each_more : {before heard after : (table : ℕ) → List OwnEvent} {table : ℕ} {starts : List AbstractTable} {olds news : List TableState} {wases ises : List (Ledger W)} {says firsts : List (List Telling)} → ((one : ℕ) → after one ≡ before one ++ heard one) → EachKept told before table starts olds wases says → EachWrites told heard table olds wases news ises firsts → EachKept told after table starts news ises (joined says firsts)
   each_more grows no_table ledgers.none = no_table
-  each_more {table = table} grows (one_more {start = start} {said = said} run rest) (ledgers.more {new = new} {is = is} {first = first} hears each) =
+  each_more {table = table} grows (one_more {start = start} {outgoing = outgoing} run rest) (ledgers.more {new = new} {is = is} {first = first} hears each) =
       one_more
-      (subst (λ events. KeptRun told start.game start.text start.config events (kept new is) (said ++ first)) (sym (grows table)) (run_more run hears))
+      (subst (λ events. KeptRun told start.game start.text start.config events (kept new is) (outgoing ++ first)) (sym (grows table)) (run_more run hears))
       (each_more grows rest each)
 
   first_kept : (count table : ℕ) (starts : List AbstractTable) → EachKept told (λ one. own count one []) table starts (map (λ (start : AbstractTable). new_table start.game start.text start.config) starts) (map (λ _. no_log) starts) (no_tolds starts)
@@ -74,13 +74,13 @@ record KeptAt {W : Type 0} (told : W → List ℕ → Type 0) (start : AbstractT
 
 kept_at : {W : Type 0} {told : W → List ℕ → Type 0} {heard : (table : ℕ) → List OwnEvent} {table : ℕ} {starts : List AbstractTable} {states : List TableState} {all : List (Ledger W)} {says : List (List Telling)} (index : ℕ) (start : AbstractTable) → EachKept told heard table starts states all says → slice_get starts index ≡ Some start → KeptAt told start (heard (table + index)) states all says index
 kept_at index start no_table there = absurd (none-some start there)
-kept_at {told = told} {heard} {table} zero start (one_more {start = first} {state = state} {ledger = ledger} {said = said} run rest) there = record {
+kept_at {told = told} {heard} {table} zero start (one_more {start = first} {state = state} {ledger = ledger} {outgoing = outgoing} run rest) there = record {
   state = state;
   ledger = ledger;
   state_there = refl;
   ledger_there = refl;
-  run = subst (λ n. KeptRun told start.game start.text start.config (heard n) (kept state ledger) said) number
-      (subst (λ (s : AbstractTable). KeptRun told s.game s.text s.config (heard table) (kept state ledger) said) (same there) run);
+  run = subst (λ n. KeptRun told start.game start.text start.config (heard n) (kept state ledger) outgoing) number
+      (subst (λ (s : AbstractTable). KeptRun told s.game s.text s.config (heard table) (kept state ledger) outgoing) (same there) run);
 }
   where
     number : table ≡ table + 0
@@ -103,14 +103,14 @@ kept_at {told = told} {heard} {table} (suc index) start (one_more {says = says} 
 
 -- A hall with its logs stands after these events.
 record HallStands {W : Type 0} (told : W → List ℕ → Type 0) (starts : List AbstractTable) (events : List AbstractHallEvent) (state : HallState) (all : List (Ledger W)) (queues : List (List ℕ)) : Type 0 where
-  said : List Telling
-  queued : queues ≡ told_to (replicate lines_in_all []) said
-  stands : Stands starts events state said
+  outgoing : List Telling
+  queued : queues ≡ told_to (replicate lines_in_all []) outgoing
+  stands : Stands starts events state outgoing
   each : EachKept told (λ table. own (length starts) table events) 1 starts state.tables all stands.tolds
 
 hall_stands : {W : Type 0} {told : W → List ℕ → Type 0} {starts : List AbstractTable} {events : List AbstractHallEvent} {state : HallState} {all : List (Ledger W)} {queues : List (List ℕ)} → LoggedRun told starts events state all queues → HallStands told starts events state all queues
 hall_stands {told = told} {starts} laws.none = record {
-  said = [];
+  outgoing = [];
   queued = sym (told_to-none (replicate lines_in_all []));
   stands = stands_first starts;
   each = subst (λ says. EachKept told (λ table. own (length starts) table []) 1 starts (map (λ (start : AbstractTable). new_table start.game start.text start.config) starts) (map (λ _. no_log) starts) says) (sym (tolds_first starts))
@@ -118,28 +118,28 @@ hall_stands {told = told} {starts} laws.none = record {
 }
 hall_stands (laws.keeps run table log empty) =
     let hall = hall_stands run in
-    record { said = hall.said; queued = hall.queued; stands = hall.stands; each = given_number table log empty hall.each }
+    record { outgoing = hall.outgoing; queued = hall.queued; stands = hall.stands; each = given_number table log empty hall.each }
 hall_stands {told = told} {starts} {state = state} {all = all} (laws.more {events} {event} run writes) =
     let hall = hall_stands run in
     let hears = writes.hears in
     record {
-      said = hall.said ++ hears.told;
-      queued = hears.queued ∙ ap (λ one. told_to one hears.told) hall.queued ∙ told_to-append (replicate lines_in_all []) hall.said hears.told;
+      outgoing = hall.outgoing ++ hears.told;
+      queued = hears.queued ∙ ap (λ one. told_to one hears.told) hall.queued ∙ told_to-append (replicate lines_in_all []) hall.outgoing hears.told;
       stands = stands_on hall.stands hears.steps;
       each = subst (λ says. EachKept told (λ table. own (length starts) table (events ++ event ∷ [])) 1 starts state.tables all says) (sym (tolds_on hall.stands hears.steps))
           (each_more (own_on hall.stands hears.steps) hall.each writes.each);
     }
 
 -- what is queued for a line on a seat is what its table tells it
-seat_queued : {starts : List AbstractTable} {events : List AbstractHallEvent} {state : HallState} {said : List Telling} {game : AbstractGame} {text : List ℕ} {config : Config} {table : TableState} (stands : Stands starts events state said) (index : ℕ) → TableRun game text config (own (length starts) (1 + index) events) table (get_or stands.tolds index []) → (place line : ℕ) → SitsAt table line place → get_or (told_to (replicate lines_in_all []) said) line [] ≡ bytes_to line (get_or stands.tolds index [])
-seat_queued {starts} {events} {said = said} stands index run place line sits = by_test (asks_for (length starts) (1 + index) line events)
+seat_queued : {starts : List AbstractTable} {events : List AbstractHallEvent} {state : HallState} {outgoing : List Telling} {game : AbstractGame} {text : List ℕ} {config : Config} {table : TableState} (stands : Stands starts events state outgoing) (index : ℕ) → TableRun game text config (own (length starts) (1 + index) events) table (get_or stands.tolds index []) → (place line : ℕ) → SitsAt table line place → get_or (told_to (replicate lines_in_all []) outgoing) line [] ≡ bytes_to line (get_or stands.tolds index [])
+seat_queued {starts} {events} {outgoing = outgoing} stands index run place line sits = by_test (asks_for (length starts) (1 + index) line events)
     (λ asked. queued (ltb-true line lines_in_all (first_true (nat_lt line lines_in_all) (asks_in (length starts) (1 + index) line events) asked)) ∙ told_there stands index line asked)
     (λ unasked. absurd ((all_unmoved line run (unasked_lacks (length starts) (1 + index) line events unasked)).0 place sits))
   where
-    queued : line < lines_in_all → get_or (told_to (replicate lines_in_all []) said) line [] ≡ bytes_to line said
+    queued : line < lines_in_all → get_or (told_to (replicate lines_in_all []) outgoing) line [] ≡ bytes_to line outgoing
     queued within =
-        told_to_at (replicate lines_in_all []) said line (subst (λ count. line < count) (sym (length-replicate {A = List ℕ} lines_in_all [])) within)
-        ∙ ap (λ had. had ++ bytes_to line said) (get_or-replicate {A = List ℕ} lines_in_all line [] [] within)
+        told_to_at (replicate lines_in_all []) outgoing line (subst (λ count. line < count) (sym (length-replicate {A = List ℕ} lines_in_all [])) within)
+        ∙ ap (λ had. had ++ bytes_to line outgoing) (get_or-replicate {A = List ℕ} lines_in_all line [] [] within)
 
 pub logs_send_what_is_told : {W : Type 0} (told : W → List ℕ → Type 0) → LogsSendWhatIsTold told
 logs_send_what_is_told {W} told starts events state all queues run index start table playing log there loads standing begun is =

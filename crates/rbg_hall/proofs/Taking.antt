@@ -24,9 +24,9 @@ nothing_heard tells table queues = record { told = []; hears = ledgers.none; que
 -- one more event is heard
 pub one_heard : {W : Type 0} {tells : W → List ℕ → Type 0} {old middle new : KeptState W} {events : List OwnEvent} {event : OwnEvent} {before between after : List (List ℕ)} → HearsEachFor tells old events middle before between → KeptHearsFor tells middle event new between after → HearsEachFor tells old (events ++ event ∷ []) new before after
 one_heard {before = before} each hears = record {
-  told = each.told ++ hears.said;
+  told = each.told ++ hears.outgoing;
   hears = ledgers.more each.hears hears.hears;
-  queued = hears.queued ∙ ap (λ one. told_to one hears.said) each.queued ∙ told_to-append before each.told hears.said;
+  queued = hears.queued ∙ ap (λ one. told_to one hears.outgoing) each.queued ∙ told_to-append before each.told hears.outgoing;
 }
 
 -- events after one
@@ -40,9 +40,9 @@ both_run {tells = tells} {old} {new = new} {first = first} {told = told} each (l
 
 pub heard_first : {W : Type 0} {tells : W → List ℕ → Type 0} {old middle new : KeptState W} {event : OwnEvent} {events : List OwnEvent} {before between after : List (List ℕ)} → KeptHearsFor tells old event middle before between → HearsEachFor tells middle events new between after → HearsEachFor tells old (event ∷ events) new before after
 heard_first {before = before} hears each = record {
-  told = hears.said ++ each.told;
+  told = hears.outgoing ++ each.told;
   hears = both_run (ledgers.more ledgers.none hears.hears) each.hears;
-  queued = each.queued ∙ ap (λ one. told_to one each.told) hears.queued ∙ told_to-append before hears.said each.told;
+  queued = each.queued ∙ ap (λ one. told_to one each.told) hears.queued ∙ told_to-append before hears.outgoing each.told;
 }
 
 -- what holds where a call failed

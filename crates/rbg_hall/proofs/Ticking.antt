@@ -152,10 +152,10 @@ flat_last (one ∷ told) first = ap (λ more. one ++ more) (flat_last told first
 
 pub one_ticked : {W : Type 0} {tells : W → List ℕ → Type 0} {at count : ℕ} {olds news : List (KeptState W)} {before between after : List (List ℕ)} {marked marks later : List Mark} (old new : KeptState W) → HaveTicked tells at count olds news before between marked marks → count < length news → old ≡ get_or news count old → KeptHearsFor tells old (clock at) new between after → undone after later ≡ undone between marks → HaveTicked tells at (count + 1) olds (set news count new) before after marked later
 one_ticked {tells = tells} {at} {count} {olds} {news} {before} old new have within found hears same = record {
-  told = have.told ++ hears.said ∷ [];
-  ticked = subst (λ n. Ticked tells at n olds (set news count new) (have.told ++ hears.said ∷ [])) (next count) (ticked_on old new hears.said have.ticked within found (ledgers.more ledgers.none hears.hears));
+  told = have.told ++ hears.outgoing ∷ [];
+  ticked = subst (λ n. Ticked tells at n olds (set news count new) (have.told ++ hears.outgoing ∷ [])) (next count) (ticked_on old new hears.outgoing have.ticked within found (ledgers.more ledgers.none hears.hears));
   same_count = length-set news count new ∙ have.same_count;
-  queued = hears.queued ∙ ap (λ one. told_to one hears.said) have.queued ∙ told_to-append before (flat_map (λ one. one) have.told) hears.said ∙ ap (told_to before) (sym (flat_last have.told hears.said));
+  queued = hears.queued ∙ ap (λ one. told_to one hears.outgoing) have.queued ∙ told_to-append before (flat_map (λ one. one) have.told) hears.outgoing ∙ ap (told_to before) (sym (flat_last have.told hears.outgoing));
   same = same ∙ have.same;
 }
   where

@@ -96,18 +96,18 @@ standing_after Log = LogFailed
 
 -- A table where all works hears an event, says this, and all works still.
 pub record KeptHears {W : Type 0} (told : W → List ℕ → Type 0) (old : KeptState W) (event : OwnEvent) (new : KeptState W)
-    (said : List Telling) : Type 0 where
+    (outgoing : List Telling) : Type 0 where
   pub worked : old.ledger.standing ≡ Works
   pub works_still : new.ledger.standing ≡ Works
-  pub hears : Hears old.table event new.table said
+  pub hears : Hears old.table event new.table outgoing
   pub writes : Changes (λ first last. IsWritten told first last old.table event new.table) old.ledger.log new.ledger.log
 
 -- The same, and what it says to its lines follows what each line had.
 pub record KeptHearsFor {W : Type 0} (told : W → List ℕ → Type 0) (old : KeptState W) (event : OwnEvent) (new : KeptState W)
     (before after : List (List ℕ)) : Type 0 where
-  pub said : List Telling
-  pub hears : KeptHears told old event new said
-  pub queued : after ≡ told_to before said
+  pub outgoing : List Telling
+  pub hears : KeptHears told old event new outgoing
+  pub queued : after ≡ told_to before outgoing
 
 -- A table doesn't hear an event.
 --   failed_before: something had failed before, and nothing changes.

@@ -97,7 +97,7 @@ pub record HoldsMatch (start : AbstractTable) (heard : List OwnEvent) (seats : L
   pub holds : HoldsTranscript start.game start.text start.config heard seats playing by_table
   pub on_seats : (index line : ℕ) →
       slice_get seats index ≡ Some (Some line) →
-      bytes_to line told ≡ flat_map (early_refusal line) holds.beginning.before ++ deliveries.bytes_for (index + 1) holds.said
+      bytes_to line told ≡ flat_map (early_refusal line) holds.beginning.before ++ deliveries.bytes_for (index + 1) holds.outgoing
 
 -- Whatever a hall hears, a match that has begun at a table holds a transcript of what the table heard, and the lines on
 -- its seats are told accordingly.

@@ -49,7 +49,7 @@ pub record HasLogFailed {W : Type 0} (ledgers : List (Ledger W)) : Type 0 where
 
 -- A table and its ledger hear these events in turn.
 pub data KeptHearsEach {W : Type 0} (told : W → List ℕ → Type 0) (old : KeptState W) :
-    List OwnEvent → (new : KeptState W) → (said : List Telling) → Type 0 where
+    List OwnEvent → (new : KeptState W) → (outgoing : List Telling) → Type 0 where
   none :
       KeptHearsEach told old [] old []
   more : {events : List OwnEvent} {event : OwnEvent} {middle new : KeptState W} {first next : List Telling} →
@@ -61,11 +61,11 @@ pub data KeptHearsEach {W : Type 0} (told : W → List ℕ → Type 0) (old : Ke
 --   heard: all of them.
 --   stopped: all but the last one, at which something fails.
 pub data Becomes {W : Type 0} (told : W → List ℕ → Type 0) (old : KeptState W) : (new : KeptState W) → Type 0 where
-  heard : {events : List OwnEvent} {new : KeptState W} {said : List Telling} →
-      KeptHearsEach told old events new said →
+  heard : {events : List OwnEvent} {new : KeptState W} {outgoing : List Telling} →
+      KeptHearsEach told old events new outgoing →
       Becomes told old new
-  stopped : {events : List OwnEvent} {event : OwnEvent} {middle new : KeptState W} {said : List Telling} →
-      KeptHearsEach told old events middle said →
+  stopped : {events : List OwnEvent} {event : OwnEvent} {middle new : KeptState W} {outgoing : List Telling} →
+      KeptHearsEach told old events middle outgoing →
       KeptFails told middle event new →
       Becomes told old new
 
@@ -76,7 +76,7 @@ kept table ledger = record { table = table; ledger = ledger }
 -- Each of the tables, from this number on, and its ledger hear what is the table's own, and it tells its lines something.
 pub data EachWrites {W : Type 0} (told : W → List ℕ → Type 0) (heard : (table : ℕ) → List OwnEvent) : (table : ℕ) →
     (old : List TableState) → (was : List (Ledger W)) → (new : List TableState) → (is : List (Ledger W)) →
-    (said : List (List Telling)) → Type 0 where
+    (outgoing : List (List Telling)) → Type 0 where
   none : {table : ℕ} →
       EachWrites told heard table [] [] [] [] []
   more : {table : ℕ} {old new : TableState} {was is : Ledger W} {olds news : List TableState} {wases ises : List (Ledger W)}

@@ -53,9 +53,9 @@ pub record IsNewTable (table : TableState) : Type 0 where
 -- sent what is said.
 pub record IsLogged {W : Type 0} (told : W → List ℕ → Type 0) (log : W) (text : List ℕ) (playing : MatchState) : Type 0 where
   pub held : List ℕ
-  pub said : List (List ℕ)
+  pub outgoing : List (List ℕ)
   pub tells : told log held
-  pub is : IsLog text held playing said
+  pub is : IsLog text held playing outgoing
 
 -- The log of a match that has begun is such a one, and that of another one is empty.
 abbrev pub IsLoggedSo : {W : Type 0} → (told : W → List ℕ → Type 0) → (log : W) → (text : List ℕ) → AbstractGame → Option MatchState → Type 0

@@ -105,15 +105,15 @@ pub record HoldsTranscript (game : AbstractGame) (text : List ℕ) (config : Con
   pub beginning : Beginning game text config events seats
   pub handed : List AbstractEvent
   pub hands : HandsEach seats beginning.after handed
-  pub said : List Delivery
-  pub transcript : Transcript game text config beginning.at handed playing.play said
+  pub outgoing : List Delivery
+  pub transcript : Transcript game text config beginning.at handed playing.play outgoing
   pub of_game : playing.game ≡ game
   pub of_config : playing.config ≡ config
   pub begins : playing.began ≡ counted_first beginning.at
   pub works : playing.failed ≡ false
   pub on_seats : (index one : ℕ) →
       slice_get seats index ≡ Some (Some one) →
-      bytes_to one told ≡ bytes_to one beginning.early ++ bytes_for (index + 1) said
+      bytes_to one told ≡ bytes_to one beginning.early ++ bytes_for (index + 1) outgoing
   pub elsewhere : (one : ℕ) →
       ((index : ℕ) → ¬ (slice_get seats index ≡ Some (Some one))) →
       bytes_to one told ≡ bytes_to one beginning.early ++ flat_map (late_refusal one) beginning.after

@@ -18,4 +18,4 @@ pub use Rattle.rbg_match.specs.internal.Opening.{match_begun, referee_at_start}
 pub use Rattle.rbg_match.specs.internal.PlayOf.{play_of}
 pub use Rattle.rbg_match.specs.internal.Playable.{IsPlayOf}
 pub use Rattle.rbg_match.specs.internal.Replies.{HandlesNow, IsReferee, PlaysOnOnce, RefereeState, Replies, Reply, gone_on}
-pub use Rattle.rbg_match.specs.internal.Saying.{Says}
+pub use Rattle.rbg_match.specs.internal.Saying.{QueuesMessages}

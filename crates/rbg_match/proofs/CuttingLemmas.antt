@@ -138,10 +138,10 @@ timed_inputs_of-append streams (event ∷ before) after =
     ap (λ next. timed_inputs_in streams event ++ next) (timed_inputs_of-append (streams_after streams event) before after)
     ∙ sym (append_assoc (timed_inputs_in streams event) (timed_inputs_of (streams_after streams event) before) (timed_inputs_of (streams_through (streams_after streams event) before) after))
 
-module _ (game : AbstractGame) (config : Config) (some : 1 ≤ config.turn_ms) (streams : Streams) (play end : AbstractPlay) (said : List Delivery) where
+module _ (game : AbstractGame) (config : Config) (some : 1 ≤ config.turn_ms) (streams : Streams) (play end : AbstractPlay) (outgoing : List Delivery) where
   -- the inputs that these events mean are handled
   abbrev Handled : List AbstractEvent → Type 0
-  Handled events = HandlesAll game config play (timed_inputs_of streams events) end said
+  Handled events = HandlesAll game config play (timed_inputs_of streams events) end outgoing
 
   handled_as : (xs ys : List AbstractEvent) → xs ≡ ys → Handled xs → Handled ys
   handled_as xs ys same handles = subst Handled same handles
@@ -162,16 +162,16 @@ module _ (game : AbstractGame) (config : Config) (some : 1 ≤ config.turn_ms) (
     cut_once : Handled (before ++ piece seat at (a ++ b) ∷ after) → Handled (before ++ piece seat at a ∷ piece seat at b ∷ after)
     cut_once handles =
         let two = in_two in
-        let whole : HandlesAll game config play (timed_inputs_of streams before ++ (inputs_at (counted here at) (two.input ∷ two.inputs) ++ two.rest)) end said = subst (λ (inputs : List TimedInput). HandlesAll game config play inputs end said) (whole_is two) handles in
+        let whole : HandlesAll game config play (timed_inputs_of streams before ++ (inputs_at (counted here at) (two.input ∷ two.inputs) ++ two.rest)) end outgoing = subst (λ (inputs : List TimedInput). HandlesAll game config play inputs end outgoing) (whole_is two) handles in
         let parts = each_to_all (tick_added game config some (counted here at) (timed_inputs_of streams before) two.input two.inputs two.rest (all_to_each whole)) in
-        subst (λ (inputs : List TimedInput). HandlesAll game config play inputs end said) (sym (parts_are two)) parts
+        subst (λ (inputs : List TimedInput). HandlesAll game config play inputs end outgoing) (sym (parts_are two)) parts
 
     join_once : Handled (before ++ piece seat at a ∷ piece seat at b ∷ after) → Handled (before ++ piece seat at (a ++ b) ∷ after)
     join_once handles =
         let two = in_two in
-        let parts : HandlesAll game config play (timed_inputs_of streams before ++ (inputs_at (counted here at) (two.input ∷ two.inputs) ++ tick_at (counted here at) ∷ two.rest)) end said = subst (λ (inputs : List TimedInput). HandlesAll game config play inputs end said) (parts_are two) handles in
+        let parts : HandlesAll game config play (timed_inputs_of streams before ++ (inputs_at (counted here at) (two.input ∷ two.inputs) ++ tick_at (counted here at) ∷ two.rest)) end outgoing = subst (λ (inputs : List TimedInput). HandlesAll game config play inputs end outgoing) (parts_are two) handles in
         let whole = each_to_all (tick_dropped game config some (counted here at) (timed_inputs_of streams before) two.input two.inputs two.rest (all_to_each parts)) in
-        subst (λ (inputs : List TimedInput). HandlesAll game config play inputs end said) (sym (whole_is two)) whole
+        subst (λ (inputs : List TimedInput). HandlesAll game config play inputs end outgoing) (sym (whole_is two)) whole
 
   module _ (after : List AbstractEvent) (seat at : ℕ) where
     -- the events before the pieces, and one more
@@ -193,7 +193,7 @@ module _ (game : AbstractGame) (config : Config) (some : 1 ≤ config.turn_ms) (
         join_once before after seat at first (concat (second ∷ more)) (handled_as _ _ (one_before before (piece seat at (concat (second ∷ more)) ∷ after) (piece seat at first)) joined)
 
 pub cutting : Cutting
-cutting game text config now some before after seat at first others play said =
+cutting game text config now some before after seat at first others play outgoing =
     let streams = streams_at_start (seats_of game) now in (
       λ whole. of_other_inputs _ whole
           (handled_as game config some streams whole.opened play whole.replies _ _ (sym (append_assoc before (map (piece seat at) (first ∷ others)) after))

@@ -24,13 +24,13 @@ delivered_from-none seat (bytes ∷ others) = rw (delivered_from-none (suc seat)
 pub delivered-none : (outbox : List (List ℕ)) → delivered outbox [] ≡ outbox
 delivered-none outbox = delivered_from-none 1 outbox
 
-length-delivered_from : (seat : ℕ) (outbox : List (List ℕ)) (said : List Delivery) → length (delivered_from seat outbox said) ≡ length outbox
-length-delivered_from seat [] said = refl
-length-delivered_from seat (bytes ∷ others) said = ap suc (length-delivered_from (suc seat) others said)
+length-delivered_from : (seat : ℕ) (outbox : List (List ℕ)) (outgoing : List Delivery) → length (delivered_from seat outbox outgoing) ≡ length outbox
+length-delivered_from seat [] outgoing = refl
+length-delivered_from seat (bytes ∷ others) outgoing = ap suc (length-delivered_from (suc seat) others outgoing)
 
 -- no seat comes or goes
-pub length-delivered : (outbox : List (List ℕ)) (said : List Delivery) → length (delivered outbox said) ≡ length outbox
-length-delivered outbox said = length-delivered_from 1 outbox said
+pub length-delivered : (outbox : List (List ℕ)) (outgoing : List Delivery) → length (delivered outbox outgoing) ≡ length outbox
+length-delivered outbox outgoing = length-delivered_from 1 outbox outgoing
 
 -- the bytes of one message, to the seat that it is for and to another
 bytes_for-same : (seat : ℕ) (message : AbstractMessage) → bytes_for seat (to_seat seat message) ≡ spelling message
@@ -64,13 +64,13 @@ delivered-one outbox index message within =
     let same : index + 1 ≡ 1 + index = omega arith in
     rw same (delivered_from-one 1 outbox index message within)
 
-queued_from : (first seats : ℕ) (said : List Delivery) → delivered_from first (replicate seats []) said ≡ map (λ seat. bytes_for seat said) (range_with_len first seats)
-queued_from first zero said = refl
-queued_from first (suc seats) said = rw add-one (ap (λ others. bytes_for first said ∷ others) (queued_from (suc first) seats said))
+queued_from : (first seats : ℕ) (outgoing : List Delivery) → delivered_from first (replicate seats []) outgoing ≡ map (λ seat. bytes_for seat outgoing) (range_with_len first seats)
+queued_from first zero outgoing = refl
+queued_from first (suc seats) outgoing = rw add-one (ap (λ others. bytes_for first outgoing ∷ others) (queued_from (suc first) seats outgoing))
 
 -- what seats that had nothing have is what they have been sent
-pub delivered-queued : (seats : ℕ) (said : List Delivery) → delivered (replicate seats []) said ≡ queued seats said
-delivered-queued seats said = queued_from 1 seats said
+pub delivered-queued : (seats : ℕ) (outgoing : List Delivery) → delivered (replicate seats []) outgoing ≡ queued seats outgoing
+delivered-queued seats outgoing = queued_from 1 seats outgoing
 
 pub to_each-more : (seats : ℕ) (message : AbstractMessage) → to_each (seats + 1) message ≡ to_each seats message ++ to_seat (seats + 1) message
 to_each-more seats message = rw add-one refl

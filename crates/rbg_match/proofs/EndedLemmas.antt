@@ -11,12 +11,12 @@ pub not_both : (o : Option Outcome) (outcome : Outcome) → o ≡ Some outcome �
 not_both o outcome is going = none-some outcome (sym going ∙ is)
 
 -- one input after the end
-pub stays_at_input : {game : AbstractGame} {config : Config} {play : AbstractPlay} {moment : ℕ} {input : AbstractInput} {after : AbstractPlay} {said : List Delivery} (outcome : Outcome) → play.outcome ≡ Some outcome → Handles game config play moment input after said → (after ≡ play) × (said ≡ [])
+pub stays_at_input : {game : AbstractGame} {config : Config} {play : AbstractPlay} {moment : ℕ} {input : AbstractInput} {after : AbstractPlay} {outgoing : List Delivery} (outcome : Outcome) → play.outcome ≡ Some outcome → Handles game config play moment input after outgoing → (after ≡ play) × (outgoing ≡ [])
 stays_at_input outcome is (after_end ended) = (refl, refl)
 stays_at_input {play = play} outcome is (overdue going late) = absurd (not_both play.outcome outcome is going)
 stays_at_input {play = play} outcome is (in_time going early handles) = absurd (not_both play.outcome outcome is going)
 
-pub stays_at_inputs : {game : AbstractGame} {config : Config} {play : AbstractPlay} {inputs : List TimedInput} {after : AbstractPlay} {said : List Delivery} (outcome : Outcome) → play.outcome ≡ Some outcome → HandlesAll game config play inputs after said → (after ≡ play) × (said ≡ [])
+pub stays_at_inputs : {game : AbstractGame} {config : Config} {play : AbstractPlay} {inputs : List TimedInput} {after : AbstractPlay} {outgoing : List Delivery} (outcome : Outcome) → play.outcome ≡ Some outcome → HandlesAll game config play inputs after outgoing → (after ≡ play) × (outgoing ≡ [])
 stays_at_inputs outcome is transcript.none = (refl, refl)
 stays_at_inputs {play = play} outcome is (transcript.more {middle = middle} {first = first} {next = next} before handles) =
     let earlier = stays_at_inputs outcome is before in
@@ -25,7 +25,7 @@ stays_at_inputs {play = play} outcome is (transcript.more {middle = middle} {fir
     (last.0 ∙ earlier.0, ap (λ (one : List Delivery). one ++ next) earlier.1 ∙ last.1)
 
 pub ended_play_stays : EndedPlayStays
-ended_play_stays game config play after outcome inputs said is handles = stays_at_inputs outcome is handles
+ended_play_stays game config play after outcome inputs outgoing is handles = stays_at_inputs outcome is handles
 
 stays_at_events : {old : MatchState} {before : List (List ℕ)} {events : List AbstractEvent} {new : MatchState} {after : List (List ℕ)} (outcome : Outcome) → old.play.outcome ≡ Some outcome → StepsAll old before events new after → (new ≡ old) × (after ≡ before)
 stays_at_events outcome is matches.none = (refl, refl)

@@ -7,7 +7,7 @@ use Rattle.rbg_match.proofs.Common.{Config, message_limit, Delivery, AbstractPla
 use Rattle.rbg_match.specs.Transcript.{HandlesAll, none, more}
 
 -- one input is handled
-pub one_handled : {game : AbstractGame} {config : Config} {play after : AbstractPlay} {moment : ℕ} {input : AbstractInput} {said : List Delivery} → Handles game config play moment input after said → HandlesAll game config play (inputs_at moment (input ∷ [])) after said
+pub one_handled : {game : AbstractGame} {config : Config} {play after : AbstractPlay} {moment : ℕ} {input : AbstractInput} {outgoing : List Delivery} → Handles game config play moment input after outgoing → HandlesAll game config play (inputs_at moment (input ∷ [])) after outgoing
 one_handled handles = more none handles
 
 -- inputs that are handled first, and inputs that are handled next
@@ -40,11 +40,11 @@ cut_of_inbox inboxes seat bytes inbox within =
     ap (λ one. cut message_limit one bytes) (get_or-map rest inboxes (seat - 1) inbox (incomplete []) within)
 
 -- things are input as what they are
-pub handles_as : {game : AbstractGame} {config : Config} {play after : AbstractPlay} {said : List Delivery} (moment : ℕ) (input same : List AbstractInput) → input ≡ same → HandlesAll game config play (inputs_at moment same) after said → HandlesAll game config play (inputs_at moment input) after said
-handles_as {game} {config} {play} {after} {said} moment input same is handles = subst (λ one. HandlesAll game config play (inputs_at moment one) after said) (sym is) handles
+pub handles_as : {game : AbstractGame} {config : Config} {play after : AbstractPlay} {outgoing : List Delivery} (moment : ℕ) (input same : List AbstractInput) → input ≡ same → HandlesAll game config play (inputs_at moment same) after outgoing → HandlesAll game config play (inputs_at moment input) after outgoing
+handles_as {game} {config} {play} {after} {outgoing} moment input same is handles = subst (λ one. HandlesAll game config play (inputs_at moment one) after outgoing) (sym is) handles
 
 -- a piece of a seat is handled
-pub handles_piece : {game : AbstractGame} {config : Config} {play middle after : AbstractPlay} {said next : List Delivery} (moment : ℕ) (inboxes : List Stream) (event : AbstractEvent) (seat at : ℕ) (bytes : List ℕ) (inbox : Stream) → event ≡ piece seat at bytes → has_seat (rests_of inboxes) seat ≡ true → seat - 1 < length inboxes → Handles game config play moment tick middle said → HandlesAll game config middle (inputs_at moment (map (sent seat) (cut message_limit (get_or inboxes (seat - 1) inbox).rest bytes).items)) after next → HandlesAll game config play (inputs_at moment (inputs_in (rests_of inboxes) event)) after (said ++ next)
+pub handles_piece : {game : AbstractGame} {config : Config} {play middle after : AbstractPlay} {outgoing next : List Delivery} (moment : ℕ) (inboxes : List Stream) (event : AbstractEvent) (seat at : ℕ) (bytes : List ℕ) (inbox : Stream) → event ≡ piece seat at bytes → has_seat (rests_of inboxes) seat ≡ true → seat - 1 < length inboxes → Handles game config play moment tick middle outgoing → HandlesAll game config middle (inputs_at moment (map (sent seat) (cut message_limit (get_or inboxes (seat - 1) inbox).rest bytes).items)) after next → HandlesAll game config play (inputs_at moment (inputs_in (rests_of inboxes) event)) after (outgoing ++ next)
 handles_piece moment inboxes event seat at bytes inbox is test there first handles =
     let same : inputs_in (rests_of inboxes) event ≡ tick ∷ map (sent seat) (cut message_limit (get_or inboxes (seat - 1) inbox).rest bytes).items =
     ap (inputs_in (rests_of inboxes)) is ∙ inputs_of_piece (rests_of inboxes) seat at bytes test ∙ ap (λ (c : Cut). tick ∷ map (sent seat) c.items) (cut_of_inbox inboxes seat bytes inbox there) in

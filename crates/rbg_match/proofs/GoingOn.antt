@@ -9,12 +9,12 @@ use Rattle.rbg_match.proofs.Replying.{nothing_done, gone_on-twice}
 pub record HasCome (start : RefereeState) (in_a_row : ℕ) (referee : RefereeState) : Type 0 where
   pub few : in_a_row ≤ most_keeper_moves
   pub play : AbstractPlay
-  pub said : List Delivery
-  pub becomes : referee ≡ gone_on start play said
-  pub on : (after : AbstractPlay) (more : List Delivery) → PlaysOn start.game start.moment in_a_row play after more → PlaysOn start.game start.moment 0 start.play after (said ++ more)
+  pub outgoing : List Delivery
+  pub becomes : referee ≡ gone_on start play outgoing
+  pub on : (after : AbstractPlay) (more : List Delivery) → PlaysOn start.game start.moment in_a_row play after more → PlaysOn start.game start.moment 0 start.play after (outgoing ++ more)
 
 pub not_yet_come : (start : RefereeState) → HasCome start 0 start
-not_yet_come start = record { few = omega arith; play = start.play; said = []; becomes = nothing_done start; on = λ after more goes. goes }
+not_yet_come start = record { few = omega arith; play = start.play; outgoing = []; becomes = nothing_done start; on = λ after more goes. goes }
 
 module _ {E : Type 0} {start referee next : RefereeState} {in_a_row : ℕ} (come : HasCome start in_a_row referee) where
   -- the keeper moves once more
@@ -25,12 +25,12 @@ module _ {E : Type 0} {start referee next : RefereeState} {in_a_row : ℕ} (come
       record {
         few = add-one-le moves.may;
         play = goes.after;
-        said = come.said ++ goes.said;
-        becomes = goes.becomes ∙ gone_on-twice start come.play goes.after come.said goes.said;
+        outgoing = come.outgoing ++ goes.outgoing;
+        becomes = goes.becomes ∙ gone_on-twice start come.play goes.after come.outgoing goes.outgoing;
         on = λ after more then.
-            let from_here : PlaysOn start.game start.moment in_a_row come.play after (goes.said ++ more) =
+            let from_here : PlaysOn start.game start.moment in_a_row come.play after (goes.outgoing ++ more) =
             rw moves.makes.told (keeper moves.keeper moves.may moves.makes.legal moves.short (subst (λ state. PlaysOn start.game start.moment (suc in_a_row) state after more) moves.makes.makes (rw add-one at then))) in
-            rw append_assoc (come.on after (goes.said ++ more) from_here);
+            rw append_assoc (come.on after (goes.outgoing ++ more) from_here);
       }
 
   -- play has settled
@@ -39,7 +39,7 @@ module _ {E : Type 0} {start referee next : RefereeState} {in_a_row : ℕ} (come
       let goes = subst (λ one. Replies {E = E} one next (Ok Settled) (PlaysOnOnce in_a_row)) come.becomes replies in
       record {
         after = goes.after;
-        said = come.said ++ goes.said;
-        becomes = goes.becomes ∙ gone_on-twice start come.play goes.after come.said goes.said;
-        whole = come.on goes.after goes.said goes.whole;
+        outgoing = come.outgoing ++ goes.outgoing;
+        becomes = goes.becomes ∙ gone_on-twice start come.play goes.after come.outgoing goes.outgoing;
+        whole = come.on goes.after goes.outgoing goes.whole;
       }

@@ -43,7 +43,7 @@ pub record IsKept (game : AbstractGame) (config : Config) (began moment : ℕ) (
 
 module _ {game : AbstractGame} {config : Config} (lawful : IsWithinLimits config) {moment : ℕ} (counted : moment ≤ latest_moment) {began : ℕ} where
   -- play that continues after a move has a history
-  pub plays_on_keeps : {n : ℕ} {play : AbstractPlay} {after : AbstractPlay} {said : List Delivery} → PlaysOn game moment n play after said → play.outcome ≡ None → LeadsTo game play.made play.place → MadeInTurn config began play.made moment → IsHistory game config began moment after
+  pub plays_on_keeps : {n : ℕ} {play : AbstractPlay} {after : AbstractPlay} {outgoing : List Delivery} → PlaysOn game moment n play after outgoing → play.outcome ≡ None → LeadsTo game play.made play.place → MadeInTurn config began play.made moment → IsHistory game config began moment after
   plays_on_keeps (on.endless is_keeper many) going leads in_turn = record { lawful = lawful; counted = counted; leads = leads; last = moment; in_turn = in_turn; fits = let some = lawful.turn_some in (omega arith, omega (arith, some)) }
   plays_on_keeps (on.heavy may hard) going leads in_turn = record { lawful = lawful; counted = counted; leads = leads; last = moment; in_turn = in_turn; fits = let some = lawful.turn_some in (omega arith, omega (arith, some)) }
   plays_on_keeps (on.finished may never) going leads in_turn = record { lawful = lawful; counted = counted; leads = leads; last = moment; in_turn = in_turn; fits = (never, refl, refl) }
@@ -70,7 +70,7 @@ module _ {game : AbstractGame} {config : Config} (lawful : IsWithinLimits config
     fits = subst (λ outcome. FitsOutcome game config play has.last moment outcome) (sym has.going) (has.turn, has.early);
   }
 
-  refuses_keeps : {play : AbstractPlay} {seat : ℕ} {reason : Reason} {after : AbstractPlay} {said : List Delivery} → Refuses (seats_of game) config play seat reason after said → IsSeat game seat → IsInPlay game config began moment play → IsHistory game config began moment after
+  refuses_keeps : {play : AbstractPlay} {seat : ℕ} {reason : Reason} {after : AbstractPlay} {outgoing : List Delivery} → Refuses (seats_of game) config play seat reason after outgoing → IsSeat game seat → IsInPlay game config began moment play → IsHistory game config began moment after
   refuses_keeps {play = play} {seat = seat} (handling.counted few) is_seat has = record {
     lawful = lawful;
     counted = counted;
@@ -88,14 +88,14 @@ module _ {game : AbstractGame} {config : Config} (lawful : IsWithinLimits config
     fits = (has.turn, has.early, is_seat.0, is_seat.1);
   }
 
-  judges_keeps : {play : AbstractPlay} {pairs : List (ℕ × ℕ)} {after : AbstractPlay} {said : List Delivery} → Judges game config play moment pairs after said → length pairs ≤ most_pairs → IsSeat game (mover_of play) → IsInPlay game config began moment play → IsHistory game config began moment after
+  judges_keeps : {play : AbstractPlay} {pairs : List (ℕ × ℕ)} {after : AbstractPlay} {outgoing : List Delivery} → Judges game config play moment pairs after outgoing → length pairs ≤ most_pairs → IsSeat game (mover_of play) → IsInPlay game config began moment play → IsHistory game config began moment after
   judges_keeps (handling.heavy hard) short is_seat has = record { lawful = lawful; counted = counted; leads = has.leads; last = has.last; in_turn = has.in_turn; fits = has.early }
   judges_keeps (handling.illegal none refuses) short is_seat has = refuses_keeps refuses is_seat has
   judges_keeps {play = play} {pairs = pairs} (handling.legal legal goes) short is_seat has =
       let made : Made = record { player = mover_of play; at = moment; pairs = pairs } in
       plays_on_keeps goes has.going (history.more has.leads made refl legal short) (history.by_player has.in_turn made has.turn.0.player has.early)
 
-  in_time_keeps : {play : AbstractPlay} {input : AbstractInput} {after : AbstractPlay} {said : List Delivery} → HandlesInTime game config play moment input after said → IsInputOf game input → IsInPlay game config began moment play → IsHistory game config began moment after
+  in_time_keeps : {play : AbstractPlay} {input : AbstractInput} {after : AbstractPlay} {outgoing : List Delivery} → HandlesInTime game config play moment input after outgoing → IsInputOf game input → IsInPlay game config began moment play → IsHistory game config began moment after
   in_time_keeps handling.nothing is_input has = in_play has
   in_time_keeps (handling.leaving {seat = seat}) is_input has = record { lawful = lawful; counted = counted; leads = has.leads; last = has.last; in_turn = has.in_turn; fits = (has.turn, has.early, is_input.0, is_input.1) }
   in_time_keeps (handling.out_of_turn other refuses) is_input has = refuses_keeps refuses is_input has
@@ -103,7 +103,7 @@ module _ {game : AbstractGame} {config : Config} (lawful : IsWithinLimits config
   in_time_keeps (handling.too_many mover spells long refuses) is_input has = refuses_keeps refuses is_input has
   in_time_keeps (handling.judged mover spells short judges) is_input has = judges_keeps judges short (subst (IsSeat game) mover is_input) has
 
-  handles_keeps : {play : AbstractPlay} {input : AbstractInput} {after : AbstractPlay} {said : List Delivery} → Handles game config play moment input after said → IsInputOf game input → IsKept game config began moment play → IsHistory game config began moment after
+  handles_keeps : {play : AbstractPlay} {input : AbstractInput} {after : AbstractPlay} {outgoing : List Delivery} → Handles game config play moment input after outgoing → IsInputOf game input → IsKept game config began moment play → IsHistory game config began moment after
   handles_keeps {play = play} (handling.after_end {outcome = outcome} ended) is_input has = record {
     lawful = lawful;
     counted = counted;
@@ -156,7 +156,7 @@ abbrev pub IsInputAt : AbstractGame → (moment : ℕ) → TimedInput → Type 0
 IsInputAt game moment one = IsInputOf game one.input × (one.moment ≡ moment)
 
 -- inputs at one moment keep what is kept, and the first of them gives a history
-pub handles_all_keeps : {game : AbstractGame} {began moment : ℕ} {config : Config} {play : AbstractPlay} {inputs : List TimedInput} {after : AbstractPlay} {said : List Delivery} → IsWithinLimits config → moment ≤ latest_moment → HandlesAll game config play inputs after said → All (IsInputAt game moment) inputs → IsKept game config began moment play → IsKept game config began moment after × (inputs ≢ [] → IsHistory game config began moment after)
+pub handles_all_keeps : {game : AbstractGame} {began moment : ℕ} {config : Config} {play : AbstractPlay} {inputs : List TimedInput} {after : AbstractPlay} {outgoing : List Delivery} → IsWithinLimits config → moment ≤ latest_moment → HandlesAll game config play inputs after outgoing → All (IsInputAt game moment) inputs → IsKept game config began moment play → IsKept game config began moment after × (inputs ≢ [] → IsHistory game config began moment after)
 handles_all_keeps lawful counted transcript.none all has = (has, λ some. absurd (some refl))
 handles_all_keeps {game = game} {began = began} {moment = moment} {config = config} {after = after} lawful counted (transcript.more {inputs = inputs} {middle = middle} {next = next} {input = input} before handles) all has =
     let parts = parts_all (IsInputAt game moment) inputs (input ∷ []) all in
@@ -200,8 +200,8 @@ some_input game rests moment (end_of_stream seat at) is = cc
 some_input game rests moment (moment_alone at) is = cc
 
 -- an event keeps the history of a match that has not ended
-pub event_keeps : (game : AbstractGame) (config : Config) (old new : AbstractPlay) (inboxes : List Stream) (began earlier moment : ℕ) (event : AbstractEvent) (said : List Delivery) → earlier ≤ moment → moment ≤ latest_moment → length inboxes ≡ seats_of game → old.outcome ≡ None → IsHistory game config began earlier old → HandlesAll game config old (inputs_at moment (inputs_in (rests_of inboxes) event)) new said → IsHistory game config began moment new
-event_keeps game config old new inboxes began earlier moment event said before counted same going has handles =
+pub event_keeps : (game : AbstractGame) (config : Config) (old new : AbstractPlay) (inboxes : List Stream) (began earlier moment : ℕ) (event : AbstractEvent) (outgoing : List Delivery) → earlier ≤ moment → moment ≤ latest_moment → length inboxes ≡ seats_of game → old.outcome ≡ None → IsHistory game config began earlier old → HandlesAll game config old (inputs_at moment (inputs_in (rests_of inboxes) event)) new outgoing → IsHistory game config began moment new
+event_keeps game config old new inboxes began earlier moment event outgoing before counted same going has handles =
     let seats : length (rests_of inboxes) ≡ seats_of game = length-map inboxes (λ (inbox : Stream). inbox.rest) ∙ same in
     (handles_all_keeps has.lawful counted handles (timed_of_event game (rests_of inboxes) seats moment event) (kept_later moment before going has)).1 (some_input game (rests_of inboxes) moment event)
 

@@ -5,12 +5,12 @@ use Rattle.rbg_match.specs.Deliveries.{AreMarks, Delivery, bytes_for, delivered_
 use Rattle.rbg_match.proofs.Delivering.{length-delivered}
 
 -- what one seat has then
-get_or-delivered_from : (first : ℕ) (outbox : List (List ℕ)) (said : List Delivery) (i : ℕ) → i < length outbox → get_or (delivered_from first outbox said) i [] ≡ get_or outbox i [] ++ bytes_for (first + i) said
-get_or-delivered_from first [] said i within = absurd (omega arith)
-get_or-delivered_from first (bytes ∷ others) said zero within = let same : first + 0 ≡ first = omega arith in rw same refl
-get_or-delivered_from first (bytes ∷ others) said (suc i) within =
+get_or-delivered_from : (first : ℕ) (outbox : List (List ℕ)) (outgoing : List Delivery) (i : ℕ) → i < length outbox → get_or (delivered_from first outbox outgoing) i [] ≡ get_or outbox i [] ++ bytes_for (first + i) outgoing
+get_or-delivered_from first [] outgoing i within = absurd (omega arith)
+get_or-delivered_from first (bytes ∷ others) outgoing zero within = let same : first + 0 ≡ first = omega arith in rw same refl
+get_or-delivered_from first (bytes ∷ others) outgoing (suc i) within =
     let same : first + suc i ≡ suc first + i = omega arith in
-    rw same (get_or-delivered_from (suc first) others said i (omega arith))
+    rw same (get_or-delivered_from (suc first) others outgoing i (omega arith))
 
 -- one more mark
 pub mark_more : {Z : Type 0} (marks : List ℕ) (queues : List (Vec ℕ Z)) (index mark : ℕ) → index < length marks → ((d : Vec ℕ Z) → mark ≡ length (get_or queues index d).items) → ((i : ℕ) (d : Vec ℕ Z) → i < index → get_or marks i 0 ≡ length (get_or queues i d).items) → (i : ℕ) (d : Vec ℕ Z) → i < index + 1 → get_or (set marks index mark) i 0 ≡ length (get_or queues i d).items
@@ -29,21 +29,21 @@ marks_of_items {Z} (queue ∷ queues) marks are i within =
     are i queue there ∙ ap length (sym (get_or-map items (queue ∷ queues) i queue [] there))
 
 -- the fronts by the marks are what each seat had
-pub taken_back : {Z : Type 0} (old new : List (Vec ℕ Z)) (marks : List ℕ) (before : List (List ℕ)) (said : List Delivery) → length new ≡ length old → ((i : ℕ) (d : Vec ℕ Z) → i < length old → (get_or new i d).items ≡ take (get_or marks i 0) (get_or old i d).items) → map (λ queue. queue.items) old ≡ delivered before said → AreMarks before marks → map (λ queue. queue.items) new ≡ before
-taken_back {Z} old new marks before said same_length cut beyond are =
+pub taken_back : {Z : Type 0} (old new : List (Vec ℕ Z)) (marks : List ℕ) (before : List (List ℕ)) (outgoing : List Delivery) → length new ≡ length old → ((i : ℕ) (d : Vec ℕ Z) → i < length old → (get_or new i d).items ≡ take (get_or marks i 0) (get_or old i d).items) → map (λ queue. queue.items) old ≡ delivered before outgoing → AreMarks before marks → map (λ queue. queue.items) new ≡ before
+taken_back {Z} old new marks before outgoing same_length cut beyond are =
     let items : Vec ℕ Z → List ℕ = λ one. one.items in
-    let seats : length old ≡ length before = sym (length-map old items) ∙ ap length beyond ∙ length-delivered before said in
+    let seats : length old ≡ length before = sym (length-map old items) ∙ ap length beyond ∙ length-delivered before outgoing in
     ext_get_or [] (map items new) before (length-map new items ∙ same_length ∙ seats)
     (λ i within.
     let in_new : i < length new = rw (length-map new items) at within in
     let in_old : i < length old = omega arith in
     let in_before : i < length before = omega arith in
-    taken_at old new marks before said cut beyond are i in_new in_old in_before)
+    taken_at old new marks before outgoing cut beyond are i in_new in_old in_before)
   where
-    taken_at : (old new : List (Vec ℕ Z)) (marks : List ℕ) (before : List (List ℕ)) (said : List Delivery) → ((i : ℕ) (d : Vec ℕ Z) → i < length old → (get_or new i d).items ≡ take (get_or marks i 0) (get_or old i d).items) → map (λ queue. queue.items) old ≡ delivered before said → AreMarks before marks → (i : ℕ) → i < length new → i < length old → i < length before → get_or (map (λ queue. queue.items) new) i [] ≡ get_or before i []
-    taken_at old [] marks before said cut beyond are i in_new in_old in_before = absurd (omega arith)
-    taken_at old (queue ∷ new) marks before said cut beyond are i in_new in_old in_before =
+    taken_at : (old new : List (Vec ℕ Z)) (marks : List ℕ) (before : List (List ℕ)) (outgoing : List Delivery) → ((i : ℕ) (d : Vec ℕ Z) → i < length old → (get_or new i d).items ≡ take (get_or marks i 0) (get_or old i d).items) → map (λ queue. queue.items) old ≡ delivered before outgoing → AreMarks before marks → (i : ℕ) → i < length new → i < length old → i < length before → get_or (map (λ queue. queue.items) new) i [] ≡ get_or before i []
+    taken_at old [] marks before outgoing cut beyond are i in_new in_old in_before = absurd (omega arith)
+    taken_at old (queue ∷ new) marks before outgoing cut beyond are i in_new in_old in_before =
         let items : Vec ℕ Z → List ℕ = λ one. one.items in
-        let had : (get_or old i queue).items ≡ get_or before i [] ++ bytes_for (1 + i) said =
-        sym (get_or-map items old i queue [] in_old) ∙ ap (λ outbox. get_or outbox i []) beyond ∙ get_or-delivered_from 1 before said i in_before in
-        get_or-map items (queue ∷ new) i queue [] in_new ∙ cut i queue in_old ∙ rw (had, are i in_before) (take-append_seam (get_or before i []) (bytes_for (1 + i) said))
+        let had : (get_or old i queue).items ≡ get_or before i [] ++ bytes_for (1 + i) outgoing =
+        sym (get_or-map items old i queue [] in_old) ∙ ap (λ outbox. get_or outbox i []) beyond ∙ get_or-delivered_from 1 before outgoing i in_before in
+        get_or-map items (queue ∷ new) i queue [] in_new ∙ cut i queue in_old ∙ rw (had, are i in_before) (take-append_seam (get_or before i []) (bytes_for (1 + i) outgoing))

@@ -32,23 +32,23 @@ grows_both play middle after first next = (first.0 ++ next.0, next.1 ∙ ap (λ 
 one_more : (play : AbstractPlay) (moment : ℕ) (pairs : List (ℕ × ℕ)) (to : AbstractPlace) → Grows play (moved play moment pairs to)
 one_more play moment pairs to = (record { player = mover_of play; at = moment; pairs = pairs } ∷ [], refl)
 
-plays_on_grows : {game : AbstractGame} {moment n : ℕ} {play after : AbstractPlay} {said : List Delivery} → PlaysOn game moment n play after said → Grows play after
+plays_on_grows : {game : AbstractGame} {moment n : ℕ} {play after : AbstractPlay} {outgoing : List Delivery} → PlaysOn game moment n play after outgoing → Grows play after
 plays_on_grows {play = play} (on.endless is_keeper many) = grows_not play
 plays_on_grows {play = play} (on.heavy may hard) = grows_not play
 plays_on_grows {play = play} (on.finished may never) = grows_not play
 plays_on_grows {moment = moment} {play = play} {after = after} (on.keeper {pairs = pairs} {to = to} is_keeper may legal short goes) = grows_both play (moved play moment pairs to) after (one_more play moment pairs to) (plays_on_grows goes)
 plays_on_grows {play = play} (on.turn player legal) = grows_not play
 
-refuses_grows : {seats : ℕ} {config : Config} {play : AbstractPlay} {seat : ℕ} {reason : Reason} {after : AbstractPlay} {said : List Delivery} → Refuses seats config play seat reason after said → Grows play after
+refuses_grows : {seats : ℕ} {config : Config} {play : AbstractPlay} {seat : ℕ} {reason : Reason} {after : AbstractPlay} {outgoing : List Delivery} → Refuses seats config play seat reason after outgoing → Grows play after
 refuses_grows {play = play} (handling.counted few) = grows_not play
 refuses_grows {play = play} (handling.spent many) = grows_not play
 
-judges_grows : {game : AbstractGame} {config : Config} {play : AbstractPlay} {moment : ℕ} {pairs : List (ℕ × ℕ)} {after : AbstractPlay} {said : List Delivery} → Judges game config play moment pairs after said → Grows play after
+judges_grows : {game : AbstractGame} {config : Config} {play : AbstractPlay} {moment : ℕ} {pairs : List (ℕ × ℕ)} {after : AbstractPlay} {outgoing : List Delivery} → Judges game config play moment pairs after outgoing → Grows play after
 judges_grows {play = play} (handling.heavy hard) = grows_not play
 judges_grows (handling.illegal never refuses) = refuses_grows refuses
 judges_grows {play = play} {moment = moment} {pairs = pairs} {after = after} (handling.legal {to = to} legal goes) = grows_both play (moved play moment pairs to) after (one_more play moment pairs to) (plays_on_grows goes)
 
-in_time_grows : {game : AbstractGame} {config : Config} {play : AbstractPlay} {moment : ℕ} {input : AbstractInput} {after : AbstractPlay} {said : List Delivery} → HandlesInTime game config play moment input after said → Grows play after
+in_time_grows : {game : AbstractGame} {config : Config} {play : AbstractPlay} {moment : ℕ} {input : AbstractInput} {after : AbstractPlay} {outgoing : List Delivery} → HandlesInTime game config play moment input after outgoing → Grows play after
 in_time_grows {play = play} handling.nothing = grows_not play
 in_time_grows {play = play} handling.leaving = grows_not play
 in_time_grows (handling.out_of_turn other refuses) = refuses_grows refuses
@@ -56,17 +56,17 @@ in_time_grows (handling.unreadable mover no_move refuses) = refuses_grows refuse
 in_time_grows (handling.too_many mover spells long refuses) = refuses_grows refuses
 in_time_grows (handling.judged mover spells short judges) = judges_grows judges
 
-handles_grows : {game : AbstractGame} {config : Config} {play : AbstractPlay} {moment : ℕ} {input : AbstractInput} {after : AbstractPlay} {said : List Delivery} → Handles game config play moment input after said → Grows play after
+handles_grows : {game : AbstractGame} {config : Config} {play : AbstractPlay} {moment : ℕ} {input : AbstractInput} {after : AbstractPlay} {outgoing : List Delivery} → Handles game config play moment input after outgoing → Grows play after
 handles_grows {play = play} (handling.after_end ended) = grows_not play
 handles_grows {play = play} (handling.overdue going late) = grows_not play
 handles_grows (handling.in_time going early handles) = in_time_grows handles
 
-each_grows : {game : AbstractGame} {config : Config} {play after : AbstractPlay} {inputs : List TimedInput} {said : List Delivery} → HandlesEach game config play inputs after said → Grows play after
+each_grows : {game : AbstractGame} {config : Config} {play after : AbstractPlay} {inputs : List TimedInput} {outgoing : List Delivery} → HandlesEach game config play inputs after outgoing → Grows play after
 each_grows {play = play} none = grows_not play
 each_grows {play = play} {after = after} (more {middle = middle} handles rest) = grows_both play middle after (handles_grows handles) (each_grows rest)
 
 -- what has ended stays so
-pub each_stays : {game : AbstractGame} {config : Config} {play after : AbstractPlay} {inputs : List TimedInput} {said : List Delivery} (outcome : Outcome) → play.outcome ≡ Some outcome → HandlesEach game config play inputs after said → (after ≡ play) × (said ≡ [])
+pub each_stays : {game : AbstractGame} {config : Config} {play after : AbstractPlay} {inputs : List TimedInput} {outgoing : List Delivery} (outcome : Outcome) → play.outcome ≡ Some outcome → HandlesEach game config play inputs after outgoing → (after ≡ play) × (outgoing ≡ [])
 each_stays outcome is none = (refl, refl)
 each_stays outcome is (more {first = first} {next = next} handles rest) =
     let here = stays_at_input outcome is handles in
@@ -135,7 +135,7 @@ same_pairs play one other moment pairs pairs' to to' keeper agree grows grows' =
     let first' = next_of_keeper play other moment pairs' to' agree.other_later keeper grows' in
     heads pairs pairs' _ _ (append_cancel_left (keeper_pairs play.made) _ _ (sym first ∙ agree.same ∙ first'))
 
-refuses_same : {seats : ℕ} {config : Config} {play : AbstractPlay} {seat : ℕ} {reason : Reason} {one other : AbstractPlay} {said others : List Delivery} → Refuses seats config play seat reason one said → Refuses seats config play seat reason other others → (one ≡ other) × (said ≡ others)
+refuses_same : {seats : ℕ} {config : Config} {play : AbstractPlay} {seat : ℕ} {reason : Reason} {one other : AbstractPlay} {outgoing others : List Delivery} → Refuses seats config play seat reason one outgoing → Refuses seats config play seat reason other others → (one ≡ other) × (outgoing ≡ others)
 refuses_same (handling.counted few) (handling.counted few') = (refl, refl)
 refuses_same (handling.counted few) (handling.spent many) = absurd (omega (arith, few, many))
 refuses_same (handling.spent many) (handling.counted few) = absurd (omega (arith, few, many))
@@ -151,7 +151,7 @@ stops_here : (game : AbstractGame) (play : AbstractPlay) (others : List Delivery
 stops_here game play others heavy = record { heavy = heavy; before = []; after = others; told = refl; goes_on = refl }
 
 -- the same messages before both
-stops_beyond : {game : AbstractGame} {play : AbstractPlay} {said others : List Delivery} (first first' : List Delivery) → first ≡ first' → StopsWithin game play said others → StopsWithin game play (first ++ said) (first' ++ others)
+stops_beyond : {game : AbstractGame} {play : AbstractPlay} {outgoing others : List Delivery} (first first' : List Delivery) → first ≡ first' → StopsWithin game play outgoing others → StopsWithin game play (first ++ outgoing) (first' ++ others)
 stops_beyond {game = game} first first' is stops = record {
   heavy = stops.heavy;
   before = first ++ stops.before;
@@ -160,15 +160,15 @@ stops_beyond {game = game} first first' is stops = record {
   goes_on = ap (λ (l : List Delivery). first' ++ l) stops.goes_on ∙ ap (λ (l : List Delivery). l ++ (stops.before ++ stops.after)) (sym is) ∙ sym (append_assoc first stops.before stops.after);
 }
 
-alike_after : {game : AbstractGame} {one other : AbstractPlay} {said others : List Delivery} (first first' : List Delivery) → first ≡ first' → AreAlike game one other said others → AreAlike game one other (first ++ said) (first' ++ others)
-alike_after {said = said} first first' is (equal plays tells) = equal plays (ap (λ (l : List Delivery). l ++ said) is ∙ ap (λ (l : List Delivery). first' ++ l) tells)
+alike_after : {game : AbstractGame} {one other : AbstractPlay} {outgoing others : List Delivery} (first first' : List Delivery) → first ≡ first' → AreAlike game one other outgoing others → AreAlike game one other (first ++ outgoing) (first' ++ others)
+alike_after {outgoing = outgoing} first first' is (equal plays tells) = equal plays (ap (λ (l : List Delivery). l ++ outgoing) is ∙ ap (λ (l : List Delivery). first' ++ l) tells)
 alike_after first first' is (one_stops stops) = one_stops (stops_beyond first first' is stops)
 alike_after first first' is (other_stops stops) = other_stops (stops_beyond first' first (sym is) stops)
 
 module _ (game : AbstractGame) (numbered : IsNumbered game.rules) where
-  plays_on_alike : {moment n : ℕ} {play one other : AbstractPlay} {said others : List Delivery} → PlaysOn game moment n play one said → PlaysOn game moment n play other others → keeper_run 0 play.made ≡ n → HaveOneKeeper one other → AreAlike game one other said others
+  plays_on_alike : {moment n : ℕ} {play one other : AbstractPlay} {outgoing others : List Delivery} → PlaysOn game moment n play one outgoing → PlaysOn game moment n play other others → keeper_run 0 play.made ≡ n → HaveOneKeeper one other → AreAlike game one other outgoing others
   plays_on_alike {play = play} {others = others} (on.heavy may hard) goes' run agree = one_stops (stops_here game (ended play Heavy) others (heavy_end play may run))
-  plays_on_alike {play = play} {said = said} goes (on.heavy may hard) run agree = other_stops (stops_here game (ended play Heavy) said (heavy_end play may run))
+  plays_on_alike {play = play} {outgoing = outgoing} goes (on.heavy may hard) run agree = other_stops (stops_here game (ended play Heavy) outgoing (heavy_end play may run))
   plays_on_alike (on.endless keeper many) (on.endless keeper' many') run agree = equal refl refl
   plays_on_alike {play = play} (on.endless keeper many) (on.finished may never) run agree = absurd (not_asked play may keeper many)
   plays_on_alike (on.endless keeper many) (on.keeper keeper' may legal short goes) run agree = absurd (omega (arith, may, many))
@@ -180,7 +180,7 @@ module _ (game : AbstractGame) (numbered : IsNumbered game.rules) where
   plays_on_alike (on.finished may never) (on.keeper {pairs = pairs} {to = to} keeper may' legal short goes') run agree = absurd (never.no_move pairs to legal)
   plays_on_alike (on.finished may never) (on.turn {pairs = pairs} {to = to} player legal) run agree = absurd (never.no_move pairs to legal)
   plays_on_alike (on.keeper {pairs = pairs} {to = to} keeper may legal short goes) (on.finished may' never) run agree = absurd (never.no_move pairs to legal)
-  plays_on_alike {moment = moment} {n = n} {play = play} {one = one} {other = other} (on.keeper {pairs = pairs} {to = to} {more = said} keeper may legal short goes) (on.keeper {pairs = pairs'} {to = to'} {more = others} keeper' may' legal' short' goes') run agree =
+  plays_on_alike {moment = moment} {n = n} {play = play} {one = one} {other = other} (on.keeper {pairs = pairs} {to = to} {more = outgoing} keeper may legal short goes) (on.keeper {pairs = pairs'} {to = to'} {more = others} keeper' may' legal' short' goes') run agree =
       let alike = same_pairs play one other moment pairs pairs' to to' keeper agree (plays_on_grows goes) (plays_on_grows goes') in
       let place : to' ≡ to = one_place_law game numbered play.place pairs to' to (subst (λ (ps : List (ℕ × ℕ)). Legal game play.place ps to') (sym alike) legal') legal in
       let with_pairs = subst (λ (ps : List (ℕ × ℕ)). PlaysOn game moment (suc n) (moved play moment ps to') other others) (sym alike) goes' in
@@ -196,9 +196,9 @@ module _ (game : AbstractGame) (numbered : IsNumbered game.rules) where
     heavy_question : (play : AbstractPlay) → 1 ≤ mover_of play → IsHeavyEnd (ended play Heavy)
     heavy_question play player = record { heavy = refl; not_endless = λ keeper many. omega (arith, player, keeper) }
 
-    judges_alike : {play : AbstractPlay} {moment : ℕ} {pairs : List (ℕ × ℕ)} {one other : AbstractPlay} {said others : List Delivery} → Judges game config play moment pairs one said → Judges game config play moment pairs other others → 1 ≤ mover_of play → HaveOneKeeper one other → AreAlike game one other said others
+    judges_alike : {play : AbstractPlay} {moment : ℕ} {pairs : List (ℕ × ℕ)} {one other : AbstractPlay} {outgoing others : List Delivery} → Judges game config play moment pairs one outgoing → Judges game config play moment pairs other others → 1 ≤ mover_of play → HaveOneKeeper one other → AreAlike game one other outgoing others
     judges_alike {play = play} {others = others} (handling.heavy hard) judges' player agree = one_stops (stops_here game (ended play Heavy) others (heavy_question play player))
-    judges_alike {play = play} {said = said} judges (handling.heavy hard) player agree = other_stops (stops_here game (ended play Heavy) said (heavy_question play player))
+    judges_alike {play = play} {outgoing = outgoing} judges (handling.heavy hard) player agree = other_stops (stops_here game (ended play Heavy) outgoing (heavy_question play player))
     judges_alike (handling.illegal never refuses) (handling.illegal never' refuses') player agree = let both = refuses_same refuses refuses' in equal both.0 both.1
     judges_alike (handling.illegal never refuses) (handling.legal {to = to} legal goes) player agree = absurd (never to legal)
     judges_alike (handling.legal {to = to} legal goes) (handling.illegal never refuses) player agree = absurd (never to legal)
@@ -208,10 +208,10 @@ module _ (game : AbstractGame) (numbered : IsNumbered game.rules) where
         let rest = plays_on_alike goes goes_there (run_of_player play moment pairs to player) agree in
         alike_after (to_each (seats_of game) (move_message pairs)) (to_each (seats_of game) (move_message pairs)) refl rest
 
-    judged_alike : {play : AbstractPlay} {moment : ℕ} {one other : AbstractPlay} {said others : List Delivery} (pairs pairs' : List (ℕ × ℕ)) → pairs' ≡ pairs → Judges game config play moment pairs one said → Judges game config play moment pairs' other others → 1 ≤ mover_of play → HaveOneKeeper one other → AreAlike game one other said others
+    judged_alike : {play : AbstractPlay} {moment : ℕ} {one other : AbstractPlay} {outgoing others : List Delivery} (pairs pairs' : List (ℕ × ℕ)) → pairs' ≡ pairs → Judges game config play moment pairs one outgoing → Judges game config play moment pairs' other others → 1 ≤ mover_of play → HaveOneKeeper one other → AreAlike game one other outgoing others
     judged_alike {play = play} {moment = moment} {other = other} {others = others} pairs pairs' is judges judges' player agree = judges_alike judges (subst (λ (ps : List (ℕ × ℕ)). Judges game config play moment ps other others) is judges') player agree
 
-    in_time_alike : {play : AbstractPlay} {moment : ℕ} {input : AbstractInput} {one other : AbstractPlay} {said others : List Delivery} → HandlesInTime game config play moment input one said → HandlesInTime game config play moment input other others → IsInputOf game input → HaveOneKeeper one other → AreAlike game one other said others
+    in_time_alike : {play : AbstractPlay} {moment : ℕ} {input : AbstractInput} {one other : AbstractPlay} {outgoing others : List Delivery} → HandlesInTime game config play moment input one outgoing → HandlesInTime game config play moment input other others → IsInputOf game input → HaveOneKeeper one other → AreAlike game one other outgoing others
     in_time_alike handling.nothing handling.nothing is_input agree = equal refl refl
     in_time_alike handling.leaving handling.leaving is_input agree = equal refl refl
     in_time_alike (handling.out_of_turn not_mover refuses) (handling.out_of_turn not_mover' refuses') is_input agree = let both = refuses_same refuses refuses' in equal both.0 both.1
@@ -231,7 +231,7 @@ module _ (game : AbstractGame) (numbered : IsNumbered game.rules) where
     in_time_alike (handling.judged {text = text} {pairs = pairs} mover spells short judges) (handling.too_many {pairs = pairs'} mover' spells' long refuses') is_input agree = absurd (not_long_and_short pairs' pairs (one_move text pairs' pairs spells' spells) long short)
     in_time_alike (handling.judged {text = text} {pairs = pairs} mover spells short judges) (handling.judged {pairs = pairs'} mover' spells' short' judges') is_input agree = judged_alike pairs pairs' (one_move text pairs' pairs spells' spells) judges judges' (subst (λ (seat : ℕ). 1 ≤ seat) mover is_input.0) agree
 
-    handles_alike : {play : AbstractPlay} {moment : ℕ} {input : AbstractInput} {one other : AbstractPlay} {said others : List Delivery} → Handles game config play moment input one said → Handles game config play moment input other others → IsInputOf game input → HaveOneKeeper one other → AreAlike game one other said others
+    handles_alike : {play : AbstractPlay} {moment : ℕ} {input : AbstractInput} {one other : AbstractPlay} {outgoing others : List Delivery} → Handles game config play moment input one outgoing → Handles game config play moment input other others → IsInputOf game input → HaveOneKeeper one other → AreAlike game one other outgoing others
     handles_alike (handling.after_end ended) (handling.after_end ended') is_input agree = equal refl refl
     handles_alike {play = play} (handling.after_end {outcome = outcome} ended) (handling.overdue going late) is_input agree = absurd (not_both play.outcome outcome ended going)
     handles_alike {play = play} (handling.after_end {outcome = outcome} ended) (handling.in_time going early handles) is_input agree = absurd (not_both play.outcome outcome ended going)
@@ -243,7 +243,7 @@ module _ (game : AbstractGame) (numbered : IsNumbered game.rules) where
     handles_alike (handling.in_time going early handles) (handling.in_time going' early' handles') is_input agree = in_time_alike handles handles' is_input agree
 
     -- the keeper's moves that two matches have in common, before inputs that are handled later
-    keeper_before : {one one' other other' : AbstractPlay} {inputs inputs' : List TimedInput} {said said' : List Delivery} → HandlesEach game config one inputs one' said → HandlesEach game config other inputs' other' said' → HaveOneKeeper one' other' → HaveOneKeeper one other
+    keeper_before : {one one' other other' : AbstractPlay} {inputs inputs' : List TimedInput} {outgoing outgoing' : List Delivery} → HandlesEach game config one inputs one' outgoing → HandlesEach game config other inputs' other' outgoing' → HaveOneKeeper one' other' → HaveOneKeeper one other
     keeper_before {one = one} {one' = one'} {other = other} {other' = other'} rest rest' agree =
         let grows = each_grows rest in
         let grows' = each_grows rest' in
@@ -275,7 +275,7 @@ module _ (game : AbstractGame) (numbered : IsNumbered game.rules) where
           goes_on = ap (λ (l : List Delivery). l ++ next) stops.goes_on ∙ append_assoc stops.before stops.after next;
         })
 
-    each_alike : {play one other : AbstractPlay} {inputs : List TimedInput} {said others : List Delivery} → HandlesEach game config play inputs one said → HandlesEach game config play inputs other others → All (λ (one : TimedInput). IsInputOf game one.input) inputs → HaveOneKeeper one other → AreAlike game one other said others
+    each_alike : {play one other : AbstractPlay} {inputs : List TimedInput} {outgoing others : List Delivery} → HandlesEach game config play inputs one outgoing → HandlesEach game config play inputs other others → All (λ (one : TimedInput). IsInputOf game one.input) inputs → HaveOneKeeper one other → AreAlike game one other outgoing others
     each_alike none none all agree = equal refl refl
     each_alike {other = other} (more {input = input} {inputs = inputs} handles rest) (more {next = next'} handles' rest') all agree =
         let own : TimedInput → Type 0 = λ one. IsInputOf game one.input in
@@ -303,7 +303,7 @@ all_timed game streams (event ∷ events) same =
     All-append own (timed_inputs_in streams event) (timed_inputs_of (streams_after streams event) events) first rest
 
 pub one_until_heavy : OneUntilHeavy
-one_until_heavy game text config now events play play' said said' numbered one other agree =
+one_until_heavy game text config now events play play' outgoing outgoing' numbered one other agree =
     let inputs = timed_inputs_of (streams_at_start (seats_of game) now) events in
     let each = all_to_each one.goes_on in
     let each' = all_to_each other.goes_on in
@@ -312,19 +312,19 @@ one_until_heavy game text config now events play play' said said' numbered one o
     let later : one.opened ≡ other.opened → AreAlike game play play' one.replies other.replies = λ is. each_alike game numbered config each (subst (λ (from : AbstractPlay). HandlesEach game config from inputs play' other.replies) (sym is) each') all agree in
     let greeted = greetings text config game.players in
     let alike = alike_after greeted greeted refl (alike_then game numbered config opened each each' later) in
-    let said_is : greeted ++ (one.opening ++ one.replies) ≡ said = sym (append_assoc greeted one.opening one.replies) ∙ sym one.whole in
-    let said_is' : greeted ++ (other.opening ++ other.replies) ≡ said' = sym (append_assoc greeted other.opening other.replies) ∙ sym other.whole in
-    subst (λ (l : List Delivery). AreAlike game play play' said l) said_is' (subst (λ (l : List Delivery). AreAlike game play play' l (greeted ++ (other.opening ++ other.replies))) said_is alike)
+    let said_is : greeted ++ (one.opening ++ one.replies) ≡ outgoing = sym (append_assoc greeted one.opening one.replies) ∙ sym one.whole in
+    let said_is' : greeted ++ (other.opening ++ other.replies) ≡ outgoing' = sym (append_assoc greeted other.opening other.replies) ∙ sym other.whole in
+    subst (λ (l : List Delivery). AreAlike game play play' outgoing l) said_is' (subst (λ (l : List Delivery). AreAlike game play play' l (greeted ++ (other.opening ++ other.replies))) said_is alike)
 
 -- the same keeper's moves in both
 same_keeper : (play play' : AbstractPlay) → keeper_pairs play.made ≡ keeper_pairs play'.made → HaveOneKeeper play play'
 same_keeper play play' same = record { one_later = []; other_later = []; same = ap (λ (l : List (List (ℕ × ℕ))). l ++ []) same }
 
-none_stops : {game : AbstractGame} {play play' : AbstractPlay} {said said' : List Delivery} → ¬ IsHeavyEnd play → ¬ IsHeavyEnd play' → AreAlike game play play' said said' → (play ≡ play') × (said ≡ said')
+none_stops : {game : AbstractGame} {play play' : AbstractPlay} {outgoing outgoing' : List Delivery} → ¬ IsHeavyEnd play → ¬ IsHeavyEnd play' → AreAlike game play play' outgoing outgoing' → (play ≡ play') × (outgoing ≡ outgoing')
 none_stops light light' (equal plays tells) = (plays, tells)
 none_stops light light' (one_stops stops) = absurd (light stops.heavy)
 none_stops light light' (other_stops stops) = absurd (light' stops.heavy)
 
 pub one_transcript : OneTranscript
-one_transcript game text config now events play play' said said' numbered one other light light' same =
-    none_stops light light' (one_until_heavy game text config now events play play' said said' numbered one other (same_keeper play play' same))
+one_transcript game text config now events play play' outgoing outgoing' numbered one other light light' same =
+    none_stops light light' (one_until_heavy game text config now events play play' outgoing outgoing' numbered one other (same_keeper play play' same))

@@ -18,9 +18,9 @@ pub record HasTaken (start : RefereeState) (seat : ℕ) (from : Stream) (referee
   pub same_rest : inbox.rest ≡ from.rest
   pub same_limit : inbox.limit ≡ from.limit
   pub play : AbstractPlay
-  pub said : List Delivery
-  pub becomes : referee ≡ gone_on start play said
-  pub handles : HandlesNow (map (sent seat) taken) start play said
+  pub outgoing : List Delivery
+  pub becomes : referee ≡ gone_on start play outgoing
+  pub handles : HandlesNow (map (sent seat) taken) start play outgoing
 
 pub none_taken : (start : RefereeState) (seat : ℕ) (from : Stream) → HasTaken start seat from start from
 none_taken start seat from = record {
@@ -29,7 +29,7 @@ none_taken start seat from = record {
   same_rest = refl;
   same_limit = refl;
   play = start.play;
-  said = [];
+  outgoing = [];
   becomes = nothing_done start;
   handles = none;
 }
@@ -44,8 +44,8 @@ one_taken {E} {start} {referee} {next} {seat} {from} {inbox} after item has firs
       same_rest = rw loses has.same_rest;
       same_limit = rw loses has.same_limit;
       play = goes.after;
-      said = has.said ++ goes.said;
-      becomes = goes.becomes ∙ gone_on-twice start has.play goes.after has.said goes.said;
+      outgoing = has.outgoing ++ goes.outgoing;
+      becomes = goes.becomes ∙ gone_on-twice start has.play goes.after has.outgoing goes.outgoing;
       handles = rw (map-append (sent seat) has.taken (item ∷ []), inputs_at-more start.moment (map (sent seat) has.taken) (sent seat item)) (more has.handles goes.whole);
     }
 

@@ -43,10 +43,10 @@ module _ (streams : Streams) (event : AbstractEvent) (at : ℕ) (after : List Ab
       ap (λ (one : ℕ). timed_inputs_in streams event ++ tick_at one ∷ timed_inputs_of (streams_after (streams_after streams event) (moment_alone at)) after) (counted_after streams event at before)
       ∙ ap (λ (one : Streams). timed_inputs_in streams event ++ tick_at moment ∷ timed_inputs_of one after) same_streams
 
-module _ (game : AbstractGame) (config : Config) (some : 1 ≤ config.turn_ms) (streams : Streams) (play end : AbstractPlay) (said : List Delivery) where
+module _ (game : AbstractGame) (config : Config) (some : 1 ≤ config.turn_ms) (streams : Streams) (play end : AbstractPlay) (outgoing : List Delivery) where
   -- the inputs that these events mean are handled
   abbrev Handled : List AbstractEvent → Type 0
-  Handled events = HandlesAll game config play (timed_inputs_of streams events) end said
+  Handled events = HandlesAll game config play (timed_inputs_of streams events) end outgoing
 
   module _ (before after : List AbstractEvent) (event : AbstractEvent) (at : ℕ) (early : at ≤ moment_of event) where
     abbrev here : Streams
@@ -72,16 +72,16 @@ module _ (game : AbstractGame) (config : Config) (some : 1 ≤ config.turn_ms) (
 
     drop_tick : Handled (before ++ event ∷ moment_alone at ∷ after) → Handled (before ++ event ∷ after)
     drop_tick handles =
-        let parts = subst (λ (inputs : List TimedInput). HandlesAll game config play inputs end said) with_is handles in
-        subst (λ (inputs : List TimedInput). HandlesAll game config play inputs end said) (sym without_is) (each_to_all (tick_dropped game config some now (timed_inputs_of streams before) has.first has.others rest (all_to_each parts)))
+        let parts = subst (λ (inputs : List TimedInput). HandlesAll game config play inputs end outgoing) with_is handles in
+        subst (λ (inputs : List TimedInput). HandlesAll game config play inputs end outgoing) (sym without_is) (each_to_all (tick_dropped game config some now (timed_inputs_of streams before) has.first has.others rest (all_to_each parts)))
 
     add_tick : Handled (before ++ event ∷ after) → Handled (before ++ event ∷ moment_alone at ∷ after)
     add_tick handles =
-        let parts = subst (λ (inputs : List TimedInput). HandlesAll game config play inputs end said) without_is handles in
-        subst (λ (inputs : List TimedInput). HandlesAll game config play inputs end said) (sym with_is) (each_to_all (tick_added game config some now (timed_inputs_of streams before) has.first has.others rest (all_to_each parts)))
+        let parts = subst (λ (inputs : List TimedInput). HandlesAll game config play inputs end outgoing) without_is handles in
+        subst (λ (inputs : List TimedInput). HandlesAll game config play inputs end outgoing) (sym with_is) (each_to_all (tick_added game config some now (timed_inputs_of streams before) has.first has.others rest (all_to_each parts)))
 
 pub tick_after : TickAfter
-tick_after game text config now some before after event at early play said =
+tick_after game text config now some before after event at early play outgoing =
     let streams = streams_at_start (seats_of game) now in (
       λ one. of_other_inputs _ one (drop_tick game config some streams one.opened play one.replies before after event at early one.goes_on),
       λ one. of_other_inputs _ one (add_tick game config some streams one.opened play one.replies before after event at early one.goes_on),
@@ -104,7 +104,7 @@ module _ (seats now at : ℕ) (after : List AbstractEvent) (early : at ≤ now) 
       ∙ ap (λ (one : Streams). tick_at (counted_first now) ∷ timed_inputs_of one after) start_again
 
 pub tick_at_start : TickAtStart
-tick_at_start game text config now some after at early play said =
+tick_at_start game text config now some after at early play outgoing =
     let seats = seats_of game in
     let inputs = timed_inputs_of (streams_at_start seats now) after in
     let same = tick_first seats now at after early in (

@@ -23,7 +23,7 @@ module _ (game : AbstractGame) (config : Config) (lawful : IsWithinLimits config
     pub now : play.outcome ≡ None → moment ≡ streams.moment
 
   -- an event of a match that has not ended
-  after_event : (streams : Streams) (event : AbstractEvent) {play middle : AbstractPlay} {said : List Delivery} → streams.moment ≤ latest_moment → length streams.rests ≡ seats_of game → HasHistoryAt streams play → (outcome : Option Outcome) → play.outcome ≡ outcome → HandlesEach game config play (timed_inputs_in streams event) middle said → HasHistoryAt (streams_after streams event) middle
+  after_event : (streams : Streams) (event : AbstractEvent) {play middle : AbstractPlay} {outgoing : List Delivery} → streams.moment ≤ latest_moment → length streams.rests ≡ seats_of game → HasHistoryAt streams play → (outcome : Option Outcome) → play.outcome ≡ outcome → HandlesEach game config play (timed_inputs_in streams event) middle outgoing → HasHistoryAt (streams_after streams event) middle
   after_event streams event few same before None going handles =
       let moment = counted streams (moment_of event) in
       let earlier = before.now going in
@@ -43,7 +43,7 @@ module _ (game : AbstractGame) (config : Config) (lawful : IsWithinLimits config
         now = λ going. absurd (none-some outcome (sym going ∙ ap (λ (one : AbstractPlay). one.outcome) stays ∙ ended));
       }
 
-  after_events : (streams : Streams) (events : List AbstractEvent) {play after : AbstractPlay} {said : List Delivery} → streams.moment ≤ latest_moment → length streams.rests ≡ seats_of game → HasHistoryAt streams play → HandlesEach game config play (timed_inputs_of streams events) after said → (moment : ℕ) × IsHistory game config began moment after
+  after_events : (streams : Streams) (events : List AbstractEvent) {play after : AbstractPlay} {outgoing : List Delivery} → streams.moment ≤ latest_moment → length streams.rests ≡ seats_of game → HasHistoryAt streams play → HandlesEach game config play (timed_inputs_of streams events) after outgoing → (moment : ℕ) × IsHistory game config began moment after
   after_events streams [] few same before none = (before.moment, before.has)
   after_events streams (event ∷ events) {play = play} few same before handles =
       let parts = parted (timed_inputs_in streams event) (timed_inputs_of (streams_after streams event) events) handles in
@@ -51,7 +51,7 @@ module _ (game : AbstractGame) (config : Config) (lawful : IsWithinLimits config
       after_events (streams_after streams event) events (counted_most streams (moment_of event) few) (as_many streams.rests event ∙ same) middle parts.goes_on
 
 pub transcript_has_history : TranscriptHasHistory
-transcript_has_history game text config now events play said lawful transcript =
+transcript_has_history game text config now events play outgoing lawful transcript =
     let began = counted_first now in
     let few = min-le_right now latest_moment in
     let opened = plays_on_keeps lawful few transcript.opens refl history.none history.nothing in

@@ -41,19 +41,19 @@ to_others (suc seats) one message =
 
 -- the bytes of the messages to a seat: their spellings joined, each with its zero byte
 abbrev pub bytes_for : (seat : ℕ) → List Delivery → List ℕ
-bytes_for seat said = flat_map (λ delivery. if delivery.seat == seat then spelling delivery.message else []) said
+bytes_for seat outgoing = flat_map (λ delivery. if delivery.seat == seat then spelling delivery.message else []) outgoing
 
 -- the bytes of each seat, seat 1 first
 abbrev pub queued : (seats : ℕ) → List Delivery → List (List ℕ)
-queued seats said = map (λ seat. bytes_for seat said) (range_with_len 1 seats)
+queued seats outgoing = map (λ seat. bytes_for seat outgoing) (range_with_len 1 seats)
 
 -- what each seat has, seat 1 first, followed by the bytes of the messages to it
 abbrev pub delivered_from : (seat : ℕ) → List (List ℕ) → List Delivery → List (List ℕ)
-delivered_from seat [] said = []
-delivered_from seat (bytes ∷ others) said = (bytes ++ bytes_for seat said) ∷ delivered_from (suc seat) others said
+delivered_from seat [] outgoing = []
+delivered_from seat (bytes ∷ others) outgoing = (bytes ++ bytes_for seat outgoing) ∷ delivered_from (suc seat) others outgoing
 
 abbrev pub delivered : List (List ℕ) → List Delivery → List (List ℕ)
-delivered outbox said = delivered_from 1 outbox said
+delivered outbox outgoing = delivered_from 1 outbox outgoing
 
 -- the marks are the numbers of bytes that the seats have, seat 1 first
 abbrev pub AreMarks : List (List ℕ) → List ℕ → Type 0

@@ -30,7 +30,7 @@ IsUnreadable too_long = Unit {0}
 --   counted: the refusal is sent to the seat.
 --   spent: the refusal is sent to the seat. Its count passes the allowed number, so the match ends with `E2`.
 pub data Refuses (seats : ℕ) (config : Config) (play : AbstractPlay) (seat : ℕ) (reason : Reason) :
-    (after : AbstractPlay) → (said : List Delivery) → Type 0 where
+    (after : AbstractPlay) → (outgoing : List Delivery) → Type 0 where
   counted :
       refusals_of play seat < config.refusals →
       Refuses seats config play seat reason (refused play seat) (to_seat seat (refusal_message reason))
@@ -45,7 +45,7 @@ pub data Refuses (seats : ℕ) (config : Config) (play : AbstractPlay) (seat : �
 --   illegal: it is not legal, so it is refused.
 --   legal: it is made and sent to every seat, the mover's too, and play continues.
 pub data Judges (game : AbstractGame) (config : Config) (play : AbstractPlay) (moment : ℕ) (pairs : List (ℕ × ℕ)) :
-    (after : AbstractPlay) → (said : List Delivery) → Type 0 where
+    (after : AbstractPlay) → (outgoing : List Delivery) → Type 0 where
   heavy :
       IsHeavyToTry game play.place pairs →
       Judges game config play moment pairs (ended play Heavy) (to_each (seats_of game) (end_message Heavy))
@@ -66,7 +66,7 @@ pub data Judges (game : AbstractGame) (config : Config) (play : AbstractPlay) (m
 --   too_many: a move of more than 200 pairs is refused.
 --   judged: another move of the mover is judged.
 pub data HandlesInTime (game : AbstractGame) (config : Config) (play : AbstractPlay) (moment : ℕ) :
-    AbstractInput → (after : AbstractPlay) → (said : List Delivery) → Type 0 where
+    AbstractInput → (after : AbstractPlay) → (outgoing : List Delivery) → Type 0 where
   nothing :
       HandlesInTime game config play moment tick play []
   leaving : {seat : ℕ} →
@@ -100,7 +100,7 @@ pub data HandlesInTime (game : AbstractGame) (config : Config) (play : AbstractP
 --   overdue: at the due moment or later, whatever the input is, the mover's time is over. The match ends with `E1`.
 --   in_time: before the due moment the input decides.
 pub data Handles (game : AbstractGame) (config : Config) (play : AbstractPlay) (moment : ℕ) (input : AbstractInput) :
-    (after : AbstractPlay) → (said : List Delivery) → Type 0 where
+    (after : AbstractPlay) → (outgoing : List Delivery) → Type 0 where
   after_end : {outcome : Outcome} →
       play.outcome ≡ Some outcome →
       Handles game config play moment input play []

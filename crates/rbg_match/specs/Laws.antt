@@ -25,9 +25,9 @@ Cutting =
     (game : AbstractGame) (text : List ℕ) (config : Config) (now : ℕ) →
     1 ≤ config.turn_ms →
     (before after : List AbstractEvent) (seat at : ℕ) (first : List ℕ) (others : List (List ℕ)) →
-    (play : AbstractPlay) (said : List Delivery) →
-    Transcript game text config now (before ++ piece seat at (concat (first ∷ others)) ∷ after) play said
-    ↔ Transcript game text config now (before ++ map (piece seat at) (first ∷ others) ++ after) play said
+    (play : AbstractPlay) (outgoing : List Delivery) →
+    Transcript game text config now (before ++ piece seat at (concat (first ∷ others)) ∷ after) play outgoing
+    ↔ Transcript game text config now (before ++ map (piece seat at) (first ∷ others) ++ after) play outgoing
 
 -- the pairs of the keeper's moves among these moves
 abbrev pub keeper_pairs : List Made → List (List (ℕ × ℕ))
@@ -51,45 +51,45 @@ pub record HaveOneKeeper (one other : AbstractPlay) : Type 0 where
   pub same : keeper_pairs one.made ++ one_later ≡ keeper_pairs other.made ++ other_later
 
 -- The match has ended with `E4` because a question was above the limits. Until then it sent what another match sends.
-pub record StopsWithin (game : AbstractGame) (play : AbstractPlay) (said others : List Delivery) : Type 0 where
+pub record StopsWithin (game : AbstractGame) (play : AbstractPlay) (outgoing others : List Delivery) : Type 0 where
   pub heavy : IsHeavyEnd play
   pub before : List Delivery
   pub after : List Delivery
-  pub told : said ≡ before ++ to_each (seats_of game) (end_message Heavy)
+  pub told : outgoing ≡ before ++ to_each (seats_of game) (end_message Heavy)
   pub goes_on : others ≡ before ++ after
 
 -- Two matches are the same, or they are until one of them ends because a question was above the limits.
-pub data AreAlike (game : AbstractGame) (one other : AbstractPlay) (said others : List Delivery) : Type 0 where
-  equal : one ≡ other → said ≡ others → AreAlike game one other said others
-  one_stops : StopsWithin game one said others → AreAlike game one other said others
-  other_stops : StopsWithin game other others said → AreAlike game one other said others
+pub data AreAlike (game : AbstractGame) (one other : AbstractPlay) (outgoing others : List Delivery) : Type 0 where
+  equal : one ≡ other → outgoing ≡ others → AreAlike game one other outgoing others
+  one_stops : StopsWithin game one outgoing others → AreAlike game one other outgoing others
+  other_stops : StopsWithin game other others outgoing → AreAlike game one other outgoing others
 
 -- what holds of any two transcripts of the same events
-abbrev pub OfTwoTranscripts : (AbstractGame → (one other : AbstractPlay) → (said others : List Delivery) → Type 0) → Type 0
+abbrev pub OfTwoTranscripts : (AbstractGame → (one other : AbstractPlay) → (outgoing others : List Delivery) → Type 0) → Type 0
 OfTwoTranscripts Then =
     (game : AbstractGame) (text : List ℕ) (config : Config) (now : ℕ) (events : List AbstractEvent) →
-    (play play' : AbstractPlay) (said said' : List Delivery) →
+    (play play' : AbstractPlay) (outgoing outgoing' : List Delivery) →
     IsNumbered game.rules →
-    Transcript game text config now events play said →
-    Transcript game text config now events play' said' →
-    Then game play play' said said'
+    Transcript game text config now events play outgoing →
+    Transcript game text config now events play' outgoing' →
+    Then game play play' outgoing outgoing'
 
 -- The text, the config, the first moment and the events decide everything but the keeper's moves and where a match ends
 -- because a question is above the limits. So if the keeper's moves in two transcripts of them are the first ones of one
 -- list, the transcripts are the same until one of them ends for that reason.
 abbrev pub OneUntilHeavy : Type 0
 OneUntilHeavy =
-    OfTwoTranscripts (λ game one other said others. HaveOneKeeper one other → AreAlike game one other said others)
+    OfTwoTranscripts (λ game one other outgoing others. HaveOneKeeper one other → AreAlike game one other outgoing others)
 
 -- Two such transcripts are the same if the keeper's moves have the same pairs in both, and neither has ended because a
 -- question was above the limits.
 abbrev pub OneTranscript : Type 0
 OneTranscript =
-    OfTwoTranscripts (λ game one other said others.
+    OfTwoTranscripts (λ game one other outgoing others.
     ¬ IsHeavyEnd one →
     ¬ IsHeavyEnd other →
     keeper_pairs one.made ≡ keeper_pairs other.made →
-    (one ≡ other) × (said ≡ others))
+    (one ≡ other) × (outgoing ≡ others))
 
 -- What a match that opens and then handles these events in turn leaves: its state of play is that of a transcript of
 -- them, and each seat has the bytes of what that transcript sends.
@@ -99,9 +99,9 @@ SteppedIsTranscript =
     (opened new : MatchState) (before after : List (List ℕ)) →
     Opens game text config now opened before →
     StepsAll opened before events new after →
-    (said : List Delivery)
-    × Transcript game text config now events new.play said
-    × (after ≡ queued (seats_of game) said)
+    (outgoing : List Delivery)
+    × Transcript game text config now events new.play outgoing
+    × (after ≡ queued (seats_of game) outgoing)
 
 -- A moment of the clock that isn't later than the event before it changes nothing and sends nothing: the transcripts
 -- with it and without it are the same.
@@ -111,9 +111,9 @@ TickAfter =
     1 ≤ config.turn_ms →
     (before after : List AbstractEvent) (event : AbstractEvent) (at : ℕ) →
     at ≤ moment_of event →
-    (play : AbstractPlay) (said : List Delivery) →
-    Transcript game text config now (before ++ event ∷ moment_alone at ∷ after) play said
-    ↔ Transcript game text config now (before ++ event ∷ after) play said
+    (play : AbstractPlay) (outgoing : List Delivery) →
+    Transcript game text config now (before ++ event ∷ moment_alone at ∷ after) play outgoing
+    ↔ Transcript game text config now (before ++ event ∷ after) play outgoing
 
 -- A moment of the clock that isn't later than the first moment of a match, before any event, changes nothing either.
 abbrev pub TickAtStart : Type 0
@@ -122,28 +122,28 @@ TickAtStart =
     1 ≤ config.turn_ms →
     (after : List AbstractEvent) (at : ℕ) →
     at ≤ now →
-    (play : AbstractPlay) (said : List Delivery) →
-    Transcript game text config now (moment_alone at ∷ after) play said
-    ↔ Transcript game text config now after play said
+    (play : AbstractPlay) (outgoing : List Delivery) →
+    Transcript game text config now (moment_alone at ∷ after) play outgoing
+    ↔ Transcript game text config now after play outgoing
 
 -- Every transcript has a history: for the state of play at its end, the moves were legal and made in their turns, and
 -- the outcome fits, for some maximum moment.
 abbrev pub TranscriptHasHistory : Type 0
 TranscriptHasHistory =
     (game : AbstractGame) (text : List ℕ) (config : Config) (now : ℕ) (events : List AbstractEvent) →
-    (play : AbstractPlay) (said : List Delivery) →
+    (play : AbstractPlay) (outgoing : List Delivery) →
     IsWithinLimits config →
-    Transcript game text config now events play said →
+    Transcript game text config now events play outgoing →
     (moment : ℕ) × IsHistory game config (counted_first now) moment play
 
 -- Play that has ended stays as it is, whatever the inputs are, and nothing is sent.
 abbrev pub EndedPlayStays : Type 0
 EndedPlayStays =
     (game : AbstractGame) (config : Config) (play after : AbstractPlay) (outcome : Outcome) →
-    (inputs : List TimedInput) (said : List Delivery) →
+    (inputs : List TimedInput) (outgoing : List Delivery) →
     play.outcome ≡ Some outcome →
-    HandlesAll game config play inputs after said →
-    (after ≡ play) × (said ≡ [])
+    HandlesAll game config play inputs after outgoing →
+    (after ≡ play) × (outgoing ≡ [])
 
 -- A match that has ended stays as it is, whatever the events are, and so does what each seat has.
 abbrev pub EndedMatchStays : Type 0

@@ -58,9 +58,9 @@ pub record Steps (old : MatchState) (event : AbstractEvent) (new : MatchState)
   pub same_game : new.game ≡ old.game
   pub same_config : new.config ≡ old.config
   pub same_begin : new.began ≡ old.began
-  pub said : List Delivery
-  pub handles : HandlesAll old.game old.config old.play (timed_inputs_in old.streams event) new.play said
-  pub told : after ≡ delivered before said
+  pub outgoing : List Delivery
+  pub handles : HandlesAll old.game old.config old.play (timed_inputs_in old.streams event) new.play outgoing
+  pub told : after ≡ delivered before outgoing
   pub moment : old.play.outcome ≡ None → new.streams.moment ≡ counted old.streams (moment_of event)
   pub streams : new.play.outcome ≡ None → new.streams ≡ streams_after old.streams event
   pub stays : (outcome : Outcome) → old.play.outcome ≡ Some outcome → new ≡ old

@@ -26,7 +26,7 @@ MayBeAsked in_a_row play = mover_of play ≡ 0 → in_a_row < most_keeper_moves
 --   keeper: the keeper makes a legal move of at most 200 pairs, which is sent to every seat, and play continues.
 --   turn: a player is to move and has a legal move. Its turn begins.
 pub data PlaysOn (game : AbstractGame) (moment : ℕ) :
-    (in_a_row : ℕ) → (before after : AbstractPlay) → (said : List Delivery) → Type 0 where
+    (in_a_row : ℕ) → (before after : AbstractPlay) → (outgoing : List Delivery) → Type 0 where
   endless : {n : ℕ} {play : AbstractPlay} →
       mover_of play ≡ 0 →
       most_keeper_moves ≤ n →

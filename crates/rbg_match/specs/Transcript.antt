@@ -23,7 +23,7 @@ greetings text config names = flat_map (λ one. greeting text config one.0 one.1
 
 -- The match handles these inputs in turn.
 pub data HandlesAll (game : AbstractGame) (config : Config) (play : AbstractPlay) :
-    List TimedInput → (after : AbstractPlay) → (said : List Delivery) → Type 0 where
+    List TimedInput → (after : AbstractPlay) → (outgoing : List Delivery) → Type 0 where
   none :
       HandlesAll game config play [] play []
   more : {inputs : List TimedInput} {middle after : AbstractPlay} {first next : List Delivery} {input : TimedInput} →
@@ -35,16 +35,16 @@ pub data HandlesAll (game : AbstractGame) (config : Config) (play : AbstractPlay
 -- sent in the whole match, and this is the state of play at the end. First each seat is greeted, and play continues
 -- from the start. Then the inputs are handled in turn.
 pub record InputTranscript (game : AbstractGame) (text : List ℕ) (config : Config) (now : ℕ)
-    (inputs : List TimedInput) (play : AbstractPlay) (said : List Delivery) : Type 0 where
+    (inputs : List TimedInput) (play : AbstractPlay) (outgoing : List Delivery) : Type 0 where
   pub opened : AbstractPlay
   pub opening : List Delivery
   pub replies : List Delivery
   pub opens : PlaysOn game (counted_first now) 0 (play_at_start game (counted_first now)) opened opening
   pub goes_on : HandlesAll game config opened inputs play replies
-  pub whole : said ≡ greetings text config game.players ++ opening ++ replies
+  pub whole : outgoing ≡ greetings text config game.players ++ opening ++ replies
 
 -- The same for a list of events: the inputs are those that the events mean.
 abbrev pub Transcript : AbstractGame → (text : List ℕ) → Config → (now : ℕ) →
-    List AbstractEvent → AbstractPlay → (said : List Delivery) → Type 0
-Transcript game text config now events play said =
-    InputTranscript game text config now (timed_inputs_of (streams_at_start (seats_of game) now) events) play said
+    List AbstractEvent → AbstractPlay → (outgoing : List Delivery) → Type 0
+Transcript game text config now events play outgoing =
+    InputTranscript game text config now (timed_inputs_of (streams_at_start (seats_of game) now) events) play outgoing

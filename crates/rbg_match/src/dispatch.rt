@@ -9,7 +9,7 @@ ghost use Rattle.rbg_match.specs.PlayingOn.{seats_of};
 ghost use Rattle.rbg_match.specs.internal.Inboxes.{AreReady, HaveTaken, IsQuiet, IsReady, rests_of};
 ghost use Rattle.rbg_match.specs.internal.InputOf.{IsSeatOf};
 ghost use Rattle.rbg_match.specs.internal.Replies.{HandlesNow, Replies};
-ghost use Rattle.rbg_match.specs.internal.Saying.{Says};
+ghost use Rattle.rbg_match.specs.internal.Saying.{QueuesMessages};
 ghost use Rattle.rbg_match.specs.Transcript.{HandlesAll};
 
 use crate::input::Input;
@@ -96,10 +96,10 @@ impl Referee {
         ensures moment { self.new.moment
             ≡ max self.old.moment (min (moment_of (event_of event.entry)) latest_moment) }
         ensures latest { self.new.moment ≤ latest_moment }
-        ensures says { Says outbox.old outbox.new result (λ _ said.
+        ensures says { QueuesMessages outbox.old outbox.new result (λ _ outgoing.
             HandlesAll self.old.game self.old.config self.old.play
             (inputs_at self.new.moment (inputs_in (rests_of inboxes.old) (event_of event.entry)))
-            self.new.play said) }
+            self.new.play outgoing) }
         ensures quiet { IsQuiet inboxes.old (event_of event.entry) self.new.moment
             (due_of self.old.config self.old.play) result }
         ensures ready { OnOk result (AreReady inboxes.new) }

@@ -23,12 +23,13 @@ impl Referee {
         ensures { Replies self.old self.new result (λ referee _.
             Refuses (seats_of referee.game) referee.config referee.play seat reason) }
     {
-        self.outbox.tell(seat, &Message::Refused { reason })?;
+        self.outbox
+            .queue_message(seat, &Message::Refused { reason })?;
         if self.play.refuse(seat, self.config.refusals) {
             let outcome = Outcome::Refusals {
                 player: seat as u64,
             };
-            self.outbox.tell_each(&Message::Ended { outcome })?;
+            self.outbox.queue_for_each(&Message::Ended { outcome })?;
         }
         Ok(())
     }

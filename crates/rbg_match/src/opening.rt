@@ -5,7 +5,7 @@ ghost use Rattle.rbg_wire.specs.Bytes.{LacksByte};
 ghost use Rattle.rbg_match.specs.Config.{IsWithinLimits};
 ghost use Rattle.rbg_match.specs.internal.Opening.{first_outbox, referee_at_start};
 ghost use Rattle.rbg_match.specs.Limits.{latest_moment};
-ghost use Rattle.rbg_match.specs.internal.Saying.{Says};
+ghost use Rattle.rbg_match.specs.internal.Saying.{QueuesMessages};
 ghost use Rattle.rbg_match.specs.Play.{play_at_start};
 ghost use Rattle.rbg_match.specs.internal.PlayOf.{play_of};
 ghost use Rattle.rbg_match.specs.internal.Playable.{IsPlayOf};
@@ -37,20 +37,20 @@ fn greet_seat(
     requires most { seat ≤ length outbox.old }
     requires name { IsTrue (is_name name.now) }
     requires no_zero { LacksByte 0 text.now }
-    ensures { Says outbox.old outbox.new result (λ _ said.
-        said ≡ greeting text.now config seat name.now) }
+    ensures { QueuesMessages outbox.old outbox.new result (λ _ outgoing.
+        outgoing ≡ greeting text.now config seat name.now) }
 {
     let who = Message::Who {
         player: seat as u64,
         name: name.as_bytes(),
     };
-    outbox.tell(seat, &who)?;
-    outbox.tell(seat, &Message::Game { text })?;
+    outbox.queue_message(seat, &who)?;
+    outbox.queue_message(seat, &Message::Game { text })?;
     let limits = Message::Limits {
         turn_ms: config.turn_ms,
         refusals: u64::from(config.refusals),
     };
-    outbox.tell(seat, &limits)?;
+    outbox.queue_message(seat, &limits)?;
     Ok(())
 }
 
@@ -59,8 +59,8 @@ fn greet(game: &Game, text: &[u8], config: Config, outbox: &mut Outbox) -> Resul
     requires seats { length outbox.old ≡ seats_of game.now }
     requires names { All (λ name. IsTrue (is_name name)) game.now.players }
     requires no_zero { LacksByte 0 text.now }
-    ensures { Says outbox.old outbox.new result (λ _ said.
-        said ≡ greetings text.now config game.now.players) }
+    ensures { QueuesMessages outbox.old outbox.new result (λ _ outgoing.
+        outgoing ≡ greetings text.now config game.now.players) }
 {
     for index in 0..game.players() {
         let name = game.player_name(index as u16 + 1);

@@ -21,7 +21,7 @@ ghost use Rattle.std.specs.Global.{Vec};
 ghost use Rattle.rbg_wire.specs.Messages.{AbstractMessage, ArePairs, HasSpelling, message_of, move_message, spelling};
 ghost use Rattle.rbg_match.specs.Deliveries.{AreMarks, Delivery, delivered, to_seat, to_each, to_others};
 ghost use Rattle.rbg_match.specs.Limits.{most_seats};
-ghost use Rattle.rbg_match.specs.internal.Saying.{Says};
+ghost use Rattle.rbg_match.specs.internal.Saying.{QueuesMessages};
 
 use rbg_base::Pair;
 use rbg_wire::{Message, write_message, write_move};
@@ -96,33 +96,37 @@ impl Outbox {
     }
 
     /// Queues a message for a seat.
-    pub(crate) fn tell(&mut self, seat: usize, message: &Message<'_>) -> Result<(), AllocError>
+    pub(crate) fn queue_message(
+        &mut self,
+        seat: usize,
+        message: &Message<'_>,
+    ) -> Result<(), AllocError>
         requires is_seat { 1 ≤ seat }
         requires is_there { seat ≤ length self.old }
         requires spelled { HasSpelling (message_of message.now) }
-        ensures { Says self.old self.new result (λ _ said.
-            said ≡ to_seat seat (message_of message.now)) }
+        ensures { QueuesMessages self.old self.new result (λ _ outgoing.
+            outgoing ≡ to_seat seat (message_of message.now)) }
     {
         write_message(message, &mut self.queues[seat - 1])
     }
 
     /// Queues a message for each seat.
-    pub(crate) fn tell_each(&mut self, message: &Message<'_>) -> Result<(), AllocError>
+    pub(crate) fn queue_for_each(&mut self, message: &Message<'_>) -> Result<(), AllocError>
         requires { HasSpelling (message_of message.now) }
-        ensures { Says self.old self.new result (λ _ said.
-            said ≡ to_each (length self.old) (message_of message.now)) }
+        ensures { QueuesMessages self.old self.new result (λ _ outgoing.
+            outgoing ≡ to_each (length self.old) (message_of message.now)) }
     {
         for index in 0..self.seats() {
-            self.tell(index + 1, message)?;
+            self.queue_message(index + 1, message)?;
         }
         Ok(())
     }
 
     /// Queues the message of a move for each seat. It is spelt once.
-    pub(crate) fn tell_move(&mut self, pairs: &[Pair]) -> Result<(), AllocError>
+    pub(crate) fn queue_move(&mut self, pairs: &[Pair]) -> Result<(), AllocError>
         requires { ArePairs pairs.now }
-        ensures { Says self.old self.new result (λ _ said.
-            said ≡ to_each (length self.old) (move_message pairs.now)) }
+        ensures { QueuesMessages self.old self.new result (λ _ outgoing.
+            outgoing ≡ to_each (length self.old) (move_message pairs.now)) }
     {
         let alloc = *self.told.allocator();
         let mut told = replace(&mut self.told, Vec::new(alloc));
@@ -140,24 +144,24 @@ impl Outbox {
         requires is_seat { 1 ≤ seat }
         requires is_there { seat ≤ length self.old }
         ensures { (message : AbstractMessage) → told.now ≡ spelling message →
-            Says self.old self.new result (λ _ said. said ≡ to_seat seat message) }
+            QueuesMessages self.old self.new result (λ _ outgoing. outgoing ≡ to_seat seat message) }
     {
         append(told, &mut self.queues[seat - 1])
     }
 
     /// Queues a message for each seat but one.
-    pub(crate) fn tell_others(
+    pub(crate) fn queue_for_others(
         &mut self,
         one: usize,
         message: &Message<'_>,
     ) -> Result<(), AllocError>
         requires { HasSpelling (message_of message.now) }
-        ensures { Says self.old self.new result (λ _ said.
-            said ≡ to_others (length self.old) one (message_of message.now)) }
+        ensures { QueuesMessages self.old self.new result (λ _ outgoing.
+            outgoing ≡ to_others (length self.old) one (message_of message.now)) }
     {
         for index in 0..self.seats() {
             if index + 1 != one {
-                self.tell(index + 1, message)?;
+                self.queue_message(index + 1, message)?;
             }
         }
         Ok(())
@@ -172,8 +176,8 @@ impl Outbox {
 
     /// Takes back what was queued since the marks were taken.
     pub fn cut_back(&mut self, marks: &[usize; MAX_SEATS])
-        ensures { (before : List (List ℕ)) (said : List Delivery) →
-            self.old ≡ delivered before said → AreMarks before marks.now → self.new ≡ before }
+        ensures { (before : List (List ℕ)) (outgoing : List Delivery) →
+            self.old ≡ delivered before outgoing → AreMarks before marks.now → self.new ≡ before }
     {
         cut(&mut self.queues, marks);
     }

@@ -32,15 +32,15 @@ impl Referee {
         let told = outcome;
         self.play.outcome = Some(told);
         let ending = Message::Ended { outcome };
-        self.outbox.tell_each(&ending)?;
+        self.outbox.queue_for_each(&ending)?;
         Ok(())
     }
 
     /// Ends the match because a seat's stream has ended, and sends the outcome to every other seat.
     pub(crate) fn leave(&mut self, seat: usize) -> Result<(), Memory>
-        ensures { Replies self.old self.new result (λ referee _ after said.
+        ensures { Replies self.old self.new result (λ referee _ after outgoing.
             (after ≡ ended referee.play (Outcome.Gone seat))
-            × (said ≡ to_others (seats_of referee.game) seat (end_message (Outcome.Gone seat)))) }
+            × (outgoing ≡ to_others (seats_of referee.game) seat (end_message (Outcome.Gone seat)))) }
     {
         let outcome = Outcome::Gone {
             player: seat as u64,
@@ -48,15 +48,15 @@ impl Referee {
         let told = outcome;
         self.play.outcome = Some(told);
         let ending = Message::Ended { outcome };
-        self.outbox.tell_others(seat, &ending)?;
+        self.outbox.queue_for_others(seat, &ending)?;
         Ok(())
     }
 
     /// Ends the match because a question is above the limits. Refused memory is returned as an error.
     pub(crate) fn end_heavy(&mut self, over: Over) -> Result<(), Memory>
-        ensures { Replies self.old self.new result (λ referee value after said.
+        ensures { Replies self.old self.new result (λ referee value after outgoing.
             ((over ≡ Over.Deep) ⊎ (over ≡ Over.Wide))
-            × Ends Outcome.Heavy referee value after said) }
+            × Ends Outcome.Heavy referee value after outgoing) }
     {
         match over {
             Over::Deep => self.end(Outcome::Heavy),
@@ -81,7 +81,7 @@ impl Referee {
         requires in_game { IsPlaceOf self.old.game to }
         ensures { Replies self.old self.new result (λ referee _. Makes referee pairs) }
     {
-        self.outbox.tell_move(pairs.as_slice())?;
+        self.outbox.queue_move(pairs.as_slice())?;
         self.play.make(pairs, to, self.moment)?;
         Ok(())
     }

@@ -1,7 +1,7 @@
 -- What is said of a question that was asked at a place, and handed on to who asked.
 use Rattle.std.proofs.Common.{◌≡◌, ℕ, ◌+◌, ◌-◌, ◌^◌, ◌≤◌, min, List, [], length, Bool, false, Option, Some, None, refl, sym, ap, ◌∙◌, subst, inl, inr, Result, Ok, Err, IsErrAnd, IfSome, IfNone}
 use Rattle.rbg_base.specs.Move.{most_pairs, IsMoveLength}
-use Rattle.rbg_rules.specs.Meaning.{most_modifiers, IsNumbered, AbstractGame, AbstractState, Start, AbstractPlace, Finished, IsLegal, stand_of, Question, find_move, list_moves, try_move}
+use Rattle.rbg_rules.specs.Meaning.{most_modifiers, IsNumbered, AbstractGame, AbstractState, Start, AbstractPlace, Finished, IsLegal, point_of, Question, find_move, list_moves, try_move}
 use Rattle.rbg_search.specs.Searching.{Searching, Tally}
 use Rattle.rbg_search.specs.declared.over.Over.{Over}
 use Rattle.rbg_search.specs.declared.over.Over.TheVariants.{Deep, Wide, Memory}
@@ -104,25 +104,25 @@ module _ {game : AbstractGame} {place here : AbstractPlace} {asked : Searching} 
   at_place P is = subst (λ (p : AbstractPlace). P (begun_in game) p) there (subst (λ (x : Searching). P x here) begun is)
 
   -- It was given up.
-  pub asked_in_vain : {X Y : Type 0} (question : Question) → IsNumbered game.rules → (front : List (ℕ × ℕ)) (callee : Result X Over) (r : Result Y Over) (e : Over) → front ≡ [] → callee ≡ Err e → IsErrAnd r (λ y. y ≡ e) → IsGivenUp asked question here.state (stand_of here.last) (most_pairs - length front) (callee ≡ Err Deep) (callee ≡ Err Wide) → GivesUp game question place r
+  pub asked_in_vain : {X Y : Type 0} (question : Question) → IsNumbered game.rules → (front : List (ℕ × ℕ)) (callee : Result X Over) (r : Result Y Over) (e : Over) → front ≡ [] → callee ≡ Err e → IsErrAnd r (λ y. y ≡ e) → IsGivenUp asked question here.state (point_of here.last) (most_pairs - length front) (callee ≡ Err Deep) (callee ≡ Err Wide) → GivesUp game question place r
   asked_in_vain question numbered front callee r e none was gives up =
       gives_up r (λ d. too_deep game numbered (given.deep (given_up callee r e Deep was gives d))) (λ w. over_wide game numbered (given.wide (given_up callee r e Wide was gives w)))
     where
-      given : IsGivenUp (begun_in game) question place.state (stand_of place.last) most_modifiers (callee ≡ Err Deep) (callee ≡ Err Wide)
+      given : IsGivenUp (begun_in game) question place.state (point_of place.last) most_modifiers (callee ≡ Err Deep) (callee ≡ Err Wide)
       given =
-          at_place (λ x p. IsGivenUp x question p.state (stand_of p.last) most_modifiers (callee ≡ Err Deep) (callee ≡ Err Wide))
-          (subst (λ (qs : List (ℕ × ℕ)). IsGivenUp asked question here.state (stand_of here.last) (most_pairs - length qs) (callee ≡ Err Deep) (callee ≡ Err Wide)) none up)
+          at_place (λ x p. IsGivenUp x question p.state (point_of p.last) most_modifiers (callee ≡ Err Deep) (callee ≡ Err Wide))
+          (subst (λ (qs : List (ℕ × ℕ)). IsGivenUp asked question here.state (point_of here.last) (most_pairs - length qs) (callee ≡ Err Deep) (callee ≡ Err Wide)) none up)
 
   -- It was answered within the limits, since what is forced was taken up within the budget.
-  pub asked_fits : (question : Question) (later : Searching) (cut : Bool) (left : ℕ) → left ≤ most_modifiers → later ≡ record asked { opened = later.opened; taken = later.taken } → later.opened ≤ later.openings → CountsAnswer asked later cut question here.state (stand_of here.last) left → FitsLimits game cut question place
+  pub asked_fits : (question : Question) (later : Searching) (cut : Bool) (left : ℕ) → left ≤ most_modifiers → later ≡ record asked { opened = later.opened; taken = later.taken } → later.opened ≤ later.openings → CountsAnswer asked later cut question here.state (point_of here.last) left → FitsLimits game cut question place
   asked_fits question later cut left under kept within counts =
-      fits_at game asked.game place here.state (stand_of here.last) cut question asked.opened later.opened left asked.modifiers later.openings
-      (ap (λ (x : Searching). x.game) begun) (ap (λ (p : AbstractPlace). p.state) there) (ap (λ (p : AbstractPlace). stand_of p.last) there) (ap (λ (x : Searching). x.opened) begun) within
+      fits_at game asked.game place here.state (point_of here.last) cut question asked.opened later.opened left asked.modifiers later.openings
+      (ap (λ (x : Searching). x.game) begun) (ap (λ (p : AbstractPlace). p.state) there) (ap (λ (p : AbstractPlace). point_of p.last) there) (ap (λ (x : Searching). x.opened) begun) within
       (ap (λ (x : Searching). x.openings) kept ∙ ap (λ (x : Searching). x.openings) begun) under (ap (λ (x : Searching). x.modifiers) begun) counts.forced
 
   -- .. and is counted.
-  pub asked_tallies : (question : Question) (later : Searching) (cut : Bool) (left : ℕ) (old lent new : Tally) → lent ≡ old → later ≡ record asked { opened = later.opened; taken = later.taken } → CountsAnswer asked later cut question here.state (stand_of here.last) left → new.openings ≡ min (lent.openings + later.opened) (2 ^ 64 - 1) → new.pairs ≡ min (lent.pairs + later.taken) (2 ^ 64 - 1) → IsTallied game question place old new
+  pub asked_tallies : (question : Question) (later : Searching) (cut : Bool) (left : ℕ) (old lent new : Tally) → lent ≡ old → later ≡ record asked { opened = later.opened; taken = later.taken } → CountsAnswer asked later cut question here.state (point_of here.last) left → new.openings ≡ min (lent.openings + later.opened) (2 ^ 64 - 1) → new.pairs ≡ min (lent.pairs + later.taken) (2 ^ 64 - 1) → IsTallied game question place old new
   asked_tallies question later cut left old lent new same kept counts openings pairs =
       subst (λ (p : AbstractPlace). IsTallied game question p old new) there
       (tallied game question here asked later old lent new (ap (λ (x : Searching). x.game) begun) (ap (λ (x : Searching). x.opened) begun) (ap (λ (x : Searching). x.taken) begun) same kept counts.counted
-      (all_forced asked.game cut question here.state (stand_of here.last) asked.opened later.opened left asked.modifiers counts.forced) counts.paired openings pairs)
+      (all_forced asked.game cut question here.state (point_of here.last) asked.opened later.opened left asked.modifiers counts.forced) counts.paired openings pairs)

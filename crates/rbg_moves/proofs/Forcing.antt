@@ -1,6 +1,6 @@
 -- Which openings are forced of the questions about moves, and that they were taken up.
 use Rattle.rbg_base.proofs.Common.{◌≡◌, ◌≢◌, ℕ, zero, suc, ◌-◌, ◌<◌, ◌≤◌, List, [], ◌∷◌, ◌++◌, length, Bool, true, false, refl, sym, ap, subst, inl, inr, arith, All, Contains, Some, All-head, All-contains, All-weaker}
-use Rattle.rbg_rules.specs.Meaning.{IsNumbered, IsSwitchAt, Start, after, AbstractGame, AbstractState, Applies, switch, stay, modify, AbstractPlace, stand_of, Legal, IsLegal, Finished, most_openings, most_modifiers, Question, try_move, find_move, list_moves, reach, pattern, Item, IsMove, AnswersAfter, GoesTo, IsForcedTo, Forced, at, beyond, IsForcedDeep}
+use Rattle.rbg_rules.specs.Meaning.{IsNumbered, IsSwitchAt, Start, after, AbstractGame, AbstractState, Applies, switch, stay, modify, AbstractPlace, point_of, Legal, IsLegal, Finished, most_openings, most_modifiers, Question, try_move, find_move, list_moves, reach, pattern, Item, IsMove, AnswersAfter, GoesTo, IsForcedTo, Forced, at, beyond, IsForcedDeep}
 use Rattle.rbg_rules.proofs.PlaceLemmas.{RunPairs_join}
 use Rattle.rbg_rules.proofs.MoveLemmas.{Applies_one}
 use Rattle.rbg_pairs.specs.Flat.{IsNext, IsFlatPart}
@@ -15,13 +15,13 @@ use Rattle.rbg_moves.proofs.Gathering.{none_wanted}
 
 -- ---- a move is a legal list of pairs
 
-pub move_legal : (game : AbstractGame) (place : AbstractPlace) (ps : List (ℕ × ℕ)) → IsMove game place.state (stand_of place.last) ps → IsLegal game place ps
+pub move_legal : (game : AbstractGame) (place : AbstractPlace) (ps : List (ℕ × ℕ)) → IsMove game place.state (point_of place.last) ps → IsLegal game place ps
 move_legal game place ps move = (
   (let r : AbstractPlace = record { state = move.end; last = Some move.last } in r),
   record { before = move.before; last = move.last; follows = move.follows; runs = move.runs; switches = move.switches; none_before = move.no_switch; stands = refl },
 )
 
-pub legal_move : (game : AbstractGame) (place to : AbstractPlace) (ps : List (ℕ × ℕ)) → Legal game place ps to → IsMove game place.state (stand_of place.last) ps
+pub legal_move : (game : AbstractGame) (place to : AbstractPlace) (ps : List (ℕ × ℕ)) → Legal game place ps to → IsMove game place.state (point_of place.last) ps
 legal_move game place to ps legal = record { before = legal.before; last = legal.last; end = to.state; no_switch = legal.none_before; switches = legal.switches; follows = legal.follows; runs = legal.runs }
 
 -- ---- what is forced where the answer is cut is forced where it isn't
@@ -52,10 +52,10 @@ fits_uncut {game} {question} {place} fits cut = record {
   few = λ many has. fits.few many (record {
     openings = has.openings;
     different = has.different;
-    forced = All-weaker (Forced game cut question place.state (stand_of place.last)) (Forced game false question place.state (stand_of place.last)) (uncut game cut question place.state (stand_of place.last)) has.openings has.forced;
+    forced = All-weaker (Forced game cut question place.state (point_of place.last)) (Forced game false question place.state (point_of place.last)) (uncut game cut question place.state (point_of place.last)) has.openings has.forced;
     count = has.count;
   });
-  not_deep = λ deep. fits.not_deep (record { before = deep.before; row = deep.row; later = deep.later; forced = uncut game cut question place.state (stand_of place.last) _ deep.forced; count = deep.count });
+  not_deep = λ deep. fits.not_deep (record { before = deep.before; row = deep.row; later = deep.later; forced = uncut game cut question place.state (point_of place.last) _ deep.forced; count = deep.count });
 }
 
 -- What is forced where the answer is cut was counted, whether it is cut or not.
@@ -105,9 +105,9 @@ module _ (game : AbstractGame) (numbered : IsNumbered game.rules) where
   found_at_once s f ps move o (beyond on goes (inl none) follows is inner) = beyond on none tt follows is inner
   found_at_once s f ps move o (beyond on goes (inr never) follows is inner) = absurd (never ps move)
 
-  found_forced : (place : AbstractPlace) (ps : List (ℕ × ℕ)) (a b c left most : ℕ) → IsLegal game place ps → b ≤ c → CountsForced game false reach place.state (stand_of place.last) a b left most → CountsForced game false find_move place.state (stand_of place.last) a c left most
+  found_forced : (place : AbstractPlace) (ps : List (ℕ × ℕ)) (a b c left most : ℕ) → IsLegal game place ps → b ≤ c → CountsForced game false reach place.state (point_of place.last) a b left most → CountsForced game false find_move place.state (point_of place.last) a c left most
   found_forced place ps a b c left most legal grows counts =
-      forced_at_once game numbered false find_move place.state (stand_of place.last) a b c left most (found_at_once place.state (stand_of place.last) ps (legal_move game place legal.0 ps legal.1)) grows counts
+      forced_at_once game numbered false find_move place.state (point_of place.last) a b c left most (found_at_once place.state (point_of place.last) ps (legal_move game place legal.0 ps legal.1)) grows counts
 
   -- An answer after these modifiers is a move of them and of one switch.
   record AnswerMove (s : AbstractState) (f : Start) (qs : List (ℕ × ℕ)) : Type 0 where
@@ -126,7 +126,7 @@ module _ (game : AbstractGame) (numbered : IsNumbered game.rules) where
       }
 
   -- Where there is none, there is none after a modifier, and there too all is forced.
-  finished_forces : (place : AbstractPlace) → Finished game place → ForcesOn game false find_move find_move place.state (stand_of place.last)
+  finished_forces : (place : AbstractPlace) → Finished game place → ForcesOn game false find_move find_move place.state (point_of place.last)
   finished_forces place finished = λ v p later ps next applies plain goes forced.
       let never : (qs : List (ℕ × ℕ)) → ¬ IsMove game later (after p) qs = λ qs move.
       let legal = move_legal game (place_beyond later p) qs move in
@@ -135,9 +135,9 @@ module _ (game : AbstractGame) (numbered : IsNumbered game.rules) where
         inr never,
       )
 
-  finished_forced : (place : AbstractPlace) (pairs : List (ℕ × ℕ)) (ends : Bool) (a b left most : ℕ) → Finished game place → IsFlatPart game place.state (stand_of place.last) pairs ends → TakenSoFar game find_move place.state (stand_of place.last) pairs a b left most → CountsForced game false find_move place.state (stand_of place.last) a b left most
+  finished_forced : (place : AbstractPlace) (pairs : List (ℕ × ℕ)) (ends : Bool) (a b left most : ℕ) → Finished game place → IsFlatPart game place.state (point_of place.last) pairs ends → TakenSoFar game find_move place.state (point_of place.last) pairs a b left most → CountsForced game false find_move place.state (point_of place.last) a b left most
   finished_forced place pairs ends a b left most finished part taken =
-      forced_after game numbered false find_move find_move place.state (stand_of place.last) pairs a taken.middle b left most (finished_forces place finished) (λ v p ps next plain goes. (part.next v p).1 next) taken.at_once taken.after_it
+      forced_after game numbered false find_move find_move place.state (point_of place.last) pairs a taken.middle b left most (finished_forces place finished) (λ v p ps next plain goes. (part.next v p).1 next) taken.at_once taken.after_it
 
   -- ---- the moves are listed
 
@@ -165,25 +165,25 @@ module _ (game : AbstractGame) (numbered : IsNumbered game.rules) where
   -- ---- a walk that looks for some move or lists the moves
 
   -- It goes on after a modifier: where it looks for some move, no switch came next.
-  pub walk_passes : (max : ℕ) (place : AbstractPlace) (done front : List (ℕ × ℕ)) (had has : List (List (ℕ × ℕ))) (first : List (ℕ × ℕ)) (v p : ℕ) → Gathers (IsLegalBy game place (IsSwitchOr game.rules done)) front max had has first false → Passes game place.state (stand_of place.last) v p (question_of max) (question_of max)
+  pub walk_passes : (max : ℕ) (place : AbstractPlace) (done front : List (ℕ × ℕ)) (had has : List (List (ℕ × ℕ))) (first : List (ℕ × ℕ)) (v p : ℕ) → Gathers (IsLegalBy game place (IsSwitchOr game.rules done)) front max had has first false → Passes game place.state (point_of place.last) v p (question_of max) (question_of max)
   walk_passes zero place done front had has first v p gathers =
       finding (λ answer.
-      let last = answer_move place.state (stand_of place.last) [] answer in
+      let last = answer_move place.state (point_of place.last) [] answer in
       none_wanted (IsLegalBy game place (IsSwitchOr game.rules done)) front had has first gathers (last.pair ∷ []) (record { legal = move_legal game place (last.pair ∷ []) last.move; begins = inl last.switches }))
   walk_passes (suc n) place done front had has first v p gathers = listing
 
   -- Where it ends early there is a move, or its list is cut.
-  pub early_forced : (max : ℕ) (place : AbstractPlace) (front : List (ℕ × ℕ)) (had has : List (List (ℕ × ℕ))) (first : List (ℕ × ℕ)) (a b c left most : ℕ) → Gathers (IsLegal game place) front max had has first true → b ≤ c → CountsForced game false reach place.state (stand_of place.last) a b left most → CountsForced game (is_cut true max) (question_of max) place.state (stand_of place.last) a c left most
+  pub early_forced : (max : ℕ) (place : AbstractPlace) (front : List (ℕ × ℕ)) (had has : List (List (ℕ × ℕ))) (first : List (ℕ × ℕ)) (a b c left most : ℕ) → Gathers (IsLegal game place) front max had has first true → b ≤ c → CountsForced game false reach place.state (point_of place.last) a b left most → CountsForced game (is_cut true max) (question_of max) place.state (point_of place.last) a c left most
   early_forced zero place front had has first a b c left most gathers grows counts =
       let other = gathers.more refl in
       found_forced place other.pairs a b c left most other.wanted grows counts
-  early_forced (suc n) place front had has first a b c left most gathers grows counts = cut_forced place.state (stand_of place.last) a b c left most grows counts
+  early_forced (suc n) place front had has first a b c left most gathers grows counts = cut_forced place.state (point_of place.last) a b c left most grows counts
 
   -- Where it doesn't, play is finished, or all moves are listed.
-  pub all_forced_at : (max : ℕ) (place : AbstractPlace) (front : List (ℕ × ℕ)) (had has : List (List (ℕ × ℕ))) (first pairs : List (ℕ × ℕ)) (ends : Bool) (a b left most : ℕ) → Gathers (IsLegal game place) front max had has first false → IsFlatPart game place.state (stand_of place.last) pairs ends → TakenSoFar game (question_of max) place.state (stand_of place.last) pairs a b left most → CountsForced game false (question_of max) place.state (stand_of place.last) a b left most
+  pub all_forced_at : (max : ℕ) (place : AbstractPlace) (front : List (ℕ × ℕ)) (had has : List (List (ℕ × ℕ))) (first pairs : List (ℕ × ℕ)) (ends : Bool) (a b left most : ℕ) → Gathers (IsLegal game place) front max had has first false → IsFlatPart game place.state (point_of place.last) pairs ends → TakenSoFar game (question_of max) place.state (point_of place.last) pairs a b left most → CountsForced game false (question_of max) place.state (point_of place.last) a b left most
   all_forced_at zero place front had has first pairs ends a b left most gathers part taken =
       finished_forced place pairs ends a b left most (record { no_move = λ ps to legal. none_wanted (IsLegal game place) front had has first gathers ps (to, legal) }) part taken
-  all_forced_at (suc n) place front had has first pairs ends a b left most gathers part taken = listed_forced place.state (stand_of place.last) pairs ends a b left most part taken
+  all_forced_at (suc n) place front had has first pairs ends a b left most gathers part taken = listed_forced place.state (point_of place.last) pairs ends a b left most part taken
 
   -- ---- pairs are tried
 
@@ -230,27 +230,27 @@ module _ (game : AbstractGame) (numbered : IsNumbered game.rules) where
 
 -- ---- the question at a place
 
-pub fits_limits : (game : AbstractGame) (cut : Bool) (question : Question) (place : AbstractPlace) (old new left most : ℕ) → CountsForced game cut question place.state (stand_of place.last) old new left most → old ≡ 0 → new ≤ most_openings → left ≤ most → most ≡ most_modifiers → FitsLimits game cut question place
+pub fits_limits : (game : AbstractGame) (cut : Bool) (question : Question) (place : AbstractPlace) (old new left most : ℕ) → CountsForced game cut question place.state (point_of place.last) old new left most → old ≡ 0 → new ≤ most_openings → left ≤ most → most ≡ most_modifiers → FitsLimits game cut question place
 fits_limits game cut question place old new left most counts from_none within under limit = record {
   few = λ many has.
-      let added = all_counted game cut question place.state (stand_of place.last) old new left most counts many has in
+      let added = all_counted game cut question place.state (point_of place.last) old new left most counts many has in
       omega (arith, added, from_none, within);
   not_deep =
       let some : 0 < most = omega (arith, limit) in
-      subst (λ (n : ℕ). ¬ IsForcedDeep game cut question place.state (stand_of place.last) n) limit
-      (none_deep game cut question place.state (stand_of place.last) old new left most counts under some);
+      subst (λ (n : ℕ). ¬ IsForcedDeep game cut question place.state (point_of place.last) n) limit
+      (none_deep game cut question place.state (point_of place.last) old new left most counts under some);
 }
 
 -- Where nothing is forced, all fits.
-pub fits_none : (game : AbstractGame) (cut : Bool) (question : Question) (place : AbstractPlace) → ((o : List Item) → ¬ Forced game cut question place.state (stand_of place.last) o) → FitsLimits game cut question place
+pub fits_none : (game : AbstractGame) (cut : Bool) (question : Question) (place : AbstractPlace) → ((o : List Item) → ¬ Forced game cut question place.state (point_of place.last) o) → FitsLimits game cut question place
 fits_none game cut question place never = record {
   few = λ many has. none_many has.openings has.forced many has.count;
   not_deep = λ deep. never _ deep.forced;
 }
   where
-    none_many : (os : List (List Item)) → All (Forced game cut question place.state (stand_of place.last)) os → (many : ℕ) → length os ≡ many → many ≤ most_openings
+    none_many : (os : List (List Item)) → All (Forced game cut question place.state (point_of place.last)) os → (many : ℕ) → length os ≡ many → many ≤ most_openings
     none_many [] forced many count = omega (arith, count)
-    none_many (o ∷ os) forced many count = absurd (never o (All-head (Forced game cut question place.state (stand_of place.last)) o os forced))
+    none_many (o ∷ os) forced many count = absurd (never o (All-head (Forced game cut question place.state (point_of place.last)) o os forced))
 
 -- Pairs that are no move force nothing.
 try_forces : (game : AbstractGame) (cut : Bool) (s : AbstractState) (f : Start) (qs : List (ℕ × ℕ)) (o : List Item) → Forced game cut (try_move qs) s f o → IsMove game s f qs
@@ -259,26 +259,26 @@ try_forces game cut s f qs o (beyond on goes forced follows is inner) = forced
 
 pub illegal_fits : (game : AbstractGame) (cut : Bool) (place : AbstractPlace) (qs : List (ℕ × ℕ)) → ((to : AbstractPlace) → ¬ Legal game place qs to) → FitsLimits game cut (try_move qs) place
 illegal_fits game cut place qs illegal = fits_none game cut (try_move qs) place (λ o forced.
-    let legal = move_legal game place qs (try_forces game cut place.state (stand_of place.last) qs o forced) in
+    let legal = move_legal game place qs (try_forces game cut place.state (point_of place.last) qs o forced) in
     illegal legal.0 legal.1)
 
 -- .. so any count counts it.
-pub illegal_counts : (game : AbstractGame) (cut : Bool) (place : AbstractPlace) (qs : List (ℕ × ℕ)) (old new : ℕ) → ((to : AbstractPlace) → ¬ Legal game place qs to) → old ≤ new → CountsAllForced game cut (try_move qs) place.state (stand_of place.last) old new
+pub illegal_counts : (game : AbstractGame) (cut : Bool) (place : AbstractPlace) (qs : List (ℕ × ℕ)) (old new : ℕ) → ((to : AbstractPlace) → ¬ Legal game place qs to) → old ≤ new → CountsAllForced game cut (try_move qs) place.state (point_of place.last) old new
 illegal_counts game cut place qs old new illegal grows = λ many has.
     let none : many ≡ 0 = none_many has.openings has.forced many has.count in
     omega (arith, none, grows)
   where
-    none_many : (os : List (List Item)) → All (Forced game cut (try_move qs) place.state (stand_of place.last)) os → (many : ℕ) → length os ≡ many → many ≡ 0
+    none_many : (os : List (List Item)) → All (Forced game cut (try_move qs) place.state (point_of place.last)) os → (many : ℕ) → length os ≡ many → many ≡ 0
     none_many [] forced many count = omega (arith, count)
     none_many (o ∷ os) forced many count =
-        let legal = move_legal game place qs (try_forces game cut place.state (stand_of place.last) qs o (All-head (Forced game cut (try_move qs) place.state (stand_of place.last)) o os forced)) in
+        let legal = move_legal game place qs (try_forces game cut place.state (point_of place.last) qs o (All-head (Forced game cut (try_move qs) place.state (point_of place.last)) o os forced)) in
         absurd (illegal legal.0 legal.1)
 
 -- What was taken up in the whole budget, told of an equal game and place.
-pub fits_at : (game g : AbstractGame) (place : AbstractPlace) (s : AbstractState) (f : Start) (cut : Bool) (question : Question) (old new left most openings : ℕ) → g ≡ game → s ≡ place.state → f ≡ stand_of place.last → old ≡ 0 → new ≤ openings → openings ≡ most_openings → left ≤ most_modifiers → most ≡ most_modifiers → CountsForced g cut question s f old new left most → FitsLimits game cut question place
+pub fits_at : (game g : AbstractGame) (place : AbstractPlace) (s : AbstractState) (f : Start) (cut : Bool) (question : Question) (old new left most openings : ℕ) → g ≡ game → s ≡ place.state → f ≡ point_of place.last → old ≡ 0 → new ≤ openings → openings ≡ most_openings → left ≤ most_modifiers → most ≡ most_modifiers → CountsForced g cut question s f old new left most → FitsLimits game cut question place
 fits_at game g place s f cut question old new left most openings same state start none within budget under limit counts =
     fits_limits game cut question place old new left most
-    (subst (λ (h : AbstractGame). CountsForced h cut question place.state (stand_of place.last) old new left most) same
-    (subst (λ (u : AbstractState). CountsForced g cut question u (stand_of place.last) old new left most) state
+    (subst (λ (h : AbstractGame). CountsForced h cut question place.state (point_of place.last) old new left most) same
+    (subst (λ (u : AbstractState). CountsForced g cut question u (point_of place.last) old new left most) state
     (subst (λ (e : Start). CountsForced g cut question s e old new left most) start counts)))
     none (omega (arith, within, budget)) (omega (arith, under, limit)) limit

@@ -2,7 +2,7 @@
 use Rattle.rbg_base.proofs.Common.{◌≡◌, ◌≢◌, ℕ, zero, suc, ◌+◌, ◌-◌, ◌<◌, ◌≤◌, List, [], ◌∷◌, ◌++◌, length, Bool, true, false, Option, refl, sym, ap, subst, arith, All, Contains, IsOk, Result, Ok, Err, IsPermutation, length_push, All-head, All-nil, All-push, All-tail}
 use Rattle.std.proofs.lemmas.List.Sorted.{All-permutation, IsPermutation-append_right, IsPermutation-refl}
 use Rattle.rbg_base.specs.Move.{most_pairs}
-use Rattle.rbg_rules.specs.Meaning.{IsNumbered, IsModifierAt, IsSwitchAt, Start, after, AbstractGame, AbstractState, IsStateOf, Applies, IsGame, AbstractPlace, stand_of, IsLegal, Question, try_move, reach, GoesTo}
+use Rattle.rbg_rules.specs.Meaning.{IsNumbered, IsModifierAt, IsSwitchAt, Start, after, AbstractGame, AbstractState, IsStateOf, Applies, IsGame, AbstractPlace, point_of, IsLegal, Question, try_move, reach, GoesTo}
 use Rattle.rbg_rules.proofs.MoveLemmas.{Applies_one}
 use Rattle.rbg_rules.proofs.TableLemmas.{numbered_action}
 use Rattle.rbg_state.specs.History.{History}
@@ -75,9 +75,9 @@ pub record IsSoFar
     (had has : List (List (ℕ × ℕ))) (first done : List (ℕ × ℕ))
     : Type 0
   where
-    pub counted : CountsUpTo old.game (question_of max) place.state (stand_of place.last) done old.opened now.opened
-    pub paired : CountsPairs old.game (question_of max) place.state (stand_of place.last) old.opened now.opened old.taken now.taken (Unit {0})
-    pub forced : TakenSoFar old.game (question_of max) place.state (stand_of place.last) done old.opened now.opened (most_pairs - length front) old.modifiers
+    pub counted : CountsUpTo old.game (question_of max) place.state (point_of place.last) done old.opened now.opened
+    pub paired : CountsPairs old.game (question_of max) place.state (point_of place.last) old.opened now.opened old.taken now.taken (Unit {0})
+    pub forced : TakenSoFar old.game (question_of max) place.state (point_of place.last) done old.opened now.opened (most_pairs - length front) old.modifiers
     pub gathers : Gathers (IsLegalBy old.game place (IsSwitchOr old.game.rules done)) front max had has first false
 
 -- The pairs of what comes next are counted of any question.
@@ -95,18 +95,18 @@ none_come {old} {s = s} {f = f} max left numbered asked = record {
 }
 
 -- All switches were added.
-pub walk_begun : {old now : Searching} {s l : History} (last : Option ℕ) {result : Result Bool Over} {front pairs others : List (ℕ × ℕ)} {max : ℕ} {had has : List (List (ℕ × ℕ))} {first : List (ℕ × ℕ)} {ends : Bool} → IsNumbered old.game.rules → HasCome old now s l (stand_of last) result pairs ends → (leaves : LeavesOthers old.game.rules pairs others) → ListsSwitches old.game pairs pairs front max had has first false → (let place : AbstractPlace = record { state = s.state; last = last } in IsSoFar old now place front max had has first leaves.switches)
+pub walk_begun : {old now : Searching} {s l : History} (last : Option ℕ) {result : Result Bool Over} {front pairs others : List (ℕ × ℕ)} {max : ℕ} {had has : List (List (ℕ × ℕ))} {first : List (ℕ × ℕ)} {ends : Bool} → IsNumbered old.game.rules → HasCome old now s l (point_of last) result pairs ends → (leaves : LeavesOthers old.game.rules pairs others) → ListsSwitches old.game pairs pairs front max had has first false → (let place : AbstractPlace = record { state = s.state; last = last } in IsSoFar old now place front max had has first leaves.switches)
 walk_begun {old} {now} {s} last {front = front} {pairs} {max = max} {had} {has} {first} {ends} numbered come leaves lists =
     let place : AbstractPlace = record { state = s.state; last = last } in
     record {
-      counted = counts_weaker old.game numbered (counts_begin old.game numbered (begins max old.game s.state (stand_of last)) come.asked.counted) leaves.switches;
+      counted = counts_weaker old.game numbered (counts_begin old.game numbered (begins max old.game s.state (point_of last)) come.asked.counted) leaves.switches;
       paired = come_paired (question_of max) come;
-      forced = so_far_switches old.game numbered (question_of max) s.state (stand_of last) leaves.switches old.opened now.opened (most_pairs - length front) old.modifiers leaves.switching (come.found.forced false (most_pairs - length front));
+      forced = so_far_switches old.game numbered (question_of max) s.state (point_of last) leaves.switches old.opened now.opened (most_pairs - length front) old.modifiers leaves.switching (come.found.forced false (most_pairs - length front));
       gathers = others_begin old.game numbered place pairs ends come.found.reached leaves.switches front max had has first leaves.switching lists;
     }
 
 -- There was no room for one of them.
-pub walk_ended : {old now : Searching} {s l : History} (last : Option ℕ) {result : Result Bool Over} {front pairs : List (ℕ × ℕ)} {max : ℕ} {had has : List (List (ℕ × ℕ))} {first : List (ℕ × ℕ)} {ends : Bool} → IsNumbered old.game.rules → HasCome old now s l (stand_of last) result pairs ends → length front < most_pairs → ListsSwitches old.game pairs pairs front max had has first true → (let place : AbstractPlace = record { state = s.state; last = last } in IsWalked old now place front max had has first true)
+pub walk_ended : {old now : Searching} {s l : History} (last : Option ℕ) {result : Result Bool Over} {front pairs : List (ℕ × ℕ)} {max : ℕ} {had has : List (List (ℕ × ℕ))} {first : List (ℕ × ℕ)} {ends : Bool} → IsNumbered old.game.rules → HasCome old now s l (point_of last) result pairs ends → length front < most_pairs → ListsSwitches old.game pairs pairs front max had has first true → (let place : AbstractPlace = record { state = s.state; last = last } in IsWalked old now place front max had has first true)
 walk_ended {old} {now} {s} last {front = front} {pairs} {max = max} {had} {has} {first} {ends} numbered come short lists =
     let place : AbstractPlace = record { state = s.state; last = last } in
     let gathers = switches_cut old.game place pairs ends come.found.reached front max had has first lists in
@@ -114,14 +114,14 @@ walk_ended {old} {now} {s} last {front = front} {pairs} {max = max} {had} {has} 
       short = short;
       gathers = gathers;
       counts = record {
-        counted = counts_reached old.game numbered (begins max old.game s.state (stand_of last)) come.asked.counted;
+        counted = counts_reached old.game numbered (begins max old.game s.state (point_of last)) come.asked.counted;
         paired = come_paired (question_of max) come;
         forced = early_forced old.game numbered max place front had has first old.opened now.opened now.opened (most_pairs - length front) old.modifiers gathers (omega arith) (come.found.forced false (most_pairs - length front));
       };
     }
 
 -- All pairs are done.
-pub walk_whole : {old now : Searching} {place : AbstractPlace} {front : List (ℕ × ℕ)} {max : ℕ} {had has : List (List (ℕ × ℕ))} {first done others : List (ℕ × ℕ)} → IsNumbered old.game.rules → length front < most_pairs → IsWhole old.game place.state (stand_of place.last) (done ++ others) → others ≡ [] → IsSoFar old now place front max had has first done → IsWalked old now place front max had has first false
+pub walk_whole : {old now : Searching} {place : AbstractPlace} {front : List (ℕ × ℕ)} {max : ℕ} {had has : List (List (ℕ × ℕ))} {first done others : List (ℕ × ℕ)} → IsNumbered old.game.rules → length front < most_pairs → IsWhole old.game place.state (point_of place.last) (done ++ others) → others ≡ [] → IsSoFar old now place front max had has first done → IsWalked old now place front max had has first false
 walk_whole {old} {now} {place} {front} {max} {had} {has} {first} {done} {others} numbered short whole none so_far =
     let all = subst (IsSoFar old now place front max had has first) (none_left done others none) so_far in
     let gathers = others_end old.game numbered place (done ++ others) whole.ends whole.part front max had has first all.gathers in
@@ -163,11 +163,11 @@ pub record AtTurn (old now : Searching) (place : AbstractPlace) (s' : AbstractSt
   pub same_front : front' ≡ front
   pub same_max : max' ≡ max
   pub ends : Bool
-  pub part : IsFlatPart old.game place.state (stand_of place.last) (turned done others q) ends
+  pub part : IsFlatPart old.game place.state (point_of place.last) (turned done others q) ends
   pub plain : ¬ IsSwitchAt old.game.rules q.1
   pub so_far : IsSoFar old now place front max had has first done
 
-pub walk_turn : {old now : Searching} {place : AbstractPlace} {s' : AbstractState} {front front' : List (ℕ × ℕ)} {max max' : ℕ} {had has : List (List (ℕ × ℕ))} {first done pairs others : List (ℕ × ℕ)} {q : ℕ × ℕ} → IsGame old.game → now ≡ (record old { opened = now.opened; taken = now.taken }) → s' ≡ place.state → front' ≡ front → max' ≡ max → IsWhole old.game place.state (stand_of place.last) (done ++ pairs) → Plain old.game pairs → IsSoFar old now place front max had has first done → IsPermutation pairs (q ∷ others) → AtTurn old now place s' front front' max max' had has first done others q
+pub walk_turn : {old now : Searching} {place : AbstractPlace} {s' : AbstractState} {front front' : List (ℕ × ℕ)} {max max' : ℕ} {had has : List (List (ℕ × ℕ))} {first done pairs others : List (ℕ × ℕ)} {q : ℕ × ℕ} → IsGame old.game → now ≡ (record old { opened = now.opened; taken = now.taken }) → s' ≡ place.state → front' ≡ front → max' ≡ max → IsWhole old.game place.state (point_of place.last) (done ++ pairs) → Plain old.game pairs → IsSoFar old now place front max had has first done → IsPermutation pairs (q ∷ others) → AtTurn old now place s' front front' max max' had has first done others q
 walk_turn {old = old} {place = place} {done = done} {pairs = pairs} {others = others} {q = q} lawful kept there same_front same_max whole plain so_far taken = record {
   lawful = lawful;
   kept = kept;
@@ -175,22 +175,22 @@ walk_turn {old = old} {place = place} {done = done} {pairs = pairs} {others = ot
   same_front = same_front;
   same_max = same_max;
   ends = whole.ends;
-  part = flat_permuted old.game place.state (stand_of place.last) (done ++ pairs) (turned done others q) whole.ends (IsPermutation-append_right done pairs (q ∷ others) taken) whole.part;
+  part = flat_permuted old.game place.state (point_of place.last) (done ++ pairs) (turned done others q) whole.ends (IsPermutation-append_right done pairs (q ∷ others) taken) whole.part;
   plain = All-head (λ (r : ℕ × ℕ). ¬ IsSwitchAt old.game.rules r.1) q others (both_plain old.game pairs others q plain taken);
   so_far = so_far;
 }
 
 module _ {old now : Searching} {place : AbstractPlace} {s' : AbstractState} {front front' : List (ℕ × ℕ)} {max max' : ℕ} {had has : List (List (ℕ × ℕ))} {first done others : List (ℕ × ℕ)} {q : ℕ × ℕ} (turn : AtTurn old now place s' front front' max max' had has first done others q) where
-  turn_next : IsNext old.game place.state (stand_of place.last) q.0 q.1
+  turn_next : IsNext old.game place.state (point_of place.last) q.0 q.1
   turn_next = (turn.part.next q.0 q.1).0 (length done, turn_under done others q, turn_at done others q q)
 
   fresh : ¬ Contains done q
   fresh = subst (λ (ds : List (ℕ × ℕ)). ¬ Contains ds q) (turn_front done others q) (met_once (turned done others q) (length done) q turn.part.different (turn_under done others q) (turn_at done others q q))
 
-  goes_on : GoesOn old.game (question_of max) place.state (stand_of place.last) q.0 q.1 (question_of max) turn_next.later
+  goes_on : GoesOn old.game (question_of max) place.state (point_of place.last) q.0 q.1 (question_of max) turn_next.later
   goes_on = record {
     next = turn_next;
-    applies = next_applies old.game turn.lawful.numbered place.state (stand_of place.last) q.0 q.1 turn_next;
+    applies = next_applies old.game turn.lawful.numbered place.state (point_of place.last) q.0 q.1 turn_next;
     plain = turn.plain;
     passes = walk_passes old.game turn.lawful.numbered max place done front had has first q.0 q.1 turn.so_far.gathers;
   }
@@ -212,25 +212,25 @@ module _ {old now : Searching} {place : AbstractPlace} {s' : AbstractState} {fro
       (subst (λ (x : Searching). Is x front' max' turn_next.later) turn.kept
       (beyond turn_next.later (applied_back old.game now.game place.state s' turn_next.later q.0 q.1 same turn.there goes_on.applies))))
 
-  pub turn_whole : IsWhole old.game place.state (stand_of place.last) ((done ++ q ∷ []) ++ others)
-  turn_whole = record { ends = turn.ends; part = subst (λ (ps : List (ℕ × ℕ)). IsFlatPart old.game place.state (stand_of place.last) ps turn.ends) (sym (turn_rest done others q)) turn.part }
+  pub turn_whole : IsWhole old.game place.state (point_of place.last) ((done ++ q ∷ []) ++ others)
+  turn_whole = record { ends = turn.ends; part = subst (λ (ps : List (ℕ × ℕ)). IsFlatPart old.game place.state (point_of place.last) ps turn.ends) (sym (turn_rest done others q)) turn.part }
 
   pub turn_fits : IsStateOf old.game place.state → IsStateOf now.game s'
   turn_fits fits = subst (λ (g : AbstractGame). IsStateOf g s') (sym same) (subst (λ (s : AbstractState). IsStateOf old.game s) (sym turn.there) fits)
 
   pub turn_valid : IsStateOf old.game place.state → IsValidAt now.game s' q.0 q.1
   turn_valid fits =
-      let f = stand_of place.last in
+      let f = point_of place.last in
       let valid : IsValidAt old.game place.state q.0 q.1 = valid_next old.game turn.lawful.numbered place.state f q.0 q.1 (next_there old.game turn.lawful place.state f q.0 q.1 fits turn_next) turn_next in
       subst (λ (g : AbstractGame). IsValidAt g s' q.0 q.1) (sym same) (subst (λ (s : AbstractState). IsValidAt old.game s q.0 q.1) (sym turn.there) valid)
 
   -- The walk after the modifier was given up.
-  pub turn_given_up : (D W : Type 0) → length front < most_pairs → Beyond now.game s' q (λ later. IsGivenUp now (question_of max') later (after q.1) (most_pairs - length (front' ++ q ∷ [])) D W) → IsGivenUp old (question_of max) place.state (stand_of place.last) (most_pairs - length front) D W
+  pub turn_given_up : (D W : Type 0) → length front < most_pairs → Beyond now.game s' q (λ later. IsGivenUp now (question_of max') later (after q.1) (most_pairs - length (front' ++ q ∷ [])) D W) → IsGivenUp old (question_of max) place.state (point_of place.last) (most_pairs - length front) D W
   turn_given_up D W short beyond =
       let more = at_later (λ x ps n later. IsGivenUp x (question_of n) later (after q.1) (most_pairs - length (ps ++ q ∷ [])) D W) beyond in
       let fewer : suc (most_pairs - length (front ++ q ∷ [])) ≡ most_pairs - length front = omega (arith, one_more, short) in
       record {
-        deep = λ d. subst (λ (n : ℕ). IsTooDeep old.game (question_of max) place.state (stand_of place.last) n old.modifiers) fewer (deep_more old.game turn.lawful.numbered goes_on (more.deep d));
+        deep = λ d. subst (λ (n : ℕ). IsTooDeep old.game (question_of max) place.state (point_of place.last) n old.modifiers) fewer (deep_more old.game turn.lawful.numbered goes_on (more.deep d));
         wide = λ w. over_more old.game turn.lawful.numbered turn.so_far.counted fresh goes_on (more.wide w);
       }
 
@@ -239,11 +239,11 @@ module _ {old now : Searching} {place : AbstractPlace} {s' : AbstractState} {fro
     more : IsWalked here new (place_beyond turn_next.later q.1) (front ++ q ∷ []) max has now_has now_first is
     more = subst (IsWalked here new (place_beyond turn_next.later q.1) (front ++ q ∷ []) max has now_has now_first) ends (at_later (λ x ps n later. IsWalked x new (place_beyond later q.1) (ps ++ q ∷ []) n has now_has now_first ended) beyond)
 
-    counted_on : CountsUpTo old.game (question_of max) place.state (stand_of place.last) (done ++ q ∷ []) old.opened new.opened
+    counted_on : CountsUpTo old.game (question_of max) place.state (point_of place.last) (done ++ q ∷ []) old.opened new.opened
     counted_on = counts_more old.game turn.lawful.numbered turn.so_far.counted fresh goes_on more.counts.counted
 
-    paired_on : CountsPairs old.game (question_of max) place.state (stand_of place.last) old.opened new.opened old.taken new.taken (Unit {0})
-    paired_on = more_takes old.game old.game (question_of max) (question_of max) place.state turn_next.later (stand_of place.last) q.0 q.1 old.opened now.opened new.opened old.taken now.taken new.taken refl goes_on turn.so_far.paired more.counts.paired
+    paired_on : CountsPairs old.game (question_of max) place.state (point_of place.last) old.opened new.opened old.taken new.taken (Unit {0})
+    paired_on = more_takes old.game old.game (question_of max) (question_of max) place.state turn_next.later (point_of place.last) q.0 q.1 old.opened now.opened new.opened old.taken now.taken new.taken refl goes_on turn.so_far.paired more.counts.paired
 
     gathers_on : Gathers (IsLegalBy old.game place (IsSwitchOr old.game.rules (done ++ q ∷ []))) front max had now_has now_first is
     gathers_on =
@@ -258,7 +258,7 @@ module _ {old now : Searching} {place : AbstractPlace} {s' : AbstractState} {fro
       record {
         counted = counted_on false ends beyond;
         paired = paired_on false ends beyond;
-        forced = so_far_one old.game turn.lawful.numbered (question_of max) place.state (stand_of place.last) done q turn_next.later old.opened now.opened new.opened (most_pairs - length front) old.modifiers goes_on.applies (omega (arith, one_more, short)) turn.so_far.forced
+        forced = so_far_one old.game turn.lawful.numbered (question_of max) place.state (point_of place.last) done q turn_next.later old.opened now.opened new.opened (most_pairs - length front) old.modifiers goes_on.applies (omega (arith, one_more, short)) turn.so_far.forced
             (subst (λ (n : ℕ). CountsForced old.game false (question_of max) turn_next.later (after q.1) now.opened new.opened n old.modifiers) fewer walked.counts.forced);
         gathers = gathers_on false ends beyond;
       }
@@ -292,7 +292,7 @@ one_switch game numbered q switches front front' max had has false short few (ro
     (lists_all game (q ∷ []) front max had (had ++ (front ++ q ∷ []) ∷ []) [] (q ∷ []) [] (IsPermutation-refl (q ∷ [])) (All-nil (λ (r : ℕ × ℕ). ¬ IsSwitchAt game.rules r.1))
     (lists_more game numbered (q ∷ []) front max had had [] [] [] q (IsPermutation-refl (q ∷ [])) switches room (lists_none game (q ∷ []) front max had [] few))))
 
-pub walk_switch : {old now : Searching} {s l : History} (last : Option ℕ) {result : Result Bool Over} {front front' : List (ℕ × ℕ)} {max : ℕ} {had has : List (List (ℕ × ℕ))} {q : ℕ × ℕ} {ends : Bool} → IsNumbered old.game.rules → HasCome old now s l (stand_of last) result (q ∷ []) ends → length front < most_pairs → length had ≤ max → IsSwitchAt old.game.rules q.1 → (cut : Bool) → AddsMove max had has front front' q cut → (let place : AbstractPlace = record { state = s.state; last = last } in IsWalked old now place front max had has front' cut)
+pub walk_switch : {old now : Searching} {s l : History} (last : Option ℕ) {result : Result Bool Over} {front front' : List (ℕ × ℕ)} {max : ℕ} {had has : List (List (ℕ × ℕ))} {q : ℕ × ℕ} {ends : Bool} → IsNumbered old.game.rules → HasCome old now s l (point_of last) result (q ∷ []) ends → length front < most_pairs → length had ≤ max → IsSwitchAt old.game.rules q.1 → (cut : Bool) → AddsMove max had has front front' q cut → (let place : AbstractPlace = record { state = s.state; last = last } in IsWalked old now place front max had has front' cut)
 walk_switch {old} last {front = front} {front'} {max} {had} {has} {q} numbered come short few switches true adds =
     walk_ended last numbered come short (one_switch old.game numbered q switches front front' max had has true short few adds)
 walk_switch {old} last {front = front} {front'} {max} {had} {has} {q} {ends} numbered come short few switches false adds =
@@ -305,7 +305,7 @@ walk_switch {old} last {front = front} {front'} {max} {had} {has} {q} {ends} num
     walk_whole numbered short (record { ends = ends; part = come.found.reached }) refl (walk_begun last numbered come leaves (one_switch old.game numbered q switches front front' max had has false short few adds))
 
 -- It is none: it is the one to go on after.
-pub one_turn : {old now : Searching} {s l : History} (last : Option ℕ) {result : Result Bool Over} (front : List (ℕ × ℕ)) {max : ℕ} (had : List (List (ℕ × ℕ))) {q : ℕ × ℕ} {ends : Bool} → IsGame old.game → HasCome old now s l (stand_of last) result (q ∷ []) ends → length had ≤ max → ¬ IsSwitchAt old.game.rules q.1 → (let place : AbstractPlace = record { state = s.state; last = last } in AtTurn old now place l.state front front max max had had [] [] [] q)
+pub one_turn : {old now : Searching} {s l : History} (last : Option ℕ) {result : Result Bool Over} (front : List (ℕ × ℕ)) {max : ℕ} (had : List (List (ℕ × ℕ))) {q : ℕ × ℕ} {ends : Bool} → IsGame old.game → HasCome old now s l (point_of last) result (q ∷ []) ends → length had ≤ max → ¬ IsSwitchAt old.game.rules q.1 → (let place : AbstractPlace = record { state = s.state; last = last } in AtTurn old now place l.state front front max max had had [] [] [] q)
 one_turn {old} {now} {s} {l} last front {max} had {q} {ends} lawful come few plain =
     let all : All (λ (r : ℕ × ℕ). ¬ IsSwitchAt old.game.rules r.1) (q ∷ []) = All-push (λ (r : ℕ × ℕ). ¬ IsSwitchAt old.game.rules r.1) [] q (All-nil (λ (r : ℕ × ℕ). ¬ IsSwitchAt old.game.rules r.1)) plain in
     let leaves : LeavesOthers old.game.rules (q ∷ []) (q ∷ []) = record {

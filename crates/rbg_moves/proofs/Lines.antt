@@ -1,7 +1,7 @@
 -- What a walk finds after a straight line of modifiers is what it finds before it.
 use Rattle.rbg_base.proofs.Common.{◌≡◌, ℕ, ◌+◌, ◌-◌, ◌*◌, ◌<◌, ◌≤◌, List, [], ◌∷◌, ◌++◌, length, Bool, false, Option, Some, None, refl, sym, ap, ◌∙◌, subst, arith, Result, Ok, length_push, append_assoc, append-nil}
 use Rattle.rbg_base.specs.Move.{most_pairs}
-use Rattle.rbg_rules.specs.Meaning.{IsNumbered, positions_of, switch, HasAction, IsSwitchAt, AbstractGame, AbstractState, IsStateOf, IsGame, IsStart, IsPlaceOf, after, stand_of, Applies, IsModifierAt}
+use Rattle.rbg_rules.specs.Meaning.{IsNumbered, positions_of, switch, HasAction, IsSwitchAt, AbstractGame, AbstractState, IsStateOf, IsGame, IsStart, IsPlaceOf, after, point_of, Applies, IsModifierAt}
 use Rattle.rbg_rules.proofs.MoveLemmas.{Applies_one}
 use Rattle.rbg_rules.proofs.TableLemmas.{numbered_action}
 use Rattle.rbg_state.specs.History.{History}
@@ -87,7 +87,7 @@ module _ (old new : Searching) (s : AbstractState) (p max : ℕ) (front : List (
   starts {q = q} line = let there = line_end old.game lawful.numbered position line in numbered_action old.game.rules lawful.numbered q there.from_one there.there
 
   -- One modifier of it comes next.
-  come : (n : ℕ) (t u : AbstractState) (q r : ℕ) → IsStateOf old.game t → IsStart old.game.rules (after q) → IsAlone old.game.rules q r → IsModifierAt old.game.rules r → Applies old.game r t u → (let answer : Result Bool Over = Ok false in HasCome (further old n) (further (further old n) 1) (at t) (at t) (stand_of (Some q)) answer ((t.vertex, r) ∷ []) false)
+  come : (n : ℕ) (t u : AbstractState) (q r : ℕ) → IsStateOf old.game t → IsStart old.game.rules (after q) → IsAlone old.game.rules q r → IsModifierAt old.game.rules r → Applies old.game r t u → (let answer : Result Bool Over = Ok false in HasCome (further old n) (further (further old n) 1) (at t) (at t) (point_of (Some q)) answer ((t.vertex, r) ∷ []) false)
   come n t u q r fits start alone modifier applies =
       let enough : 2 ≤ 2 = omega arith in
       let spent_now = spent_further old n spent pairs_some in
@@ -98,7 +98,7 @@ module _ (old new : Searching) (s : AbstractState) (p max : ℕ) (front : List (
       }
 
   -- So does a switch.
-  switched : (n : ℕ) (t : AbstractState) (q r : ℕ) → IsStateOf old.game t → IsStart old.game.rules (after q) → IsAlone old.game.rules q r → IsSwitchAt old.game.rules r → (let answer : Result Bool Over = Ok false in HasCome (further old n) (further (further old n) 1) (at t) (at t) (stand_of (Some q)) answer ((t.vertex, r) ∷ []) false)
+  switched : (n : ℕ) (t : AbstractState) (q r : ℕ) → IsStateOf old.game t → IsStart old.game.rules (after q) → IsAlone old.game.rules q r → IsSwitchAt old.game.rules r → (let answer : Result Bool Over = Ok false in HasCome (further old n) (further (further old n) 1) (at t) (at t) (point_of (Some q)) answer ((t.vertex, r) ∷ []) false)
   switched n t q r fits start alone switches =
       come n t (record t { player = switches.player }) q r fits start alone (record { action = switch switches.player; stands = switches.stands; modifies = refl }) (switch_applies old.game r switches.player t switches.stands)
 

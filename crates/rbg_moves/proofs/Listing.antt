@@ -2,7 +2,7 @@
 use Rattle.rbg_base.proofs.Common.{◌≡◌, ℕ, ◌+◌, ◌<◌, ◌≤◌, ◌⊎◌, List, [], ◌∷◌, ◌++◌, length, Bool, true, false, refl, sym, ap, ◌∙◌, subst, inl, inr, arith, ◌≢◌, All, AllPairs, Contains, ◌↔◌, length_push, All-contains, All-contains_itself, All-weaker, Contains-append_left, Contains-append_right, Contains-append_cases, Contains-push, Contains-push_cases, IsPermutation}
 use Rattle.std.proofs.lemmas.List.Sorted.{IsPermutation-sym, Contains-permutation}
 use Rattle.rbg_base.specs.Move.{most_pairs, IsMoveLength}
-use Rattle.rbg_rules.specs.Meaning.{IsNumbered, IsSwitchAt, AbstractGame, AbstractState, Applies, AbstractPlace, stand_of, Legal, IsLegal}
+use Rattle.rbg_rules.specs.Meaning.{IsNumbered, IsSwitchAt, AbstractGame, AbstractState, Applies, AbstractPlace, point_of, Legal, IsLegal}
 use Rattle.rbg_rules.proofs.MoveLemmas.{Applies_one}
 use Rattle.rbg_pairs.specs.Flat.{IsNext, IsFlatPart}
 use Rattle.rbg_pairs.proofs.Meetings.{met_once}
@@ -33,12 +33,12 @@ alone game numbered place (v, p) qs (to, legal) switches =
     by_onward (going plain _) = absurd (plain switches)
 
 -- A switch that comes next is a move.
-switch_legal : (game : AbstractGame) → IsNumbered game.rules → (place : AbstractPlace) (q : ℕ × ℕ) → IsNext game place.state (stand_of place.last) q.0 q.1 → IsSwitchAt game.rules q.1 → IsLegal game place (q ∷ [])
+switch_legal : (game : AbstractGame) → IsNumbered game.rules → (place : AbstractPlace) (q : ℕ × ℕ) → IsNext game place.state (point_of place.last) q.0 q.1 → IsSwitchAt game.rules q.1 → IsLegal game place (q ∷ [])
 switch_legal game numbered place (v, p) next switches =
-    (place_beyond next.later p, legal_end game numbered place v p next.later next switches (next_applies game numbered place.state (stand_of place.last) v p next))
+    (place_beyond next.later p, legal_end game numbered place v p next.later next switches (next_applies game numbered place.state (point_of place.last) v p next))
 
 -- One more switch.
-with_switch : (game : AbstractGame) → IsNumbered game.rules → (place : AbstractPlace) (pairs : List (ℕ × ℕ)) (ends : Bool) → IsFlatPart game place.state (stand_of place.last) pairs ends → (done : List (ℕ × ℕ)) (q : ℕ × ℕ) → Contains pairs q → IsSwitchAt game.rules q.1 → (ps : List (ℕ × ℕ)) → (IsLegalBy game place (IsSwitchAmong game.rules done) ps ⊎ (ps ≡ q ∷ [])) ↔ IsLegalBy game place (IsSwitchAmong game.rules (done ++ q ∷ [])) ps
+with_switch : (game : AbstractGame) → IsNumbered game.rules → (place : AbstractPlace) (pairs : List (ℕ × ℕ)) (ends : Bool) → IsFlatPart game place.state (point_of place.last) pairs ends → (done : List (ℕ × ℕ)) (q : ℕ × ℕ) → Contains pairs q → IsSwitchAt game.rules q.1 → (ps : List (ℕ × ℕ)) → (IsLegalBy game place (IsSwitchAmong game.rules done) ps ⊎ (ps ≡ q ∷ [])) ↔ IsLegalBy game place (IsSwitchAmong game.rules (done ++ q ∷ [])) ps
 with_switch game numbered place pairs ends part done q there switches ps = (to, from ps)
   where
     one : IsLegalBy game place (IsSwitchAmong game.rules (done ++ q ∷ [])) (q ∷ [])
@@ -60,7 +60,7 @@ with_switch game numbered place pairs ends part done q there switches ps = (to, 
 
 -- Wherever the pairs are those that come next, the moves of the switches among those that are done were gathered.
 abbrev Part : AbstractGame → AbstractPlace → List (ℕ × ℕ) → Bool → Type 0
-Part game place pairs ends = IsFlatPart game place.state (stand_of place.last) pairs ends
+Part game place pairs ends = IsFlatPart game place.state (point_of place.last) pairs ends
 
 not_both : (game : AbstractGame) (place : AbstractPlace) (done : List (ℕ × ℕ)) (q : ℕ × ℕ) → ¬ Contains done q → (ps : List (ℕ × ℕ)) → IsLegalBy game place (IsSwitchAmong game.rules done) ps → ps ≡ q ∷ [] → ⊥
 not_both game place done q new ps h same = new (subst (IsLegalBy game place (IsSwitchAmong game.rules done)) same h).begins.1
@@ -194,7 +194,7 @@ after_legal game numbered place (v, p) later plain applied qs (to, legal) =
     by_onward here same (ended switches _ _) = absurd (plain switches)
     by_onward here same (going _ legal) = (to, subst (λ (s : AbstractState). Legal game (place_beyond s p) qs to) same legal)
 
-pub others_more : (game : AbstractGame) → IsNumbered game.rules → (place : AbstractPlace) (done front : List (ℕ × ℕ)) (max : ℕ) (old now new : List (List (ℕ × ℕ))) (none first : List (ℕ × ℕ)) (cut : Bool) (q : ℕ × ℕ) (later : AbstractState) → IsNext game place.state (stand_of place.last) q.0 q.1 → ¬ Contains done q → ¬ IsSwitchAt game.rules q.1 → Applies game q.1 (at_vertex place.state q.0) later → Gathers (IsLegalBy game place (IsSwitchOr game.rules done)) front max old now none false → Gathers (IsBeyond q (IsLegal game (place_beyond later q.1))) front max now new first cut → Gathers (IsLegalBy game place (IsSwitchOr game.rules (done ++ q ∷ []))) front max old new first cut
+pub others_more : (game : AbstractGame) → IsNumbered game.rules → (place : AbstractPlace) (done front : List (ℕ × ℕ)) (max : ℕ) (old now new : List (List (ℕ × ℕ))) (none first : List (ℕ × ℕ)) (cut : Bool) (q : ℕ × ℕ) (later : AbstractState) → IsNext game place.state (point_of place.last) q.0 q.1 → ¬ Contains done q → ¬ IsSwitchAt game.rules q.1 → Applies game q.1 (at_vertex place.state q.0) later → Gathers (IsLegalBy game place (IsSwitchOr game.rules done)) front max old now none false → Gathers (IsBeyond q (IsLegal game (place_beyond later q.1))) front max now new first cut → Gathers (IsLegalBy game place (IsSwitchOr game.rules (done ++ q ∷ []))) front max old new first cut
 others_more game numbered place done front max old now new none first cut q later next fresh plain applied so_far beyond =
     gathers_as (λ ps. IsLegalBy game place (IsSwitchOr game.rules done) ps ⊎ IsBeyond q (IsLegal game (place_beyond later q.1)) ps) (IsLegalBy game place (IsSwitchOr game.rules (done ++ q ∷ []))) front max old new first cut
     (λ ps. (to ps, from ps))

@@ -1,6 +1,6 @@
 -- How a list of pairs is legal by its first pair.
 use Rattle.rbg_base.proofs.Common.{◌≡◌, ℕ, ◌<◌, length, List, [], ◌∷◌, ◌++◌, Bool, true, false, refl, sym, ap, ◌∙◌, subst, append_assoc, Option, Some, None, All-head, All-tail, All-cons, All-append}
-use Rattle.rbg_rules.specs.Meaning.{switch, IsNumbered, IsModifierAt, IsSwitchAt, HasNoSwitch, is_modifier, Start, after, Follows, AbstractGame, AbstractState, IsStateOf, Applies, Run, RunPairs, stay, modify, pass, AbstractPlace, stand_of, Legal, IsPlaceOf, IsGame, try_move}
+use Rattle.rbg_rules.specs.Meaning.{switch, IsNumbered, IsModifierAt, IsSwitchAt, HasNoSwitch, is_modifier, Start, after, Follows, AbstractGame, AbstractState, IsStateOf, Applies, Run, RunPairs, stay, modify, pass, AbstractPlace, point_of, Legal, IsPlaceOf, IsGame, try_move}
 use Rattle.rbg_rules.proofs.MoveLemmas.{Applies_one}
 use Rattle.rbg_rules.proofs.PlaceLemmas.{RunPairs_join}
 use Rattle.rbg_rules.proofs.LocalityLemmas.{locality_law}
@@ -46,27 +46,27 @@ next_runs game numbered s f v p next later applied =
     RunPairs_join (quiet_pairs game next.before s (at_vertex s v) next.no_modifier here) (one_pair game numbered p (at_vertex s v) later next.modifies applied)
 
 -- A switch that comes next is a legal move.
-pub legal_end : (game : AbstractGame) → IsNumbered game.rules → (place : AbstractPlace) (v p : ℕ) (later : AbstractState) → IsNext game place.state (stand_of place.last) v p → IsSwitchAt game.rules p → Applies game p (at_vertex place.state v) later → Legal game place ((v, p) ∷ []) (place_beyond later p)
+pub legal_end : (game : AbstractGame) → IsNumbered game.rules → (place : AbstractPlace) (v p : ℕ) (later : AbstractState) → IsNext game place.state (point_of place.last) v p → IsSwitchAt game.rules p → Applies game p (at_vertex place.state v) later → Legal game place ((v, p) ∷ []) (place_beyond later p)
 legal_end game numbered place v p later next switches applied = record {
   before = next.before;
   last = p;
   follows = next.follows;
-  runs = next_runs game numbered place.state (stand_of place.last) v p next later applied;
+  runs = next_runs game numbered place.state (point_of place.last) v p next later applied;
   switches = switches;
   none_before = quiet_switches game.rules next.before next.no_modifier;
   stands = refl;
 }
 
 -- What is legal after another modifier that comes next, is legal with its pair in front.
-pub legal_on : (game : AbstractGame) → IsNumbered game.rules → (place : AbstractPlace) (v p : ℕ) (later : AbstractState) (qs : List (ℕ × ℕ)) (to : AbstractPlace) → IsNext game place.state (stand_of place.last) v p → ¬ IsSwitchAt game.rules p → Applies game p (at_vertex place.state v) later → Legal game (place_beyond later p) qs to → Legal game place ((v, p) ∷ qs) to
+pub legal_on : (game : AbstractGame) → IsNumbered game.rules → (place : AbstractPlace) (v p : ℕ) (later : AbstractState) (qs : List (ℕ × ℕ)) (to : AbstractPlace) → IsNext game place.state (point_of place.last) v p → ¬ IsSwitchAt game.rules p → Applies game p (at_vertex place.state v) later → Legal game (place_beyond later p) qs to → Legal game place ((v, p) ∷ qs) to
 legal_on game numbered place v p later qs to next plain applied legal =
     let joined : (next.before ++ p ∷ legal.before) ++ legal.last ∷ [] ≡ next.before ++ (p ∷ (legal.before ++ legal.last ∷ [])) = append_assoc next.before (p ∷ legal.before) (legal.last ∷ []) in
     let joined' : (next.before ++ p ∷ []) ++ (legal.before ++ legal.last ∷ []) ≡ next.before ++ (p ∷ (legal.before ++ legal.last ∷ [])) = append_assoc next.before (p ∷ []) (legal.before ++ legal.last ∷ []) in
-    let runs : RunPairs game ((next.before ++ p ∷ []) ++ (legal.before ++ legal.last ∷ [])) place.state to.state ((v, p) ∷ qs) = RunPairs_join (next_runs game numbered place.state (stand_of place.last) v p next later applied) legal.runs in
+    let runs : RunPairs game ((next.before ++ p ∷ []) ++ (legal.before ++ legal.last ∷ [])) place.state to.state ((v, p) ∷ qs) = RunPairs_join (next_runs game numbered place.state (point_of place.last) v p next later applied) legal.runs in
     record {
       before = next.before ++ p ∷ legal.before;
       last = legal.last;
-      follows = subst (λ (m : List ℕ). Follows game.rules (stand_of place.last) m) (sym joined) ((locality_law game.rules numbered (stand_of place.last) next.before p (legal.before ++ legal.last ∷ [])).0.1 (next.follows, legal.follows));
+      follows = subst (λ (m : List ℕ). Follows game.rules (point_of place.last) m) (sym joined) ((locality_law game.rules numbered (point_of place.last) next.before p (legal.before ++ legal.last ∷ [])).0.1 (next.follows, legal.follows));
       runs = subst (λ (m : List ℕ). RunPairs game m place.state to.state ((v, p) ∷ qs)) (joined' ∙ sym joined) runs;
       switches = legal.switches;
       none_before = All-append (λ (q : ℕ). ¬ IsSwitchAt game.rules q) next.before (p ∷ legal.before) (quiet_switches game.rules next.before next.no_modifier) (All-cons (λ (q : ℕ). ¬ IsSwitchAt game.rules q) p legal.before plain legal.none_before);
@@ -102,7 +102,7 @@ pub data Onward (game : AbstractGame) (later : AbstractState) (p : ℕ) (qs : Li
 
 -- The first pair of a legal list comes next.
 pub record CutLegal (game : AbstractGame) (place : AbstractPlace) (v p : ℕ) (qs : List (ℕ × ℕ)) (to : AbstractPlace) : Type 0 where
-  pub next : IsNext game place.state (stand_of place.last) v p
+  pub next : IsNext game place.state (point_of place.last) v p
   pub later : AbstractState
   pub applies : Applies game p (at_vertex place.state v) later
   pub onward : Onward game later p qs to
@@ -121,7 +121,7 @@ legal_cut game numbered place v p qs to legal =
     record { next = cut_next game numbered cut parts.0; later = cut.later; applies = cut.applied; onward = by_end cut parts.1 (end_of cut.before p cut.rest_of legal.before legal.last cut.joined) }
   where
     f : Start
-    f = stand_of place.last
+    f = point_of place.last
 
     by_end : (cut : CutRun game (legal.before ++ legal.last ∷ []) place.state to.state v p qs) → Follows game.rules (after p) cut.rest_of → EndOf cut.before p cut.rest_of legal.before legal.last → Onward game cut.later p qs to
     by_end cut follows (here empty same end) =
@@ -170,14 +170,14 @@ step_one game numbered place v p qs to later applied cut =
     subst (λ (u : AbstractState). Onward game u p qs to) (Applies_one game numbered p cut.applies applied) cut.onward
 
 -- Pairs of which the first doesn't come next are not legal.
-pub none_at : (game : AbstractGame) → IsNumbered game.rules → (place : AbstractPlace) (v p : ℕ) (qs : List (ℕ × ℕ)) → ¬ IsNext game place.state (stand_of place.last) v p → (to : AbstractPlace) → ¬ Legal game place ((v, p) ∷ qs) to
+pub none_at : (game : AbstractGame) → IsNumbered game.rules → (place : AbstractPlace) (v p : ℕ) (qs : List (ℕ × ℕ)) → ¬ IsNext game place.state (point_of place.last) v p → (to : AbstractPlace) → ¬ Legal game place ((v, p) ∷ qs) to
 none_at game numbered place v p qs other to legal = other (legal_cut game numbered place v p qs to legal).next
 
 -- After a modifier that is no switch the rest decides.
-pub step_legal : (game : AbstractGame) → IsNumbered game.rules → (place : AbstractPlace) (v p : ℕ) (qs : List (ℕ × ℕ)) (to : AbstractPlace) (later : AbstractState) → IsStep game place.state (stand_of place.last) v p later → ¬ IsSwitchAt game.rules p → Legal game (place_beyond later p) qs to → Legal game place ((v, p) ∷ qs) to
+pub step_legal : (game : AbstractGame) → IsNumbered game.rules → (place : AbstractPlace) (v p : ℕ) (qs : List (ℕ × ℕ)) (to : AbstractPlace) (later : AbstractState) → IsStep game place.state (point_of place.last) v p later → ¬ IsSwitchAt game.rules p → Legal game (place_beyond later p) qs to → Legal game place ((v, p) ∷ qs) to
 step_legal game numbered place v p qs to later taken plain legal = legal_on game numbered place v p later qs to taken.next plain taken.applies legal
 
-pub step_none : (game : AbstractGame) → IsNumbered game.rules → (place : AbstractPlace) (v p : ℕ) (qs : List (ℕ × ℕ)) (later : AbstractState) → IsStep game place.state (stand_of place.last) v p later → ¬ IsSwitchAt game.rules p → ((to : AbstractPlace) → ¬ Legal game (place_beyond later p) qs to) → (to : AbstractPlace) → ¬ Legal game place ((v, p) ∷ qs) to
+pub step_none : (game : AbstractGame) → IsNumbered game.rules → (place : AbstractPlace) (v p : ℕ) (qs : List (ℕ × ℕ)) (later : AbstractState) → IsStep game place.state (point_of place.last) v p later → ¬ IsSwitchAt game.rules p → ((to : AbstractPlace) → ¬ Legal game (place_beyond later p) qs to) → (to : AbstractPlace) → ¬ Legal game place ((v, p) ∷ qs) to
 step_none game numbered place v p qs later taken plain none to legal =
     by_onward (step_one game numbered place v p qs to later taken.applies (legal_cut game numbered place v p qs to legal))
   where
@@ -186,7 +186,7 @@ step_none game numbered place v p qs later taken plain none to legal =
     by_onward (going _ legal) = none to legal
 
 -- A switch ends the list.
-pub step_ends : (game : AbstractGame) → IsNumbered game.rules → (place : AbstractPlace) (v p : ℕ) (later : AbstractState) → IsStep game place.state (stand_of place.last) v p later → IsSwitchAt game.rules p → Legal game place ((v, p) ∷ []) (place_beyond later p)
+pub step_ends : (game : AbstractGame) → IsNumbered game.rules → (place : AbstractPlace) (v p : ℕ) (later : AbstractState) → IsStep game place.state (point_of place.last) v p later → IsSwitchAt game.rules p → Legal game place ((v, p) ∷ []) (place_beyond later p)
 step_ends game numbered place v p later taken switches = legal_end game numbered place v p later taken.next switches taken.applies
 
 pub none_after : (game : AbstractGame) → IsNumbered game.rules → (place : AbstractPlace) (v p : ℕ) (qs : List (ℕ × ℕ)) → IsSwitchAt game.rules p → ¬ (qs ≡ []) → (to : AbstractPlace) → ¬ Legal game place ((v, p) ∷ qs) to
@@ -201,7 +201,7 @@ pub step_goes_on : (game : AbstractGame) (s : AbstractState) (f : Start) (v p : 
 step_goes_on game s f v p qs later taken plain = record { next = taken.next; applies = taken.applies; plain = plain; passes = trying }
 
 -- A move that goes on takes its pairs one after another.
-pub made_next : (game : AbstractGame) → IsNumbered game.rules → (place : AbstractPlace) (v p : ℕ) (qs : List (ℕ × ℕ)) (to : AbstractPlace) → IsMadeFrom game place ((v, p) ∷ qs) to → IsNext game place.state (stand_of place.last) v p
+pub made_next : (game : AbstractGame) → IsNumbered game.rules → (place : AbstractPlace) (v p : ℕ) (qs : List (ℕ × ℕ)) (to : AbstractPlace) → IsMadeFrom game place ((v, p) ∷ qs) to → IsNext game place.state (point_of place.last) v p
 made_next game numbered place v p qs to (goes_on legal) = (legal_cut game numbered place v p qs to legal).next
 
 pub made_on : (game : AbstractGame) → IsNumbered game.rules → (place : AbstractPlace) (v p : ℕ) (qs : List (ℕ × ℕ)) (to : AbstractPlace) (later : AbstractState) → Applies game p (at_vertex place.state v) later → IsMadeFrom game place ((v, p) ∷ qs) to → IsMadeFrom game (place_beyond later p) qs to
@@ -217,6 +217,6 @@ made_end game numbered place to made = refl
 made_end game numbered place to (goes_on legal) = absurd (legal_some game numbered place to legal)
 
 -- What becomes of the pairs after the first one becomes of all.
-pub tried_on : (game : AbstractGame) → IsNumbered game.rules → (place : AbstractPlace) (v p : ℕ) (qs : List (ℕ × ℕ)) (later new : AbstractState) → IsStep game place.state (stand_of place.last) v p later → ¬ IsSwitchAt game.rules p → (end : Option ℕ) → IsTried game (place_beyond later p) qs new end → IsTried game place ((v, p) ∷ qs) new end
+pub tried_on : (game : AbstractGame) → IsNumbered game.rules → (place : AbstractPlace) (v p : ℕ) (qs : List (ℕ × ℕ)) (later new : AbstractState) → IsStep game place.state (point_of place.last) v p later → ¬ IsSwitchAt game.rules p → (end : Option ℕ) → IsTried game (place_beyond later p) qs new end → IsTried game place ((v, p) ∷ qs) new end
 tried_on game numbered place v p qs later new taken plain (Some last) legal = step_legal game numbered place v p qs (place_beyond new last) later taken plain legal
 tried_on game numbered place v p qs later new taken plain None none = step_none game numbered place v p qs later taken plain none

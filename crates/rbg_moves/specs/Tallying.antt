@@ -1,6 +1,6 @@
 -- What a workspace counts of a question.
 use Rattle.std.specs.Prelude.{◌≡◌, ℕ, ◌+◌, ◌-◌, ◌^◌, min, true, Result, OnOk, OnErr}
-use Rattle.rbg_rules.specs.Meaning.{AbstractGame, AbstractPlace, stand_of, Question}
+use Rattle.rbg_rules.specs.Meaning.{AbstractGame, AbstractPlace, point_of, Question}
 use Rattle.rbg_search.specs.Counting.{CountsOpenings}
 use Rattle.rbg_search.specs.Forced.{CountsAllForced}
 use Rattle.rbg_search.specs.Searching.{Tally}
@@ -16,9 +16,9 @@ pub record IsTallied
   where
     pub opened : ℕ
     pub taken : ℕ
-    pub counted : CountsOpenings game question place.state (stand_of place.last) 0 opened
-    pub forced : CountsAllForced game true question place.state (stand_of place.last) 0 opened
-    pub paired : CountsPairs game question place.state (stand_of place.last) 0 opened 0 taken (Unit {0})
+    pub counted : CountsOpenings game question place.state (point_of place.last) 0 opened
+    pub forced : CountsAllForced game true question place.state (point_of place.last) 0 opened
+    pub paired : CountsPairs game question place.state (point_of place.last) 0 opened 0 taken (Unit {0})
     pub openings : new.openings ≡ min (old.openings + opened) (2 ^ 64 - 1)
     pub pairs : new.pairs ≡ min (old.pairs + taken) (2 ^ 64 - 1)
 

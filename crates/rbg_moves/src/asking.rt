@@ -1,7 +1,7 @@
 //! What the questions at a place have in common.
 ghost use Rattle.std.specs.Prelude.{◌≡◌, ◌≤◌, ◌↔◌, length, IsTrue};
 ghost use Rattle.rbg_base.specs.Move.{IsMoveLength};
-ghost use Rattle.rbg_rules.specs.Meaning.{IsGame, IsSwitchAt, stand_of};
+ghost use Rattle.rbg_rules.specs.Meaning.{IsGame, IsSwitchAt, point_of};
 ghost use Rattle.rbg_pairs.specs.Start.{start_of, IsPositionOf};
 ghost use Rattle.rbg_moves.specs.internal.Asking.{begun_in};
 ghost use Rattle.rbg_flat.specs.internal.Shown.{shows_switch};
@@ -49,7 +49,7 @@ pub(crate) fn budget_is_kept<S: Steps>(search: &Search<'_, S>)
 
 /// Where one stands in the rules after the action at a position, or at their beginning.
 pub(crate) fn origin_after(after: Option<Position>) -> Origin
-    ensures { start_of result ≡ stand_of after }
+    ensures { start_of result ≡ point_of after }
 {
     match after {
         None => Origin::Begin(Expr::Rules),

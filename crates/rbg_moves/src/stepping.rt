@@ -1,6 +1,6 @@
 //! One modifier of a move.
 ghost use Rattle.std.specs.Prelude.{◌≡◌, ℕ, ◌≤◌, not, IsTrue, IfOk, OnOk, Err, false};
-ghost use Rattle.rbg_rules.specs.Meaning.{IsStateOf, Applies, stand_of, IsPlaceOf, reach, IsDeep, IsGame};
+ghost use Rattle.rbg_rules.specs.Meaning.{IsStateOf, Applies, point_of, IsPlaceOf, reach, IsDeep, IsGame};
 ghost use Rattle.rbg_state.specs.History.{capacity_of, IsAfter};
 ghost use Rattle.rbg_pairs.specs.Flat.{IsNext};
 ghost use Rattle.rbg_search.specs.Counting.{CountsOpenings, IsOverBudget};
@@ -41,20 +41,20 @@ pub(crate) fn take<S: Steps>(
     requires place { IsPlaceOf search.old.game (record { state = state.old.state; last = after }) }
     ensures kept { search.new ≡ record search.old { opened = search.new.opened; taken = search.new.taken } }
     ensures taken { IfOk result (λ taken. IsTrue taken
-        → IsStep search.old.game state.old.state (stand_of after) pair.0 pair.1 state.new.state) }
+        → IsStep search.old.game state.old.state (point_of after) pair.0 pair.1 state.new.state) }
     ensures refused { IfOk result (λ taken. IsTrue (not taken)
-        → ¬ IsNext search.old.game state.old.state (stand_of after) pair.0 pair.1) }
-    ensures counted { CountsOpenings search.old.game reach state.old.state (stand_of after)
+        → ¬ IsNext search.old.game state.old.state (point_of after) pair.0 pair.1) }
+    ensures counted { CountsOpenings search.old.game reach state.old.state (point_of after)
         search.old.opened search.new.opened }
-    ensures paired { OnOk result (CountsPairs search.old.game reach state.old.state (stand_of after)
+    ensures paired { OnOk result (CountsPairs search.old.game reach state.old.state (point_of after)
         search.old.opened search.new.opened search.old.taken search.new.taken (Unit {0})) }
     ensures deep { result ≡ Err Over.Deep
-        → IsDeep search.old.game reach state.old.state (stand_of after) search.old.modifiers }
+        → IsDeep search.old.game reach state.old.state (point_of after) search.old.modifiers }
     ensures wide { result ≡ Err Over.Wide
-        → IsOverBudget search.old.game reach state.old.state (stand_of after) search.old.opened
+        → IsOverBudget search.old.game reach state.old.state (point_of after) search.old.opened
         search.old.openings }
     ensures forced { OnOk result ((left : ℕ)
-        → CountsForced search.old.game false reach state.old.state (stand_of after)
+        → CountsForced search.old.game false reach state.old.state (point_of after)
         search.old.opened search.new.opened left search.old.modifiers) }
 {
     let game = search.game();

@@ -1,7 +1,7 @@
 //! The walk over the modifiers of moves, by which some move is found, or all are listed.
 ghost use Rattle.std.specs.Prelude.{◌≡◌, ◌-◌, ◌<◌, ◌≤◌, ◌∷◌, [], ◌++◌, length, All, IfOk, Err, Some, false};
 ghost use Rattle.rbg_base.specs.Move.{most_pairs};
-ghost use Rattle.rbg_rules.specs.Meaning.{IsGame, stand_of, IsPlaceOf, IsStateOf, after};
+ghost use Rattle.rbg_rules.specs.Meaning.{IsGame, point_of, IsPlaceOf, IsStateOf, after};
 ghost use Rattle.rbg_pairs.specs.Start.{IsPositionOf};
 ghost use Rattle.rbg_state.specs.History.{IsAfter};
 ghost use Rattle.rbg_moves.specs.internal.Asking.{question_of, IsGivenUp};
@@ -102,7 +102,7 @@ pub(crate) fn walk<S: Steps>(
         (record { state = state.old.state; last = after }) front.old.items
         found.old.max found.old.moves found.new.moves front.new.items) }
     ensures given_up { IsGivenUp search.old (question_of found.old.max)
-        state.old.state (stand_of after) (most_pairs - length front.old.items)
+        state.old.state (point_of after) (most_pairs - length front.old.items)
         (result ≡ Err Over.Deep) (result ≡ Err Over.Wide) }
 {
     let game = search.game();
@@ -192,7 +192,7 @@ fn walk_on<S: Steps>(
     ensures walked { IfOk result (IsWalked search.old search.new (place_beyond state.old.state after)
         front.old.items found.old.max found.old.moves found.new.moves front.new.items) }
     ensures given_up { IsGivenUp search.old (question_of found.old.max)
-        state.old.state (stand_of (Some after)) (most_pairs - length front.old.items)
+        state.old.state (point_of (Some after)) (most_pairs - length front.old.items)
         (result ≡ Err Over.Deep) (result ≡ Err Over.Wide) }
 {
     let mark = state.mark();

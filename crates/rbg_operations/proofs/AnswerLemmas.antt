@@ -20,7 +20,7 @@ use Rattle.rbg_operations.specs.Answers.{IsGamesAnswer, IsTaskAnswer, form_line}
 use Rattle.rbg_operations.specs.Answers.IsGamesAnswer.{played, misfit}
 use Rattle.rbg_operations.specs.Answers.IsTaskAnswer.{of_game, refused, long_script, long_record}
 use Rattle.rbg_operations.specs.Tasks.{AbstractTask, IsReadOf}
-use Rattle.rbg_operations.specs.internal.Parts.{task_of, AnswersWhole, AnswersLong, AnswersLongRecord, AnswersMatch, AnswersTexts, SaysUnloaded}
+use Rattle.rbg_operations.specs.internal.Parts.{task_of, AnswersWhole, AnswersLong, AnswersLongRecord, AnswersMatch, AnswersTexts, AnswersUnloaded}
 
 -- the answer with this text and this status
 pub answer_is : (task : AbstractTask) (text said : List ℕ) (status ended : Status) → text ≡ said → status ≡ ended → IsTaskAnswer task said ended → IsTaskAnswer task text status
@@ -46,10 +46,10 @@ refusal_answers_long read error text status why known is was =
     (refused error (why d reads) known (λ same. absurd (other same)))
 
 -- the same of what is answered about a description that is not loaded
-pub unloaded_answers : (command : FileCommand) (read : Option (Vec ℕ Global)) (told : List ℕ) (error : LoadError) (text : List ℕ) (status : Status) → ((d : List ℕ) → IsReadOf longest_text read d → IsRefused d error) → SaysUnloaded error text status → AnswersWhole command read told text status
+pub unloaded_answers : (command : FileCommand) (read : Option (Vec ℕ Global)) (told : List ℕ) (error : LoadError) (text : List ℕ) (status : Status) → ((d : List ℕ) → IsReadOf longest_text read d → IsRefused d error) → AnswersUnloaded error text status → AnswersWhole command read told text status
 unloaded_answers command read told error text status why says = refusal_answers command read told error text status why says.0 says.1 says.2
 
-pub unloaded_answers_long : (read : Option (Vec ℕ Global)) (error : LoadError) (text : List ℕ) (status : Status) → ((d : List ℕ) → IsReadOf longest_text read d → IsRefused d error) → SaysUnloaded error text status → AnswersLongRecord read text status
+pub unloaded_answers_long : (read : Option (Vec ℕ Global)) (error : LoadError) (text : List ℕ) (status : Status) → ((d : List ℕ) → IsReadOf longest_text read d → IsRefused d error) → AnswersUnloaded error text status → AnswersLongRecord read text status
 unloaded_answers_long read error text status why says = refusal_answers_long read error text status why says.0 says.1 says.2
 
 -- too long a record or a script is the answer

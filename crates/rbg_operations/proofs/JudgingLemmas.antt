@@ -2,7 +2,7 @@
 use Rattle.std.proofs.Common.{◌≡◌, ℕ, List, refl, sym, subst, ◌↔◌, Result, Ok, Err, IfOk}
 use Rattle.rbg_console.specs.declared.status.Status.{Status}
 use Rattle.rbg_console.specs.declared.status.Status.TheVariants.{Success, BadInput}
-use Rattle.rbg_record.proofs.Common.{IsBadLine, IsFormFault, IsHeavyLine, IsJudged, IsPlainFault, IsRightRecord, told_at}
+use Rattle.rbg_record.proofs.Common.{IsBadLine, IsFormFault, IsHeavyLine, IsJudged, IsPlainFault, IsRightRecord, verdict_at}
 use Rattle.rbg_record.specs.declared.checked.Checked.{Checked}
 use Rattle.rbg_record.specs.declared.checked.Checked.TheVariants.{Good, Bad}
 use Rattle.rbg_record.specs.declared.error.RecordError.{RecordError}
@@ -15,7 +15,7 @@ use Rattle.rbg_operations.specs.Tasks.FileCommand.{Replay, Migrate, Moves}
 use Rattle.rbg_operations.specs.Answers.{IsGamesAnswer, good_line, bad_line, form_line, over_line}
 use Rattle.rbg_operations.specs.Answers.IsGamesAnswer.{good, wrong, not_plain, no_moves}
 use Rattle.rbg_operations.specs.Answers.NamesFault.{bad, not_of_form, over}
-use Rattle.rbg_operations.specs.internal.Parts.{SaysChecked, SaysFault}
+use Rattle.rbg_operations.specs.internal.Parts.{AnswersChecked, AnswersRecordError}
 
 -- the answer with this text and this status
 pub games_answer_is : (game : AbstractGame) (description told : List ℕ) (command : FileCommand) (text said : List ℕ) (status ended : Status) → text ≡ said → status ≡ ended → IsGamesAnswer game description told command said ended → IsGamesAnswer game description told command text status
@@ -30,7 +30,7 @@ pub record Judges (game : AbstractGame) (told : List ℕ) (checked : Result Chec
   pub heavy : (line : ℕ) → checked ≡ Err (Over line) → IsHeavyLine game told line
 
 -- its line is the answer
-pub checked_answer : (game : AbstractGame) (told : List ℕ) (checked : Result Checked RecordError) (text : List ℕ) (status : Status) → Judges game told checked → SaysChecked checked text status → (description : List ℕ) → IsGamesAnswer game description told Replay text status
+pub checked_answer : (game : AbstractGame) (told : List ℕ) (checked : Result Checked RecordError) (text : List ℕ) (status : Status) → Judges game told checked → AnswersChecked checked text status → (description : List ℕ) → IsGamesAnswer game description told Replay text status
 checked_answer game told (Ok Good) text status is says description =
     games_answer_is game description told Replay text good_line status Success says.0 says.1 (good (is.right.0 refl))
 checked_answer game told (Ok (Bad line)) text status is says description =
@@ -42,7 +42,7 @@ checked_answer game told (Err (Over line)) text status is says description =
 checked_answer game told (Err Memory) text status is says description = absurd says
 
 -- the line of a fault is the answer if the moves of a record lead nowhere
-pub misfit_answer : (game : AbstractGame) (told : List ℕ) (fault : LineFault) (line : ℕ) (text : List ℕ) (status : Status) → IsJudged game told (told_at fault line) → SaysChecked (told_at fault line) text status → (description : List ℕ) → IsGamesAnswer game description told Moves text status
+pub misfit_answer : (game : AbstractGame) (told : List ℕ) (fault : LineFault) (line : ℕ) (text : List ℕ) (status : Status) → IsJudged game told (verdict_at fault line) → AnswersChecked (verdict_at fault line) text status → (description : List ℕ) → IsGamesAnswer game description told Moves text status
 misfit_answer game told faults.Form line text status is says description =
     games_answer_is game description told Moves text (form_line line) status BadInput says.0 says.1 (no_moves (form_line line) (not_of_form line is))
 misfit_answer game told faults.Bad line text status is says description =
@@ -52,7 +52,7 @@ misfit_answer game told faults.Over line text status is says description =
 misfit_answer game told faults.Memory line text status is says description = absurd says
 
 -- the line of a record's fault is the answer if the record can't be migrated
-pub plain_fault_answer : (game : AbstractGame) (told : List ℕ) (error : RecordError) (text : List ℕ) (status : Status) → ((line : ℕ) → error ≡ Form line → IsPlainFault told line) → ((line : ℕ) → ¬ (error ≡ Over line)) → SaysFault error text status → (description : List ℕ) → IsGamesAnswer game description told Migrate text status
+pub plain_fault_answer : (game : AbstractGame) (told : List ℕ) (error : RecordError) (text : List ℕ) (status : Status) → ((line : ℕ) → error ≡ Form line → IsPlainFault told line) → ((line : ℕ) → ¬ (error ≡ Over line)) → AnswersRecordError error text status → (description : List ℕ) → IsGamesAnswer game description told Migrate text status
 plain_fault_answer game told (Form line) text status form never says description =
     games_answer_is game description told Migrate text (form_line line) status BadInput says.0 says.1 (not_plain line (form line refl))
 plain_fault_answer game told (Over line) text status form never says description = absurd (never line refl)

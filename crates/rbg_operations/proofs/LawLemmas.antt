@@ -43,17 +43,17 @@ record Tells (game : AbstractGame) (told text : List ℕ) (status : Status) : Ty
   pub ends : status ≡ status_of result
 
 -- the answer names a question above the limits
-abbrev SaysHeavy : (game : AbstractGame) → (told text : List ℕ) → Type 0
-SaysHeavy game told text = (line : ℕ) × IsHeavyLine game told line × (text ≡ over_line line)
+abbrev AnswersHeavy : (game : AbstractGame) → (told text : List ℕ) → Type 0
+AnswersHeavy game told text = (line : ℕ) × IsHeavyLine game told line × (text ≡ over_line line)
 
-tells_fault : (game : AbstractGame) (told text : List ℕ) → NamesFault game told text → Tells game told text BadInput ⊎ SaysHeavy game told text
+tells_fault : (game : AbstractGame) (told text : List ℕ) → NamesFault game told text → Tells game told text BadInput ⊎ AnswersHeavy game told text
 tells_fault game told _ (bad line is) =
     inl (record { result = Ok (Bad line); judged = is; decided = λ no. no; says = refl; ends = refl })
 tells_fault game told _ (not_of_form line is) =
     inl (record { result = Err (Form line); judged = is; decided = λ no. no; says = refl; ends = refl })
 tells_fault game told _ (over line is) = inr (line, is, refl)
 
-tells : GoodByLines → (game : AbstractGame) (description told text : List ℕ) (status : Status) → IsGamesAnswer game description told Replay text status → Tells game told text status ⊎ SaysHeavy game told text
+tells : GoodByLines → (game : AbstractGame) (description told text : List ℕ) (status : Status) → IsGamesAnswer game description told Replay text status → Tells game told text status ⊎ AnswersHeavy game told text
 tells lines game description told _ _ (good right) =
     inl (record { result = Ok Good; judged = (lines game told).1 right; decided = λ no. no; says = refl; ends = refl })
 tells lines game description told _ _ (wrong text fault) = tells_fault game told text fault
@@ -76,7 +76,7 @@ tell_one judge game numbered told text other status ended a b =
     let same : a.result ≡ b.result = judge game numbered told a.result b.result a.judged b.judged a.decided b.decided in
     (a.ends ∙ (ap status_of same ∙ sym b.ends), λ _. a.says ∙ (ap text_of same ∙ sym b.says))
 
-replays_apart : OneJudgement → (game : AbstractGame) → IsNumbered game.rules → (told text other : List ℕ) (status ended : Status) → Tells game told text status ⊎ SaysHeavy game told text → Tells game told other ended ⊎ SaysHeavy game told other → AreOne text other status ended ⊎ NamesOver text other
+replays_apart : OneJudgement → (game : AbstractGame) → IsNumbered game.rules → (told text other : List ℕ) (status ended : Status) → Tells game told text status ⊎ AnswersHeavy game told text → Tells game told other ended ⊎ AnswersHeavy game told other → AreOne text other status ended ⊎ NamesOver text other
 replays_apart judge game numbered told text other status ended (inl a) (inl b) = inl (tell_one judge game numbered told text other status ended a b)
 replays_apart judge game numbered told text other status ended (inr heavy) b = inr (heavy.0, inl heavy.2)
 replays_apart judge game numbered told text other status ended (inl a) (inr heavy) = inr (heavy.0, inr heavy.2)
@@ -156,7 +156,7 @@ answers_apart one known task _ _ _ _ (long_record game loads other above) (long_
 answers_apart one known task _ _ _ _ (long_record game loads is above) (long_record also loaded was too) = inl (refl, λ _. refl)
 
 -- a right record is reported as good
-says_good : OneJudgement → (game : AbstractGame) → IsNumbered game.rules → (told text : List ℕ) (status : Status) → IsJudged game told (Ok Good) → Tells game told text status ⊎ SaysHeavy game told text → ((text ≡ good_line) × (status ≡ Success)) ⊎ SaysHeavy game told text
+says_good : OneJudgement → (game : AbstractGame) → IsNumbered game.rules → (told text : List ℕ) (status : Status) → IsJudged game told (Ok Good) → Tells game told text status ⊎ AnswersHeavy game told text → ((text ≡ good_line) × (status ≡ Success)) ⊎ AnswersHeavy game told text
 says_good judge game numbered told text status right (inl a) =
     let same : a.result ≡ Ok Good = judge game numbered told a.result (Ok Good) a.judged right a.decided (λ no. no) in
     inl (a.says ∙ ap text_of same, a.ends ∙ ap status_of same)

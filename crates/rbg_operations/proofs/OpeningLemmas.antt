@@ -7,7 +7,7 @@ use Rattle.rbg_rules.specs.Meaning.{AbstractGame}
 use Rattle.rbg_macro.specs.TextLimits.{longest_text}
 use Rattle.rbg_operations.specs.Answers.{IsGamesAnswer}
 use Rattle.rbg_operations.specs.Answers.IsTaskAnswer.{of_game}
-use Rattle.rbg_operations.specs.Tasks.{FileCommand, IsReadOf, IsToldIn, on_record}
+use Rattle.rbg_operations.specs.Tasks.{FileCommand, IsReadOf, IsSecondTextIn, on_record}
 use Rattle.rbg_operations.specs.Tasks.FileCommand.{Check, Referee, Replay, Migrate, Moves}
 use Rattle.rbg_operations.specs.declared.opening.Opened.{Opened}
 use Rattle.rbg_operations.specs.declared.opening.Opened.TheVariants.{Both, Answered}
@@ -15,7 +15,7 @@ use Rattle.rbg_operations.specs.internal.Parts.{task_of, IsOnRecord, IsReadIn, I
 use Rattle.rbg_operations.specs.internal.Parts.IsFilesAnswer.{of_task, unreadable}
 
 -- the source of the second text of a command on a record
-told_in : (known : KnownFiles) (unread : Option (List ℕ)) (other told : List ℕ) → MayBe (known other) told → (command : FileCommand) → IsOnRecord command → IsToldIn known unread unread other command told
+told_in : (known : KnownFiles) (unread : Option (List ℕ)) (other told : List ℕ) → MayBe (known other) told → (command : FileCommand) → IsOnRecord command → IsSecondTextIn known unread unread other command told
 told_in known unread other told may Check on = absurd on
 told_in known unread other told may Referee on = absurd on
 told_in known unread other told may Replay on = (may, refl)

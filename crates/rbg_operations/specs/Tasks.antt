@@ -49,18 +49,18 @@ pub data IsInputOf (unread left : Option (List ℕ)) (bytes : List ℕ) : Type 0
   too_long : IsAbove most_input unread left → most_input < length bytes → MayBe unread bytes → IsInputOf unread left bytes
 
 -- The source of the second text. Only `referee` reads standard input.
-abbrev pub IsToldIn : KnownFiles → (unread left : Option (List ℕ)) → (record_file : List ℕ) → FileCommand → (told : List ℕ) → Type 0
-IsToldIn known unread left record_file Check told = (told ≡ []) × (left ≡ unread)
-IsToldIn known unread left record_file Referee told = IsInputOf unread left told
-IsToldIn known unread left record_file Replay told = MayBe (known record_file) told × (left ≡ unread)
-IsToldIn known unread left record_file Migrate told = MayBe (known record_file) told × (left ≡ unread)
-IsToldIn known unread left record_file Moves told = MayBe (known record_file) told × (left ≡ unread)
+abbrev pub IsSecondTextIn : KnownFiles → (unread left : Option (List ℕ)) → (record_file : List ℕ) → FileCommand → (told : List ℕ) → Type 0
+IsSecondTextIn known unread left record_file Check told = (told ≡ []) × (left ≡ unread)
+IsSecondTextIn known unread left record_file Referee told = IsInputOf unread left told
+IsSecondTextIn known unread left record_file Replay told = MayBe (known record_file) told × (left ≡ unread)
+IsSecondTextIn known unread left record_file Migrate told = MayBe (known record_file) told × (left ≡ unread)
+IsSecondTextIn known unread left record_file Moves told = MayBe (known record_file) told × (left ≡ unread)
 
 -- The command's files, and standard input if it is asked for, have the bytes of the task.
 pub record AsksFor (known : KnownFiles) (unread left : Option (List ℕ)) (named : NamedTask) (task : AbstractTask) : Type 0 where
   pub command : task.command ≡ named.command
   pub description : MayBe (known named.file) task.description
-  pub told : IsToldIn known unread left named.record_file named.command task.told
+  pub told : IsSecondTextIn known unread left named.record_file named.command task.told
 
 -- What was read within a limit of some bytes: all of them, or that they are more.
 abbrev pub IsReadOf : (limit : ℕ) → Option (Vec ℕ Global) → (bytes : List ℕ) → Type 0

@@ -1,7 +1,7 @@
 //! The lines of answers about a record.
 ghost use Rattle.std.specs.Prelude.{◌≡◌, IfOk};
 ghost use Rattle.rbg_operations.specs.Answers.{bad_line, form_line, good_line, over_line};
-ghost use Rattle.rbg_operations.specs.internal.Parts.{SaysFault};
+ghost use Rattle.rbg_operations.specs.internal.Parts.{AnswersRecordError};
 
 use rbg_console::Status;
 use rbg_record::RecordError;
@@ -45,7 +45,7 @@ pub(crate) fn answer_over(alloc: Global, line: usize) -> Result<Answer, AllocErr
 
 /// The line of a record's fault.
 pub(crate) fn answer_record_fault(alloc: Global, error: RecordError) -> Result<Answer, AllocError>
-    ensures { IfOk result (λ answer. SaysFault error answer.text.items answer.status) }
+    ensures { IfOk result (λ answer. AnswersRecordError error answer.text.items answer.status) }
 {
     match error {
         RecordError::Form { line } => answer_form(alloc, line),

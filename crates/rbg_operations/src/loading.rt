@@ -3,7 +3,7 @@ ghost use Rattle.std.specs.Prelude.{ℕ, List, IfOk, IfErr};
 ghost use Rattle.rbg_game.specs.Loading.{IsRefused, Loads};
 ghost use Rattle.rbg_macro.specs.TextLimits.{longest_text};
 ghost use Rattle.rbg_operations.specs.Tasks.{IsReadOf};
-ghost use Rattle.rbg_operations.specs.internal.Parts.{SaysUnloaded};
+ghost use Rattle.rbg_operations.specs.internal.Parts.{AnswersUnloaded};
 
 use rbg_game::{Game, LoadError, load};
 use rbg_macro::TextError;
@@ -25,7 +25,7 @@ pub(crate) fn load_read(alloc: Global, description: &Option<Vec<u8>>) -> Result<
 
 /// The line of a refused description.
 pub(crate) fn answer_unloaded(alloc: Global, error: LoadError) -> Result<Answer, AllocError>
-    ensures { IfOk result (λ answer. SaysUnloaded error answer.text.items answer.status) }
+    ensures { IfOk result (λ answer. AnswersUnloaded error answer.text.items answer.status) }
 {
     if error.is_memory() {
         Err(AllocError)

@@ -1,11 +1,11 @@
 //! The command `moves` with a record.
 ghost use Rattle.std.specs.Prelude.{ℕ, List, Option, IfOk};
-ghost use Rattle.rbg_record.specs.internal.Faults.{told_at};
+ghost use Rattle.rbg_record.specs.internal.Faults.{verdict_at};
 ghost use Rattle.rbg_operations.specs.Answers.{IsGamesAnswer};
 ghost use Rattle.rbg_operations.specs.Runs.{IsTaskRun};
 ghost use Rattle.rbg_operations.specs.Tasks.{on_record};
 ghost use Rattle.rbg_operations.specs.Tasks.FileCommand.{Moves};
-ghost use Rattle.rbg_operations.specs.internal.Parts.{IsFilesAnswer, SaysChecked};
+ghost use Rattle.rbg_operations.specs.internal.Parts.{IsFilesAnswer, AnswersChecked};
 
 use crate::after::moves_beyond;
 use crate::lines::{answer_bad, answer_form, answer_over};
@@ -69,7 +69,7 @@ fn go_on(alloc: Global, game: Game, told: &[u8]) -> Result<Answer, AllocError>
 /// The answer that names the line at fault.
 fn answer_misfit(alloc: Global, misfit: Misfit) -> Result<Answer, AllocError>
     ensures { IfOk result (λ answer.
-        SaysChecked (told_at misfit.fault misfit.line) answer.text.items answer.status) }
+        AnswersChecked (verdict_at misfit.fault misfit.line) answer.text.items answer.status) }
 {
     match misfit.fault {
         LineFault::Form => answer_form(alloc, misfit.line),

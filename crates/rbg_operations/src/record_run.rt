@@ -27,7 +27,7 @@ pub fn run_recorded<F: Files, R: Read, W: Write>(
     input: &mut R,
     output: &mut W,
 ) -> Status
-    ensures { IsRecordedRun F.tells_new (F.told files.old) (F.told files.new)
+    ensures { IsRecordedRun F.knows_new (F.told files.old) (F.told files.new)
         (R.remaining input.old) (R.remaining input.new) (recorded_task (option_map (λ name. name.now) file.entry) target.now)
         (W.contents output.old) (W.contents output.new) result }
 {
@@ -43,7 +43,7 @@ fn answer_recorded<F: Files, R: Read>(
     files: &mut F,
     input: &mut R,
 ) -> Result<Answer, AllocError>
-    ensures { IfOk result (λ answer. IsRecordedAnswer F.tells_new (F.told files.old) (F.told files.new)
+    ensures { IfOk result (λ answer. IsRecordedAnswer F.knows_new (F.told files.old) (F.told files.new)
         (R.remaining input.old) (R.remaining input.new) (recorded_task (option_map (λ name. name.now) file.entry) target.now)
         answer.text.items answer.status) }
 {

@@ -4,7 +4,7 @@ ghost use Rattle.rbg_operations.specs.Answers.{IsGamesAnswer};
 ghost use Rattle.rbg_operations.specs.Runs.{IsTaskRun};
 ghost use Rattle.rbg_operations.specs.Tasks.{on_record};
 ghost use Rattle.rbg_operations.specs.Tasks.FileCommand.{Replay};
-ghost use Rattle.rbg_operations.specs.internal.Parts.{IsFilesAnswer, SaysChecked};
+ghost use Rattle.rbg_operations.specs.internal.Parts.{IsFilesAnswer, AnswersChecked};
 
 use crate::lines::{answer_bad, answer_good, answer_record_fault};
 use crate::opening::{Opened, open_files, played_game};
@@ -62,7 +62,7 @@ fn answer_checked(
     alloc: Global,
     checked: Result<Checked, RecordError>,
 ) -> Result<Answer, AllocError>
-    ensures { IfOk result (λ answer. SaysChecked checked answer.text.items answer.status) }
+    ensures { IfOk result (λ answer. AnswersChecked checked answer.text.items answer.status) }
 {
     match checked {
         Ok(Checked::Good) => answer_good(alloc),

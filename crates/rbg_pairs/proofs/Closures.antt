@@ -2,7 +2,7 @@
 use Rattle.rbg_base.proofs.Common.{◌≡◌, ℕ, ◌⊎◌, List, [], ◌∷◌, ◌++◌, Bool, true, false, refl, sym, ap, ◌∙◌, subst, inl, inr, append_assoc, All-nil, All-head, All-tail, All-push}
 use Rattle.rbg_rules.specs.Meaning.{IsNumbered, IsModifierAt, HasNoModifier, is_modifier, Start, after, Follows, Ends, AbstractGame, AbstractState, rest, step, Applies, Run, RunPairs, stay, modify, pass, SomeWordRuns, SameButVertex}
 use Rattle.rbg_rules.proofs.RunLemmas.{Runs_join}
-use Rattle.rbg_rules.proofs.PositionLemmas.{one_stands}
+use Rattle.rbg_rules.proofs.PositionLemmas.{one_action_at}
 use Rattle.rbg_rules.proofs.PlaceLemmas.{quiet_acts, same_state, RunPairs_join, Runs-RunPairs}
 use Rattle.rbg_rules.proofs.LocalityLemmas.{locality_law}
 use Rattle.rbg_flat.specs.Candidates.{MayEnd}
@@ -25,7 +25,7 @@ quiet_moves game p s t quiet applied =
 -- An action that is none where it is applied is none at all.
 pub quiet_place : (game : AbstractGame) → IsNumbered game.rules → (p : ℕ) {s t : AbstractState} (applied : Applies game p s t) → is_modifier applied.action ≡ false → ¬ IsModifierAt game.rules p
 quiet_place game numbered p applied quiet other =
-    let same : applied.action ≡ other.action = one_stands game.rules numbered p applied.action other.action applied.stands other.stands in
+    let same : applied.action ≡ other.action = one_action_at game.rules numbered p applied.action other.action applied.stands other.stands in
     true_not_false (sym other.modifies ∙ ap is_modifier (sym same) ∙ quiet)
   where
     true_not_false : true ≡ false → ⊥

@@ -3,7 +3,7 @@ use Rattle.std.proofs.Common.{◌≡◌, ◌⊎◌, ℕ, zero, suc, [], ◌∷�
 use Rattle.rbg_board.specs.Graph.{next}
 use Rattle.rbg_rules.specs.Meaning.{AbstractAction, shift, on, off, switch, positive, negative, Expression, IsNumbered, HasAction, IsPatternAt, is_modifier, is_pattern, AbstractGame, AbstractState, Acts}
 use Rattle.rbg_rules.proofs.MoveLemmas.{applied_acts}
-use Rattle.rbg_rules.proofs.PositionLemmas.{one_stands}
+use Rattle.rbg_rules.proofs.PositionLemmas.{one_action_at}
 use Rattle.rbg_pairs.proofs.Common.{at_vertex, IsTrialAt}
 use Rattle.rbg_state.specs.declared.state.trials.Trial.TheVariants.{Invalid, Modifies, LeadsTo}
 use Rattle.rbg_pairs.proofs.Modifiers.{leads_on}
@@ -14,8 +14,8 @@ true_not_false e = cc
 -- A position whose action is no pattern is no pattern's.
 pub no_pattern : (rules : Expression) → IsNumbered rules → (q : ℕ) (a : AbstractAction) → HasAction rules q a → is_pattern a ≡ false → ¬ IsPatternAt rules q
 no_pattern rules numbered q a here plain is = elim is.stands [
-  | inl stands ↦ true_not_false (ap is_pattern (one_stands rules numbered q (positive is.inside_it) a stands here) ∙ plain)
-  | inr stands ↦ true_not_false (ap is_pattern (one_stands rules numbered q (negative is.inside_it) a stands here) ∙ plain)
+  | inl stands ↦ true_not_false (ap is_pattern (one_action_at rules numbered q (positive is.inside_it) a stands here) ∙ plain)
+  | inr stands ↦ true_not_false (ap is_pattern (one_action_at rules numbered q (negative is.inside_it) a stands here) ∙ plain)
 ]
 
 module _ (game : AbstractGame) (numbered : IsNumbered game.rules) (s : AbstractState) (v q : ℕ) (a : AbstractAction) (here : HasAction game.rules q a) where
@@ -23,7 +23,7 @@ module _ (game : AbstractGame) (numbered : IsNumbered game.rules) (s : AbstractS
   pub acts_leads : (u : ℕ) → is_modifier a ≡ false → Acts game a (at_vertex s v) (at_vertex s u) → IsTrialAt game s v q (LeadsTo u)
   acts_leads u quiet acts =
       leads_on game numbered s v q u
-      (λ m. true_not_false (sym m.modifies ∙ ap is_modifier (one_stands game.rules numbered q m.action a m.stands here) ∙ quiet))
+      (λ m. true_not_false (sym m.modifies ∙ ap is_modifier (one_action_at game.rules numbered q m.action a m.stands here) ∙ quiet))
       (record { action = a; stands = here; acts = acts })
 
   -- One that takes one nowhere is not valid.

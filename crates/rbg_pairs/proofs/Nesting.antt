@@ -1,8 +1,8 @@
 -- How deep patterns nest where a search goes on.
 use Rattle.std.proofs.Common.{◌≡◌, ℕ, suc, ◌-◌, ◌≤◌, List, [], ◌∷◌, ◌++◌, refl, sym, ◌∙◌, subst, inl, inr, arith, append_assoc}
 use Rattle.rbg_rules.specs.Meaning.{AbstractAction, shift, on, off, assignment, comparison, switch, positive, negative, Expression, act, skip, sequence, fail, choice, star, HasAction, HasInside, HasOwnAction, IsNumbered, Level, outermost, inside, IsLevel, Start, beginning, after, Follows, NestsWithin, InsideNestsWithin}
-use Rattle.rbg_rules.proofs.PositionLemmas.{Among, Among_right, one_stands}
-use Rattle.rbg_rules.proofs.PatternLemmas.{own_stands, word_own}
+use Rattle.rbg_rules.proofs.PositionLemmas.{Among, Among_right, one_action_at}
+use Rattle.rbg_rules.proofs.PatternLemmas.{own_is_action, word_own}
 use Rattle.rbg_rules.proofs.LevelLemmas.{one_level_law}
 use Rattle.rbg_pairs.specs.Nesting.{StandsIn, NestsFrom}
 use Rattle.rbg_shifts.proofs.ShiftLemmas.{level_stands}
@@ -57,7 +57,7 @@ mutual
 
 -- An own pattern of an expression nests one less deep.
 own_nests : (n : ℕ) (x : Expression) → NestsWithin n x → (p : ℕ) (b : AbstractAction) → HasOwnAction x p b → InsideNestsWithin n b
-own_nests n x h p b own = stands_nests n x h p b (own_stands x p b own)
+own_nests n x h p b own = stands_nests n x h p b (own_is_action x p b own)
 
 inside_level : (n : ℕ) (rules : Expression) → NestsWithin n rules → (p : ℕ) (x : Expression) → IsLevel rules (inside p) x → NestsWithin n x
 inside_level n rules h p x (inl stands) = let (k, is, nests) = stands_nests n rules h p (positive x) stands in nests_more k n (at_most n k is) x nests
@@ -118,10 +118,10 @@ nests_inside rules numbered n f nests m p follows x is = by_sign is
     here = own_nests n on.expression (nests.within on.level on.expression on.is_level on.stands) p on.action on.own
 
     stands : HasAction rules p on.action
-    stands = level_stands rules on.level on.expression on.is_level p on.action (own_stands on.expression p on.action on.own)
+    stands = level_stands rules on.level on.expression on.is_level p on.action (own_is_action on.expression p on.action on.own)
 
     from : (b : AbstractAction) → HasAction rules p b → InsideNestsWithin n b
-    from b has = subst (InsideNestsWithin n) (one_stands rules numbered p on.action b stands has) here
+    from b has = subst (InsideNestsWithin n) (one_action_at rules numbered p on.action b stands has) here
 
     for_each : (k : ℕ) → n ≡ suc k → (level : Level) (y : Expression) → IsLevel rules level y → StandsIn (beginning (inside p)) level y → NestsWithin k y
     for_each k is level y is_level e = by_level (subst (λ (l : Level). IsLevel rules l y) e is_level)

@@ -12,11 +12,11 @@ use Rattle.rbg_game.specs.Loading.{Loads}
 use Rattle.rbg_player.specs.declared.error.PlayerError.{PlayerError}
 use Rattle.rbg_player.specs.declared.error.PlayerError.TheVariants as errors
 use Rattle.rbg_player.specs.declared.error.PlayerError.TheVariants.{BadMessage}
-use Rattle.rbg_player.specs.Hearing.{IsPlayerOf, IsMover, HasMoveToMake, Hears, is_named, is_seated, begins, passes, answers, is_refused, ends, is_in_place, HasFault, out_of_place, heavy_to_try, heavy_to_list, no_seat}
+use Rattle.rbg_player.specs.Hearing.{IsPlayerOf, IsMover, HasMoveToMake, Accepts, is_named, is_seated, begins, passes, answers, is_refused, ends, is_in_place, HasFault, out_of_place, heavy_to_try, heavy_to_list, no_seat}
 use Rattle.rbg_player.specs.Hearing as faults
 use Rattle.rbg_player.specs.Streams.{HasItemFault, faulty}
 use Rattle.rbg_player.specs.internal.Sitting.{error_of, Follows, IsAnswer, IsUnanswered, heavy, memory}
-use Rattle.rbg_player.specs.internal.Standing.{HearsAndSays, HearsItem}
+use Rattle.rbg_player.specs.internal.Stages.{AcceptsAndSays, AcceptsItem}
 use Rattle.rbg_player.specs.Players.{AbstractSeat, Stage, unnamed, named, seated, playing, ended, failed, error_at}
 
 -- the stage of a player that has answered this error, or none
@@ -35,16 +35,16 @@ not_failed stage error is failed_is = none-some error (is ∙ ap error_at failed
 pub misplaced : (stage : Stage) (message : AbstractMessage) → is_in_place stage message ≡ false → HasFault stage message BadMessage
 misplaced stage message is = out_of_place is
 
-pub hears_name : (player : ℕ) (name : List ℕ) → Hears unnamed (who_message player name) (named player) []
+pub hears_name : (player : ℕ) (name : List ℕ) → Accepts unnamed (who_message player name) (named player) []
 hears_name player name = is_named
 
-pub hears_limits : (seat : AbstractSeat) (turn_ms refusals : ℕ) → Hears (seated seat) (limits_message turn_ms refusals) (playing seat) []
+pub hears_limits : (seat : AbstractSeat) (turn_ms refusals : ℕ) → Accepts (seated seat) (limits_message turn_ms refusals) (playing seat) []
 hears_limits seat turn_ms refusals = begins
 
-pub hears_refusal : (seat : AbstractSeat) (reason : Reason) → Hears (playing seat) (refusal_message reason) (playing seat) []
+pub hears_refusal : (seat : AbstractSeat) (reason : Reason) → Accepts (playing seat) (refusal_message reason) (playing seat) []
 hears_refusal seat reason = is_refused
 
-pub hears_end : (seat : AbstractSeat) (outcome : Outcome) → Hears (playing seat) (end_message outcome) (ended outcome) []
+pub hears_end : (seat : AbstractSeat) (outcome : Outcome) → Accepts (playing seat) (end_message outcome) (ended outcome) []
 hears_end seat outcome = ends
 
 pub hears_no_seat : HasFault unnamed (refusal_message NoSeat) errors.NoSeat
@@ -53,9 +53,9 @@ hears_no_seat = no_seat
 pub ruleset hearing = (misplaced, hears_name, hears_limits, hears_refusal, hears_end, hears_no_seat)
 
 -- the seat of a game that was loaded
-pub sits : (player : ℕ) (text : List ℕ) (game : AbstractGame) (place : AbstractPlace) → Loads text game → IsPlayerOf game player → place ≡ record { state = start_of game; last = None } → Hears (named player) (game_message text) (seated (record { player = player; game = game; place = place })) []
+pub sits : (player : ℕ) (text : List ℕ) (game : AbstractGame) (place : AbstractPlace) → Loads text game → IsPlayerOf game player → place ≡ record { state = start_of game; last = None } → Accepts (named player) (game_message text) (seated (record { player = player; game = game; place = place })) []
 sits player text game place loads is start =
-    subst (λ (one : AbstractPlace). let seat : AbstractSeat = record { player = player; game = game; place = one } in Hears (named player) (game_message text) (seated seat) []) (sym start) (is_seated loads is)
+    subst (λ (one : AbstractPlace). let seat : AbstractSeat = record { player = player; game = game; place = one } in Accepts (named player) (game_message text) (seated seat) []) (sym start) (is_seated loads is)
 
 -- `H` is never in place
 pub never_joins : (stage : Stage) (table : ℕ) → HasFault stage (join_message table) BadMessage
@@ -83,29 +83,29 @@ unanswered_fault old new pairs error follows (heavy mover hard) =
 unanswered_fault old new pairs error follows memory = faults.memory
 
 -- a move that was made, with the player's own move after it or with none
-pub says_answer : (old new : AbstractSeat) (pairs answer : List (ℕ × ℕ)) (before after : List ℕ) → Follows old pairs new → IsAnswer new answer → after ≡ before ++ spelling (move_message answer) → HearsAndSays (playing old) (move_message pairs) (playing new) before after
+pub says_answer : (old new : AbstractSeat) (pairs answer : List (ℕ × ℕ)) (before after : List ℕ) → Follows old pairs new → IsAnswer new answer → after ≡ before ++ spelling (move_message answer) → AcceptsAndSays (playing old) (move_message pairs) (playing new) before after
 says_answer old new pairs answer before after follows is tells = record {
-  said = move_message answer ∷ [];
-  hears = subst (λ (seat : AbstractSeat). Hears (playing old) (move_message pairs) (playing seat) (move_message answer ∷ [])) (sym follows.same)
+  outgoing = move_message answer ∷ [];
+  hears = subst (λ (seat : AbstractSeat). Accepts (playing old) (move_message pairs) (playing seat) (move_message answer ∷ [])) (sym follows.same)
       (answers follows.legal (subst HasMoveToMake follows.same is.has) (subst (λ (seat : AbstractSeat). IsLegal seat.game seat.place answer) follows.same is.legal) is.few);
   told = tells ∙ ap (λ text. before ++ text) (sym (append-nil (spelling (move_message answer))));
 }
 
-pub says_nothing : (old new : AbstractSeat) (pairs : List (ℕ × ℕ)) (bytes : List ℕ) → Follows old pairs new → ¬ HasMoveToMake new → HearsAndSays (playing old) (move_message pairs) (playing new) bytes bytes
+pub says_nothing : (old new : AbstractSeat) (pairs : List (ℕ × ℕ)) (bytes : List ℕ) → Follows old pairs new → ¬ HasMoveToMake new → AcceptsAndSays (playing old) (move_message pairs) (playing new) bytes bytes
 says_nothing old new pairs bytes follows none = record {
-  said = [];
-  hears = subst (λ (seat : AbstractSeat). Hears (playing old) (move_message pairs) (playing seat) []) (sym follows.same)
+  outgoing = [];
+  hears = subst (λ (seat : AbstractSeat). Accepts (playing old) (move_message pairs) (playing seat) []) (sym follows.same)
       (passes follows.legal (λ has. none (subst HasMoveToMake (sym follows.same) has)));
   told = sym (append-nil bytes);
 }
 
 -- a message that is received with nothing sent
-pub quietly : (result : Result (Unit {0}) PlayerError) (old new : Stage) (message : AbstractMessage) (bytes : List ℕ) → OnOk result (Hears old message new []) → OnOk result (HearsAndSays old message new bytes bytes)
-quietly (Ok x) old new message bytes hears = record { said = []; hears = hears; told = sym (append-nil bytes) }
+pub quietly : (result : Result (Unit {0}) PlayerError) (old new : Stage) (message : AbstractMessage) (bytes : List ℕ) → OnOk result (Accepts old message new []) → OnOk result (AcceptsAndSays old message new bytes bytes)
+quietly (Ok x) old new message bytes hears = record { outgoing = []; hears = hears; told = sym (append-nil bytes) }
 quietly (Err e) old new message bytes hears = tt
 
 -- an item that is read as a message
-pub heard_item : (result : Result (Unit {0}) PlayerError) (old new : Stage) (text : List ℕ) (message : AbstractMessage) (before after : List ℕ) → SpellsMessage text message × HasFewPairs message → OnOk result (HearsAndSays old message new before after) → OnOk result (HearsItem old (complete text) new before after)
+pub heard_item : (result : Result (Unit {0}) PlayerError) (old new : Stage) (text : List ℕ) (message : AbstractMessage) (before after : List ℕ) → SpellsMessage text message × HasFewPairs message → OnOk result (AcceptsAndSays old message new before after) → OnOk result (AcceptsItem old (complete text) new before after)
 heard_item (Ok x) old new text message before after read hears = record { text = text; message = message; is = refl; read = record { spelled = read.0; few = read.1 }; hears = hears }
 heard_item (Err e) old new text message before after read hears = tt
 

@@ -5,8 +5,8 @@ use Rattle.rbg_wire.proofs.Common.{AbstractMessage, spelling, Item, complete, Cu
 use Rattle.rbg_wire.proofs.Items.{first_and_others, nothing_first}
 use Rattle.rbg_player.specs.declared.error.PlayerError.{PlayerError}
 use Rattle.rbg_player.specs.Players.{Stage, AbstractPlayer}
-use Rattle.rbg_player.specs.Streams.{HearsAll, none, more, HearsPiece, HasItemFault, FailsIn, cut_of}
-use Rattle.rbg_player.specs.internal.Standing.{HearsItem, IsReady}
+use Rattle.rbg_player.specs.Streams.{AcceptsAll, none, more, AcceptsPiece, HasItemFault, FailsIn, cut_of}
+use Rattle.rbg_player.specs.internal.Stages.{AcceptsItem, IsReady}
 
 -- From this stage on, with these items in the inbox and this rest after them, some items were taken and received.
 pub record HasHeard (start : Stage) (from : Stream) (old : List ℕ) (stage : Stage) (inbox : Stream) (new : List ℕ) : Type 0 where
@@ -14,9 +14,9 @@ pub record HasHeard (start : Stage) (from : Stream) (old : List ℕ) (stage : St
   pub parts : from.items ≡ taken ++ inbox.items
   pub same_rest : inbox.rest ≡ from.rest
   pub same_limit : inbox.limit ≡ from.limit
-  pub said : List AbstractMessage
-  pub hears : HearsAll start taken stage said
-  pub told : new ≡ old ++ flat_map spelling said
+  pub outgoing : List AbstractMessage
+  pub hears : AcceptsAll start taken stage outgoing
+  pub told : new ≡ old ++ flat_map spelling outgoing
 
 pub nothing_heard : (start : Stage) (from : Stream) (old : List ℕ) → HasHeard start from old start from old
 nothing_heard start from old = record {
@@ -24,13 +24,13 @@ nothing_heard start from old = record {
   parts = refl;
   same_rest = refl;
   same_limit = refl;
-  said = [];
+  outgoing = [];
   hears = none;
   told = sym (append-nil old);
 }
 
 -- one more item is taken and received
-pub one_heard : (start : Stage) (from : Stream) (old : List ℕ) (stage next : Stage) (inbox after : Stream) (middle new : List ℕ) (item : Item) → HasHeard start from old stage inbox middle → slice_get inbox.items 0 ≡ Some item → after ≡ without_first inbox → HearsItem stage item next middle new → HasHeard start from old next after new
+pub one_heard : (start : Stage) (from : Stream) (old : List ℕ) (stage next : Stage) (inbox after : Stream) (middle new : List ℕ) (item : Item) → HasHeard start from old stage inbox middle → slice_get inbox.items 0 ≡ Some item → after ≡ without_first inbox → AcceptsItem stage item next middle new → HasHeard start from old next after new
 one_heard start from old stage next inbox after middle new item has first loses heard =
     let first_is : inbox.items ≡ item ∷ drop 1 inbox.items = first_and_others inbox.items item first in
     record {
@@ -38,9 +38,9 @@ one_heard start from old stage next inbox after middle new item has first loses 
       parts = rw (loses, ← heard.is, append_assoc) (has.parts ∙ ap (λ items. has.taken ++ items) first_is);
       same_rest = rw loses has.same_rest;
       same_limit = rw loses has.same_limit;
-      said = has.said ++ heard.hears.said;
+      outgoing = has.outgoing ++ heard.hears.outgoing;
       hears = more has.hears heard.read heard.hears.hears;
-      told = heard.hears.told ∙ (ap (λ bytes. bytes ++ flat_map spelling heard.hears.said) has.told ∙ (append_assoc old (flat_map spelling has.said) (flat_map spelling heard.hears.said) ∙ ap (λ bytes. old ++ bytes) (sym (flat_map-append spelling has.said heard.hears.said))));
+      told = heard.hears.told ∙ (ap (λ bytes. bytes ++ flat_map spelling heard.hears.outgoing) has.told ∙ (append_assoc old (flat_map spelling has.outgoing) (flat_map spelling heard.hears.outgoing) ∙ ap (λ bytes. old ++ bytes) (sym (flat_map-append spelling has.outgoing heard.hears.outgoing))));
     }
 
 -- the inbox of a player after a piece
@@ -53,14 +53,14 @@ fed_items player inbox fed piece ready same is =
     )
 
 -- nothing is left
-pub all_heard : (player : AbstractPlayer) (old : List ℕ) (start inbox fed left : Stream) (piece : List ℕ) (stage : Stage) (new : List ℕ) → IsReady start → start.rest ≡ player.rest → fed ≡ with_bytes start piece → HasHeard player.stage fed old stage inbox new → slice_get inbox.items 0 ≡ None → left ≡ without_first inbox → HearsPiece player piece (record { stage = stage; rest = left.rest }) old new × IsReady left
+pub all_heard : (player : AbstractPlayer) (old : List ℕ) (start inbox fed left : Stream) (piece : List ℕ) (stage : Stage) (new : List ℕ) → IsReady start → start.rest ≡ player.rest → fed ≡ with_bytes start piece → HasHeard player.stage fed old stage inbox new → slice_get inbox.items 0 ≡ None → left ≡ without_first inbox → AcceptsPiece player piece (record { stage = stage; rest = left.rest }) old new × IsReady left
 all_heard player old start inbox fed left piece stage new ready same is has nothing loses =
     let fed_is = fed_items player start fed piece ready same is in
     let empty : inbox.items ≡ [] = nothing_first inbox.items nothing in
     let all : fed.items ≡ has.taken = has.parts ∙ (ap (λ items. has.taken ++ items) empty ∙ append-nil has.taken) in (
       record {
-        said = has.said;
-        heard = subst (λ items. HearsAll player.stage items stage has.said) (sym all ∙ fed_is.0) has.hears;
+        outgoing = has.outgoing;
+        heard = subst (λ items. AcceptsAll player.stage items stage has.outgoing) (sym all ∙ fed_is.0) has.hears;
         rest = ap (λ (s : Stream). s.rest) loses ∙ (has.same_rest ∙ fed_is.1);
         told = has.told;
       },
@@ -80,7 +80,7 @@ fails_here player old start inbox fed piece stage middle item error ready same i
       beyond = drop 1 inbox.items;
       parts = sym fed_is.0 ∙ (has.parts ∙ ap (λ items. has.taken ++ items) (first_and_others inbox.items item first));
       middle = stage;
-      said = has.said;
+      outgoing = has.outgoing;
       heard = has.hears;
       fault = fault;
     }

@@ -32,29 +32,29 @@ HasMoveToMake seat = IsMover seat × ¬ Finished seat.game seat.place
 --   answers: a legal move is made, and the player has a move to make. It sends one that is legal.
 --   is_refused: a refusal changes nothing.
 --   ends: play has ended.
-pub data Hears : Stage → AbstractMessage → (after : Stage) → (said : List AbstractMessage) → Type 0 where
+pub data Accepts : Stage → AbstractMessage → (after : Stage) → (outgoing : List AbstractMessage) → Type 0 where
   is_named : {player : ℕ} {text : List ℕ} →
-      Hears unnamed (who_message player text) (named player) []
+      Accepts unnamed (who_message player text) (named player) []
   is_seated : {player : ℕ} {text : List ℕ} {loaded : AbstractGame} →
       Loads text loaded →
       IsPlayerOf loaded player →
-      Hears (named player) (game_message text) (seated (seat_at_start player loaded)) []
+      Accepts (named player) (game_message text) (seated (seat_at_start player loaded)) []
   begins : {seat : AbstractSeat} {turn_ms refusals : ℕ} →
-      Hears (seated seat) (limits_message turn_ms refusals) (playing seat) []
+      Accepts (seated seat) (limits_message turn_ms refusals) (playing seat) []
   passes : {seat : AbstractSeat} {pairs : List (ℕ × ℕ)} {to : AbstractPlace} →
       Legal seat.game seat.place pairs to →
       ¬ HasMoveToMake (moved_to seat to) →
-      Hears (playing seat) (move_message pairs) (playing (moved_to seat to)) []
+      Accepts (playing seat) (move_message pairs) (playing (moved_to seat to)) []
   answers : {seat : AbstractSeat} {pairs answer : List (ℕ × ℕ)} {to : AbstractPlace} →
       Legal seat.game seat.place pairs to →
       HasMoveToMake (moved_to seat to) →
       IsLegal seat.game to answer →
       length answer ≤ most_pairs →
-      Hears (playing seat) (move_message pairs) (playing (moved_to seat to)) (move_message answer ∷ [])
+      Accepts (playing seat) (move_message pairs) (playing (moved_to seat to)) (move_message answer ∷ [])
   is_refused : {seat : AbstractSeat} {reason : Reason} →
-      Hears (playing seat) (refusal_message reason) (playing seat) []
+      Accepts (playing seat) (refusal_message reason) (playing seat) []
   ends : {seat : AbstractSeat} {outcome : Outcome} →
-      Hears (playing seat) (end_message outcome) (ended outcome) []
+      Accepts (playing seat) (end_message outcome) (ended outcome) []
 
 -- The messages that are in place: `W`, or a refusal for lack of a seat; then `G`; then `L`; then moves, refusals and
 -- one end. `H` is never in place.

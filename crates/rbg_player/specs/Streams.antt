@@ -8,7 +8,7 @@ use Rattle.rbg_player.specs.declared.error.PlayerError.{PlayerError}
 use Rattle.rbg_player.specs.declared.error.PlayerError.TheVariants as errors
 use Rattle.rbg_player.specs.Limits.{message_limit}
 use Rattle.rbg_player.specs.Players.{Stage, failed, AbstractPlayer}
-use Rattle.rbg_player.specs.Hearing.{Hears, HasFault}
+use Rattle.rbg_player.specs.Hearing.{Accepts, HasFault}
 
 -- The text is read as this message: it is its spelling, and a move has at most 200 pairs.
 pub record IsReadAs (text : List ℕ) (message : AbstractMessage) : Type 0 where
@@ -18,15 +18,15 @@ pub record IsReadAs (text : List ℕ) (message : AbstractMessage) : Type 0 where
 -- A player receives the items of a stream in turn, and sends these messages.
 --   none: it receives nothing.
 --   more: it receives one more item, which is read as a message.
-pub data HearsAll (start : Stage) : List Item → (after : Stage) → (said : List AbstractMessage) → Type 0 where
+pub data AcceptsAll (start : Stage) : List Item → (after : Stage) → (outgoing : List AbstractMessage) → Type 0 where
   none :
-      HearsAll start [] start []
+      AcceptsAll start [] start []
   more : {items : List Item} {text : List ℕ} {message : AbstractMessage} {middle after : Stage}
       {first next : List AbstractMessage} →
-      HearsAll start items middle first →
+      AcceptsAll start items middle first →
       IsReadAs text message →
-      Hears middle message after next →
-      HearsAll start (items ++ complete text ∷ []) after (first ++ next)
+      Accepts middle message after next →
+      AcceptsAll start (items ++ complete text ∷ []) after (first ++ next)
 
 -- Why a player doesn't continue after an item.
 --   overlong: the item is too long.
@@ -53,14 +53,14 @@ cut_of player piece = cut message_limit player.rest piece
 
 -- A player receives a piece of its stream without a fault: it receives the items that the piece completes, keeps the
 -- rest, and what it sends follows the bytes that were there.
-pub record HearsPiece
+pub record AcceptsPiece
     (old : AbstractPlayer) (piece : List ℕ) (new : AbstractPlayer) (before after : List ℕ)
     : Type 0
   where
-    pub said : List AbstractMessage
-    pub heard : HearsAll old.stage (cut_of old piece).items new.stage said
+    pub outgoing : List AbstractMessage
+    pub heard : AcceptsAll old.stage (cut_of old piece).items new.stage outgoing
     pub rest : new.rest ≡ (cut_of old piece).rest
-    pub told : after ≡ before ++ flat_map spelling said
+    pub told : after ≡ before ++ flat_map spelling outgoing
 
 -- One of the items has a fault, and the items before it are received without a fault.
 pub record FailsIn (start : Stage) (items : List Item) (error : PlayerError) : Type 0 where
@@ -69,8 +69,8 @@ pub record FailsIn (start : Stage) (items : List Item) (error : PlayerError) : T
   pub beyond : List Item
   pub parts : items ≡ before ++ item ∷ beyond
   pub middle : Stage
-  pub said : List AbstractMessage
-  pub heard : HearsAll start before middle said
+  pub outgoing : List AbstractMessage
+  pub heard : AcceptsAll start before middle outgoing
   pub fault : HasItemFault middle item error
 
 -- Why a player returns an error for a piece of its stream.

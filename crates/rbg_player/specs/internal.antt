@@ -1,4 +1,4 @@
 -- Definitions that only this crate's own proofs use.
 pub mod Codes
 pub mod Sitting
-pub mod Standing
+pub mod Stages

@@ -2,9 +2,9 @@
 ghost use Rattle.std.specs.Prelude.{◌≡◌, IfErr, OnErr, OnOk, length, take};
 ghost use Rattle.rbg_wire.specs.Inboxes.{item_of};
 ghost use Rattle.rbg_player.specs.Players.{AbstractPlayer, failed};
-ghost use Rattle.rbg_player.specs.Streams.{Fails, HasItemFault, HearsPiece};
+ghost use Rattle.rbg_player.specs.Streams.{Fails, HasItemFault, AcceptsPiece};
 ghost use Rattle.rbg_player.specs.internal.Codes.{coded_player};
-ghost use Rattle.rbg_player.specs.internal.Standing.{stage_of, player_of, IsReady, HearsItem};
+ghost use Rattle.rbg_player.specs.internal.Stages.{stage_of, player_of, IsReady, AcceptsItem};
 
 use crate::stage::Stage;
 use crate::{Chooser, Heard, PlayerError};
@@ -49,7 +49,7 @@ impl Player {
     ghost use Rattle.rbg_wire.specs.Messages.{join_message, spelling};
     ghost use Rattle.rbg_player.specs.declared.error.PlayerError.{PlayerError as AnyError};
     ghost use Rattle.rbg_player.specs.Players.{failed, heard_at, new_player};
-    ghost use Rattle.rbg_player.specs.Streams.{Fails, HearsPiece};
+    ghost use Rattle.rbg_player.specs.Streams.{Fails, AcceptsPiece};
 
     /// A player that has received nothing. The call doesn't allocate.
     pub fn new(alloc: Global) -> Player
@@ -84,7 +84,7 @@ impl Player {
         chooser: &mut C,
         out: &mut Vec<u8>,
     ) -> Result<Heard, PlayerError>
-        ensures hears { OnOk result (HearsPiece self.old piece.now self.new out.old.items
+        ensures hears { OnOk result (AcceptsPiece self.old piece.now self.new out.old.items
             out.new.items) }
         ensures tells { IfOk result (λ heard. heard ≡ heard_at self.new.stage) }
         ensures fails { IfErr result (Fails self.old piece.now) }
@@ -135,7 +135,7 @@ fn hear_piece<C: Chooser>(
 ) -> Result<(), PlayerError>
     requires ready { IsReady inbox.old }
     ensures ready { OnOk result (IsReady inbox.new) }
-    ensures hears { OnOk result (HearsPiece (player_of stage.old inbox.old) piece.now
+    ensures hears { OnOk result (AcceptsPiece (player_of stage.old inbox.old) piece.now
         (player_of stage.new inbox.new)
         out.old.items out.new.items) }
     ensures fails { IfErr result (Fails (player_of stage.old inbox.old) piece.now) }
@@ -157,7 +157,7 @@ fn hear_item<C: Chooser>(
     out: &mut Vec<u8>,
 ) -> Result<(), PlayerError>
     ensures hears { OnOk result
-        (HearsItem (stage_of stage.old) (item_of took.entry) (stage_of stage.new) out.old.items
+        (AcceptsItem (stage_of stage.old) (item_of took.entry) (stage_of stage.new) out.old.items
         out.new.items) }
     ensures fault { IfErr result (HasItemFault (stage_of stage.old) (item_of took.entry)) }
     ensures out { OnErr result (out.new.items ≡ out.old.items) }

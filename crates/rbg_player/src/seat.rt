@@ -5,7 +5,7 @@ ghost use Rattle.rbg_game.specs.Loading.{Loads};
 ghost use Rattle.rbg_rules.specs.Meaning.{IsGame, IsPlaceOf};
 ghost use Rattle.rbg_wire.specs.Messages.{game_message, move_message};
 ghost use Rattle.rbg_player.specs.Players.{AbstractSeat, named, playing, seated};
-ghost use Rattle.rbg_player.specs.Hearing.{HasFault, HasMoveToMake, Hears, IsMover};
+ghost use Rattle.rbg_player.specs.Hearing.{HasFault, HasMoveToMake, Accepts, IsMover};
 ghost use Rattle.rbg_player.specs.internal.Codes.{coded_seat};
 ghost use Rattle.rbg_player.specs.internal.Sitting.{Follows, IsAnswer, IsUnanswered, Lists};
 
@@ -50,7 +50,7 @@ impl Seat {
     /// The seat of a player in the game of a text, at the beginning of play.
     pub(crate) fn new(alloc: Global, player: u64, text: &[u8]) -> Result<Seat, PlayerError>
         ensures sits { IfOk result (λ seat.
-            Hears (named player) (game_message text.now) (seated seat) []) }
+            Accepts (named player) (game_message text.now) (seated seat) []) }
         ensures fault { IfErr result (HasFault (named player) (game_message text.now)) }
     {
         let game = load_game(alloc, text)?;

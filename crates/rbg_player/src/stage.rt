@@ -2,8 +2,8 @@
 ghost use Rattle.std.specs.Prelude.{◌≡◌, ◌++◌, ℕ, List, [], IfErr, OnErr, OnOk};
 ghost use Rattle.rbg_wire.specs.Messages.{ArePairs, spelling, message_of, who_message, game_message, limits_message, move_message, refusal_message, end_message};
 ghost use Rattle.rbg_player.specs.Players.{unnamed, playing, error_at, heard_at};
-ghost use Rattle.rbg_player.specs.Hearing.{HasFault, Hears};
-ghost use Rattle.rbg_player.specs.internal.Standing.{stage_of, HearsOrFails};
+ghost use Rattle.rbg_player.specs.Hearing.{HasFault, Accepts};
+ghost use Rattle.rbg_player.specs.internal.Stages.{stage_of, AcceptsOrFails};
 
 use crate::seat::Seat;
 use crate::{Chooser, Heard, PlayerError};
@@ -59,7 +59,7 @@ impl Stage {
         chooser: &mut C,
         out: &mut Vec<u8>,
     ) -> Result<(), PlayerError>
-        ensures { HearsOrFails (stage_of self.old) (message_of message.entry) (stage_of self.new)
+        ensures { AcceptsOrFails (stage_of self.old) (message_of message.entry) (stage_of self.new)
             out.old.items out.new.items result }
     {
         match message {
@@ -76,7 +76,7 @@ impl Stage {
     #[tactic(auto, using(crate::proofs::HearingLemmas::hearing))]
     fn hear_name(&mut self, player: u64) -> Result<(), PlayerError>
         ensures ok { (name : List ℕ) → OnOk result
-            (Hears (stage_of self.old) (who_message player name) (stage_of self.new) []) }
+            (Accepts (stage_of self.old) (who_message player name) (stage_of self.new) []) }
         ensures fault { (name : List ℕ)
             → IfErr result (HasFault (stage_of self.old) (who_message player name)) }
     {
@@ -89,7 +89,7 @@ impl Stage {
 
     #[tactic(auto, using(crate::proofs::HearingLemmas::hearing))]
     fn hear_game(&mut self, alloc: Global, text: &[u8]) -> Result<(), PlayerError>
-        ensures ok { OnOk result (Hears (stage_of self.old) (game_message text.now)
+        ensures ok { OnOk result (Accepts (stage_of self.old) (game_message text.now)
             (stage_of self.new) []) }
         ensures fault { IfErr result (HasFault (stage_of self.old) (game_message text.now)) }
     {
@@ -104,7 +104,7 @@ impl Stage {
     #[tactic(auto, using(crate::proofs::HearingLemmas::hearing))]
     fn hear_limits(&mut self) -> Result<(), PlayerError>
         ensures ok { (turn_ms refusals : ℕ) → OnOk result
-            (Hears (stage_of self.old) (limits_message turn_ms refusals) (stage_of self.new) []) }
+            (Accepts (stage_of self.old) (limits_message turn_ms refusals) (stage_of self.new) []) }
         ensures fault { (turn_ms refusals : ℕ) → IfErr result
             (HasFault (stage_of self.old) (limits_message turn_ms refusals)) }
     {
@@ -122,7 +122,7 @@ impl Stage {
         chooser: &mut C,
         out: &mut Vec<u8>,
     ) -> Result<(), PlayerError>
-        ensures { HearsOrFails (stage_of self.old) (move_message pairs.now) (stage_of self.new)
+        ensures { AcceptsOrFails (stage_of self.old) (move_message pairs.now) (stage_of self.new)
             out.old.items out.new.items result }
     {
         let Stage::Playing { seat } = self else {
@@ -133,7 +133,7 @@ impl Stage {
 
     #[tactic(auto, using(crate::proofs::HearingLemmas::hearing))]
     fn hear_refusal(&self, reason: Reason) -> Result<(), PlayerError>
-        ensures ok { OnOk result (Hears (stage_of self.now) (refusal_message reason)
+        ensures ok { OnOk result (Accepts (stage_of self.now) (refusal_message reason)
             (stage_of self.now) []) }
         ensures fault { IfErr result (HasFault (stage_of self.now) (refusal_message reason)) }
     {
@@ -146,7 +146,7 @@ impl Stage {
 
     #[tactic(auto, using(crate::proofs::HearingLemmas::hearing))]
     fn hear_end(&mut self, outcome: Outcome) -> Result<(), PlayerError>
-        ensures ok { OnOk result (Hears (stage_of self.old) (end_message outcome)
+        ensures ok { OnOk result (Accepts (stage_of self.old) (end_message outcome)
             (stage_of self.new) []) }
         ensures fault { IfErr result (HasFault (stage_of self.old) (end_message outcome)) }
     {
@@ -179,7 +179,7 @@ fn play<C: Chooser>(
     chooser: &mut C,
     out: &mut Vec<u8>,
 ) -> Result<(), PlayerError>
-    ensures { HearsOrFails (playing seat.old) (move_message pairs.now) (playing seat.new)
+    ensures { AcceptsOrFails (playing seat.old) (move_message pairs.now) (playing seat.new)
         out.old.items out.new.items result }
 {
     seat.follow(pairs)?;

@@ -14,7 +14,7 @@ abbrev pub first_place : AbstractGame → AbstractPlace
 first_place game = record { state = start_of game; last = None }
 
 -- The two places have the same pieces on the board, the same values of the variables, and the same player to move.
-pub record StandAlike (here there : AbstractPlace) : Type 0 where
+pub record ArePlacesAlike (here there : AbstractPlace) : Type 0 where
   pub pieces : here.state.pieces ≡ there.state.pieces
   pub values : here.state.values ≡ there.state.values
   pub player : here.state.player ≡ there.state.player
@@ -23,7 +23,7 @@ pub record StandAlike (here there : AbstractPlace) : Type 0 where
 pub record BeginsAs (game : AbstractGame) (place : AbstractPlace) : Type 0 where
   pub to : AbstractPlace
   pub settles : Settles game (first_place game) to
-  pub alike : StandAlike to place
+  pub alike : ArePlacesAlike to place
 
 -- the game with the pieces of the place on the board
 abbrev pub game_at : AbstractGame → AbstractPlace → AbstractGame

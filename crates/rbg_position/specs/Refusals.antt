@@ -19,12 +19,12 @@ pub record HoldsOther (variable here there : ℕ) (at place : AbstractPlace) : T
 
 -- How one place differs from another one: other pieces are on the board, or another player is to move, or a variable
 -- has another value.
-pub data StandsOtherwise (at place : AbstractPlace) : PositionError → Type 0 where
-  pieces : at.state.pieces ≢ place.state.pieces → StandsOtherwise at place Keeper
+pub data PlacesDiffer (at place : AbstractPlace) : PositionError → Type 0 where
+  pieces : at.state.pieces ≢ place.state.pieces → PlacesDiffer at place Keeper
   player : {here there : ℕ} →
-      at.state.player ≡ here → place.state.player ≡ there → here ≢ there → StandsOtherwise at place (Turn there here)
+      at.state.player ≡ here → place.state.player ≡ there → here ≢ there → PlacesDiffer at place (Turn there here)
   value : {variable here there : ℕ} →
-      HoldsOther variable here there at place → StandsOtherwise at place (Value variable there here)
+      HoldsOther variable here there at place → PlacesDiffer at place (Value variable there here)
 
 -- The keeper's moves from a place lead to none from which play could continue: a question about them is above the
 -- limits, or they don't end.
@@ -38,7 +38,7 @@ pub data IsUnsettled (game : AbstractGame) (place : AbstractPlace) : PositionErr
 --   unsettled: they lead to no place at which play could begin.
 pub data BeginsOtherwise (game : AbstractGame) (place : AbstractPlace) : PositionError → Type 0 where
   otherwise : {at : AbstractPlace} {error : PositionError} →
-      Settles game (first_place game) at → StandsOtherwise at place error → BeginsOtherwise game place error
+      Settles game (first_place game) at → PlacesDiffer at place error → BeginsOtherwise game place error
   unsettled : {error : PositionError} → IsUnsettled game (first_place game) error → BeginsOtherwise game place error
 
 -- Why there is no description of the place.

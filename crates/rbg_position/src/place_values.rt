@@ -1,7 +1,7 @@
 //! Places, compared.
 ghost use Rattle.std.specs.Prelude.{◌≡◌, ◌<◌, ◌≤◌, IfErr, IfOk, Some, length, slice_get};
-ghost use Rattle.rbg_position.specs.Positions.{StandAlike};
-ghost use Rattle.rbg_position.specs.Refusals.{StandsOtherwise};
+ghost use Rattle.rbg_position.specs.Positions.{ArePlacesAlike};
+ghost use Rattle.rbg_position.specs.Refusals.{PlacesDiffer};
 
 use crate::error::PositionError;
 use rbg_base::{Piece, Player, Variable};
@@ -13,8 +13,8 @@ pub(crate) fn compare(count: usize, at: &Place, place: &Place) -> Result<(), Pos
     requires few { count ≤ 65536 }
     requires here { length at.now.state.values ≡ count }
     requires there { length place.now.state.values ≡ count }
-    ensures alike { IfOk result (λ _. StandAlike at.now place.now) }
-    ensures otherwise { IfErr result (StandsOtherwise at.now place.now) }
+    ensures alike { IfOk result (λ _. ArePlacesAlike at.now place.now) }
+    ensures otherwise { IfErr result (PlacesDiffer at.now place.now) }
 {
     if pieces_of(at) != pieces_of(place) {
         return Err(PositionError::Keeper);
@@ -32,7 +32,7 @@ fn compare_values(count: usize, at: &Place, place: &Place) -> Result<(), Positio
     requires here { length at.now.state.values ≡ count }
     requires there { length place.now.state.values ≡ count }
     ensures alike { IfOk result (λ _. at.now.state.values ≡ place.now.state.values) }
-    ensures otherwise { IfErr result (StandsOtherwise at.now place.now) }
+    ensures otherwise { IfErr result (PlacesDiffer at.now place.now) }
 {
     for index in 0..count {
         let variable = index as Variable;

@@ -3,7 +3,7 @@ use Rattle.rbg_base.proofs.Common.{◌≡◌, ℕ, suc, ◌+◌, List, [], ◌�
 use Rattle.std.specs.List.{flat_map}
 use Rattle.std.proofs.lemmas.List.Concat.{flat_map-append}
 use Rattle.rbg_board.specs.Graph.{Graph, next}
-use Rattle.rbg_rules.specs.Meaning.{AbstractAction, AbstractGame, Expression, HasAction, Stands, action_of, positions_of, skip}
+use Rattle.rbg_rules.specs.Meaning.{AbstractAction, AbstractGame, Expression, HasAction, IsActionAt, action_of, positions_of, skip}
 use Rattle.rbg_rules.specs.declared.rule.Action.{Action}
 use Rattle.rbg_rules.specs.declared.rule.Action.TheVariants.{Shift, On, Off, Assign, Compare, Switch, Positive, Negative}
 use Rattle.rbg_wire.specs.Lines.{line_of}
@@ -79,7 +79,7 @@ pub record IsToldAt (rules : Expression) (position : ℕ) (action : Action) : Ty
   pub stands : HasAction rules position here
   pub same : action_line here ≡ action_line (action_of action skip)
 
-pub told_at : (rules : Expression) (position : ℕ) (action : Action) → Stands rules position action → IsToldAt rules position action
+pub told_at : (rules : Expression) (position : ℕ) (action : Action) → IsActionAt rules position action → IsToldAt rules position action
 told_at rules position (Shift d) stands = record { here = action_of (Shift d) skip; stands = stands; same = refl }
 told_at rules position (On pieces) stands = record { here = action_of (On pieces) skip; stands = stands; same = refl }
 told_at rules position (Off x) stands = record { here = action_of (Off x) skip; stands = stands; same = refl }
@@ -89,7 +89,7 @@ told_at rules position (Switch n) stands = record { here = action_of (Switch n) 
 told_at rules position Positive stands = record { here = action_of Positive stands.0; stands = stands.1; same = refl }
 told_at rules position Negative stands = record { here = action_of Negative stands.0; stands = stands.1; same = refl }
 
-pub written_more : (rules : Expression) (many : ℕ) (old mid new : List ℕ) (action : Action) → WrittenFirst rules many old mid → Stands rules (many + 1) action → new ≡ mid ++ action_line (action_of action skip) → WrittenFirst rules (many + 1) old new
+pub written_more : (rules : Expression) (many : ℕ) (old mid new : List ℕ) (action : Action) → WrittenFirst rules many old mid → IsActionAt rules (many + 1) action → new ≡ mid ++ action_line (action_of action skip) → WrittenFirst rules (many + 1) old new
 written_more rules many old mid new action so_far stands written =
     let found = told_at rules (many + 1) action stands in
     let placed : HasAction rules (length so_far.actions + 1) found.here = subst (λ n. HasAction rules (n + 1) found.here) (sym so_far.all) found.stands in

@@ -7,15 +7,15 @@ pub use Rattle.rbg_record.specs.Migration.{HasPlainForm, IsMigrated, IsPlainFaul
 pub use Rattle.rbg_record.specs.OfMatch.{WritesRecord, plain_move, plain_record_of, record_of}
 pub use Rattle.rbg_record.specs.Reaching.{IsPlaceAfter, place_in}
 pub use Rattle.rbg_record.specs.Records.{AbstractRecord, HasSpelling, PlainMove, PlainRecord, Spells, TimedRecord, made_entry, plain, plain_entries, plain_entry, texts_of, timed, timed_entries}
-pub use Rattle.rbg_record.specs.Right.{FitsPlace, IsRight, IsRightPlain, IsRightRecord, IsRightTimed, made_at, told_play, turn_config}
+pub use Rattle.rbg_record.specs.Right.{FitsPlace, IsRight, IsRightPlain, IsRightRecord, IsRightTimed, made_at, recorded_play, turn_config}
 pub use Rattle.rbg_record.specs.declared.checked.Checked.{Checked}
 pub use Rattle.rbg_record.specs.declared.checked.Checked.TheVariants.{Bad, Good}
 pub use Rattle.rbg_record.specs.declared.error.RecordError.{RecordError}
 pub use Rattle.rbg_record.specs.declared.error.RecordError.TheVariants.{Form, Memory, Over}
 pub use Rattle.rbg_record.specs.declared.fault.LineFault.{LineFault}
 pub use Rattle.rbg_record.specs.declared.fault.Misfit.{Misfit}
-pub use Rattle.rbg_record.specs.internal.Faults.{told_at}
+pub use Rattle.rbg_record.specs.internal.Faults.{verdict_at}
 pub use Rattle.rbg_record.specs.internal.Following.{EndsAt, IsAt, ends_at}
-pub use Rattle.rbg_record.specs.internal.Migrating.{AreMigrated, IsPlainNext, IsPlainRefusal, IsTold, Migrates, MigratesLine, TellsAll, head_texts, part_of, timed_texts}
+pub use Rattle.rbg_record.specs.internal.Migrating.{AreMigrated, IsPlainNext, IsPlainRefusal, IsWritten, Migrates, MigratesLine, TellsAll, head_texts, part_of, timed_texts}
 pub use Rattle.rbg_record.specs.internal.Reading.{EndsSo, SomeIsLegal}
-pub use Rattle.rbg_record.specs.internal.Written.{entries_bytes, made_text, told_text}
+pub use Rattle.rbg_record.specs.internal.Written.{entries_bytes, made_text, text_in}

@@ -29,18 +29,18 @@ one_told Two text a b one other = entries_apart.timed text a b one other
 
 -- what an entry leads to
 abbrev After : AbstractGame → MatchSoFar → ℕ → Entry → Reached → Type 0
-After game standing at (Move player pairs) to = (next : AbstractPlace) × Legal game standing.place pairs next × (to ≡ entry_next (record standing { last = at; place = next }))
-After game standing at (Ends outcome) to = to ≡ nothing_next
+After game match_so_far at (Move player pairs) to = (next : AbstractPlace) × Legal game match_so_far.place pairs next × (to ≡ entry_next (record match_so_far { last = at; place = next }))
+After game match_so_far at (Ends outcome) to = to ≡ nothing_next
 
-after : (game : AbstractGame) (standing : MatchSoFar) (told : Timed) (to : Reached) → EntryLeads game standing told to → After game standing told.at told.entry to
-after game standing told to (lines.move {to = next} mover moment counted legal) = (next, legal, refl)
-after game standing told to (lines.end fits counted) = refl
+after : (game : AbstractGame) (match_so_far : MatchSoFar) (told : Timed) (to : Reached) → EntryLeads game match_so_far told to → After game match_so_far told.at told.entry to
+after game match_so_far told to (lines.move {to = next} mover moment counted legal) = (next, legal, refl)
+after game match_so_far told to (lines.end fits counted) = refl
 
-one_beyond : (game : AbstractGame) → IsNumbered game.rules → (standing : MatchSoFar) (at : ℕ) (entry : Entry) (to to' : Reached) → After game standing at entry to → After game standing at entry to' → to ≡ to'
-one_beyond game numbered standing at (Move player pairs) to to' one other =
-    let same = one_place_law game numbered standing.place pairs one.0 other.0 one.1 other.1 in
-    one.2 ∙ (ap (λ (next : AbstractPlace). entry_next (record standing { last = at; place = next })) same ∙ sym other.2)
-one_beyond game numbered standing at (Ends outcome) to to' one other = one ∙ sym other
+one_beyond : (game : AbstractGame) → IsNumbered game.rules → (match_so_far : MatchSoFar) (at : ℕ) (entry : Entry) (to to' : Reached) → After game match_so_far at entry to → After game match_so_far at entry to' → to ≡ to'
+one_beyond game numbered match_so_far at (Move player pairs) to to' one other =
+    let same = one_place_law game numbered match_so_far.place pairs one.0 other.0 one.1 other.1 in
+    one.2 ∙ (ap (λ (next : AbstractPlace). entry_next (record match_so_far { last = at; place = next })) same ∙ sym other.2)
+one_beyond game numbered match_so_far at (Ends outcome) to to' one other = one ∙ sym other
 
 pub no_versions : (text : List ℕ) → text ≡ version_text One → text ≡ version_text Two → ⊥
 no_versions text one two = let same : One ≡ Two = headings_apart.versions One Two (sym one ∙ two) in cc
@@ -54,9 +54,9 @@ one_lead game numbered from text to to' (lines.players spells) (lines.players sp
 one_lead game numbered from text to to' (lines.start {start = start} spells lawful counted) (lines.start {start = other} spells' lawful' counted') =
     let same = one_start text start other spells spells' in
     ap (λ begun. entry_next (record { version = Two; turn_ms = begun.turn_ms; last = begun.now; place = start_place game })) same
-one_lead game numbered from text to to' (lines.entry {standing = standing} {told = told} spells leads) (lines.entry {told = told'} spells' leads') =
-    let same = one_told standing.version text told told' spells spells' in
-    one_beyond game numbered standing told.at told.entry to to' (after game standing told to leads) (subst (λ (entry : Timed). After game standing entry.at entry.entry to') (sym same) (after game standing told' to' leads'))
+one_lead game numbered from text to to' (lines.entry {match_so_far = match_so_far} {told = told} spells leads) (lines.entry {told = told'} spells' leads') =
+    let same = one_told match_so_far.version text told told' spells spells' in
+    one_beyond game numbered match_so_far told.at told.entry to to' (after game match_so_far told to leads) (subst (λ (entry : Timed). After game match_so_far entry.at entry.entry to') (sym same) (after game match_so_far told' to' leads'))
 
 formed : (game : AbstractGame) (from : Reached) (text : List ℕ) (to : Reached) → Leads game from text to → HasForm from text
 formed game from text to (lines.version_1 is) = (One, is)

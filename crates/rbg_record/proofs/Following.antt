@@ -34,8 +34,8 @@ module _ {game : AbstractGame} {bytes : List ℕ} {reached : Reached} {place : A
 
   -- the record's bytes are those of lines of which the last is the end
   after_end : {texts : List (List ℕ)} → IsRightRecord game bytes → BeginsWith bytes texts [] → EndsAt game texts place → IsPlaceAfter game bytes place
-  after_end right begins (ends_at {before} {standing} last leads) =
-      record { right = right; texts = before; last = last; begins = begins; standing = standing; leads = leads; here = refl }
+  after_end right begins (ends_at {before} {match_so_far} last leads) =
+      record { right = right; texts = before; last = last; begins = begins; match_so_far = match_so_far; leads = leads; here = refl }
 
   -- no line is left, and the record has ended
   pub followed_whole : {next : Next} → next ≡ next_of reached → (next ≡ nexts.Nothing) × (left.rest ≡ []) → IsPlaceAfter game bytes place

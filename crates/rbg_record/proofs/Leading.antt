@@ -14,7 +14,7 @@ use Rattle.rbg_match.specs.declared.made.Made.{Made}
 use Rattle.rbg_match.proofs.Common.{LeadsTo, MadeInTurn, IsInTurn, start_place, latest_moment}
 use Rattle.rbg_match.specs.History as history
 use Rattle.rbg_record.specs.Entries.{unwritten_moment}
-use Rattle.rbg_record.proofs.Common.{PlainMove, PlainRecord, TimedRecord, AbstractRecord, plain, timed, plain_entry, made_entry, plain_entries, timed_entries, texts_of, HasSpelling, turn_config, told_play, made_at, IsRight, IsRightPlain, IsRightTimed, IsRightRecord, entry_next, nothing_next, LeadTo, IsGoodByLines}
+use Rattle.rbg_record.proofs.Common.{PlainMove, PlainRecord, TimedRecord, AbstractRecord, plain, timed, plain_entry, made_entry, plain_entries, timed_entries, texts_of, HasSpelling, turn_config, recorded_play, made_at, IsRight, IsRightPlain, IsRightTimed, IsRightRecord, entry_next, nothing_next, LeadTo, IsGoodByLines}
 use Rattle.rbg_record.specs.Lines as lines
 use Rattle.rbg_record.proofs.Telling.{zero_or_not}
 use Rattle.rbg_record.proofs.Fitting.{fits_unwritten, fits_same, fits_later}
@@ -170,7 +170,7 @@ began_before config began moves last (history.by_player {last = before} in_turn 
 timed_lines : (game : AbstractGame) (told : TimedRecord) → HasSpelling (timed told) → IsRightTimed game told → LeadTo game (texts_of (timed told)) nothing_next
 timed_lines game told has right =
     let past = right.history in
-    let play = told_play told.moves told.outcome right.place right.turn_began in
+    let play = recorded_play told.moves told.outcome right.place right.turn_began in
     let later = fits_later game (turn_config told.start.turn_ms) play past.last told.moment told.outcome past.fits in
     let first = began_before (turn_config told.start.turn_ms) told.start.now told.moves past.last past.in_turn in
     let counted : told.moment ≤ latest_moment = past.counted in

@@ -5,7 +5,7 @@ pub use Rattle.rbg_record.specs.Heading.{HaveNames, SpellsPlayers, SpellsStart, 
 unfoldable pub use Rattle.rbg_record.specs.Heading.{start_text, version_text}
 pub use Rattle.rbg_record.specs.LineLaws.{EntriesAreApart, HeadingsAreApart, LinesAreApart, SpellingsAreLines}
 pub use Rattle.rbg_record.specs.NextLine.{BeginsWith, GoesOn, HasFormFault, IsFirstLine, Left}
-pub use Rattle.rbg_record.specs.Reading.{HasForm, Misreads, Says, TakesLine, next_after}
+pub use Rattle.rbg_record.specs.Reading.{HasForm, Misreads, HasContent, TakesLine, next_after}
 pub use Rattle.rbg_record.specs.declared.entry.Entry.{Entry}
 pub use Rattle.rbg_record.specs.declared.entry.Entry.TheVariants.{End, Move}
 pub use Rattle.rbg_record.specs.declared.entry.Timed.{Timed}

@@ -7,7 +7,7 @@ use Rattle.rbg_match.specs.declared.config.Config.{Config}
 use Rattle.rbg_match.specs.declared.made.Made.{Made}
 use Rattle.rbg_match.specs.History as history
 use Rattle.rbg_match.proofs.Common.{LeadsTo, MadeInTurn, FitsOutcome, MatchState, HasHistory, AbstractPlay}
-use Rattle.rbg_record.proofs.Common.{MatchesAreRight, WritesRecord, record_of, plain_record_of, plain_move, AbstractRecord, plain, timed, Spells, turn_config, told_play, made_at, IsRight}
+use Rattle.rbg_record.proofs.Common.{MatchesAreRight, WritesRecord, record_of, plain_record_of, plain_move, AbstractRecord, plain, timed, Spells, turn_config, recorded_play, made_at, IsRight}
 use Rattle.rbg_record.proofs.Fitting.{fits_place}
 
 -- What a record leaves out of a config and of the state of play has no part in its history.
@@ -18,7 +18,7 @@ turns_told (history.by_player turns made player turn) = history.by_player (turns
 
 fits_told : (game : AbstractGame) (config : Config) (play : AbstractPlay) (last moment : ℕ) (told outcome : Option Outcome) →
     FitsOutcome game config play last moment outcome →
-    FitsOutcome game (turn_config config.turn_ms) (told_play play.made told play.place play.turn_began) last moment outcome
+    FitsOutcome game (turn_config config.turn_ms) (recorded_play play.made told play.place play.turn_began) last moment outcome
 fits_told game config play last moment told None fits = fits
 fits_told game config play last moment told (Some (Finished scores)) fits = fits
 fits_told game config play last moment told (Some (Time player)) fits = fits

@@ -16,12 +16,12 @@ use Rattle.rbg_record.specs.declared.line.RecordLine.{RecordLine}
 use Rattle.rbg_record.specs.declared.next.Next.{Next}
 use Rattle.rbg_record.specs.declared.next.Next.TheVariants as nexts
 use Rattle.rbg_record.proofs.Stopping.{IsReadSoFar, goes_on_so, not_formed, read_as, read_stops}
-use Rattle.rbg_record.proofs.LineCommon.{entry_text, timed_text, EntryHasSpelling, TimedHasSpelling, SpellsEntry, version_text, players_text, start_text, HaveNames, HasForm, Left, Misreads, Says, TakesLine, next_after}
+use Rattle.rbg_record.proofs.LineCommon.{entry_text, timed_text, EntryHasSpelling, TimedHasSpelling, SpellsEntry, version_text, players_text, start_text, HaveNames, HasForm, Left, Misreads, HasContent, TakesLine, next_after}
 use Rattle.rbg_match.specs.declared.made.Made.{Made}
 use Rattle.rbg_match.specs.History.{LeadsTo, MadeInTurn}
 use Rattle.rbg_match.specs.History as history
 use Rattle.rbg_record.specs.Entries.{unwritten_moment, with_moment}
-use Rattle.rbg_record.proofs.Common.{RecordError, Form, PlainMove, PlainRecord, plain, timed, plain_entry, made_entry, texts_of, made_at, turn_config, told_play, IsRight, IsRightPlain, IsRightTimed, PlainPart, before_version, among_moves, beyond_end, HasPlainForm, IsPlainSoFar, IsPlainFault, IsMigrated, migrated, AreMigrated, IsPlainNext, IsPlainRefusal, Migrates, MigratesLine, TellsAll, IsTold, head_texts, part_of, timed_texts}
+use Rattle.rbg_record.proofs.Common.{RecordError, Form, PlainMove, PlainRecord, plain, timed, plain_entry, made_entry, texts_of, made_at, turn_config, recorded_play, IsRight, IsRightPlain, IsRightTimed, PlainPart, before_version, among_moves, beyond_end, HasPlainForm, IsPlainSoFar, IsPlainFault, IsMigrated, migrated, AreMigrated, IsPlainNext, IsPlainRefusal, Migrates, MigratesLine, TellsAll, IsWritten, head_texts, part_of, timed_texts}
 use Rattle.rbg_record.specs.declared.error.RecordError.TheVariants as error
 use Rattle.rbg_record.specs.Migration as migration
 use Rattle.rbg_record.specs.internal.Migrating as migrating
@@ -40,12 +40,12 @@ plain_still : (entry : Entry) → IsPlainNext (next_after (nexts.Entry One) entr
 plain_still (Move player pairs) = tt
 plain_still (End outcome) = tt
 
-pub version_migrates : (game : AbstractGame) (next : Next) (text : List ℕ) (version : Version) (old new : List ℕ) → version ≡ One → Says next text (contents.Version version) → new ≡ old ++ lines_of (head_texts game) → MigratesLine game next text (nexts.Entry One) old new
+pub version_migrates : (game : AbstractGame) (next : Next) (text : List ℕ) (version : Version) (old new : List ℕ) → version ≡ One → HasContent next text (contents.Version version) → new ≡ old ++ lines_of (head_texts game) → MigratesLine game next text (nexts.Entry One) old new
 version_migrates game nexts.Version text version old new one is told =
     record { migrates = migrating.version (subst (λ (which : Version). text ≡ version_text which) one is) told; plain = tt }
 version_migrates game _ text version old new one is told = absurd is
 
-pub entry_migrates : (game : AbstractGame) (next : Next) (text : List ℕ) (told : Timed) (to : Next) (old new : List ℕ) → IsPlainNext next → Says next text (contents.Entry told) → new ≡ old ++ line_of (timed_text told) → to ≡ next_after next told.entry → MigratesLine game next text to old new
+pub entry_migrates : (game : AbstractGame) (next : Next) (text : List ℕ) (told : Timed) (to : Next) (old new : List ℕ) → IsPlainNext next → HasContent next text (contents.Entry told) → new ≡ old ++ line_of (timed_text told) → to ≡ next_after next told.entry → MigratesLine game next text to old new
 entry_migrates game (nexts.Entry One) text told to old new is_plain says written is =
     let same : told ≡ with_moment told.entry = λ i. record { at = says.1 i; entry = told.entry } in
     subst (λ (next : Next). MigratesLine game (nexts.Entry One) text next old new) (sym is) (record {
@@ -56,12 +56,12 @@ entry_migrates game (nexts.Entry Two) text told to old new is_plain says written
 entry_migrates game _ text told to old new is_plain says written is = absurd says
 
 -- a line of version 2 has no form of version 1
-pub not_plain_version : (next : Next) (text : List ℕ) (version : Version) → version ≡ Two → Says next text (contents.Version version) → HasPlainForm (part_of next) text → ⊥
+pub not_plain_version : (next : Next) (text : List ℕ) (version : Version) → version ≡ Two → HasContent next text (contents.Version version) → HasPlainForm (part_of next) text → ⊥
 not_plain_version nexts.Version text version two is one = no_versions text one (subst (λ (which : Version). text ≡ version_text which) two is)
 not_plain_version _ text version two is one = absurd is
 
 -- what comes of a line with a version
-pub version_line : (game : AbstractGame) (next : Next) (text : List ℕ) (version : Version) (old new : List ℕ) (result : Result Next RecordError) → Says next text (contents.Version version) → IfOk result (λ to. (text : List ℕ) → text ≡ version_text version → MigratesLine game nexts.Version text to old new) → IfOk result (λ to. MigratesLine game next text to old new)
+pub version_line : (game : AbstractGame) (next : Next) (text : List ℕ) (version : Version) (old new : List ℕ) (result : Result Next RecordError) → HasContent next text (contents.Version version) → IfOk result (λ to. (text : List ℕ) → text ≡ version_text version → MigratesLine game nexts.Version text to old new) → IfOk result (λ to. MigratesLine game next text to old new)
 version_line game nexts.Version text version old new (Ok to) says migrates = migrates text says
 version_line game _ text version old new (Ok to) says migrates = absurd says
 version_line game next text version old new (Err refusal) says migrates = tt
@@ -69,15 +69,15 @@ version_line game next text version old new (Err refusal) says migrates = tt
 pub version_refused : (line : RecordLine) (version : Version) (result : Result Next RecordError) → line.content ≡ contents.Version version → IfErr result (RefusesVersion version line.number) → IfErr result (RefusesPlain line)
 version_refused line version (Ok to) is refused = tt
 version_refused line version (Err (error.Form number)) is refused =
-    (refused.0, λ next is_plain says. not_plain_version next line.text.now version refused.1 (subst (λ (content : Content). Says next line.text.now content) is says))
+    (refused.0, λ next is_plain says. not_plain_version next line.text.now version refused.1 (subst (λ (content : Content). HasContent next line.text.now content) is says))
 version_refused line version (Err (error.Over number)) is refused = refused
 version_refused line version (Err error.Memory) is refused = tt
 
-pub no_players : (next : Next) (text : List ℕ) (names : _) → IsPlainNext next → Says next text (contents.Players names) → ⊥
+pub no_players : (next : Next) (text : List ℕ) (names : _) → IsPlainNext next → HasContent next text (contents.Players names) → ⊥
 no_players nexts.Players text names is_plain says = is_plain
 no_players _ text names is_plain says = says
 
-pub no_start : (next : Next) (text : List ℕ) (start : Start) → IsPlainNext next → Says next text (contents.Start start) → ⊥
+pub no_start : (next : Next) (text : List ℕ) (start : Start) → IsPlainNext next → HasContent next text (contents.Start start) → ⊥
 no_start nexts.Start text start is_plain says = is_plain
 no_start _ text start is_plain says = says
 
@@ -88,7 +88,7 @@ lines_push texts text = flat_map-append line_of texts (text ∷ []) ∙ ap (λ b
 abbrev moved_text : PlainMove → List ℕ
 moved_text move = timed_text (with_moment (plain_entry move))
 
-told_more : (game : AbstractGame) (texts : List (List ℕ)) (text : List ℕ) (from to : PlainPart) (old new : List ℕ) → IsTold game from texts old → Migrates game from text to old new → IsTold game to (texts ++ text ∷ []) new
+told_more : (game : AbstractGame) (texts : List (List ℕ)) (text : List ℕ) (from to : PlainPart) (old new : List ℕ) → IsWritten game from texts old → Migrates game from text to old new → IsWritten game to (texts ++ text ∷ []) new
 told_more game texts text from to old new tells (migrating.version is told) = record {
   moves = [];
   has = All-nil EntryHasSpelling;
@@ -117,7 +117,7 @@ told_more game texts text from to old new tells (migrating.end {outcome = outcom
   told = told ∙ (ap (λ bytes. bytes ++ line_of (timed_text (with_moment (End outcome)))) tells.told ∙ sym (lines_push (timed_texts game tells.moves) (timed_text (with_moment (End outcome)))));
 }
 
-formed_more : (game : AbstractGame) (texts : List (List ℕ)) (text : List ℕ) (from to : PlainPart) (old new : List ℕ) → IsTold game from texts old → IsPlainSoFar texts from → Migrates game from text to old new → IsPlainSoFar (texts ++ text ∷ []) to
+formed_more : (game : AbstractGame) (texts : List (List ℕ)) (text : List ℕ) (from to : PlainPart) (old new : List ℕ) → IsWritten game from texts old → IsPlainSoFar texts from → Migrates game from text to old new → IsPlainSoFar (texts ++ text ∷ []) to
 formed_more game texts text from to old new tells so_far (migrating.version is told) =
     subst (λ (all : List (List ℕ)). IsPlainSoFar all among_moves) (sym (λ i. tells.0 i ++ is i ∷ [])) migration.begun
 formed_more game texts text from to old new tells so_far (migrating.move spells told) = migration.moved so_far spells
@@ -193,7 +193,7 @@ right_before : (game : AbstractGame) (told : PlainRecord) → IsRightTimed game 
 right_before game told right = record {
   place = right.place;
   leads = right.history.leads;
-  fits = fits_place game (turn_config 1) (told_play (map (made_at 0) told.moves) told.outcome right.place right.turn_began) right.history.last (unwritten_moment (End told.outcome)) told.outcome right.history.fits;
+  fits = fits_place game (turn_config 1) (recorded_play (map (made_at 0) told.moves) told.outcome right.place right.turn_began) right.history.last (unwritten_moment (End told.outcome)) told.outcome right.history.fits;
 }
 
 pub same_right : (game : AbstractGame) (told : PlainRecord) → IsRight game (plain told) ↔ IsRight game (timed (migrated game told))
@@ -215,7 +215,7 @@ small_moment outcome has = let counted = unwritten_counted outcome in (omega ari
 
 pub migrated_whole : (game : AbstractGame) (bytes : List ℕ) (next : Next) (out : List ℕ) (left : Left) → HaveNames game.players → IsReadSoFar (AreMigrated game) bytes (next, out) left → (next ≡ nexts.Nothing) × (left.rest ≡ []) → IsMigrated game bytes out
 migrated_whole game bytes next out left named so_far over =
-    let tells : TellsAll game so_far.texts out = subst (λ (to : Next). IsTold game (part_of to) so_far.texts out) over.0 so_far.leads.told in
+    let tells : TellsAll game so_far.texts out = subst (λ (to : Next). IsWritten game (part_of to) so_far.texts out) over.0 so_far.leads.told in
     let record_told : PlainRecord = record { moves = tells.moves; outcome = tells.outcome } in
     let end : Timed = with_moment (End tells.outcome) in
     let plain_texts : so_far.texts ≡ texts_of (plain record_told) =

@@ -17,7 +17,7 @@ pub place_in_game : (game : AbstractGame) (to : Reached) (before : AbstractPlace
 place_in_game game version_next before reached_in in_game = in_game
 place_in_game game players_next before reached_in in_game = in_game
 place_in_game game start_next before reached_in in_game = in_game
-place_in_game game (entry_next standing) before reached_in in_game = reached_in
+place_in_game game (entry_next match_so_far) before reached_in in_game = reached_in
 place_in_game game nothing_next before reached_in in_game = in_game
 
 -- The lines before what is left are right in turn and lead there.
@@ -56,7 +56,7 @@ module _ {game : AbstractGame} {bytes : List ℕ} {reached : Reached} {left : Le
     texts = so_far.texts;
     text = text;
     here = line_here line text later is first;
-    standing = refuses.standing;
+    match_so_far = refuses.match_so_far;
     leads = subst (λ (to : Reached). LeadTo game so_far.texts to) refuses.here so_far.leads;
     told = refuses.told;
     form = refuses.form;

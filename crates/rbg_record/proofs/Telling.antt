@@ -13,19 +13,19 @@ use Rattle.rbg_match.specs.declared.made.Made.{Made}
 use Rattle.rbg_match.proofs.Common.{IsWithinLimits, LeadsTo, MadeInTurn, FitsOutcome, latest_moment}
 use Rattle.rbg_match.specs.History as history
 use Rattle.rbg_record.specs.Entries.{SpellsIn}
-use Rattle.rbg_record.proofs.Common.{PlainMove, AbstractRecord, plain, timed, plain_entry, made_entry, texts_of, HasSpelling, turn_config, told_play, made_at, FitsPlace, IsRight, IsRightRecord, MatchSoFar, Reached, version_next, players_next, start_next, entry_next, nothing_next, EntryLeads, Leads, LeadTo, play_at, IsGoodByLines}
+use Rattle.rbg_record.proofs.Common.{PlainMove, AbstractRecord, plain, timed, plain_entry, made_entry, texts_of, HasSpelling, turn_config, recorded_play, made_at, FitsPlace, IsRight, IsRightRecord, MatchSoFar, Reached, version_next, players_next, start_next, entry_next, nothing_next, EntryLeads, Leads, LeadTo, play_at, IsGoodByLines}
 use Rattle.rbg_record.specs.Lines as lines
 use Rattle.rbg_record.proofs.Fitting.{fits_place, fits_same}
 
 -- What the lines so far mean for play, in version 1.
-pub record TellsPlain (game : AbstractGame) (texts : List (List ℕ)) (place : AbstractPlace) : Type 0 where
+pub record ArePlainLines (game : AbstractGame) (texts : List (List ℕ)) (place : AbstractPlace) : Type 0 where
   pub moves : List PlainMove
   pub are : texts ≡ version_text One ∷ map entry_text (map plain_entry moves)
   pub has : All EntryHasSpelling (map plain_entry moves)
   pub leads : LeadsTo game (map (made_at 0) moves) place
 
 -- and in version 2
-pub record TellsTimed (game : AbstractGame) (texts : List (List ℕ)) (turn_ms last : ℕ) (place : AbstractPlace) : Type 0 where
+pub record AreTimedLines (game : AbstractGame) (texts : List (List ℕ)) (turn_ms last : ℕ) (place : AbstractPlace) : Type 0 where
   pub start : Start
   pub moves : List Made
   pub are : texts ≡ version_text Two ∷ players_text game.players ∷ start_text start ∷ map timed_text (map made_entry moves)
@@ -38,26 +38,26 @@ pub record TellsTimed (game : AbstractGame) (texts : List (List ℕ)) (turn_ms l
   pub in_turn : MadeInTurn (turn_config start.turn_ms) start.now moves last
 
 -- the lines are those of a record that is right
-pub record TellsRight (game : AbstractGame) (texts : List (List ℕ)) : Type 0 where
+pub record AreRightLines (game : AbstractGame) (texts : List (List ℕ)) : Type 0 where
   pub told : AbstractRecord
   pub are : texts ≡ texts_of told
   pub has : HasSpelling told
   pub right : IsRight game told
 
 abbrev pub TellsIn : Version → AbstractGame → List (List ℕ) → (turn_ms last : ℕ) → AbstractPlace → Type 0
-TellsIn One game texts turn_ms last place = TellsPlain game texts place
-TellsIn Two game texts turn_ms last place = TellsTimed game texts turn_ms last place
+TellsIn One game texts turn_ms last place = ArePlainLines game texts place
+TellsIn Two game texts turn_ms last place = AreTimedLines game texts turn_ms last place
 
 -- what the lines mean that lead to this point
 abbrev pub Tells : AbstractGame → List (List ℕ) → Reached → Type 0
 Tells game texts version_next = texts ≡ []
 Tells game texts players_next = texts ≡ version_text Two ∷ []
 Tells game texts start_next = (texts ≡ version_text Two ∷ players_text game.players ∷ []) × HaveNames game.players
-Tells game texts (entry_next standing) = TellsIn standing.version game texts standing.turn_ms standing.last standing.place
-Tells game texts nothing_next = TellsRight game texts
+Tells game texts (entry_next match_so_far) = TellsIn match_so_far.version game texts match_so_far.turn_ms match_so_far.last match_so_far.place
+Tells game texts nothing_next = AreRightLines game texts
 
 -- one more move without its moment
-more_plain : (game : AbstractGame) (texts : List (List ℕ)) (text : List ℕ) (place to : AbstractPlace) (player : ℕ) (pairs : List (ℕ × ℕ)) → TellsPlain game texts place → SpellsEntry text (Move player pairs) → player ≡ place.state.player → Legal game place pairs to → TellsPlain game (texts ++ text ∷ []) to
+more_plain : (game : AbstractGame) (texts : List (List ℕ)) (text : List ℕ) (place to : AbstractPlace) (player : ℕ) (pairs : List (ℕ × ℕ)) → ArePlainLines game texts place → SpellsEntry text (Move player pairs) → player ≡ place.state.player → Legal game place pairs to → ArePlainLines game (texts ++ text ∷ []) to
 more_plain game texts text place to player pairs tells spells mover legal =
     let made : PlainMove = record { player = player; pairs = pairs } in
     let entries : map plain_entry (tells.moves ++ made ∷ []) ≡ map plain_entry tells.moves ++ Move player pairs ∷ [] = map-append plain_entry tells.moves (made ∷ []) in
@@ -79,7 +79,7 @@ pub in_turn_more : (turn_ms began last : ℕ) (moves : List Made) (made : Made) 
 in_turn_more turn_ms began last moves made in_turn by_keeper by_player =
     elim (zero_or_not made.player) [ inl keeper ↦ history.by_keeper in_turn made keeper (by_keeper keeper) | inr player ↦ history.by_player in_turn made player (by_player player) ]
 
-more_timed : (game : AbstractGame) (texts : List (List ℕ)) (text : List ℕ) (turn_ms last at : ℕ) (place to : AbstractPlace) (player : ℕ) (pairs : List (ℕ × ℕ)) → TellsTimed game texts turn_ms last place → SpellsTimed text (record { at = at; entry = Move player pairs }) → player ≡ place.state.player → (player ≡ 0 → at ≡ last) → (player ≢ 0 → history.IsInTurn (turn_config turn_ms) last at) → Legal game place pairs to → TellsTimed game (texts ++ text ∷ []) turn_ms at to
+more_timed : (game : AbstractGame) (texts : List (List ℕ)) (text : List ℕ) (turn_ms last at : ℕ) (place to : AbstractPlace) (player : ℕ) (pairs : List (ℕ × ℕ)) → AreTimedLines game texts turn_ms last place → SpellsTimed text (record { at = at; entry = Move player pairs }) → player ≡ place.state.player → (player ≡ 0 → at ≡ last) → (player ≢ 0 → history.IsInTurn (turn_config turn_ms) last at) → Legal game place pairs to → AreTimedLines game (texts ++ text ∷ []) turn_ms at to
 more_timed game texts text turn_ms last at place to player pairs tells spells mover by_keeper by_player legal =
     let made : Made = record { player = player; at = at; pairs = pairs } in
     let entries : map made_entry (tells.moves ++ made ∷ []) ≡ map made_entry tells.moves ++ made_entry made ∷ [] = map-append made_entry tells.moves (made ∷ []) in
@@ -99,7 +99,7 @@ more_timed game texts text turn_ms last at place to player pairs tells spells mo
     }
 
 -- the end
-end_plain : (game : AbstractGame) (texts : List (List ℕ)) (text : List ℕ) (place : AbstractPlace) (outcome : Option Outcome) → TellsPlain game texts place → SpellsEntry text (End outcome) → FitsPlace game place outcome → TellsRight game (texts ++ text ∷ [])
+end_plain : (game : AbstractGame) (texts : List (List ℕ)) (text : List ℕ) (place : AbstractPlace) (outcome : Option Outcome) → ArePlainLines game texts place → SpellsEntry text (End outcome) → FitsPlace game place outcome → AreRightLines game (texts ++ text ∷ [])
 end_plain game texts text place outcome tells spells fits = record {
   told = plain (record { moves = tells.moves; outcome = outcome });
   are =
@@ -109,8 +109,8 @@ end_plain game texts text place outcome tells spells fits = record {
   right = record { place = place; leads = tells.leads; fits = fits };
 }
 
-end_timed : (game : AbstractGame) (texts : List (List ℕ)) (text : List ℕ) (standing : MatchSoFar) (at : ℕ) (outcome : Option Outcome) → TellsTimed game texts standing.turn_ms standing.last standing.place → SpellsTimed text (record { at = at; entry = End outcome }) → FitsOutcome game (turn_config standing.turn_ms) (play_at standing outcome) standing.last at outcome → at ≤ latest_moment → TellsRight game (texts ++ text ∷ [])
-end_timed game texts text standing at outcome tells spells fits counted = record {
+end_timed : (game : AbstractGame) (texts : List (List ℕ)) (text : List ℕ) (match_so_far : MatchSoFar) (at : ℕ) (outcome : Option Outcome) → AreTimedLines game texts match_so_far.turn_ms match_so_far.last match_so_far.place → SpellsTimed text (record { at = at; entry = End outcome }) → FitsOutcome game (turn_config match_so_far.turn_ms) (play_at match_so_far outcome) match_so_far.last at outcome → at ≤ latest_moment → AreRightLines game (texts ++ text ∷ [])
+end_timed game texts text match_so_far at outcome tells spells fits counted = record {
   told = timed (record { players = game.players; start = tells.start; moves = tells.moves; moment = at; outcome = outcome });
   are =
       (λ i. tells.are i ++ spells.is i ∷ [])
@@ -118,15 +118,15 @@ end_timed game texts text standing at outcome tells spells fits counted = record
   has = (tells.named, tells.begun, All-push TimedHasSpelling (map made_entry tells.moves) (record { at = at; entry = End outcome }) tells.has spells.has);
   right = record {
     players = refl;
-    place = standing.place;
-    turn_began = standing.last;
+    place = match_so_far.place;
+    turn_began = match_so_far.last;
     history = record {
       lawful = tells.lawful;
       counted = counted;
       leads = tells.leads;
-      last = standing.last;
+      last = match_so_far.last;
       in_turn = tells.in_turn;
-      fits = fits_same game (turn_config standing.turn_ms) (turn_config tells.start.turn_ms) (play_at standing outcome) tells.moves standing.last at outcome outcome (sym tells.turn) fits;
+      fits = fits_same game (turn_config match_so_far.turn_ms) (turn_config tells.start.turn_ms) (play_at match_so_far outcome) tells.moves match_so_far.last at outcome outcome (sym tells.turn) fits;
     };
   };
 }
@@ -136,7 +136,7 @@ more_entry : (game : AbstractGame) (texts : List (List ℕ)) (text : List ℕ) (
 more_entry game texts text One turn_ms last place told to tells spells (lines.move {player = player} {pairs = pairs} {to = next} mover moment counted legal) =
     more_plain game texts text place next player pairs tells spells.0 mover legal
 more_entry game texts text One turn_ms last place told to tells spells (lines.end {at = at} {outcome = outcome} fits counted) =
-    end_plain game texts text place outcome tells spells.0 (fits_place game (turn_config turn_ms) (told_play [] outcome place last) last at outcome fits)
+    end_plain game texts text place outcome tells spells.0 (fits_place game (turn_config turn_ms) (recorded_play [] outcome place last) last at outcome fits)
 more_entry game texts text Two turn_ms last place told to tells spells (lines.move {at = at} {player = player} {pairs = pairs} {to = next} mover moment counted legal) =
     more_timed game texts text turn_ms last at place next player pairs tells spells mover moment.by_keeper moment.by_player legal
 more_entry game texts text Two turn_ms last place told to tells spells (lines.end {at = at} {outcome = outcome} fits counted) =
@@ -164,8 +164,8 @@ more_line game texts text from to tells (lines.start {start = start} spells lawf
   leads = history.none;
   in_turn = history.nothing;
 }
-more_line game texts text from to tells (lines.entry {standing = standing} {told = told} spells leads) =
-    more_entry game texts text standing.version standing.turn_ms standing.last standing.place told to tells spells leads
+more_line game texts text from to tells (lines.entry {match_so_far = match_so_far} {told = told} spells leads) =
+    more_entry game texts text match_so_far.version match_so_far.turn_ms match_so_far.last match_so_far.place told to tells spells leads
 
 pub all_lines : (game : AbstractGame) (texts : List (List ℕ)) (to : Reached) → LeadTo game texts to → Tells game texts to
 all_lines game texts to lines.none = refl

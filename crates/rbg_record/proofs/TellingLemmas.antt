@@ -13,7 +13,7 @@ use Rattle.rbg_record.specs.declared.line.Content.TheVariants as contents
 use Rattle.rbg_record.specs.declared.line.RecordLine.{RecordLine}
 use Rattle.rbg_record.specs.declared.next.Next.{Next}
 use Rattle.rbg_record.specs.declared.next.Next.TheVariants as nexts
-use Rattle.rbg_record.proofs.LineCommon.{EntryHasSpelling, Left, Misreads, Says, SpellsIn, SpellsPlayers, SpellsStart, TakesLine, next_after, version_text}
+use Rattle.rbg_record.proofs.LineCommon.{EntryHasSpelling, Left, Misreads, HasContent, SpellsIn, SpellsPlayers, SpellsStart, TakesLine, next_after, version_text}
 use Rattle.rbg_record.specs.Reading as reading
 use Rattle.rbg_record.proofs.Apart.{one_start}
 use Rattle.rbg_record.proofs.Stopping.{IsReadSoFar, goes_on_so, not_formed, read_as, read_stops}
@@ -28,11 +28,11 @@ use Rattle.rbg_record.specs.declared.script_error.ScriptingError.{ScriptingError
 use Rattle.rbg_record.specs.declared.script_error.ScriptingError.TheVariants.{Form, Memory}
 use Rattle.rbg_record.specs.Scripting.{HasForm, head_1, head_2, IsMove, IsNoRecord, IsScriptOfRecord, LeadThere, LeadsOn, config_at, events_in, turns_of}
 use Rattle.rbg_record.specs.Scripting as scripting
-use Rattle.rbg_record.specs.internal.Telling.{AreTold, IsRefusal, IsTold, RefusesLine, TellsEntries, TellsEvents, TellsNext, TellsWhole}
+use Rattle.rbg_record.specs.internal.Telling.{AreWritten, IsRefusal, IsWritten, RefusesLine, WritesEntries, AppendsEvents, WritesNext, TellsWhole}
 use Rattle.rbg_record.proofs.EventLines.{tells_nothing, tells_both}
 
 -- the first lines of a record of version 1
-pub version_1_told : (text old new : List ℕ) → text ≡ version_text One → new ≡ old ++ line_of (config_text (config_at 1 0)) → TellsNext nexts.Version text (nexts.Entry One) old new
+pub version_1_told : (text old new : List ℕ) → text ≡ version_text One → new ≡ old ++ line_of (config_text (config_at 1 0)) → WritesNext nexts.Version text (nexts.Entry One) old new
 version_1_told text old new is told = record {
   leads = subst (λ (one : List ℕ). LeadsOn nexts.Version one (nexts.Entry One)) (sym is) scripting.version_1;
   told = λ texts so_far. record {
@@ -46,19 +46,19 @@ version_1_told text old new is told = record {
       lines = [];
       spelled = tt;
       are = λ i. so_far.0 i ++ is i ∷ [];
-      events = subst (TellsEvents [] (line_of (config_text (config_at 1 0)))) (sym (told ∙ ap (λ (bytes : List ℕ). bytes ++ line_of (config_text (config_at 1 0))) so_far.1)) (tells_nothing (line_of (config_text (config_at 1 0))));
+      events = subst (AppendsEvents [] (line_of (config_text (config_at 1 0)))) (sym (told ∙ ap (λ (bytes : List ℕ). bytes ++ line_of (config_text (config_at 1 0))) so_far.1)) (tells_nothing (line_of (config_text (config_at 1 0))));
     };
   };
 }
 
 -- and of version 2
-pub version_2_told : (text old : List ℕ) → text ≡ version_text Two → TellsNext nexts.Version text nexts.Players old old
+pub version_2_told : (text old : List ℕ) → text ≡ version_text Two → WritesNext nexts.Version text nexts.Players old old
 version_2_told text old is = record {
   leads = subst (λ (one : List ℕ). LeadsOn nexts.Version one nexts.Players) (sym is) scripting.version_2;
   told = λ texts so_far. ((λ i. so_far.0 i ++ is i ∷ []), so_far.1);
 }
 
-pub players_told : (text : List ℕ) (names : List (List ℕ)) (old : List ℕ) → SpellsPlayers text names → TellsNext nexts.Players text nexts.Start old old
+pub players_told : (text : List ℕ) (names : List (List ℕ)) (old : List ℕ) → SpellsPlayers text names → WritesNext nexts.Players text nexts.Start old old
 players_told text names old spells = record {
   leads = scripting.players spells;
   told = λ texts so_far. record {
@@ -70,7 +70,7 @@ players_told text names old spells = record {
   };
 }
 
-pub start_told : (text : List ℕ) (start : Start) (old new : List ℕ) → SpellsStart text start → IsWithinLimits (turns_of start.turn_ms) → new ≡ old ++ line_of (config_text (config_at start.turn_ms start.now)) → TellsNext nexts.Start text (nexts.Entry Two) old new
+pub start_told : (text : List ℕ) (start : Start) (old new : List ℕ) → SpellsStart text start → IsWithinLimits (turns_of start.turn_ms) → new ≡ old ++ line_of (config_text (config_at start.turn_ms start.now)) → WritesNext nexts.Start text (nexts.Entry Two) old new
 start_told text start old new spells within told = record {
   leads = scripting.start spells within;
   told = λ texts so_far. record {
@@ -84,13 +84,13 @@ start_told text start old new spells within told = record {
       lines = [];
       spelled = tt;
       are = ap (λ (one : List (List ℕ)). one ++ text ∷ []) so_far.are;
-      events = subst (TellsEvents [] (line_of (config_text (config_at start.turn_ms start.now)))) (sym (told ∙ ap (λ (bytes : List ℕ). bytes ++ line_of (config_text (config_at start.turn_ms start.now))) so_far.nothing)) (tells_nothing (line_of (config_text (config_at start.turn_ms start.now))));
+      events = subst (AppendsEvents [] (line_of (config_text (config_at start.turn_ms start.now)))) (sym (told ∙ ap (λ (bytes : List ℕ). bytes ++ line_of (config_text (config_at start.turn_ms start.now))) so_far.nothing)) (tells_nothing (line_of (config_text (config_at start.turn_ms start.now))));
     };
   };
 }
 
 -- one entry more
-entries_more : (version : Version) (entries : List Timed) (texts : List (List ℕ)) (text : List ℕ) (told : Timed) (old new : List ℕ) → TellsEntries version entries texts old → SpellsIn version text told → TellsEvents (events_in told) old new → TellsEntries version (entries ++ told ∷ []) (texts ++ text ∷ []) new
+entries_more : (version : Version) (entries : List Timed) (texts : List (List ℕ)) (text : List ℕ) (told : Timed) (old new : List ℕ) → WritesEntries version entries texts old → SpellsIn version text told → AppendsEvents (events_in told) old new → WritesEntries version (entries ++ told ∷ []) (texts ++ text ∷ []) new
 entries_more version entries texts text told old new tells spells events =
     let same : flat_map events_in entries ++ events_in told ≡ flat_map events_in (entries ++ told ∷ []) =
     sym (flat_map-append events_in entries (told ∷ []) ∙ ap (λ (more : List AbstractEvent). flat_map events_in entries ++ more) (append-nil (events_in told))) in
@@ -102,10 +102,10 @@ entries_more version entries texts text told old new tells spells events =
       lines = tells.lines ++ text ∷ [];
       spelled = AllZip-push_one (SpellsIn version) tells.lines entries text told tells.spelled spells;
       are = ap (λ (one : List (List ℕ)). one ++ text ∷ []) tells.are ∙ append_assoc tells.head tells.lines (text ∷ []);
-      events = subst (λ (all : List AbstractEvent). TellsEvents all (line_of (config_text tells.config)) new) same (tells_both (flat_map events_in entries) (events_in told) (line_of (config_text tells.config)) old new tells.events events);
+      events = subst (λ (all : List AbstractEvent). AppendsEvents all (line_of (config_text tells.config)) new) same (tells_both (flat_map events_in entries) (events_in told) (line_of (config_text tells.config)) old new tells.events events);
     }
 
-entry_told_at : (version : Version) (text : List ℕ) (at : ℕ) (entry : Entry) (old new : List ℕ) → SpellsIn version text (record { at = at; entry = entry }) → TellsEvents (events_in (record { at = at; entry = entry })) old new → TellsNext (nexts.Entry version) text (next_after (nexts.Entry version) entry) old new
+entry_told_at : (version : Version) (text : List ℕ) (at : ℕ) (entry : Entry) (old new : List ℕ) → SpellsIn version text (record { at = at; entry = entry }) → AppendsEvents (events_in (record { at = at; entry = entry })) old new → WritesNext (nexts.Entry version) text (next_after (nexts.Entry version) entry) old new
 entry_told_at version text at (Move player pairs) old new spells events = record {
   leads = scripting.move (record { at = at; entry = Move player pairs }) spells tt;
   told = λ texts so_far. record {
@@ -127,35 +127,35 @@ entry_told_at version text at (End outcome) old new spells events = record {
 }
 
 -- what a line contains decides what is written next
-pub version_tells : (next : Next) (text : List ℕ) (version : Version) (to : Next) (old new : List ℕ) → Says next text (contents.Version version) → ((text : List ℕ) → text ≡ version_text version → TellsNext nexts.Version text to old new) → TellsNext next text to old new
+pub version_tells : (next : Next) (text : List ℕ) (version : Version) (to : Next) (old new : List ℕ) → HasContent next text (contents.Version version) → ((text : List ℕ) → text ≡ version_text version → WritesNext nexts.Version text to old new) → WritesNext next text to old new
 version_tells nexts.Version text version to old new says tells = tells text says
 version_tells _ text version to old new says tells = absurd says
 
-pub players_tell : (next : Next) (text : List ℕ) (names : _) (old : List ℕ) → Says next text (contents.Players names) → TellsNext next text nexts.Start old old
+pub players_tell : (next : Next) (text : List ℕ) (names : _) (old : List ℕ) → HasContent next text (contents.Players names) → WritesNext next text nexts.Start old old
 players_tell nexts.Players text names old says = players_told text _ old says
 players_tell _ text names old says = absurd says
 
-pub start_tells : (next : Next) (text : List ℕ) (start : Start) (old new : List ℕ) → Says next text (contents.Start start) → IsWithinLimits (turns_of start.turn_ms) → new ≡ old ++ line_of (config_text (config_at start.turn_ms start.now)) → TellsNext next text (nexts.Entry Two) old new
+pub start_tells : (next : Next) (text : List ℕ) (start : Start) (old new : List ℕ) → HasContent next text (contents.Start start) → IsWithinLimits (turns_of start.turn_ms) → new ≡ old ++ line_of (config_text (config_at start.turn_ms start.now)) → WritesNext next text (nexts.Entry Two) old new
 start_tells nexts.Start text start old new says within told = start_told text start old new says within told
 start_tells _ text start old new says within told = absurd says
 
 -- a start whose turn is not within the limits has no form
-pub no_start : (next : Next) (text : List ℕ) (start : Start) → Says next text (contents.Start start) → (IsWithinLimits (turns_of start.turn_ms) → ⊥) → HasForm next text → ⊥
+pub no_start : (next : Next) (text : List ℕ) (start : Start) → HasContent next text (contents.Start start) → (IsWithinLimits (turns_of start.turn_ms) → ⊥) → HasForm next text → ⊥
 no_start nexts.Start text start says beyond form = beyond (subst (λ (one : Start). IsWithinLimits (turns_of one.turn_ms)) (one_start text form.0 start form.1 says) form.2)
 no_start _ text start says beyond form = absurd says
 
-pub entry_spelled : (next : Next) (text : List ℕ) (told : Timed) → Says next text (contents.Entry told) → EntryHasSpelling told.entry
+pub entry_spelled : (next : Next) (text : List ℕ) (told : Timed) → HasContent next text (contents.Entry told) → EntryHasSpelling told.entry
 entry_spelled (nexts.Entry One) text told says = says.0.has
 entry_spelled (nexts.Entry Two) text told says = says.has.1
 entry_spelled _ text told says = absurd says
 
-pub entry_tells : (next : Next) (text : List ℕ) (told : Timed) (to : Next) (old new : List ℕ) → Says next text (contents.Entry told) → TellsEvents (events_in told) old new → to ≡ next_after next told.entry → TellsNext next text to old new
+pub entry_tells : (next : Next) (text : List ℕ) (told : Timed) (to : Next) (old new : List ℕ) → HasContent next text (contents.Entry told) → AppendsEvents (events_in told) old new → to ≡ next_after next told.entry → WritesNext next text to old new
 entry_tells (nexts.Entry version) text told to old new says events is =
-    subst (λ (one : Next). TellsNext (nexts.Entry version) text one old new) (sym is) (entry_told_at version text told.at told.entry old new says events)
+    subst (λ (one : Next). WritesNext (nexts.Entry version) text one old new) (sym is) (entry_told_at version text told.at told.entry old new says events)
 entry_tells _ text told to old new says events is = absurd says
 
 -- one line more
-pub tell_one : (texts : List (List ℕ)) (text : List ℕ) (from to : Next) (old new : List ℕ) → TellsNext from text to old new → AreTold texts (from, old) → AreTold (texts ++ text ∷ []) (to, new)
+pub tell_one : (texts : List (List ℕ)) (text : List ℕ) (from to : Next) (old new : List ℕ) → WritesNext from text to old new → AreWritten texts (from, old) → AreWritten (texts ++ text ∷ []) (to, new)
 tell_one texts text from to old new next told = (scripting.more told.0 next.leads, next.told texts told.1)
 
 -- what is of the form of a record that is made a script
@@ -163,7 +163,7 @@ formed_so : (next : Next) (text : List ℕ) → HasForm next text → reading.Ha
 formed_so nexts.Start text form = (form.0, form.1)
 formed_so _ text form = form
 
-module _ {bytes : List ℕ} {next : Next} {out : List ℕ} {left : Left} (so_far : IsReadSoFar AreTold bytes (next, out) left) where
+module _ {bytes : List ℕ} {next : Next} {out : List ℕ} {left : Left} (so_far : IsReadSoFar AreWritten bytes (next, out) left) where
   led : IsReadSoFar LeadThere bytes next left
   led = read_as next so_far (λ texts told. told.0)
 
@@ -179,7 +179,7 @@ module _ {bytes : List ℕ} {next : Next} {out : List ℕ} {left : Left} (so_far
   telling_refused line Memory takes refused = tt
 
 -- all lines
-script_is : (config : ScriptConfig) (has : ConfigHasSpelling config) (events : List AbstractEvent) (out : List ℕ) → TellsEvents events (line_of (config_text config)) out → SpellsScript out (record { config = config; events = events })
+script_is : (config : ScriptConfig) (has : ConfigHasSpelling config) (events : List AbstractEvent) (out : List ℕ) → AppendsEvents events (line_of (config_text config)) out → SpellsScript out (record { config = config; events = events })
 script_is config has events out tells = record {
   first = config_text config;
   others = tells.lines;
@@ -204,9 +204,9 @@ whole_told bytes texts out is tells = record {
   script = script_is tells.tells.config tells.tells.has _ out tells.tells.events;
 }
 
-pub told_whole : (bytes : List ℕ) (next : Next) (out : List ℕ) (left : Left) → IsReadSoFar AreTold bytes (next, out) left → (next ≡ nexts.Nothing) × (left.rest ≡ []) → IsScriptOfRecord bytes out
+pub told_whole : (bytes : List ℕ) (next : Next) (out : List ℕ) (left : Left) → IsReadSoFar AreWritten bytes (next, out) left → (next ≡ nexts.Nothing) × (left.rest ≡ []) → IsScriptOfRecord bytes out
 told_whole bytes next out left so_far over =
-    let tells : TellsWhole so_far.texts out = subst (λ (one : Next). IsTold one so_far.texts out) over.0 so_far.leads.1 in
+    let tells : TellsWhole so_far.texts out = subst (λ (one : Next). IsWritten one so_far.texts out) over.0 so_far.leads.1 in
     whole_told bytes so_far.texts out (so_far.begins.parts ∙ ap (λ (rest : List ℕ). lines_of so_far.texts ++ rest) over.1 ∙ append-nil (lines_of so_far.texts)) tells
 
 -- the line that an error names

@@ -10,23 +10,23 @@ use Rattle.rbg_record.specs.declared.entry.Entry.TheVariants.{End}
 use Rattle.rbg_record.specs.declared.heading.Version.TheVariants.{One, Two}
 use Rattle.rbg_record.proofs.LineCommon.{entry_text, timed_text, version_text, players_text, start_text}
 use Rattle.rbg_wire.specs.Lines.{line_of, lines_of}
-use Rattle.rbg_record.proofs.Common.{made_text, told_text, entries_bytes, record_of, plain_record_of, plain_move, plain, timed, plain_entry, made_entry, Spells}
+use Rattle.rbg_record.proofs.Common.{made_text, text_in, entries_bytes, record_of, plain_record_of, plain_move, plain, timed, plain_entry, made_entry, Spells}
 use Rattle.rbg_record.proofs.MatchSpelled.{two_spelled, one_spelled}
 
 entries_two : (moves : List Made) (moment : ℕ) (outcome : Option Outcome) →
-    flat_map (λ made. line_of (made_text Two made)) moves ++ line_of (told_text Two moment (End outcome))
+    flat_map (λ made. line_of (made_text Two made)) moves ++ line_of (text_in Two moment (End outcome))
     ≡ lines_of (map timed_text (map made_entry moves ++ record { at = moment; entry = End outcome } ∷ []))
-entries_two [] moment outcome = sym (append-nil (line_of (told_text Two moment (End outcome))))
+entries_two [] moment outcome = sym (append-nil (line_of (text_in Two moment (End outcome))))
 entries_two (made ∷ moves) moment outcome =
-    append_assoc (line_of (made_text Two made)) (flat_map (λ m. line_of (made_text Two m)) moves) (line_of (told_text Two moment (End outcome)))
+    append_assoc (line_of (made_text Two made)) (flat_map (λ m. line_of (made_text Two m)) moves) (line_of (text_in Two moment (End outcome)))
     ∙ ap (λ rest. line_of (made_text Two made) ++ rest) (entries_two moves moment outcome)
 
 entries_one : (moves : List Made) (moment : ℕ) (outcome : Option Outcome) →
-    flat_map (λ made. line_of (made_text One made)) moves ++ line_of (told_text One moment (End outcome))
+    flat_map (λ made. line_of (made_text One made)) moves ++ line_of (text_in One moment (End outcome))
     ≡ lines_of (map entry_text (map plain_entry (map plain_move moves) ++ End outcome ∷ []))
-entries_one [] moment outcome = sym (append-nil (line_of (told_text One moment (End outcome))))
+entries_one [] moment outcome = sym (append-nil (line_of (text_in One moment (End outcome))))
 entries_one (made ∷ moves) moment outcome =
-    append_assoc (line_of (made_text One made)) (flat_map (λ m. line_of (made_text One m)) moves) (line_of (told_text One moment (End outcome)))
+    append_assoc (line_of (made_text One made)) (flat_map (λ m. line_of (made_text One m)) moves) (line_of (text_in One moment (End outcome)))
     ∙ ap (λ rest. line_of (made_text One made) ++ rest) (entries_one moves moment outcome)
 
 -- What the lines of version 2 add up to.

@@ -18,34 +18,34 @@ abbrev pub reached_of : CodeReached → Reached
 reached_of code.Version = version_next
 reached_of code.Players = players_next
 reached_of code.Start = start_next
-reached_of (code.Entry standing) = entry_next standing
+reached_of (code.Entry match_so_far) = entry_next match_so_far
 reached_of code.Nothing = nothing_next
 
 -- the place that is reached is one of the game
 abbrev pub IsReachedIn : AbstractGame → Reached → Type 0
-IsReachedIn game (entry_next standing) = IsPlaceOf game standing.place
+IsReachedIn game (entry_next match_so_far) = IsPlaceOf game match_so_far.place
 IsReachedIn game _ = Unit {0}
 
 -- everything about an entry that needs no question is right, but its question is above the limits
-pub record IsHeavyEntry (game : AbstractGame) (standing : MatchSoFar) (told : Timed) : Type 0 where
+pub record IsHeavyEntry (game : AbstractGame) (match_so_far : MatchSoFar) (told : Timed) : Type 0 where
   pub counted : told.at ≤ latest_moment
-  pub fits : FitsUnasked game standing told.at told.entry
-  pub asks : AsksHeavy game standing told.entry
+  pub fits : FitsUnasked game match_so_far told.at told.entry
+  pub asks : AsksHeavy game match_so_far told.entry
 
 -- why an entry is refused
 abbrev pub RefusesEntry : AbstractGame → MatchSoFar → Timed → LineFault → Type 0
-RefusesEntry game standing told Form = ⊥
-RefusesEntry game standing told Bad = (to : Reached) → ¬ EntryLeads game standing told to
-RefusesEntry game standing told Over = IsHeavyEntry game standing told
-RefusesEntry game standing told Memory = Unit {0}
+RefusesEntry game match_so_far told Form = ⊥
+RefusesEntry game match_so_far told Bad = (to : Reached) → ¬ EntryLeads game match_so_far told to
+RefusesEntry game match_so_far told Over = IsHeavyEntry game match_so_far told
+RefusesEntry game match_so_far told Memory = Unit {0}
 
 -- the text is that of an entry whose question is above the limits
 pub record IsHeavyText (game : AbstractGame) (reached : Reached) (text : List ℕ) : Type 0 where
-  pub standing : MatchSoFar
-  pub here : reached ≡ entry_next standing
+  pub match_so_far : MatchSoFar
+  pub here : reached ≡ entry_next match_so_far
   pub told : Timed
-  pub form : SpellsIn standing.version text told
-  pub heavy : IsHeavyEntry game standing told
+  pub form : SpellsIn match_so_far.version text told
+  pub heavy : IsHeavyEntry game match_so_far told
 
 -- why a line with this text is refused
 abbrev pub Refuses : AbstractGame → Reached → (text : List ℕ) → LineFault → Type 0

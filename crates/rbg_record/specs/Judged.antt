@@ -26,7 +26,7 @@ use Rattle.rbg_record.specs.declared.checked.Checked.TheVariants.{Good, Bad}
 use Rattle.rbg_record.specs.declared.error.RecordError.{RecordError}
 use Rattle.rbg_record.specs.declared.error.RecordError.TheVariants.{Form, Over, Memory}
 use Rattle.rbg_record.specs.declared.fault.Misfit.{Misfit}
-use Rattle.rbg_record.specs.internal.Faults.{told_at}
+use Rattle.rbg_record.specs.internal.Faults.{verdict_at}
 
 -- Each line is right after those before it, and the record has ended with the last of them.
 pub record IsGoodByLines (game : AbstractGame) (bytes : List ℕ) : Type 0 where
@@ -56,8 +56,8 @@ pub record IsBadLine (game : AbstractGame) (bytes : List ℕ) (line : ℕ) : Typ
 
 -- A player is to move, and the moment is one of its turn.
 abbrev pub IsOnTurn : MatchSoFar → (at : ℕ) → Type 0
-IsOnTurn standing at =
-    (standing.place.state.player ≢ 0) × IsInTurn (turn_config standing.turn_ms) standing.last at
+IsOnTurn match_so_far at =
+    (match_so_far.place.state.player ≢ 0) × IsInTurn (turn_config match_so_far.turn_ms) match_so_far.last at
 
 -- What is checked before a question is asked of the rules.
 --   Move: the player is the mover, and the moment is one for its move.
@@ -67,24 +67,24 @@ IsOnTurn standing at =
 --   Refusals, Gone: the same as for None, and the player that is named is one of the game.
 --   Heavy: the moment is one of the turn.
 abbrev pub FitsUnasked : AbstractGame → MatchSoFar → (at : ℕ) → Entry → Type 0
-FitsUnasked game standing at (Move player pairs) =
-    (player ≡ standing.place.state.player) × IsMomentFor standing player at
-FitsUnasked game standing at (End None) = IsOnTurn standing at
-FitsUnasked game standing at (End (Some (Finished scores))) = at ≡ standing.last
-FitsUnasked game standing at (End (Some (Time player))) =
-    (player ≡ standing.place.state.player) × (player ≢ 0) × (standing.last + standing.turn_ms ≤ at)
-FitsUnasked game standing at (End (Some (Refusals player))) =
-    IsOnTurn standing at × (1 ≤ player) × (player ≤ seats_of game)
-FitsUnasked game standing at (End (Some (Gone player))) =
-    IsOnTurn standing at × (1 ≤ player) × (player ≤ seats_of game)
-FitsUnasked game standing at (End (Some Heavy)) = IsInTurn (turn_config standing.turn_ms) standing.last at
+FitsUnasked game match_so_far at (Move player pairs) =
+    (player ≡ match_so_far.place.state.player) × IsMomentFor match_so_far player at
+FitsUnasked game match_so_far at (End None) = IsOnTurn match_so_far at
+FitsUnasked game match_so_far at (End (Some (Finished scores))) = at ≡ match_so_far.last
+FitsUnasked game match_so_far at (End (Some (Time player))) =
+    (player ≡ match_so_far.place.state.player) × (player ≢ 0) × (match_so_far.last + match_so_far.turn_ms ≤ at)
+FitsUnasked game match_so_far at (End (Some (Refusals player))) =
+    IsOnTurn match_so_far at × (1 ≤ player) × (player ≤ seats_of game)
+FitsUnasked game match_so_far at (End (Some (Gone player))) =
+    IsOnTurn match_so_far at × (1 ≤ player) × (player ≤ seats_of game)
+FitsUnasked game match_so_far at (End (Some Heavy)) = IsInTurn (turn_config match_so_far.turn_ms) match_so_far.last at
 
 -- The question of an entry is above the limits: whether the move is legal, or whether there is a legal move. `E4` has
 -- none.
 abbrev pub AsksHeavy : AbstractGame → MatchSoFar → Entry → Type 0
-AsksHeavy game standing (Move player pairs) = IsHeavyToTry game standing.place pairs
-AsksHeavy game standing (End (Some Heavy)) = ⊥
-AsksHeavy game standing (End _) = IsHeavyToFind game standing.place
+AsksHeavy game match_so_far (Move player pairs) = IsHeavyToTry game match_so_far.place pairs
+AsksHeavy game match_so_far (End (Some Heavy)) = ⊥
+AsksHeavy game match_so_far (End _) = IsHeavyToFind game match_so_far.place
 
 -- The lines before this one are right. This one is of the form, and all that needs no question fits; but its question
 -- is above the limits.
@@ -92,13 +92,13 @@ pub record IsHeavyLine (game : AbstractGame) (bytes : List ℕ) (line : ℕ) : T
   pub texts : List (List ℕ)
   pub text : List ℕ
   pub here : IsLineOf bytes line texts text
-  pub standing : MatchSoFar
-  pub leads : LeadTo game texts (entry_next standing)
+  pub match_so_far : MatchSoFar
+  pub leads : LeadTo game texts (entry_next match_so_far)
   pub told : Timed
-  pub form : SpellsIn standing.version text told
+  pub form : SpellsIn match_so_far.version text told
   pub counted : told.at ≤ latest_moment
-  pub fits : FitsUnasked game standing told.at told.entry
-  pub asks : AsksHeavy game standing told.entry
+  pub fits : FitsUnasked game match_so_far told.at told.entry
+  pub asks : AsksHeavy game match_so_far told.entry
 
 -- The verdict on a record is true.
 abbrev pub IsJudged : AbstractGame → List ℕ → Result Checked RecordError → Type 0
@@ -111,4 +111,4 @@ IsJudged game bytes (Err Memory) = Unit {0}
 -- The line is the first one that is not right, not of the form, or asks a question above the limits, as the fault has
 -- it. If memory ran out, nothing is claimed.
 abbrev pub IsMisfit : AbstractGame → List ℕ → Misfit → Type 0
-IsMisfit game bytes misfit = IsJudged game bytes (told_at misfit.fault misfit.line)
+IsMisfit game bytes misfit = IsJudged game bytes (verdict_at misfit.fault misfit.line)

@@ -16,7 +16,7 @@ use Rattle.rbg_record.specs.Entries.{SpellsIn}
 use Rattle.rbg_record.specs.Heading.{version_text, SpellsPlayers, SpellsStart}
 use Rattle.rbg_record.specs.Reading as reading
 use Rattle.rbg_record.specs.declared.reached.MatchSoFar.{MatchSoFar as CodeMatchSoFar}
-use Rattle.rbg_record.specs.Right.{told_play, turn_config}
+use Rattle.rbg_record.specs.Right.{recorded_play, turn_config}
 
 -- Where the moves so far lead: the version of the record, the time for a turn, the moment of the last move (or of the
 -- beginning), and the place.
@@ -37,7 +37,7 @@ abbrev pub next_of : Reached → Next
 next_of version_next = nexts.Version
 next_of players_next = nexts.Players
 next_of start_next = nexts.Start
-next_of (entry_next standing) = nexts.Entry standing.version
+next_of (entry_next match_so_far) = nexts.Entry match_so_far.version
 next_of nothing_next = nexts.Nothing
 
 -- the text is of the form that a line may have there
@@ -46,29 +46,29 @@ HasForm reached text = reading.HasForm (next_of reached) text
 
 -- A move of this player may have that moment: the keeper moves when its turn begins, and a player before its turn is
 -- due.
-pub record IsMomentFor (standing : MatchSoFar) (player at : ℕ) : Type 0 where
-  pub by_keeper : player ≡ 0 → at ≡ standing.last
-  pub by_player : player ≢ 0 → IsInTurn (turn_config standing.turn_ms) standing.last at
+pub record IsMomentFor (match_so_far : MatchSoFar) (player at : ℕ) : Type 0 where
+  pub by_keeper : player ≡ 0 → at ≡ match_so_far.last
+  pub by_player : player ≢ 0 → IsInTurn (turn_config match_so_far.turn_ms) match_so_far.last at
 
 -- the state of play there, if this is how the match ended
 abbrev pub play_at : MatchSoFar → Option Outcome → AbstractPlay
-play_at standing outcome = told_play [] outcome standing.place standing.last
+play_at match_so_far outcome = recorded_play [] outcome match_so_far.place match_so_far.last
 
 -- An entry is right at the place to which the moves so far lead, and the record can continue after it.
 --   move: it is one of the mover, at a moment of its turn that is counted, and it is legal.
 --   end: the outcome fits the place and the moments, and the moment is one that is counted.
-pub data EntryLeads (game : AbstractGame) (standing : MatchSoFar) : Timed → Reached → Type 0 where
+pub data EntryLeads (game : AbstractGame) (match_so_far : MatchSoFar) : Timed → Reached → Type 0 where
   move : {at player : ℕ} {pairs : List (ℕ × ℕ)} {to : AbstractPlace} →
-      player ≡ standing.place.state.player →
-      IsMomentFor standing player at →
+      player ≡ match_so_far.place.state.player →
+      IsMomentFor match_so_far player at →
       at ≤ latest_moment →
-      Legal game standing.place pairs to →
-      EntryLeads game standing (record { at = at; entry = Move player pairs })
-      (entry_next (record standing { last = at; place = to }))
+      Legal game match_so_far.place pairs to →
+      EntryLeads game match_so_far (record { at = at; entry = Move player pairs })
+      (entry_next (record match_so_far { last = at; place = to }))
   end : {at : ℕ} {outcome : Option Outcome} →
-      FitsOutcome game (turn_config standing.turn_ms) (play_at standing outcome) standing.last at outcome →
+      FitsOutcome game (turn_config match_so_far.turn_ms) (play_at match_so_far outcome) match_so_far.last at outcome →
       at ≤ latest_moment →
-      EntryLeads game standing (record { at = at; entry = End outcome }) nothing_next
+      EntryLeads game match_so_far (record { at = at; entry = End outcome }) nothing_next
 
 -- A line with this text is right after the lines so far, and the record can continue after it.
 --   version_1: moves come next. The first turn begins at moment 0 and lasts for one millisecond.
@@ -98,10 +98,10 @@ pub data Leads (game : AbstractGame) : Reached → (text : List ℕ) → Reached
         last = start.now;
         place = start_place game;
       }))
-  entry : {standing : MatchSoFar} {text : List ℕ} {told : Timed} {to : Reached} →
-      SpellsIn standing.version text told →
-      EntryLeads game standing told to →
-      Leads game (entry_next standing) text to
+  entry : {match_so_far : MatchSoFar} {text : List ℕ} {told : Timed} {to : Reached} →
+      SpellsIn match_so_far.version text told →
+      EntryLeads game match_so_far told to →
+      Leads game (entry_next match_so_far) text to
 
 -- The first lines of a record have these texts. Each is right after those before it, and this is what they lead to.
 pub data LeadTo (game : AbstractGame) : (texts : List (List ℕ)) → Reached → Type 0 where

@@ -10,7 +10,7 @@ abbrev pub place_in : Reached → AbstractPlace → AbstractPlace
 place_in version_next before = before
 place_in players_next before = before
 place_in start_next before = before
-place_in (entry_next standing) before = standing.place
+place_in (entry_next match_so_far) before = match_so_far.place
 place_in nothing_next before = before
 
 -- The bytes are those of a right record, and its moves lead to this place: all its lines but the last one, which has
@@ -20,6 +20,6 @@ pub record IsPlaceAfter (game : AbstractGame) (bytes : List ℕ) (place : Abstra
   pub texts : List (List ℕ)
   pub last : List ℕ
   pub begins : BeginsWith bytes (texts ++ last ∷ []) []
-  pub standing : MatchSoFar
-  pub leads : LeadTo game texts (entry_next standing)
-  pub here : standing.place ≡ place
+  pub match_so_far : MatchSoFar
+  pub leads : LeadTo game texts (entry_next match_so_far)
+  pub here : match_so_far.place ≡ place

@@ -25,12 +25,12 @@ HasForm (nexts.Entry version) text = (timed : Timed) × SpellsIn version text ti
 HasForm nexts.Nothing text = ⊥
 
 -- a line with this text has these contents there
-abbrev pub Says : Next → List ℕ → Content → Type 0
-Says nexts.Version text (contents.Version version) = text ≡ version_text version
-Says nexts.Players text (contents.Players names) = SpellsPlayers text (words_of names.now)
-Says nexts.Start text (contents.Start start) = SpellsStart text start
-Says (nexts.Entry version) text (contents.Entry timed) = SpellsIn version text timed
-Says _ text _ = ⊥
+abbrev pub HasContent : Next → List ℕ → Content → Type 0
+HasContent nexts.Version text (contents.Version version) = text ≡ version_text version
+HasContent nexts.Players text (contents.Players names) = SpellsPlayers text (words_of names.now)
+HasContent nexts.Start text (contents.Start start) = SpellsStart text start
+HasContent (nexts.Entry version) text (contents.Entry timed) = SpellsIn version text timed
+HasContent _ text _ = ⊥
 
 -- what comes after an entry that was read when `next` was next
 abbrev pub next_after : Next → Entry → Next
@@ -42,7 +42,7 @@ pub record TakesLine (next : Next) (old new : Left) (line : RecordLine) : Type 0
   pub first : IsFirstLine old.rest line.text.now new.rest
   pub number : line.number ≡ old.number
   pub later : new.number ≡ old.number + 1
-  pub says : Says next line.text.now line.content
+  pub says : HasContent next line.text.now line.content
 
 -- What is left is not of the form: its first line, which has this number, isn't, or is missing, or is one too many.
 pub record Misreads (next : Next) (left : Left) (error : FormError) : Type 0 where

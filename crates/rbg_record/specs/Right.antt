@@ -12,8 +12,8 @@ use Rattle.rbg_match.specs.PlayingOn.{seats_of}
 use Rattle.rbg_record.specs.Records.{PlainMove, PlainRecord, TimedRecord, AbstractRecord, plain, timed, Spells}
 
 -- the state of play of these moves and this outcome, at a place whose turn began at a moment
-abbrev pub told_play : List Made → Option Outcome → AbstractPlace → (turn_began : ℕ) → AbstractPlay
-told_play moves outcome place turn_began = record {
+abbrev pub recorded_play : List Made → Option Outcome → AbstractPlace → (turn_began : ℕ) → AbstractPlay
+recorded_play moves outcome place turn_began = record {
   place = place;
   turn_began = turn_began;
   refusals = [];
@@ -34,7 +34,7 @@ pub record IsRightTimed (game : AbstractGame) (told : TimedRecord) : Type 0 wher
   pub turn_began : ℕ
   pub history :
       IsHistory game (turn_config told.start.turn_ms) told.start.now told.moment
-      (told_play told.moves told.outcome place turn_began)
+      (recorded_play told.moves told.outcome place turn_began)
 
 -- the move as one that was made at a moment
 abbrev pub made_at : (at : ℕ) → PlainMove → Made
@@ -49,7 +49,7 @@ made_at at move = record { player = move.player; at = at; pairs = move.pairs }
 abbrev pub FitsPlace : AbstractGame → AbstractPlace → Option Outcome → Type 0
 FitsPlace game place None = HasTurn game place
 FitsPlace game place (Some (Finished scores)) =
-    moves.Finished game place × (scores ≡ scores_of game (told_play [] None place 0))
+    moves.Finished game place × (scores ≡ scores_of game (recorded_play [] None place 0))
 FitsPlace game place (Some (Time player)) = HasTurn game place × (player ≡ place.state.player)
 FitsPlace game place (Some (Refusals player)) = HasTurn game place × (1 ≤ player) × (player ≤ seats_of game)
 FitsPlace game place (Some (Gone player)) = HasTurn game place × (1 ≤ player) × (player ≤ seats_of game)

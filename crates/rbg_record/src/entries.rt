@@ -3,7 +3,7 @@ ghost use Rattle.std.specs.Prelude.{◌≡◌, ◌++◌, IfOk, OnOk, Some, codes
 ghost use Rattle.rbg_record.specs.Entries.{EntryHasSpelling};
 ghost use Rattle.rbg_wire.specs.Messages.{ArePairs, pairs_text};
 ghost use Rattle.rbg_record.specs.Scripting.{end_events, events_in, move_events};
-ghost use Rattle.rbg_record.specs.internal.Telling.{TellsEvents};
+ghost use Rattle.rbg_record.specs.internal.Telling.{AppendsEvents};
 
 use crate::entry::{Entry, Timed};
 use rbg_base::{Memory, Move};
@@ -14,7 +14,7 @@ use std::alloc::Global;
 /// Appends the lines of the events that lead to an entry.
 pub(crate) fn write_entry(alloc: Global, told: &Timed, out: &mut Vec<u8>) -> Result<(), Memory>
     requires { EntryHasSpelling told.now.entry }
-    ensures { OnOk result (TellsEvents (events_in told.now) out.old.items out.new.items) }
+    ensures { OnOk result (AppendsEvents (events_in told.now) out.old.items out.new.items) }
 {
     match &told.entry {
         Entry::Move { player, pairs } => write_made(alloc, told.at, *player, pairs, out),
@@ -31,7 +31,7 @@ fn write_made(
     out: &mut Vec<u8>,
 ) -> Result<(), Memory>
     requires { ArePairs pairs.now }
-    ensures { OnOk result (TellsEvents (move_events at player pairs.now) out.old.items out.new.items) }
+    ensures { OnOk result (AppendsEvents (move_events at player pairs.now) out.old.items out.new.items) }
 {
     if player == 0 {
         return Ok(());
@@ -53,7 +53,7 @@ fn move_text(alloc: Global, pairs: &Move) -> Result<Vec<u8>, Memory>
 
 /// Appends the lines of the events by which a match ends with this outcome, if it doesn't end by itself.
 fn write_ended(at: u64, outcome: Option<Outcome>, out: &mut Vec<u8>) -> Result<(), Memory>
-    ensures { OnOk result (TellsEvents (end_events at outcome) out.old.items out.new.items) }
+    ensures { OnOk result (AppendsEvents (end_events at outcome) out.old.items out.new.items) }
 {
     match outcome {
         None => write_tick(at, out),
@@ -62,7 +62,7 @@ fn write_ended(at: u64, outcome: Option<Outcome>, out: &mut Vec<u8>) -> Result<(
 }
 
 fn write_outcome(at: u64, outcome: Outcome, out: &mut Vec<u8>) -> Result<(), Memory>
-    ensures { OnOk result (TellsEvents (end_events at (Some outcome)) out.old.items out.new.items) }
+    ensures { OnOk result (AppendsEvents (end_events at (Some outcome)) out.old.items out.new.items) }
 {
     match outcome {
         Outcome::Finished { .. } => Ok(()),

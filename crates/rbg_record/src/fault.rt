@@ -1,6 +1,6 @@
 //! Why a line of a record is refused.
 ghost use Rattle.std.specs.Prelude.{◌≡◌};
-ghost use Rattle.rbg_record.specs.internal.Faults.{IsFaultOf, told_at};
+ghost use Rattle.rbg_record.specs.internal.Faults.{IsFaultOf, verdict_at};
 ghost use Rattle.rbg_record.specs.declared.fault.LineFault.TheVariants.{Form as NotOfForm, Memory as OutOfMemory};
 
 use crate::{Checked, FormError, RecordError};
@@ -36,7 +36,7 @@ pub struct Misfit {
 impl Misfit {
     /// The verdict on a record with this misfit.
     pub(crate) fn checked(self) -> Result<Checked, RecordError>
-        ensures { result ≡ told_at self.fault self.line }
+        ensures { result ≡ verdict_at self.fault self.line }
     {
         let line = self.line;
         match self.fault {

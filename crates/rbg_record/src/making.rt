@@ -1,12 +1,12 @@
 //! Making a script of a record, line by line.
 ghost use Rattle.std.specs.Prelude.{◌≡◌, ◌↔◌, ◌++◌, ℕ, List, IfErr, IfOk, OnOk, IsTrue, Err};
 ghost use Rattle.rbg_record.specs.Heading.{version_text};
-ghost use Rattle.rbg_record.specs.Reading.{Says};
+ghost use Rattle.rbg_record.specs.Reading.{HasContent};
 ghost use Rattle.rbg_match.specs.Config.{IsWithinLimits};
 ghost use Rattle.rbg_script.specs.Config.{config_text};
 ghost use Rattle.rbg_wire.specs.Lines.{line_of};
 ghost use Rattle.rbg_record.specs.Scripting.{IsNoRecord, IsScriptOfRecord, config_at, turns_of};
-ghost use Rattle.rbg_record.specs.internal.Telling.{IsRefusal, RefusesLine, TellsNext};
+ghost use Rattle.rbg_record.specs.internal.Telling.{IsRefusal, RefusesLine, WritesNext};
 
 use crate::ScriptingError;
 use crate::entries::write_entry;
@@ -53,9 +53,9 @@ fn write_line(
     line: &RecordLine<'_>,
     out: &mut Vec<u8>,
 ) -> Result<Next, ScriptingError>
-    requires { Says next line.now.text.now line.now.content }
+    requires { HasContent next line.now.text.now line.now.content }
     ensures leads { IfOk result (λ to.
-        TellsNext next line.now.text.now to out.old.items out.new.items) }
+        WritesNext next line.now.text.now to out.old.items out.new.items) }
     ensures refused { IfErr result (RefusesLine next line.now) }
 {
     match &line.content {
@@ -78,7 +78,7 @@ fn write_line(
 /// Appends the config of version 1. That of version 2 comes with the start.
 fn begin(version: Version, out: &mut Vec<u8>) -> Result<Next, Memory>
     ensures { IfOk result (λ to. (text : List ℕ) → text ≡ version_text version
-        → TellsNext Next.Version text to out.old.items out.new.items) }
+        → WritesNext Next.Version text to out.old.items out.new.items) }
 {
     match version {
         Version::One => {

@@ -2,7 +2,7 @@
 ghost use Rattle.std.specs.Prelude.{◌≡◌, ◌++◌, ◌↔◌, ℕ, List, Err, IfErr, IfOk, OnOk};
 ghost use Rattle.rbg_record.specs.Entries.{timed_text};
 ghost use Rattle.rbg_record.specs.Heading.{version_text};
-ghost use Rattle.rbg_record.specs.Reading.{Says};
+ghost use Rattle.rbg_record.specs.Reading.{HasContent};
 ghost use Rattle.rbg_wire.specs.Lines.{line_of, lines_of};
 ghost use Rattle.rbg_record.specs.Migration.{IsMigrated, IsPlainFault};
 ghost use Rattle.rbg_record.specs.Right.{IsRightRecord};
@@ -56,7 +56,7 @@ fn migrate_line(
     out: &mut Vec<u8>,
 ) -> Result<Next, RecordError>
     requires plain { IsPlainNext next }
-    requires says { Says next line.now.text.now line.now.content }
+    requires says { HasContent next line.now.text.now line.now.content }
     ensures migrates { IfOk result (λ to.
         MigratesLine game.now next line.now.text.now to out.old.items out.new.items) }
     ensures refused { IfErr result (RefusesPlain line.now) }

@@ -45,7 +45,7 @@ impl Reached {
             Reached::Version => Next::Version,
             Reached::Players => Next::Players,
             Reached::Start => Next::Start,
-            Reached::Entry(standing) => Next::Entry(standing.version),
+            Reached::Entry(match_so_far) => Next::Entry(match_so_far.version),
             Reached::Nothing => Next::Nothing,
         }
     }
@@ -55,7 +55,7 @@ impl Reached {
         ensures { IfOk result (λ place. place ≡ place_in (reached_of self.now) before) }
     {
         match self {
-            Reached::Entry(standing) => standing.place.try_clone(),
+            Reached::Entry(match_so_far) => match_so_far.place.try_clone(),
             Reached::Version => Ok(before),
             Reached::Players => Ok(before),
             Reached::Start => Ok(before),

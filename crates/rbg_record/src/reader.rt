@@ -1,7 +1,7 @@
 //! Reading a record line by line.
 ghost use Rattle.std.specs.Prelude.{◌≡◌, [], IfErr, IfNone, IfOk, IfSome};
 ghost use Rattle.rbg_record.specs.NextLine.{Left};
-ghost use Rattle.rbg_record.specs.Reading.{HasForm, Misreads, Says, TakesLine};
+ghost use Rattle.rbg_record.specs.Reading.{HasForm, Misreads, HasContent, TakesLine};
 
 use crate::cutting::next_line;
 use crate::entry_reader::read_in;
@@ -71,7 +71,7 @@ impl<'a> RecordReader<'a> {
 
 /// The contents of a line with this text. Returns None if it isn't of the form.
 fn content_of(next: Next, text: &[u8]) -> Option<Content<'_>>
-    ensures says { IfSome result (Says next text.now) }
+    ensures says { IfSome result (HasContent next text.now) }
     ensures none { IfNone result (¬ HasForm next text.now) }
 {
     match next {

@@ -4,7 +4,7 @@ ghost use Rattle.rbg_rules.specs.Meaning.{IsPlaceOf};
 ghost use Rattle.rbg_record.specs.declared.entry.Entry.TheVariants.{End as EndEntry, Move as MoveEntry};
 ghost use Rattle.rbg_record.specs.declared.line.Content.TheVariants.{Entry as EntryContent};
 ghost use Rattle.rbg_record.specs.Heading.{SpellsPlayers, SpellsStart, version_text};
-ghost use Rattle.rbg_record.specs.Reading.{Says};
+ghost use Rattle.rbg_record.specs.Reading.{HasContent};
 ghost use Rattle.rbg_wire.specs.Words.{words_of};
 ghost use Rattle.rbg_wire.specs.declared.outcome.Outcome.TheVariants.{Heavy};
 ghost use Rattle.rbg_match.specs.Limits.{latest_moment};
@@ -32,7 +32,7 @@ pub fn judge_line(
     line: &RecordLine<'_>,
 ) -> Result<Reached, Misfit>
     requires in_game { IsReachedIn game.now (reached_of reached.now) }
-    requires says { Says (next_of (reached_of reached.now)) line.now.text.now line.now.content }
+    requires says { HasContent (next_of (reached_of reached.now)) line.now.text.now line.now.content }
     ensures { JudgesLine game.now (reached_of reached.now) line.now result }
 {
     match judge_content(game, reached, line) {
@@ -50,7 +50,7 @@ fn judge_content(
     line: &RecordLine<'_>,
 ) -> Result<Reached, LineFault>
     requires in_game { IsReachedIn game.now (reached_of reached.now) }
-    requires says { Says (next_of (reached_of reached.now)) line.now.text.now line.now.content }
+    requires says { HasContent (next_of (reached_of reached.now)) line.now.text.now line.now.content }
     ensures { ReadsLine game.now (reached_of reached.now) line.now.text.now result }
 {
     match &line.content {
@@ -108,54 +108,54 @@ fn start_at(game: &PlayedGame, start: Start) -> Result<Reached, LineFault>
 /// What a move or the end leads to.
 fn go_on(game: &PlayedGame, reached: &Reached, told: &Timed) -> Result<Reached, LineFault>
     requires { IsReachedIn game.now (reached_of reached.now) }
-    ensures { (text : List ℕ) → Says (next_of (reached_of reached.now)) text (EntryContent told.now)
+    ensures { (text : List ℕ) → HasContent (next_of (reached_of reached.now)) text (EntryContent told.now)
         → ReadsLine game.now (reached_of reached.now) text result }
 {
-    let Reached::Entry(standing) = reached else {
+    let Reached::Entry(match_so_far) = reached else {
         return Err(LineFault::Form);
     };
-    judge(game, standing, told)
+    judge(game, match_so_far, told)
 }
 
 /// What an entry leads to. What needs no question is checked first.
-fn judge(game: &PlayedGame, standing: &MatchSoFar, told: &Timed) -> Result<Reached, LineFault>
-    requires { IsPlaceOf game.now standing.now.place }
+fn judge(game: &PlayedGame, match_so_far: &MatchSoFar, told: &Timed) -> Result<Reached, LineFault>
+    requires { IsPlaceOf game.now match_so_far.now.place }
     ensures leads { IfOk result (λ to.
-        EntryLeads game.now standing.now told.now (reached_of to)) }
+        EntryLeads game.now match_so_far.now told.now (reached_of to)) }
     ensures in_game { IfOk result (λ to. IsReachedIn game.now (reached_of to)) }
-    ensures refused { IfErr result (RefusesEntry game.now standing.now told.now) }
+    ensures refused { IfErr result (RefusesEntry game.now match_so_far.now told.now) }
 {
-    if LATEST_MOMENT < told.at || !standing.fits(game, told) {
+    if LATEST_MOMENT < told.at || !match_so_far.fits(game, told) {
         return Err(LineFault::Bad);
     }
     match &told.entry {
-        Entry::Move { player, pairs } => make_move(game, standing, told.at, *player, pairs),
-        Entry::End { outcome } => end(game, standing, told.at, *outcome),
+        Entry::Move { player, pairs } => make_move(game, match_so_far, told.at, *player, pairs),
+        Entry::End { outcome } => end(game, match_so_far, told.at, *outcome),
     }
 }
 
 /// What a move leads to, if it is legal.
 fn make_move(
     game: &PlayedGame,
-    standing: &MatchSoFar,
+    match_so_far: &MatchSoFar,
     at: u64,
     player: u64,
     pairs: &Move,
 ) -> Result<Reached, LineFault>
-    requires place { IsPlaceOf game.now standing.now.place }
+    requires place { IsPlaceOf game.now match_so_far.now.place }
     requires counted { at ≤ latest_moment }
-    requires fits { FitsUnasked game.now standing.now at (MoveEntry player pairs.now) }
-    ensures leads { IfOk result (λ to. EntryLeads game.now standing.now
+    requires fits { FitsUnasked game.now match_so_far.now at (MoveEntry player pairs.now) }
+    ensures leads { IfOk result (λ to. EntryLeads game.now match_so_far.now
         (record { at = at; entry = MoveEntry player pairs.now }) (reached_of to)) }
     ensures in_game { IfOk result (λ to. IsReachedIn game.now (reached_of to)) }
-    ensures refused { IfErr result (RefusesEntry game.now standing.now
+    ensures refused { IfErr result (RefusesEntry game.now match_so_far.now
         (record { at = at; entry = MoveEntry player pairs.now })) }
 {
-    match try_move(game, &standing.place, pairs)? {
+    match try_move(game, &match_so_far.place, pairs)? {
         None => Err(LineFault::Bad),
         Some(place) => Ok(Reached::Entry(MatchSoFar {
-            version: standing.version,
-            turn_ms: standing.turn_ms,
+            version: match_so_far.version,
+            turn_ms: match_so_far.turn_ms,
             last: at,
             place,
         })),
@@ -165,24 +165,24 @@ fn make_move(
 /// Checks that the match could end with this outcome. After that nothing comes next.
 fn end(
     game: &PlayedGame,
-    standing: &MatchSoFar,
+    match_so_far: &MatchSoFar,
     at: u64,
     outcome: Option<Outcome>,
 ) -> Result<Reached, LineFault>
-    requires place { IsPlaceOf game.now standing.now.place }
+    requires place { IsPlaceOf game.now match_so_far.now.place }
     requires counted { at ≤ latest_moment }
-    requires fits { FitsUnasked game.now standing.now at (EndEntry outcome) }
-    ensures leads { IfOk result (λ to. EntryLeads game.now standing.now
+    requires fits { FitsUnasked game.now match_so_far.now at (EndEntry outcome) }
+    ensures leads { IfOk result (λ to. EntryLeads game.now match_so_far.now
         (record { at = at; entry = EndEntry outcome }) (reached_of to)) }
     ensures in_game { IfOk result (λ to. IsReachedIn game.now (reached_of to)) }
-    ensures refused { IfErr result (RefusesEntry game.now standing.now
+    ensures refused { IfErr result (RefusesEntry game.now match_so_far.now
         (record { at = at; entry = EndEntry outcome })) }
 {
     if is_heavy(&outcome) {
         return Ok(Reached::Nothing);
     }
-    let finished = is_finished(game, &standing.place)?;
-    if ends_so(game, &standing.place, finished, &outcome) {
+    let finished = is_finished(game, &match_so_far.place)?;
+    if ends_so(game, &match_so_far.place, finished, &outcome) {
         Ok(Reached::Nothing)
     } else {
         Err(LineFault::Bad)

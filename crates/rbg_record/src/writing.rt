@@ -4,7 +4,7 @@ ghost use Rattle.std.specs.List.{flat_map};
 ghost use Rattle.rbg_wire.specs.Lines.{line_of};
 ghost use Rattle.rbg_record.specs.OfMatch.{WritesRecord, record_of, plain_record_of};
 ghost use Rattle.rbg_record.specs.Records.{plain, timed};
-ghost use Rattle.rbg_record.specs.internal.Written.{entries_bytes, made_text, told_moment};
+ghost use Rattle.rbg_record.specs.internal.Written.{entries_bytes, made_text, entry_moment};
 
 use crate::entry_writer::{write_end_line, write_move_line};
 use crate::heading::{Start, Version};
@@ -70,7 +70,7 @@ fn write_moves(version: Version, moves: &[Made], out: &mut Vec<u8>) -> Result<()
 
 // The moment as a version writes it: version 1 has none.
 fn moment_in(version: Version, at: u64) -> Option<u64>
-    ensures { result ≡ told_moment version at }
+    ensures { result ≡ entry_moment version at }
 {
     match version {
         Version::One => None,

@@ -12,9 +12,9 @@ use Rattle.rbg_referee.specs.declared.input_error.RefereeingError.TheVariants.{L
 use Rattle.rbg_referee.specs.Faults.{AnswersFault}
 
 -- the answer with this text and this status
-answer_with : (input text said : List ℕ) (status ended : Status) → text ≡ said → status ≡ ended → IsAnswer input said ended → IsAnswer input text status
-answer_with input text said status ended is was answer =
-    subst (λ t. IsAnswer input t status) (sym is) (subst (IsAnswer input said) (sym was) answer)
+answer_with : (input text outgoing : List ℕ) (status ended : Status) → text ≡ outgoing → status ≡ ended → IsAnswer input outgoing ended → IsAnswer input text status
+answer_with input text outgoing status ended is was answer =
+    subst (λ t. IsAnswer input t status) (sym is) (subst (IsAnswer input outgoing) (sym was) answer)
 
 -- an input with no mark
 unmarked_answer : (input text : List ℕ) (status : Status) → ((description script : List ℕ) → IsInput input description script → ⊥) → AnswersFault (Script 0) text status → IsAnswer input text status

@@ -35,4 +35,4 @@ taken_whole {old} {middle} {before} events done after steps same = rw (take-map 
 
 -- a step keeps an outbox of the match's seats
 pub seats_kept : {middle new : MatchState} {event : AbstractEvent} {between after : List (List ℕ)} → Steps middle event new between after → length between ≡ seats_of middle.game → length after ≡ seats_of new.game
-seats_kept {between = between} step same = ap length step.told ∙ length-delivered between step.said ∙ same ∙ ap seats_of (sym step.same_game)
+seats_kept {between = between} step same = ap length step.told ∙ length-delivered between step.outgoing ∙ same ∙ ap seats_of (sym step.same_game)

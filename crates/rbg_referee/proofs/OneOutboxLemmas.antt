@@ -9,6 +9,6 @@ use Rattle.rbg_referee.specs.Laws.{OneOutbox}
 pub outbox_of_one : OneOutbox
 outbox_of_one text config now events outbox outbox' one other light light' same =
     let game = one_game_law text other.game one.game other.loads one.loads in
-    let transcript : Transcript one.game text config now events other.play other.said = subst (λ (g : AbstractGame). Transcript g text config now events other.play other.said) game other.transcript in
-    let alike = one_transcript one.game text config now events one.play other.play one.said other.said one.loads.game_of.lawful.numbered one.transcript transcript light light' same in
-    one.bytes ∙ ap (λ (said : List Delivery). queued (seats_of one.game) said) alike.1 ∙ ap (λ (g : AbstractGame). queued (seats_of g) other.said) (sym game) ∙ sym other.bytes
+    let transcript : Transcript one.game text config now events other.play other.outgoing = subst (λ (g : AbstractGame). Transcript g text config now events other.play other.outgoing) game other.transcript in
+    let alike = one_transcript one.game text config now events one.play other.play one.outgoing other.outgoing one.loads.game_of.lawful.numbered one.transcript transcript light light' same in
+    one.bytes ∙ ap (λ (outgoing : List Delivery). queued (seats_of one.game) outgoing) alike.1 ∙ ap (λ (g : AbstractGame). queued (seats_of g) other.outgoing) (sym game) ∙ sym other.bytes

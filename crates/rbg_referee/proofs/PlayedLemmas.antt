@@ -10,7 +10,7 @@ pub played_seats : (text : List ℕ) (script : AbstractScript) (state : MatchSta
 played_seats text script state outbox played =
     let seats = seats_of played.refereed.game in
     ap length played.refereed.bytes
-    ∙ ap length (sym (delivered-queued seats played.refereed.said))
-    ∙ length-delivered (replicate seats []) played.refereed.said
+    ∙ ap length (sym (delivered-queued seats played.refereed.outgoing))
+    ∙ length-delivered (replicate seats []) played.refereed.outgoing
     ∙ length-replicate seats []
     ∙ ap seats_of played.of_game

@@ -11,13 +11,13 @@ use Rattle.rbg_referee.specs.Refereed.{IsRefereed, IsRefusedFor, IsStillInPlay, 
 -- a match that opens and handles these events is refereed: its state of play is that of the transcript, and so is its game
 pub refereed_with : (text : List ℕ) (config : Config) (now : ℕ) (events : List AbstractEvent) (old new : MatchState) (before after : List (List ℕ)) → OpensText text config now old before → StepsAll old before events new after → (refereed : IsRefereed text config now events after) × (refereed.play ≡ new.play) × (refereed.game ≡ new.game)
 refereed_with text config now events old new before after opened steps =
-    let (said, transcript, bytes) = stepped_is_transcript opened.game text config now events old new before after opened.opens steps in (
+    let (outgoing, transcript, bytes) = stepped_is_transcript opened.game text config now events old new before after opened.opens steps in (
       record {
         game = opened.game;
         loads = opened.loads;
         lawful = opened.opens.lawful;
         play = new.play;
-        said = said;
+        outgoing = outgoing;
         transcript = transcript;
         bytes = bytes;
       },
@@ -32,6 +32,6 @@ is_still_in_play text config now events old new before after opened steps going 
 
 -- a match that is stopped is one that is refused
 pub refused_by : (text : List ℕ) (config : Config) (now : ℕ) (events : List AbstractEvent) (error : RefereeError) → StopsMatch text config now events error → IsRefusedFor text config now events error
-refused_by text config now events (Memory done said) stopped = inr stopped
+refused_by text config now events (Memory done outgoing) stopped = inr stopped
 refused_by text config now events (Load error) stopped = absurd stopped
 refused_by text config now events ConfigRefused stopped = absurd stopped

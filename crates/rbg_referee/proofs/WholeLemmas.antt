@@ -22,7 +22,7 @@ use Rattle.rbg_referee.proofs.SayableLemmas.{IsSayable, move_sayable, end_sayabl
 
 -- all that is sent can be sent on a stream
 abbrev AreSayable : List Delivery → Type 0
-AreSayable said = All (λ delivery. IsSayable delivery.message) said
+AreSayable outgoing = All (λ delivery. IsSayable delivery.message) outgoing
 
 none_said : AreSayable []
 none_said = All-nil (λ delivery. IsSayable delivery.message)
@@ -37,9 +37,9 @@ each_said : (seats : ℕ) (message : AbstractMessage) → IsSayable message → 
 each_said zero message h = none_said
 each_said (suc seats) message h = both_said (to_each seats message) (to_seat (suc seats) message) (each_said seats message h) (one_said (suc seats) message h)
 
-either_said : (test : Bool) (said : List Delivery) → AreSayable said → AreSayable (if test then [] else said)
-either_said true said h = none_said
-either_said false said h = h
+either_said : (test : Bool) (outgoing : List Delivery) → AreSayable outgoing → AreSayable (if test then [] else outgoing)
+either_said true outgoing h = none_said
+either_said false outgoing h = h
 
 others_said : (seats one : ℕ) (message : AbstractMessage) → IsSayable message → AreSayable (to_others seats one message)
 others_said zero one message h = none_said
@@ -47,7 +47,7 @@ others_said (suc seats) one message h =
     both_said (to_others seats one message) (if suc seats == one then [] else to_seat (suc seats) message) (others_said seats one message h)
     (either_said (suc seats == one) (to_seat (suc seats) message) (one_said (suc seats) message h))
 
-plays_said : (game : AbstractGame) (moment : ℕ) {n : ℕ} {before after : AbstractPlay} {said : List Delivery} → PlaysOn game moment n before after said → AreSayable said
+plays_said : (game : AbstractGame) (moment : ℕ) {n : ℕ} {before after : AbstractPlay} {outgoing : List Delivery} → PlaysOn game moment n before after outgoing → AreSayable outgoing
 plays_said game moment (endless mover many) = each_said (seats_of game) _ (end_sayable _)
 plays_said game moment (heavy may is) = each_said (seats_of game) _ (end_sayable _)
 plays_said game moment (finished may over) = each_said (seats_of game) _ (end_sayable _)
@@ -55,19 +55,19 @@ plays_said game moment (keeper {pairs = pairs} {more = told} mover few lawful sh
     both_said (to_each (seats_of game) (move_message pairs)) told (each_said (seats_of game) (move_message pairs) (move_sayable pairs)) (plays_said game moment rest)
 plays_said game moment (turn mover lawful) = none_said
 
-refuses_said : (seats : ℕ) (config : Config) (play : AbstractPlay) (seat : ℕ) (reason : Reason) {after : AbstractPlay} {said : List Delivery} → Refuses seats config play seat reason after said → AreSayable said
+refuses_said : (seats : ℕ) (config : Config) (play : AbstractPlay) (seat : ℕ) (reason : Reason) {after : AbstractPlay} {outgoing : List Delivery} → Refuses seats config play seat reason after outgoing → AreSayable outgoing
 refuses_said seats config play seat reason (counted few) = one_said seat _ (refusal_sayable reason)
 refuses_said seats config play seat reason (spent many) =
     both_said (to_seat seat (refusal_message reason)) (to_each seats (end_message (Refusals seat))) (one_said seat (refusal_message reason) (refusal_sayable reason))
     (each_said seats (end_message (Refusals seat)) (end_sayable (Refusals seat)))
 
-judges_said : (game : AbstractGame) (config : Config) (play : AbstractPlay) (moment : ℕ) (pairs : List (ℕ × ℕ)) {after : AbstractPlay} {said : List Delivery} → Judges game config play moment pairs after said → AreSayable said
+judges_said : (game : AbstractGame) (config : Config) (play : AbstractPlay) (moment : ℕ) (pairs : List (ℕ × ℕ)) {after : AbstractPlay} {outgoing : List Delivery} → Judges game config play moment pairs after outgoing → AreSayable outgoing
 judges_said game config play moment pairs (hard is) = each_said (seats_of game) _ (end_sayable _)
 judges_said game config play moment pairs (illegal unlawful refuses) = refuses_said _ config play _ _ refuses
 judges_said game config play moment pairs (legal {more = told} lawful plays) =
     both_said (to_each (seats_of game) (move_message pairs)) told (each_said (seats_of game) (move_message pairs) (move_sayable pairs)) (plays_said game moment plays)
 
-in_time_said : (game : AbstractGame) (config : Config) (play : AbstractPlay) (moment : ℕ) {input : AbstractInput} {after : AbstractPlay} {said : List Delivery} → HandlesInTime game config play moment input after said → AreSayable said
+in_time_said : (game : AbstractGame) (config : Config) (play : AbstractPlay) (moment : ℕ) {input : AbstractInput} {after : AbstractPlay} {outgoing : List Delivery} → HandlesInTime game config play moment input after outgoing → AreSayable outgoing
 in_time_said game config play moment nothing = none_said
 in_time_said game config play moment (leaving {seat = seat}) = others_said (seats_of game) seat _ (end_sayable _)
 in_time_said game config play moment (out_of_turn other refuses) = refuses_said _ config play _ _ refuses
@@ -75,12 +75,12 @@ in_time_said game config play moment (unreadable mover unread refuses) = refuses
 in_time_said game config play moment (too_many mover spells many refuses) = refuses_said _ config play _ _ refuses
 in_time_said game config play moment (judged mover spells few judges) = judges_said game config play moment _ judges
 
-handles_said : (game : AbstractGame) (config : Config) (play : AbstractPlay) (moment : ℕ) (input : AbstractInput) {after : AbstractPlay} {said : List Delivery} → Handles game config play moment input after said → AreSayable said
+handles_said : (game : AbstractGame) (config : Config) (play : AbstractPlay) (moment : ℕ) (input : AbstractInput) {after : AbstractPlay} {outgoing : List Delivery} → Handles game config play moment input after outgoing → AreSayable outgoing
 handles_said game config play moment input (after_end ended) = none_said
 handles_said game config play moment input (overdue going late) = each_said (seats_of game) _ (end_sayable _)
 handles_said game config play moment input (in_time going early handles) = in_time_said game config play moment handles
 
-all_said : (game : AbstractGame) (config : Config) (play : AbstractPlay) {inputs : List TimedInput} {after : AbstractPlay} {said : List Delivery} → HandlesAll game config play inputs after said → AreSayable said
+all_said : (game : AbstractGame) (config : Config) (play : AbstractPlay) {inputs : List TimedInput} {after : AbstractPlay} {outgoing : List Delivery} → HandlesAll game config play inputs after outgoing → AreSayable outgoing
 all_said game config play none = none_said
 all_said game config play (more {first = first} {next = next} all one) = both_said first next (all_said game config play all) (handles_said game config _ _ _ one)
 
@@ -107,11 +107,11 @@ more_whole true message bytes sayable are = record {
 }
 more_whole false message bytes sayable are = are
 
-seat_whole : (seat : ℕ) (said : List Delivery) → AreSayable said → AreWhole (bytes_for seat said)
+seat_whole : (seat : ℕ) (outgoing : List Delivery) → AreSayable outgoing → AreWhole (bytes_for seat outgoing)
 seat_whole seat [] all = record { messages = []; parts = refl; whole = All-nil (LacksByte 0) }
-seat_whole seat (delivery ∷ said) all =
-    more_whole (delivery.seat == seat) delivery.message (bytes_for seat said) (All-head (λ delivery. IsSayable delivery.message) delivery said all)
-    (seat_whole seat said (All-tail (λ delivery. IsSayable delivery.message) delivery said all))
+seat_whole seat (delivery ∷ outgoing) all =
+    more_whole (delivery.seat == seat) delivery.message (bytes_for seat outgoing) (All-head (λ delivery. IsSayable delivery.message) delivery outgoing all)
+    (seat_whole seat outgoing (All-tail (λ delivery. IsSayable delivery.message) delivery outgoing all))
 
 seats_whole : (text : List ℕ) (config : Config) (now : ℕ) (events : List AbstractEvent) (outbox : List (List ℕ)) → IsRefereed text config now events outbox → All AreWhole outbox
 seats_whole text config now events outbox is =
@@ -120,9 +120,9 @@ seats_whole text config now events outbox is =
     let begun : AreSayable (greetings text config game.players) = greetings_said text config 1 game.players (no_zero_in text game is.loads) (names_in text game is.loads) in
     let opened : AreSayable told.opening = plays_said game _ told.opens in
     let replies : AreSayable told.replies = all_said game config _ told.goes_on in
-    let all : AreSayable is.said = subst AreSayable (sym told.whole) (both_said (greetings text config game.players ++ told.opening) told.replies (both_said (greetings text config game.players) told.opening begun opened) replies) in
+    let all : AreSayable is.outgoing = subst AreSayable (sym told.whole) (both_said (greetings text config game.players ++ told.opening) told.replies (both_said (greetings text config game.players) told.opening begun opened) replies) in
     let seats : List ℕ = range_with_len 1 (seats_of game) in
-    subst (All AreWhole) (sym is.bytes) (All-map AreWhole (λ seat. bytes_for seat is.said) seats (λ i d below. seat_whole (get_or seats i d) is.said all))
+    subst (All AreWhole) (sym is.bytes) (All-map AreWhole (λ seat. bytes_for seat is.outgoing) seats (λ i d below. seat_whole (get_or seats i d) is.outgoing all))
 
 -- whole messages that are cut leave nothing
 no_rest_in : (whole messages : List (List ℕ)) (rest : List ℕ) → All (LacksByte 0) whole → All (LacksByte 0) messages → LacksByte 0 rest → flat_map with_zero whole ≡ flat_map with_zero messages ++ rest → rest ≡ []

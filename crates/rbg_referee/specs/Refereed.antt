@@ -20,9 +20,9 @@ pub record IsRefereed (text : List ℕ) (config : Config) (now : ℕ) (events : 
   pub loads : Loads text game
   pub lawful : IsWithinLimits config
   pub play : AbstractPlay
-  pub said : List Delivery
-  pub transcript : Transcript game text config now events play said
-  pub bytes : outbox ≡ queued (seats_of game) said
+  pub outgoing : List Delivery
+  pub transcript : Transcript game text config now events play outgoing
+  pub bytes : outbox ≡ queued (seats_of game) outgoing
 
 -- The same, and the match has not ended after these events.
 pub record IsStillInPlay (text : List ℕ) (config : Config) (now : ℕ) (events : List AbstractEvent)
@@ -39,7 +39,7 @@ IsCutShort text config now events done outbox =
 
 -- Why a match that was made is not refereed to its end: memory ran out, and it was cut short.
 abbrev pub StopsMatch : (text : List ℕ) → Config → (now : ℕ) → List AbstractEvent → RefereeError → Type 0
-StopsMatch text config now events (Memory done said) = IsCutShort text config now events done said
+StopsMatch text config now events (Memory done outgoing) = IsCutShort text config now events done outgoing
 StopsMatch text config now events _ = ⊥
 
 -- Why a match is not refereed to its end.
@@ -50,8 +50,8 @@ StopsMatch text config now events _ = ⊥
 abbrev pub IsRefusedFor : (text : List ℕ) → Config → (now : ℕ) → List AbstractEvent → RefereeError → Type 0
 IsRefusedFor text config now events (Load error) = IsRefused text error × ¬ IsMemory error
 IsRefusedFor text config now events ConfigRefused = (game : AbstractGame) × Loads text game × ¬ IsWithinLimits config
-IsRefusedFor text config now events (Memory done said) =
-    (done ≡ 0) × (said ≡ []) ⊎ IsCutShort text config now events done said
+IsRefusedFor text config now events (Memory done outgoing) =
+    (done ≡ 0) × (outgoing ≡ []) ⊎ IsCutShort text config now events done outgoing
 
 -- The text is a game's, and a match of that game opens.
 pub record OpensText (text : List ℕ) (config : Config) (now : ℕ) (state : MatchState)

@@ -13,8 +13,8 @@ pub enum RefereeError {
     /// A number of the config is outside its limits.
     #[error("a number of the config is outside its limits")]
     Config,
-    /// A request for memory failed. Either `done` is 0 and `said` has no seat, or the first `done` events were handled,
-    /// the match had not ended after them, and `said` is the outbox after them.
+    /// A request for memory failed. Either `done` is 0 and `outgoing` has no seat, or the first `done` events were
+    /// handled, the match had not ended after them, and `outgoing` is the outbox after them.
     #[error("out of memory after {done} events")]
-    Memory { done: usize, said: Outbox },
+    Memory { done: usize, outgoing: Outbox },
 }

@@ -67,7 +67,7 @@ fn open(
         Err(MatchError::Config) => Err(RefereeError::Config),
         Err(MatchError::Memory) => Err(RefereeError::Memory {
             done: 0,
-            said: Outbox::without_seats(alloc),
+            outgoing: Outbox::without_seats(alloc),
         }),
     }
 }
@@ -80,7 +80,7 @@ fn not_loaded(alloc: Global, error: LoadError) -> RefereeError
     if error.is_memory() {
         return RefereeError::Memory {
             done: 0,
-            said: Outbox::without_seats(alloc),
+            outgoing: Outbox::without_seats(alloc),
         };
     }
     RefereeError::Load(error)
@@ -104,7 +104,10 @@ fn go_on(
 {
     match handle_all(refereed, events, &mut outbox) {
         Ok(()) => Ok(outbox),
-        Err(done) => Err(RefereeError::Memory { done, said: outbox }),
+        Err(done) => Err(RefereeError::Memory {
+            done,
+            outgoing: outbox,
+        }),
     }
 }
 

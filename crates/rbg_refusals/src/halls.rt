@@ -6,8 +6,8 @@ ghost use Rattle.rbg_game.specs.Loading.{Loads};
 use crate::copies::{add_copy, is_copy};
 use crate::games::{BLACK, CONFIG, GAME, WHITE};
 use crate::lines::{Plan, ROOM as LINE_ROOM, tell_served, two_lines};
+use crate::printing::Facts;
 use crate::stop::Stop;
-use crate::telling::Telling;
 use crate::two_tables;
 use rbg_game::load;
 use rbg_hall::{Hall, HallError, HallEvent, HallOut, Table};
@@ -64,13 +64,13 @@ const LINES: u64 = 3;
 const ROOM: usize = 1000;
 
 /// Makes the run of a name, if it is one of these; else the next module does.
-pub fn run<W: Write>(alloc: Global, name: &str, told: &mut Telling<W>) -> Result<(), Stop> {
+pub fn run<W: Write>(alloc: Global, name: &str, facts: &mut Facts<W>) -> Result<(), Stop> {
     match name {
-        "hall" => make(alloc, &[], told),
-        "hall-begin" => make(alloc, &EVENTS[..3], told),
-        "hall-step" => make(alloc, &EVENTS, told),
-        "hall-run" => make_and_run(alloc, told),
-        _ => two_tables::run(alloc, name, told),
+        "hall" => make(alloc, &[], facts),
+        "hall-begin" => make(alloc, &EVENTS[..3], facts),
+        "hall-step" => make(alloc, &EVENTS, facts),
+        "hall-run" => make_and_run(alloc, facts),
+        _ => two_tables::run(alloc, name, facts),
     }
 }
 
@@ -100,12 +100,12 @@ fn tables(alloc: Global) -> Result<Vec<Table>, Stop>
 fn make<W: Write>(
     alloc: Global,
     events: &[HallEvent<'_>],
-    told: &mut Telling<W>,
+    facts: &mut Facts<W>,
 ) -> Result<(), Stop> {
     let tables = tables(alloc)?;
     match Hall::new(alloc, tables) {
-        Ok((mut hall, mut out)) => hear(alloc, &mut hall, &mut out, events, told),
-        Err(error) => tell_error(error, events.is_empty(), told),
+        Ok((mut hall, mut out)) => hear(alloc, &mut hall, &mut out, events, facts),
+        Err(error) => tell_error(error, events.is_empty(), facts),
     }
 }
 
@@ -113,20 +113,20 @@ fn make<W: Write>(
 fn tell_error<W: Write>(
     error: HallError,
     is_asked: bool,
-    told: &mut Telling<W>,
+    facts: &mut Facts<W>,
 ) -> Result<(), Stop> {
     if !is_asked {
         return Err(Stop::from(error));
     }
-    told.refusal(matches!(error, HallError::Memory), &error);
+    facts.refusal(matches!(error, HallError::Memory), &error);
     Ok(())
 }
 
 /// Prints how many bytes are queued for each line that sends something, and which ones.
-fn tell_queues<W: Write>(out: &HallOut, told: &mut Telling<W>) {
+fn tell_queues<W: Write>(out: &HallOut, facts: &mut Facts<W>) {
     for line in 0..LINES {
         let bytes = out.bytes(line);
-        told.queue("line", line, bytes);
+        facts.queue("line", line, bytes);
     }
 }
 
@@ -153,15 +153,15 @@ fn hear<W: Write>(
     hall: &mut Hall<MemoryLog>,
     out: &mut HallOut,
     events: &[HallEvent<'_>],
-    told: &mut Telling<W>,
+    facts: &mut Facts<W>,
 ) -> Result<(), Stop> {
     let Some((last, before)) = events.split_last() else {
-        tell_queues(out, told);
+        tell_queues(out, facts);
         return Ok(());
     };
     hall.keep(1, MemoryLog::new(alloc, ROOM));
     step_all(hall, out, before)?;
-    step_last(alloc, hall, out, *last, told)
+    step_last(alloc, hall, out, *last, facts)
 }
 
 /// Handles the events before the one that the run is about.
@@ -181,11 +181,11 @@ fn step_last<W: Write>(
     hall: &mut Hall<MemoryLog>,
     out: &mut HallOut,
     event: HallEvent<'_>,
-    told: &mut Telling<W>,
+    facts: &mut Facts<W>,
 ) -> Result<(), Stop> {
     let mut queued = Vec::new(alloc);
     copy_queues(alloc, out, &mut queued)?;
-    tell_step(hall, out, queued.as_slice(), event, told);
+    tell_step(hall, out, queued.as_slice(), event, facts);
     Ok(())
 }
 
@@ -195,43 +195,43 @@ fn tell_step<W: Write>(
     out: &mut HallOut,
     queued: &[Vec<u8>],
     event: HallEvent<'_>,
-    told: &mut Telling<W>,
+    facts: &mut Facts<W>,
 ) {
     if hall.step(event, out).is_ok() {
-        tell_queues(out, told);
-        tell_log(hall.log_of(1), told);
+        tell_queues(out, facts);
+        tell_log(hall.log_of(1), facts);
     } else {
-        told.memory();
-        told.kept("queues are", are_queued(queued, out));
+        facts.memory();
+        facts.kept("queues are", are_queued(queued, out));
         let again = hall.step(event, out).is_err();
-        told.again(again && are_queued(queued, out));
+        facts.again(again && are_queued(queued, out));
     }
 }
 
 /// Prints what a log holds.
-fn tell_log<W: Write>(log: Option<&MemoryLog>, told: &mut Telling<W>) {
+fn tell_log<W: Write>(log: Option<&MemoryLog>, facts: &mut Facts<W>) {
     match log {
-        Some(log) => told.bytes(log.bytes()),
-        None => told.line("no log"),
+        Some(log) => facts.bytes(log.bytes()),
+        None => facts.line("no log"),
     }
 }
 
 /// Makes a hall of one table, and serves it over two lines.
-fn make_and_run<W: Write>(alloc: Global, told: &mut Telling<W>) -> Result<(), Stop> {
+fn make_and_run<W: Write>(alloc: Global, facts: &mut Facts<W>) -> Result<(), Stop> {
     let tables = tables(alloc)?;
     let (mut hall, mut out) = Hall::new(alloc, tables)?;
-    run_hall(alloc, &mut hall, &mut out, told)
+    run_hall(alloc, &mut hall, &mut out, facts)
 }
 
 fn run_hall<W: Write>(
     alloc: Global,
     hall: &mut Hall<MemoryLog>,
     out: &mut HallOut,
-    told: &mut Telling<W>,
+    facts: &mut Facts<W>,
 ) -> Result<(), Stop> {
     let mut lines = two_lines(alloc, &PLAYERS)?;
     let mut clock = ListClock::new(Vec::new(alloc));
     let served = hall.run(&mut lines, out, &mut clock, ROUNDS);
-    tell_served(served, &lines, [out.bytes(0), out.bytes(1)], told);
+    tell_served(served, &lines, [out.bytes(0), out.bytes(1)], facts);
     Ok(())
 }

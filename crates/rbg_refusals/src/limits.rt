@@ -1,8 +1,8 @@
 //! Runs of `expand` with texts whose expansion is at a limit, or just above it.
 
 use crate::moves;
+use crate::printing::Facts;
 use crate::stop::Stop;
-use crate::telling::Telling;
 use crate::texts::tell_expand;
 use std::alloc::Global;
 use std::io::Write;
@@ -23,24 +23,24 @@ const LEVELS: &[u8] =
 ";
 
 /// Makes the run of a name, if it is one of these; else the next module does.
-pub fn run<W: Write>(alloc: Global, name: &str, told: &mut Telling<W>) -> Result<(), Stop> {
+pub fn run<W: Write>(alloc: Global, name: &str, facts: &mut Facts<W>) -> Result<(), Stop> {
     match name {
         // Rules that need 64 levels of macros, and 65.
-        "expand-deepest" => tell_limit(alloc, b"#rules = m2", told),
-        "expand-too-deep" => tell_limit(alloc, b"#rules = m1", told),
+        "expand-deepest" => tell_limit(alloc, b"#rules = m2", facts),
+        "expand-too-deep" => tell_limit(alloc, b"#rules = m1", facts),
         // A macro of two words. After 15 doublings 65,536 tokens are kept, of 131,071 that are read.
-        "expand-most-kept" => tell_limit(alloc, b"#a0 = e e\n#rules = a15", told),
-        "expand-too-many-kept" => tell_limit(alloc, b"#a0 = e e\n#rules = a16", told),
+        "expand-most-kept" => tell_limit(alloc, b"#a0 = e e\n#rules = a15", facts),
+        "expand-too-many-kept" => tell_limit(alloc, b"#a0 = e e\n#rules = a16", facts),
         // A macro of two calls of one that is nothing. After 17 doublings 524,287 tokens are read, and none is kept.
-        "expand-most-read" => tell_limit(alloc, b"#z =\n#a0 = z z\n#rules = a17", told),
-        "expand-too-many-read" => tell_limit(alloc, b"#z =\n#a0 = z z\n#rules = a18", told),
-        _ => moves::run(alloc, name, told),
+        "expand-most-read" => tell_limit(alloc, b"#z =\n#a0 = z z\n#rules = a17", facts),
+        "expand-too-many-read" => tell_limit(alloc, b"#z =\n#a0 = z z\n#rules = a18", facts),
+        _ => moves::run(alloc, name, facts),
     }
 }
 
 /// Expands the sections of a text at a limit, and prints them.
-fn tell_limit<W: Write>(alloc: Global, rules: &[u8], told: &mut Telling<W>) -> Result<(), Stop> {
+fn tell_limit<W: Write>(alloc: Global, rules: &[u8], facts: &mut Facts<W>) -> Result<(), Stop> {
     let mut text = Vec::from_slice(alloc, LEVELS)?;
     text.extend_from_slice(rules)?;
-    tell_expand(alloc, text.as_slice(), told)
+    tell_expand(alloc, text.as_slice(), facts)
 }

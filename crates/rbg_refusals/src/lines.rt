@@ -1,7 +1,7 @@
 //! Lines in memory, two to each run that serves something over them.
 
+use crate::printing::Facts;
 use crate::stop::Stop;
-use crate::telling::Telling;
 use rbg_serving::{Give, MemoryLine, ServeError, Served, Take};
 use std::alloc::Global;
 use std::io::Write;
@@ -49,44 +49,44 @@ pub fn tell_served<W: Write>(
     served: Result<Served, ServeError>,
     lines: &[MemoryLine; 2],
     queued: [&[u8]; 2],
-    told: &mut Telling<W>,
+    facts: &mut Facts<W>,
 ) {
     match served {
         Ok(served) => {
-            told.number("rounds", served.rounds);
-            told.truth(", whole", served.whole);
-            tell_taken(lines, told);
+            facts.number("rounds", served.rounds);
+            facts.truth(", whole", served.whole);
+            tell_taken(lines, facts);
         }
         Err(ServeError::Memory) => {
-            told.memory();
-            tell_beginnings(lines, queued, told);
+            facts.memory();
+            tell_beginnings(lines, queued, facts);
         }
         Err(error) => {
-            told.error(&error);
-            tell_taken(lines, told);
+            facts.error(&error);
+            tell_taken(lines, facts);
         }
     }
 }
 
 /// Prints how many bytes a line took, and which ones.
-fn tell_bytes<W: Write>(bytes: &[u8], told: &mut Telling<W>) {
-    told.number("took", bytes.len() as u64);
-    told.line(" bytes");
+fn tell_bytes<W: Write>(bytes: &[u8], facts: &mut Facts<W>) {
+    facts.number("took", bytes.len() as u64);
+    facts.line(" bytes");
     if !bytes.is_empty() {
-        told.messages(bytes);
+        facts.messages(bytes);
     }
 }
 
 /// Prints what each line took.
-fn tell_taken<W: Write>(lines: &[MemoryLine; 2], told: &mut Telling<W>) {
-    tell_bytes(lines[0].took(), told);
-    tell_bytes(lines[1].took(), told);
+fn tell_taken<W: Write>(lines: &[MemoryLine; 2], facts: &mut Facts<W>) {
+    tell_bytes(lines[0].took(), facts);
+    tell_bytes(lines[1].took(), facts);
 }
 
 /// Prints whether each line took the beginning of what is queued for it.
-fn tell_beginnings<W: Write>(lines: &[MemoryLine; 2], queued: [&[u8]; 2], told: &mut Telling<W>) {
+fn tell_beginnings<W: Write>(lines: &[MemoryLine; 2], queued: [&[u8]; 2], facts: &mut Facts<W>) {
     let right = queued[0].starts_with(lines[0].took()) && queued[1].starts_with(lines[1].took());
-    told.line(if right {
+    facts.line(if right {
         "each line took the beginning of what is queued"
     } else {
         "a line took something else"

@@ -19,16 +19,16 @@ mod messages;
 mod moves;
 mod opening;
 mod players;
+mod printing;
 mod records;
 mod searches;
 mod serving;
 mod stop;
-mod telling;
 mod texts;
 mod two_tables;
 
+use crate::printing::Facts;
 use crate::stop::Stop;
-use crate::telling::Telling;
 use arrayvec::ArrayVec;
 use std::alloc::Global;
 use std::io::{self, Read, Write};
@@ -42,14 +42,14 @@ const MAX_NAME: usize = 40;
 const MAX_LIST: u32 = 10_000;
 
 /// Prints a name and the facts of its run.
-fn tell_run<W: Write>(alloc: Global, name: &[u8], told: &mut Telling<W>) {
-    told.bytes(name);
-    told.bytes(b"\n");
-    match texts::run(alloc, str::from_utf8(name).unwrap_or(""), told) {
+fn tell_run<W: Write>(alloc: Global, name: &[u8], facts: &mut Facts<W>) {
+    facts.bytes(name);
+    facts.bytes(b"\n");
+    match texts::run(alloc, str::from_utf8(name).unwrap_or(""), facts) {
         Ok(()) => {}
-        Err(Stop::Setup) => told.line("setup memory"),
-        Err(Stop::Wrong) => told.line("setup wrong"),
-        Err(Stop::Unknown) => told.line("no such run"),
+        Err(Stop::Setup) => facts.line("setup memory"),
+        Err(Stop::Wrong) => facts.line("setup wrong"),
+        Err(Stop::Unknown) => facts.line("no such run"),
     }
 }
 
@@ -58,10 +58,10 @@ fn hear<W: Write>(
     alloc: Global,
     byte: u8,
     name: &mut ArrayVec<u8, MAX_NAME>,
-    told: &mut Telling<W>,
+    facts: &mut Facts<W>,
 ) {
     if byte == b'\n' {
-        tell_run(alloc, name.as_slice(), told);
+        tell_run(alloc, name.as_slice(), facts);
         name.clear();
     } else if !name.is_full() {
         name.push(byte);
@@ -72,23 +72,23 @@ fn hear<W: Write>(
 fn tell_runs<R: Read, W: Write>(
     alloc: Global,
     input: &mut R,
-    told: &mut Telling<W>,
+    facts: &mut Facts<W>,
 ) -> io::Result<()> {
     let mut name: ArrayVec<u8, MAX_NAME> = ArrayVec::new();
     let mut byte = [0];
     for _ in 0..MAX_LIST {
-        if !told.is_whole() || input.read(&mut byte)? == 0 {
+        if !facts.is_whole() || input.read(&mut byte)? == 0 {
             break;
         }
-        hear(alloc, byte[0], &mut name, told);
+        hear(alloc, byte[0], &mut name, facts);
     }
     Ok(())
 }
 
 fn main(rt: HostRuntime) -> ExitCode {
-    let mut told = Telling::new(io::writer(&rt));
-    let read = tell_runs(rt.alloc(), &mut rt.stdin(), &mut told).is_ok();
-    if read && told.is_whole() {
+    let mut facts = Facts::new(io::writer(&rt));
+    let read = tell_runs(rt.alloc(), &mut rt.stdin(), &mut facts).is_ok();
+    if read && facts.is_whole() {
         ExitCode::SUCCESS
     } else {
         ExitCode::FAILURE

@@ -5,9 +5,9 @@ ghost use Rattle.rbg_match.specs.PlayingOn.{seats_of};
 use crate::copies::{add_copy, is_copy};
 use crate::games::{BLACK, CONFIG, GAME, WHITE};
 use crate::opening::new_match;
+use crate::printing::Facts;
 use crate::serving;
 use crate::stop::Stop;
-use crate::telling::Telling;
 use rbg_base::Memory;
 use rbg_game::load;
 use rbg_match::{Config, Event, Match, MatchError, Outbox};
@@ -53,44 +53,44 @@ enum Task {
 }
 
 /// Makes the run of a name, if it is one of these; else the next module does.
-pub fn run<W: Write>(alloc: Global, name: &str, told: &mut Telling<W>) -> Result<(), Stop> {
+pub fn run<W: Write>(alloc: Global, name: &str, facts: &mut Facts<W>) -> Result<(), Stop> {
     match name {
-        "open" => open(alloc, told),
-        "step" => do_task(alloc, CONFIG, 0, Task::Step, told),
-        "referee" => referee_all(alloc, told),
-        "write-record" => do_task(alloc, CONFIG, 0, Task::WriteRecord, told),
-        "write-record-1" => do_task(alloc, CONFIG, 0, Task::WritePlainRecord, told),
-        "due-latest" => do_task(alloc, LONGEST, u64::MAX, Task::TellDue, told),
-        _ => serving::run(alloc, name, told),
+        "open" => open(alloc, facts),
+        "step" => do_task(alloc, CONFIG, 0, Task::Step, facts),
+        "referee" => referee_all(alloc, facts),
+        "write-record" => do_task(alloc, CONFIG, 0, Task::WriteRecord, facts),
+        "write-record-1" => do_task(alloc, CONFIG, 0, Task::WritePlainRecord, facts),
+        "due-latest" => do_task(alloc, LONGEST, u64::MAX, Task::TellDue, facts),
+        _ => serving::run(alloc, name, facts),
     }
 }
 
 /// Prints how many bytes are queued for each seat.
-fn tell_sizes<W: Write>(outbox: &Outbox, told: &mut Telling<W>) {
+fn tell_sizes<W: Write>(outbox: &Outbox, facts: &mut Facts<W>) {
     for seat in 1..=outbox.seats() {
-        told.size("seat", seat as u64, outbox.bytes(seat).len());
+        facts.size("seat", seat as u64, outbox.bytes(seat).len());
     }
 }
 
 /// Prints what is queued for each seat.
-fn tell_outbox<W: Write>(outbox: &Outbox, told: &mut Telling<W>) {
-    tell_sizes(outbox, told);
+fn tell_outbox<W: Write>(outbox: &Outbox, facts: &mut Facts<W>) {
+    tell_sizes(outbox, facts);
     for seat in 1..=outbox.seats() {
-        told.messages(outbox.bytes(seat));
+        facts.messages(outbox.bytes(seat));
     }
 }
 
 /// Makes a match of the small game.
-fn open<W: Write>(alloc: Global, told: &mut Telling<W>) -> Result<(), Stop> {
+fn open<W: Write>(alloc: Global, facts: &mut Facts<W>) -> Result<(), Stop> {
     let game = load(alloc, GAME)?;
-    tell_opened(&Match::new(alloc, game, GAME, CONFIG, 0), told);
+    tell_opened(&Match::new(alloc, game, GAME, CONFIG, 0), facts);
     Ok(())
 }
 
-fn tell_opened<W: Write>(opened: &Result<(Match, Outbox), MatchError>, told: &mut Telling<W>) {
+fn tell_opened<W: Write>(opened: &Result<(Match, Outbox), MatchError>, facts: &mut Facts<W>) {
     match opened {
-        Ok((_, outbox)) => tell_outbox(outbox, told),
-        Err(error) => told.refusal(matches!(error, MatchError::Memory), error),
+        Ok((_, outbox)) => tell_outbox(outbox, facts),
+        Err(error) => facts.refusal(matches!(error, MatchError::Memory), error),
     }
 }
 
@@ -100,10 +100,10 @@ fn do_task<W: Write>(
     config: Config,
     now: u64,
     task: Task,
-    told: &mut Telling<W>,
+    facts: &mut Facts<W>,
 ) -> Result<(), Stop> {
     let (mut opened, mut outbox) = new_match(alloc, GAME, config, now)?;
-    do_in(alloc, task, &mut opened, &mut outbox, told)
+    do_in(alloc, task, &mut opened, &mut outbox, facts)
 }
 
 fn do_in<W: Write>(
@@ -111,15 +111,15 @@ fn do_in<W: Write>(
     task: Task,
     opened: &mut Match,
     outbox: &mut Outbox,
-    told: &mut Telling<W>,
+    facts: &mut Facts<W>,
 ) -> Result<(), Stop>
     requires { length outbox.old ≡ seats_of opened.old.game }
 {
     match task {
-        Task::Step => step(alloc, opened, outbox, told),
-        Task::WriteRecord => write_played(alloc, false, opened, outbox, told),
-        Task::WritePlainRecord => write_played(alloc, true, opened, outbox, told),
-        Task::TellDue => tell_due(opened, outbox, told),
+        Task::Step => step(alloc, opened, outbox, facts),
+        Task::WriteRecord => write_played(alloc, false, opened, outbox, facts),
+        Task::WritePlainRecord => write_played(alloc, true, opened, outbox, facts),
+        Task::TellDue => tell_due(opened, outbox, facts),
     }
 }
 
@@ -145,13 +145,13 @@ fn step<W: Write>(
     alloc: Global,
     opened: &mut Match,
     outbox: &mut Outbox,
-    told: &mut Telling<W>,
+    facts: &mut Facts<W>,
 ) -> Result<(), Stop>
     requires { length outbox.old ≡ seats_of opened.old.game }
 {
     let mut before = Vec::new(alloc);
     copy_queues(alloc, outbox, &mut before)?;
-    tell_step(opened, outbox, before.as_slice(), told);
+    tell_step(opened, outbox, before.as_slice(), facts);
     Ok(())
 }
 
@@ -160,17 +160,17 @@ fn tell_step<W: Write>(
     opened: &mut Match,
     outbox: &mut Outbox,
     before: &[Vec<u8>],
-    told: &mut Telling<W>,
+    facts: &mut Facts<W>,
 )
     requires { length outbox.old ≡ seats_of opened.old.game }
 {
     if opened.step(EVENTS[0], outbox).is_ok() {
-        tell_outbox(outbox, told);
+        tell_outbox(outbox, facts);
     } else {
-        told.memory();
-        told.kept("outbox is", are_queued(before, outbox));
+        facts.memory();
+        facts.kept("outbox is", are_queued(before, outbox));
         let again = opened.step(EVENTS[0], outbox).is_err();
-        told.again(again && are_queued(before, outbox));
+        facts.again(again && are_queued(before, outbox));
     }
 }
 
@@ -180,7 +180,7 @@ fn write_played<W: Write>(
     is_plain: bool,
     played: &mut Match,
     outbox: &mut Outbox,
-    told: &mut Telling<W>,
+    facts: &mut Facts<W>,
 ) -> Result<(), Stop>
     requires { length outbox.old ≡ seats_of played.old.game }
 {
@@ -190,7 +190,7 @@ fn write_played<W: Write>(
     } else {
         write_record(alloc, played)
     };
-    tell_written(&written, told);
+    tell_written(&written, facts);
     Ok(())
 }
 
@@ -203,28 +203,28 @@ fn play_both(played: &mut Match, outbox: &mut Outbox) -> Result<(), Memory>
 }
 
 /// Prints a record that was written.
-fn tell_written<W: Write>(written: &Result<Vec<u8>, Memory>, told: &mut Telling<W>) {
+fn tell_written<W: Write>(written: &Result<Vec<u8>, Memory>, facts: &mut Facts<W>) {
     match written {
-        Ok(record) => told.bytes(record.as_slice()),
-        Err(_) => told.memory(),
+        Ok(record) => facts.bytes(record.as_slice()),
+        Err(_) => facts.memory(),
     }
 }
 
 /// Referees the small game.
-fn referee_all<W: Write>(alloc: Global, told: &mut Telling<W>) -> Result<(), Stop> {
-    tell_refereed(&referee(alloc, GAME, CONFIG, 0, &EVENTS), told);
+fn referee_all<W: Write>(alloc: Global, facts: &mut Facts<W>) -> Result<(), Stop> {
+    tell_refereed(&referee(alloc, GAME, CONFIG, 0, &EVENTS), facts);
     Ok(())
 }
 
-fn tell_refereed<W: Write>(refereed: &Result<Outbox, RefereeError>, told: &mut Telling<W>) {
+fn tell_refereed<W: Write>(refereed: &Result<Outbox, RefereeError>, facts: &mut Facts<W>) {
     match refereed {
-        Ok(outbox) => tell_outbox(outbox, told),
-        Err(RefereeError::Memory { done, said }) => {
-            told.memory();
-            told.count("done", *done as u64);
-            tell_sizes(said, told);
+        Ok(outbox) => tell_outbox(outbox, facts),
+        Err(RefereeError::Memory { done, outgoing }) => {
+            facts.memory();
+            facts.count("done", *done as u64);
+            tell_sizes(outgoing, facts);
         }
-        Err(error) => told.refusal(false, error),
+        Err(error) => facts.refusal(false, error),
     }
 }
 
@@ -233,22 +233,22 @@ fn tell_refereed<W: Write>(refereed: &Result<Outbox, RefereeError>, told: &mut T
 fn tell_due<W: Write>(
     opened: &mut Match,
     outbox: &mut Outbox,
-    told: &mut Telling<W>,
+    facts: &mut Facts<W>,
 ) -> Result<(), Stop>
     requires { length outbox.old ≡ seats_of opened.old.game }
 {
     let before = opened.due();
     opened.step(LATEST, outbox)?;
-    tell_moment(before, told);
-    tell_moment(opened.due(), told);
-    tell_outbox(outbox, told);
+    tell_moment(before, facts);
+    tell_moment(opened.due(), facts);
+    tell_outbox(outbox, facts);
     Ok(())
 }
 
 /// Prints when a mover's time is over.
-fn tell_moment<W: Write>(due: Option<u64>, told: &mut Telling<W>) {
+fn tell_moment<W: Write>(due: Option<u64>, facts: &mut Facts<W>) {
     match due {
-        Some(at) => told.count("due", at),
-        None => told.line("ended"),
+        Some(at) => facts.count("due", at),
+        None => facts.line("ended"),
     }
 }

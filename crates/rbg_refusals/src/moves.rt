@@ -3,9 +3,9 @@ ghost use Rattle.std.specs.Prelude.{IfOk};
 ghost use Rattle.rbg_rules.specs.Meaning.{IsPlaceOf};
 
 use crate::games::{DEEPEST, PATTERN, STAR, played};
+use crate::printing::Facts;
 use crate::searches::{self, tell_over, tell_pair};
 use crate::stop::Stop;
-use crate::telling::Telling;
 use rbg_base::{Move, Pair};
 use rbg_moves::{Listed, Place, PlayedGame};
 use std::alloc::Global;
@@ -62,28 +62,28 @@ enum Asked<'a> {
 }
 
 /// Makes the run of a name, if it is one of these; else the next module does.
-pub fn run<W: Write>(alloc: Global, name: &str, told: &mut Telling<W>) -> Result<(), Stop> {
+pub fn run<W: Write>(alloc: Global, name: &str, facts: &mut Facts<W>) -> Result<(), Stop> {
     match name {
-        "find-star" => ask_moves(alloc, STAR, Asked::Find, told),
-        "try-star" => ask_moves(alloc, STAR, Asked::Try(&STAR_MOVE), told),
-        "list-star" => ask_moves(alloc, STAR, Asked::List, told),
-        "find-pattern" => ask_moves(alloc, PATTERN, Asked::Find, told),
-        "try-pattern" => ask_moves(alloc, PATTERN, Asked::Try(&PATTERN_MOVE), told),
-        "list-pattern" => ask_moves(alloc, PATTERN, Asked::List, told),
+        "find-star" => ask_moves(alloc, STAR, Asked::Find, facts),
+        "try-star" => ask_moves(alloc, STAR, Asked::Try(&STAR_MOVE), facts),
+        "list-star" => ask_moves(alloc, STAR, Asked::List, facts),
+        "find-pattern" => ask_moves(alloc, PATTERN, Asked::Find, facts),
+        "try-pattern" => ask_moves(alloc, PATTERN, Asked::Try(&PATTERN_MOVE), facts),
+        "list-pattern" => ask_moves(alloc, PATTERN, Asked::List, facts),
         // There is a move of each length up to 200 pairs, and a search for a longer one is too deep.
-        "list-deepest" => ask_moves(alloc, DEEPEST, Asked::Measure(199), told),
-        "list-too-deep" => ask_moves(alloc, DEEPEST, Asked::Measure(200), told),
-        _ => searches::run(alloc, name, told),
+        "list-deepest" => ask_moves(alloc, DEEPEST, Asked::Measure(199), facts),
+        "list-too-deep" => ask_moves(alloc, DEEPEST, Asked::Measure(200), facts),
+        _ => searches::run(alloc, name, facts),
     }
 }
 
 /// The pairs of a move, in a line.
-fn tell_pairs<W: Write>(pairs: &[Pair], told: &mut Telling<W>) {
-    told.text("move");
+fn tell_pairs<W: Write>(pairs: &[Pair], facts: &mut Facts<W>) {
+    facts.text("move");
     for pair in pairs {
-        tell_pair("", *pair, told);
+        tell_pair("", *pair, facts);
     }
-    told.bytes(b"\n");
+    facts.bytes(b"\n");
 }
 
 /// The place after the keeper's switch to white.
@@ -102,49 +102,45 @@ fn ask_moves<W: Write>(
     alloc: Global,
     text: &[u8],
     asked: Asked<'_>,
-    told: &mut Telling<W>,
+    facts: &mut Facts<W>,
 ) -> Result<(), Stop> {
     let game = played(alloc, text)?;
-    ask_in(&game, asked, told)
+    ask_in(&game, asked, facts)
 }
 
-fn ask_in<W: Write>(
-    game: &PlayedGame,
-    asked: Asked<'_>,
-    told: &mut Telling<W>,
-) -> Result<(), Stop> {
+fn ask_in<W: Write>(game: &PlayedGame, asked: Asked<'_>, facts: &mut Facts<W>) -> Result<(), Stop> {
     let mut place = white_to_move(game)?;
-    ask_at(game, &mut place, asked, told)
+    ask_at(game, &mut place, asked, facts)
 }
 
 fn ask_at<W: Write>(
     game: &PlayedGame,
     place: &mut Place,
     asked: Asked<'_>,
-    told: &mut Telling<W>,
+    facts: &mut Facts<W>,
 ) -> Result<(), Stop>
     requires { IsPlaceOf game.now place.old }
 {
     match asked {
-        Asked::Find => tell_found(game, place, told),
-        Asked::Try(pairs) => tell_tried(game, place, pairs, told),
-        Asked::List => tell_list(game, place, told),
-        Asked::Measure(max) => tell_lengths(game, place, max, told),
+        Asked::Find => tell_found(game, place, facts),
+        Asked::Try(pairs) => tell_tried(game, place, pairs, facts),
+        Asked::List => tell_list(game, place, facts),
+        Asked::Measure(max) => tell_lengths(game, place, max, facts),
     }
 }
 
 fn tell_found<W: Write>(
     game: &PlayedGame,
     place: &mut Place,
-    told: &mut Telling<W>,
+    facts: &mut Facts<W>,
 ) -> Result<(), Stop>
     requires { IsPlaceOf game.now place.old }
 {
     let found = game.find_move(place, &mut game.workspace());
     match found {
-        Ok(Some(pairs)) => tell_pairs(pairs.as_slice(), told),
-        Ok(None) => told.line("no move"),
-        Err(over) => tell_over(over, told),
+        Ok(Some(pairs)) => tell_pairs(pairs.as_slice(), facts),
+        Ok(None) => facts.line("no move"),
+        Err(over) => tell_over(over, facts),
     }
     Ok(())
 }
@@ -153,7 +149,7 @@ fn tell_tried<W: Write>(
     game: &PlayedGame,
     place: &Place,
     pairs: &[Pair],
-    told: &mut Telling<W>,
+    facts: &mut Facts<W>,
 ) -> Result<(), Stop>
     requires { IsPlaceOf game.now place.now }
 {
@@ -162,39 +158,39 @@ fn tell_tried<W: Write>(
     };
     let tried = game.try_move(place, &pairs, &mut game.workspace());
     match tried {
-        Ok(Some(to)) => tell_place(&to, told),
-        Ok(None) => told.line("not legal"),
-        Err(over) => tell_over(over, told),
+        Ok(Some(to)) => tell_place(&to, facts),
+        Ok(None) => facts.line("not legal"),
+        Err(over) => tell_over(over, facts),
     }
     Ok(())
 }
 
 /// Prints the player to move at a place, the current vertex, and the pieces on the board.
-fn tell_place<W: Write>(place: &Place, told: &mut Telling<W>) {
-    told.count("player", place.state.player() as u64);
-    told.count("vertex", place.state.vertex() as u64);
-    told.text("after ");
-    told.inner(&place.after);
+fn tell_place<W: Write>(place: &Place, facts: &mut Facts<W>) {
+    facts.count("player", place.state.player() as u64);
+    facts.count("vertex", place.state.vertex() as u64);
+    facts.text("after ");
+    facts.inner(&place.after);
     for piece in place.state.pieces() {
-        told.count("piece", *piece as u64);
+        facts.count("piece", *piece as u64);
     }
 }
 
-fn tell_list<W: Write>(game: &PlayedGame, place: &Place, told: &mut Telling<W>) -> Result<(), Stop>
+fn tell_list<W: Write>(game: &PlayedGame, place: &Place, facts: &mut Facts<W>) -> Result<(), Stop>
     requires { IsPlaceOf game.now place.now }
 {
     match game.list_moves(place, LISTED) {
-        Ok(listed) => tell_listed(&listed, told),
-        Err(over) => tell_over(over, told),
+        Ok(listed) => tell_listed(&listed, facts),
+        Err(over) => tell_over(over, facts),
     }
     Ok(())
 }
 
-fn tell_listed<W: Write>(listed: &Listed, told: &mut Telling<W>) {
+fn tell_listed<W: Write>(listed: &Listed, facts: &mut Facts<W>) {
     for pairs in &listed.moves {
-        tell_pairs(pairs.as_slice(), told);
+        tell_pairs(pairs.as_slice(), facts);
     }
-    told.truth("cut", listed.cut);
+    facts.truth("cut", listed.cut);
 }
 
 /// Prints how many moves are listed, of at most `max`, and how many pairs each of them has.
@@ -202,7 +198,7 @@ fn tell_lengths<W: Write>(
     game: &PlayedGame,
     place: &Place,
     max: usize,
-    told: &mut Telling<W>,
+    facts: &mut Facts<W>,
 ) -> Result<(), Stop>
     requires { IsPlaceOf game.now place.now }
 {
@@ -210,18 +206,18 @@ fn tell_lengths<W: Write>(
         return Err(Stop::Wrong);
     }
     match game.list_moves(place, max) {
-        Ok(listed) => tell_measured(&listed, told),
-        Err(over) => tell_over(over, told),
+        Ok(listed) => tell_measured(&listed, facts),
+        Err(over) => tell_over(over, facts),
     }
     Ok(())
 }
 
-fn tell_measured<W: Write>(listed: &Listed, told: &mut Telling<W>) {
-    told.count("moves", listed.moves.len() as u64);
-    told.text("pairs");
+fn tell_measured<W: Write>(listed: &Listed, facts: &mut Facts<W>) {
+    facts.count("moves", listed.moves.len() as u64);
+    facts.text("pairs");
     for pairs in &listed.moves {
-        told.number("", pairs.as_slice().len() as u64);
+        facts.number("", pairs.as_slice().len() as u64);
     }
-    told.bytes(b"\n");
-    told.truth("cut", listed.cut);
+    facts.bytes(b"\n");
+    facts.truth("cut", listed.cut);
 }

@@ -1,7 +1,7 @@
 //! Runs of players.
 
+use crate::printing::{Facts, KEPT};
 use crate::stop::Stop;
-use crate::telling::{KEPT, Telling};
 use rbg_player::{FirstChooser, Heard, Player, PlayerError};
 use std::alloc::Global;
 use std::io::Write;
@@ -14,45 +14,45 @@ const OPENING: &[u8] = b"W1 white\0G#players = white(100), black(100)
 \0L1000 3\0M0 1\0";
 
 /// Makes the run of a name, if it is one of these. No other module follows.
-pub fn run<W: Write>(alloc: Global, name: &str, told: &mut Telling<W>) -> Result<(), Stop> {
+pub fn run<W: Write>(alloc: Global, name: &str, facts: &mut Facts<W>) -> Result<(), Stop> {
     match name {
-        "hear" => hear(alloc, told),
-        "join" => join(alloc, told),
+        "hear" => hear(alloc, facts),
+        "join" => join(alloc, facts),
         _ => Err(Stop::Unknown),
     }
 }
 
 /// Hands a player the start of its match, so that it sends its move.
-fn hear<W: Write>(alloc: Global, told: &mut Telling<W>) -> Result<(), Stop> {
-    let mut said = Vec::from_slice(alloc, KEPT)?;
-    hear_opening(&mut Player::new(alloc), &mut said, told);
+fn hear<W: Write>(alloc: Global, facts: &mut Facts<W>) -> Result<(), Stop> {
+    let mut outgoing = Vec::from_slice(alloc, KEPT)?;
+    hear_opening(&mut Player::new(alloc), &mut outgoing, facts);
     Ok(())
 }
 
 /// Prints what a player sends, and whether play continues.
-fn hear_opening<W: Write>(player: &mut Player, said: &mut Vec<u8>, told: &mut Telling<W>) {
-    match player.hear(OPENING, &mut FirstChooser, said) {
+fn hear_opening<W: Write>(player: &mut Player, outgoing: &mut Vec<u8>, facts: &mut Facts<W>) {
+    match player.hear(OPENING, &mut FirstChooser, outgoing) {
         Ok(heard) => {
-            told.truth("going", matches!(heard, Heard::Going));
-            told.messages(said.as_slice());
+            facts.truth("going", matches!(heard, Heard::Going));
+            facts.messages(outgoing.as_slice());
         }
-        Err(PlayerError::Memory) => hear_again(player, said, told),
-        Err(error) => told.error(&error),
+        Err(PlayerError::Memory) => hear_again(player, outgoing, facts),
+        Err(error) => facts.error(&error),
     }
 }
 
 /// What a player does after it ran out of memory.
-fn hear_again<W: Write>(player: &mut Player, said: &mut Vec<u8>, told: &mut Telling<W>) {
-    told.memory();
-    let again = player.hear(b"", &mut FirstChooser, said);
-    told.kept("bytes are", said.as_slice() == KEPT);
-    told.again(matches!(again, Err(PlayerError::Memory)));
+fn hear_again<W: Write>(player: &mut Player, outgoing: &mut Vec<u8>, facts: &mut Facts<W>) {
+    facts.memory();
+    let again = player.hear(b"", &mut FirstChooser, outgoing);
+    facts.kept("bytes are", outgoing.as_slice() == KEPT);
+    facts.again(matches!(again, Err(PlayerError::Memory)));
 }
 
 /// Makes a player that asks for a seat.
-fn join<W: Write>(alloc: Global, told: &mut Telling<W>) -> Result<(), Stop> {
-    let mut said = Vec::from_slice(alloc, KEPT)?;
-    let went_well = Player::join(alloc, u64::MAX, &mut said).is_ok();
-    told.appended(went_well, said.as_slice());
+fn join<W: Write>(alloc: Global, facts: &mut Facts<W>) -> Result<(), Stop> {
+    let mut outgoing = Vec::from_slice(alloc, KEPT)?;
+    let went_well = Player::join(alloc, u64::MAX, &mut outgoing).is_ok();
+    facts.appended(went_well, outgoing.as_slice());
     Ok(())
 }

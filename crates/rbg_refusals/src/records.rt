@@ -2,8 +2,8 @@
 
 use crate::games::{GAME, played};
 use crate::players;
+use crate::printing::Facts;
 use crate::stop::Stop;
-use crate::telling::Telling;
 use rbg_game::{Game, load};
 use rbg_moves::PlayedGame;
 use rbg_record::{Checked, RecordError, check_record, migrate};
@@ -36,52 +36,52 @@ const NOT_FINISHED: &[u8] = b"rbg 1\n0 0 1\nE0 0 0\n";
 const NO_END: &[u8] = b"rbg 1\n0 0 1\n";
 
 /// Makes the run of a name, if it is one of these; else the next module does.
-pub fn run<W: Write>(alloc: Global, name: &str, told: &mut Telling<W>) -> Result<(), Stop> {
+pub fn run<W: Write>(alloc: Global, name: &str, facts: &mut Facts<W>) -> Result<(), Stop> {
     match name {
-        "check-record-timed" => check(alloc, TIMED, told),
-        "check-record-plain" => check(alloc, PLAIN, told),
-        "check-record-going" => check(alloc, GOING, told),
-        "check-record-not-legal" => check(alloc, NOT_LEGAL, told),
-        "check-record-not-finished" => check(alloc, NOT_FINISHED, told),
-        "check-record-no-end" => check(alloc, NO_END, told),
-        "migrate" => migrate_plain(alloc, told),
-        _ => players::run(alloc, name, told),
+        "check-record-timed" => check(alloc, TIMED, facts),
+        "check-record-plain" => check(alloc, PLAIN, facts),
+        "check-record-going" => check(alloc, GOING, facts),
+        "check-record-not-legal" => check(alloc, NOT_LEGAL, facts),
+        "check-record-not-finished" => check(alloc, NOT_FINISHED, facts),
+        "check-record-no-end" => check(alloc, NO_END, facts),
+        "migrate" => migrate_plain(alloc, facts),
+        _ => players::run(alloc, name, facts),
     }
 }
 
 /// Prints why there is no answer.
-fn tell_error<W: Write>(error: RecordError, told: &mut Telling<W>) {
+fn tell_error<W: Write>(error: RecordError, facts: &mut Facts<W>) {
     match error {
-        RecordError::Memory => told.memory(),
-        RecordError::Form { .. } | RecordError::Over { .. } => told.error(&error),
+        RecordError::Memory => facts.memory(),
+        RecordError::Form { .. } | RecordError::Over { .. } => facts.error(&error),
     }
 }
 
 /// Checks a record of the small game.
-fn check<W: Write>(alloc: Global, record: &[u8], told: &mut Telling<W>) -> Result<(), Stop> {
+fn check<W: Write>(alloc: Global, record: &[u8], facts: &mut Facts<W>) -> Result<(), Stop> {
     let game = played(alloc, GAME)?;
-    tell_checked(&game, record, told);
+    tell_checked(&game, record, facts);
     Ok(())
 }
 
-fn tell_checked<W: Write>(game: &PlayedGame, record: &[u8], told: &mut Telling<W>) {
+fn tell_checked<W: Write>(game: &PlayedGame, record: &[u8], facts: &mut Facts<W>) {
     match check_record(game, record) {
-        Ok(Checked::Good) => told.line("good"),
-        Ok(Checked::Bad { line }) => told.count("bad", line as u64),
-        Err(error) => tell_error(error, told),
+        Ok(Checked::Good) => facts.line("good"),
+        Ok(Checked::Bad { line }) => facts.count("bad", line as u64),
+        Err(error) => tell_error(error, facts),
     }
 }
 
 /// Makes version 2 of a record of the small game.
-fn migrate_plain<W: Write>(alloc: Global, told: &mut Telling<W>) -> Result<(), Stop> {
+fn migrate_plain<W: Write>(alloc: Global, facts: &mut Facts<W>) -> Result<(), Stop> {
     let game = load(alloc, GAME)?;
-    tell_migrated(alloc, &game, told);
+    tell_migrated(alloc, &game, facts);
     Ok(())
 }
 
-fn tell_migrated<W: Write>(alloc: Global, game: &Game, told: &mut Telling<W>) {
+fn tell_migrated<W: Write>(alloc: Global, game: &Game, facts: &mut Facts<W>) {
     match migrate(alloc, game, PLAIN) {
-        Ok(record) => told.bytes(record.as_slice()),
-        Err(error) => tell_error(error, told),
+        Ok(record) => facts.bytes(record.as_slice()),
+        Err(error) => tell_error(error, facts),
     }
 }

@@ -3,8 +3,8 @@ ghost use Rattle.rbg_rules.specs.Meaning.{IsStateOf};
 
 use crate::games::{SQUARES, WALK, played};
 use crate::messages;
+use crate::printing::Facts;
 use crate::stop::Stop;
-use crate::telling::Telling;
 use rbg_auto::{Compact, Expr, Steps, compact};
 use rbg_base::{Pair, Position};
 use rbg_game::{Game, load};
@@ -37,18 +37,18 @@ enum Question {
 }
 
 /// Makes the run of a name, if it is one of these; else the next module does.
-pub fn run<W: Write>(alloc: Global, name: &str, told: &mut Telling<W>) -> Result<(), Stop> {
+pub fn run<W: Write>(alloc: Global, name: &str, facts: &mut Facts<W>) -> Result<(), Stop> {
     match name {
-        "reach" => ask(alloc, Question::Reach, told),
-        "pattern" => ask(alloc, Question::Pattern, told),
-        "count" => count(alloc, told),
-        _ => messages::run(alloc, name, told),
+        "reach" => ask(alloc, Question::Reach, facts),
+        "pattern" => ask(alloc, Question::Pattern, facts),
+        "count" => count(alloc, facts),
+        _ => messages::run(alloc, name, facts),
     }
 }
 
 /// Prints why there is no answer.
-pub fn tell_over<W: Write>(over: Over, told: &mut Telling<W>) {
-    told.line(match over {
+pub fn tell_over<W: Write>(over: Over, facts: &mut Facts<W>) {
+    facts.line(match over {
         Over::Memory => "memory",
         Over::Deep => "too deep",
         Over::Wide => "too wide",
@@ -56,25 +56,25 @@ pub fn tell_over<W: Write>(over: Over, told: &mut Telling<W>) {
 }
 
 /// The numbers of a pair after a word.
-pub fn tell_pair<W: Write>(word: &str, pair: Pair, told: &mut Telling<W>) {
-    told.number(word, pair.vertex as u64);
-    told.number("", pair.position as u64);
+pub fn tell_pair<W: Write>(word: &str, pair: Pair, facts: &mut Facts<W>) {
+    facts.number(word, pair.vertex as u64);
+    facts.number("", pair.position as u64);
 }
 
 /// Asks a question at the start of the walk.
-fn ask<W: Write>(alloc: Global, question: Question, told: &mut Telling<W>) -> Result<(), Stop> {
+fn ask<W: Write>(alloc: Global, question: Question, facts: &mut Facts<W>) -> Result<(), Stop> {
     let game = load(alloc, WALK)?;
-    ask_game(alloc, &game, question, told)
+    ask_game(alloc, &game, question, facts)
 }
 
 fn ask_game<W: Write>(
     alloc: Global,
     game: &Game,
     question: Question,
-    told: &mut Telling<W>,
+    facts: &mut Facts<W>,
 ) -> Result<(), Stop> {
     let steps = compact(alloc, game)?;
-    ask_by(alloc, game, &steps, question, told)
+    ask_by(alloc, game, &steps, question, facts)
 }
 
 fn ask_by<W: Write>(
@@ -82,12 +82,12 @@ fn ask_by<W: Write>(
     game: &Game,
     steps: &Compact,
     question: Question,
-    told: &mut Telling<W>,
+    facts: &mut Facts<W>,
 ) -> Result<(), Stop>
     requires { ⟦<Compact as Steps>⟧.of_rules steps.now game.now.rules }
 {
     let mut place = Place::start(alloc, game)?;
-    ask_from(alloc, game, steps, question, &mut place.state, told)
+    ask_from(alloc, game, steps, question, &mut place.state, facts)
 }
 
 /// Asks the question, and compares the semi-state that is lent with a copy taken before.
@@ -97,14 +97,14 @@ fn ask_from<W: Write>(
     steps: &Compact,
     question: Question,
     state: &mut SemiState,
-    told: &mut Telling<W>,
+    facts: &mut Facts<W>,
 ) -> Result<(), Stop>
     requires steps { ⟦<Compact as Steps>⟧.of_rules steps.now game.now.rules }
     requires state { IsStateOf game.now state.old.state }
 {
     let copy = state.try_clone()?;
-    ask_lent(alloc, game, steps, question, state, told)?;
-    told.kept("semi-state is", *state == copy);
+    ask_lent(alloc, game, steps, question, state, facts)?;
+    facts.kept("semi-state is", *state == copy);
     Ok(())
 }
 
@@ -114,7 +114,7 @@ fn ask_lent<W: Write>(
     steps: &Compact,
     question: Question,
     state: &mut SemiState,
-    told: &mut Telling<W>,
+    facts: &mut Facts<W>,
 ) -> Result<(), Stop>
     requires steps { ⟦<Compact as Steps>⟧.of_rules steps.now game.now.rules }
     requires state { IsStateOf game.now state.old.state }
@@ -125,48 +125,48 @@ fn ask_lent<W: Write>(
     let mut buffers = Buffers::new(alloc);
     let mut search = Search::new(alloc, game, steps, BUDGET, &mut buffers);
     match question {
-        Question::Reach => tell_reached(&search.reach(state, Origin::Begin(Expr::Rules)), told),
-        Question::Pattern => tell_valid(search.pattern(state, ASKED), told),
+        Question::Reach => tell_reached(&search.reach(state, Origin::Begin(Expr::Rules)), facts),
+        Question::Pattern => tell_valid(search.pattern(state, ASKED), facts),
     }
     Ok(())
 }
 
-fn tell_reached<W: Write>(answer: &Result<FlatPart, Over>, told: &mut Telling<W>) {
+fn tell_reached<W: Write>(answer: &Result<FlatPart, Over>, facts: &mut Facts<W>) {
     match answer {
-        Ok(reached) => tell_part(reached, told),
-        Err(over) => tell_over(*over, told),
+        Ok(reached) => tell_part(reached, facts),
+        Err(over) => tell_over(*over, facts),
     }
 }
 
-fn tell_part<W: Write>(reached: &FlatPart, told: &mut Telling<W>) {
+fn tell_part<W: Write>(reached: &FlatPart, facts: &mut Facts<W>) {
     for pair in &reached.pairs {
-        tell_pair("reached", *pair, told);
-        told.bytes(b"\n");
+        tell_pair("reached", *pair, facts);
+        facts.bytes(b"\n");
     }
-    told.truth("ends", reached.ends);
+    facts.truth("ends", reached.ends);
 }
 
-fn tell_valid<W: Write>(answer: Result<bool, Over>, told: &mut Telling<W>) {
+fn tell_valid<W: Write>(answer: Result<bool, Over>, facts: &mut Facts<W>) {
     match answer {
-        Ok(valid) => told.truth("valid", valid),
-        Err(over) => tell_over(over, told),
+        Ok(valid) => facts.truth("valid", valid),
+        Err(over) => tell_over(over, facts),
     }
 }
 
 /// Counts the sequences of three moves from the beginning of play.
-fn count<W: Write>(alloc: Global, told: &mut Telling<W>) -> Result<(), Stop> {
-    tell_count(alloc, &played(alloc, SQUARES)?, told);
+fn count<W: Write>(alloc: Global, facts: &mut Facts<W>) -> Result<(), Stop> {
+    tell_count(alloc, &played(alloc, SQUARES)?, facts);
     Ok(())
 }
 
-fn tell_count<W: Write>(alloc: Global, game: &PlayedGame, told: &mut Telling<W>) {
+fn tell_count<W: Write>(alloc: Global, game: &PlayedGame, facts: &mut Facts<W>) {
     let counted = count_from_start(game, COUNTED, Extent::Ends, &mut Workspace::new(alloc));
     match counted {
         Ok(counts) => {
-            told.number("sequences", counts.sequences);
-            told.count(", ended", counts.ended);
+            facts.number("sequences", counts.sequences);
+            facts.count(", ended", counts.ended);
         }
-        Err(CountError::Unsettled(Unsettled::Memory)) => told.memory(),
-        Err(error) => told.inner(&error),
+        Err(CountError::Unsettled(Unsettled::Memory)) => facts.memory(),
+        Err(error) => facts.inner(&error),
     }
 }

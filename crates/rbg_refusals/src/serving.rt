@@ -6,8 +6,8 @@ use crate::games::{CONFIG, FINISHED, GAME, WHITE};
 use crate::halls;
 use crate::lines::{Plan, ROOM, tell_served, two_lines};
 use crate::opening::new_match;
+use crate::printing::Facts;
 use crate::stop::Stop;
-use crate::telling::Telling;
 use rbg_match::{Match, Outbox};
 use rbg_serving::{ListClock, MemoryLine, Take, serve};
 use std::alloc::Global;
@@ -91,13 +91,13 @@ const FAILING_AND_STUCK: Service = Service {
 };
 
 /// Makes the run of a name, if it is one of these; else the next module does.
-pub fn run<W: Write>(alloc: Global, name: &str, told: &mut Telling<W>) -> Result<(), Stop> {
+pub fn run<W: Write>(alloc: Global, name: &str, facts: &mut Facts<W>) -> Result<(), Stop> {
     match name {
-        "serve" => serve_match(alloc, &FAILING, told),
-        "serve-byte-by-byte" => serve_match(alloc, &SLOW, told),
-        "serve-taking-nothing" => serve_match(alloc, &NEVER_WHOLE, told),
-        "serve-failing-and-taking-nothing" => serve_match(alloc, &FAILING_AND_STUCK, told),
-        _ => halls::run(alloc, name, told),
+        "serve" => serve_match(alloc, &FAILING, facts),
+        "serve-byte-by-byte" => serve_match(alloc, &SLOW, facts),
+        "serve-taking-nothing" => serve_match(alloc, &NEVER_WHOLE, facts),
+        "serve-failing-and-taking-nothing" => serve_match(alloc, &FAILING_AND_STUCK, facts),
+        _ => halls::run(alloc, name, facts),
     }
 }
 
@@ -105,10 +105,10 @@ pub fn run<W: Write>(alloc: Global, name: &str, told: &mut Telling<W>) -> Result
 fn serve_match<W: Write>(
     alloc: Global,
     service: &Service,
-    told: &mut Telling<W>,
+    facts: &mut Facts<W>,
 ) -> Result<(), Stop> {
     let (mut opened, mut outbox) = new_match(alloc, service.text, CONFIG, 0)?;
-    serve_in(alloc, service, &mut opened, &mut outbox, told)
+    serve_in(alloc, service, &mut opened, &mut outbox, facts)
 }
 
 fn serve_in<W: Write>(
@@ -116,12 +116,12 @@ fn serve_in<W: Write>(
     service: &Service,
     opened: &mut Match,
     outbox: &mut Outbox,
-    told: &mut Telling<W>,
+    facts: &mut Facts<W>,
 ) -> Result<(), Stop>
     requires { length outbox.old ≡ seats_of opened.old.game }
 {
     let mut lines = two_lines(alloc, &service.lines)?;
-    serve_over(alloc, &mut lines, service.rounds, opened, outbox, told)
+    serve_over(alloc, &mut lines, service.rounds, opened, outbox, facts)
 }
 
 fn serve_over<W: Write>(
@@ -130,7 +130,7 @@ fn serve_over<W: Write>(
     rounds: u64,
     opened: &mut Match,
     outbox: &mut Outbox,
-    told: &mut Telling<W>,
+    facts: &mut Facts<W>,
 ) -> Result<(), Stop>
     requires { length outbox.old ≡ seats_of opened.old.game }
 {
@@ -142,6 +142,6 @@ fn serve_over<W: Write>(
     if outbox.seats() != 2 {
         return Err(Stop::Wrong);
     }
-    tell_served(served, lines, [outbox.bytes(1), outbox.bytes(2)], told);
+    tell_served(served, lines, [outbox.bytes(1), outbox.bytes(2)], facts);
     Ok(())
 }

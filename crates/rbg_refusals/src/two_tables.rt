@@ -3,9 +3,9 @@ ghost use Rattle.std.specs.Prelude.{IfOk};
 ghost use Rattle.rbg_hall.specs.Openings.{AreLoaded};
 
 use crate::halls::table;
+use crate::printing::Facts;
 use crate::records;
 use crate::stop::Stop;
-use crate::telling::Telling;
 use rbg_base::Memory;
 use rbg_hall::{Hall, HallEvent, HallOut, Table};
 use rbg_serving::MemoryLog;
@@ -64,10 +64,10 @@ const HEARD: [HallEvent<'static>; EVENTS] = [
 ];
 
 /// Makes the run of a name, if it is this one; else the next module does.
-pub fn run<W: Write>(alloc: Global, name: &str, told: &mut Telling<W>) -> Result<(), Stop> {
+pub fn run<W: Write>(alloc: Global, name: &str, facts: &mut Facts<W>) -> Result<(), Stop> {
     match name {
-        "hall-two-tables" => make(alloc, told),
-        _ => records::run(alloc, name, told),
+        "hall-two-tables" => make(alloc, facts),
+        _ => records::run(alloc, name, facts),
     }
 }
 
@@ -82,19 +82,19 @@ fn two_tables(alloc: Global) -> Result<Vec<Table>, Stop>
 }
 
 /// Makes a hall of two tables, which handles the events.
-fn make<W: Write>(alloc: Global, told: &mut Telling<W>) -> Result<(), Stop> {
+fn make<W: Write>(alloc: Global, facts: &mut Facts<W>) -> Result<(), Stop> {
     let tables = two_tables(alloc)?;
     let (mut hall, mut out) = Hall::new(alloc, tables)?;
-    hear(&mut hall, &mut out, told);
+    hear(&mut hall, &mut out, facts);
     Ok(())
 }
 
 /// Handles the events in the hall, and prints what each of them queues.
-fn hear<W: Write>(hall: &mut Hall<MemoryLog>, out: &mut HallOut, told: &mut Telling<W>) {
+fn hear<W: Write>(hall: &mut Hall<MemoryLog>, out: &mut HallOut, facts: &mut Facts<W>) {
     let mut sizes = [[0; LINES]; EVENTS];
     match step_each(hall, out, &mut sizes) {
-        Ok(()) => tell_each(out, &sizes, told),
-        Err(_) => told.memory(),
+        Ok(()) => tell_each(out, &sizes, facts),
+        Err(_) => facts.memory(),
     }
 }
 
@@ -121,23 +121,23 @@ fn sizes_of(out: &HallOut) -> Sizes {
 }
 
 /// Prints what each event queued.
-fn tell_each<W: Write>(out: &HallOut, sizes: &[Sizes; EVENTS], told: &mut Telling<W>) {
+fn tell_each<W: Write>(out: &HallOut, sizes: &[Sizes; EVENTS], facts: &mut Facts<W>) {
     let mut before = [0; LINES];
     for index in 0..EVENTS {
-        told.count("event", index as u64 + 1);
-        tell_queued(out, &before, &sizes[index], told);
+        facts.count("event", index as u64 + 1);
+        tell_queued(out, &before, &sizes[index], facts);
         before = sizes[index];
     }
 }
 
 /// Prints what was queued for each line that got something, between two sizes.
-fn tell_queued<W: Write>(out: &HallOut, before: &Sizes, after: &Sizes, told: &mut Telling<W>) {
+fn tell_queued<W: Write>(out: &HallOut, before: &Sizes, after: &Sizes, facts: &mut Facts<W>) {
     for line in 0..LINES {
         let queued = out.bytes(line as u64).get(before[line]..after[line]);
         if let Some(bytes) = queued
             && !bytes.is_empty()
         {
-            told.queue("line", line as u64, bytes);
+            facts.queue("line", line as u64, bytes);
         }
     }
 }

@@ -7,18 +7,18 @@ use Rattle.rbg_rules.specs.State.{AbstractGame, AbstractState}
 use Rattle.rbg_rules.specs.Actions.{Applies, Run}
 use Rattle.rbg_rules.specs.Questions.{SomeWordRuns}
 use Rattle.rbg_rules.specs.Laws.{AnswerLaw}
-use Rattle.rbg_rules.proofs.PositionLemmas.{one_stands}
+use Rattle.rbg_rules.proofs.PositionLemmas.{one_action_at}
 use Rattle.rbg_rules.proofs.PlaceLemmas.{RunPairs-Runs, Runs-RunPairs}
 use Rattle.rbg_rules.proofs.MoveLemmas.{positive_law, negative_law}
 
 -- The inside of a pattern is the one at its position.
 positive_is : (rules : Expression) → IsNumbered rules → (p : ℕ) (x y : Expression) → HasAction rules p (positive x) → IsLevel rules (inside p) y → y ≡ x
-positive_is rules numbered p x y stands (inl h) = let same = one_stands rules numbered p (positive y) (positive x) h stands in cc
-positive_is rules numbered p x y stands (inr h) = let same = one_stands rules numbered p (negative y) (positive x) h stands in absurd cc
+positive_is rules numbered p x y stands (inl h) = let same = one_action_at rules numbered p (positive y) (positive x) h stands in cc
+positive_is rules numbered p x y stands (inr h) = let same = one_action_at rules numbered p (negative y) (positive x) h stands in absurd cc
 
 negative_is : (rules : Expression) → IsNumbered rules → (p : ℕ) (x y : Expression) → HasAction rules p (negative x) → IsLevel rules (inside p) y → y ≡ x
-negative_is rules numbered p x y stands (inl h) = let same = one_stands rules numbered p (positive y) (negative x) h stands in absurd cc
-negative_is rules numbered p x y stands (inr h) = let same = one_stands rules numbered p (negative y) (negative x) h stands in cc
+negative_is rules numbered p x y stands (inl h) = let same = one_action_at rules numbered p (positive y) (negative x) h stands in absurd cc
+negative_is rules numbered p x y stands (inr h) = let same = one_action_at rules numbered p (negative y) (negative x) h stands in cc
 
 -- A word of the inside that runs.
 abbrev InsideRuns : AbstractGame → Expression → AbstractState → Type 0

@@ -4,7 +4,7 @@ use Rattle.rbg_rules.specs.Expression.{Expression}
 use Rattle.rbg_rules.specs.Positions.{positions_of}
 use Rattle.rbg_rules.specs.Words.{Word}
 use Rattle.rbg_rules.proofs.PositionLemmas.{Among, Among_right, has_position}
-use Rattle.rbg_rules.proofs.PatternLemmas.{own_stands, word_own}
+use Rattle.rbg_rules.proofs.PatternLemmas.{own_is_action, word_own}
 
 -- A position of a joined list is in its first part or in its second.
 pub data Cut (a b u : List ℕ) (j : ℕ) (v : List ℕ) : Type 0 where
@@ -40,4 +40,4 @@ not_empty (x ∷ u) j v e = cc
 pub word_position : (x : Expression) (u : List ℕ) (j : ℕ) (v : List ℕ) → Word x (u ++ j ∷ v) → Among j (positions_of x)
 word_position x u j v word =
     let (a, own) = word_own x (u ++ j ∷ v) word j (Among_right j u (j ∷ v) (inl refl)) in
-    has_position x j a (own_stands x j a own)
+    has_position x j a (own_is_action x j a own)

@@ -1,13 +1,13 @@
 -- Steps of the proofs about small games.
 use Rattle.rbg_base.proofs.Common.{◌≡◌, ◌≢◌, ℕ, zero, suc, List, [], ◌∷◌, ◌++◌, refl, sym, ap, ◌∙◌, subst, ◌⊎◌, inl, inr, arith, false, ◌==◌, All, Some, slice_get, list_any, bytes_eq, bytes_eq-Decides}
 use Rattle.std.proofs.lemmas.Bool.{or_parts, eq-eqb}
-use Rattle.rbg_rules.specs.Meaning.{AbstractAction, Expression, act, sequence_of, HasOwnAction, IsNumbered, IsSwitchAt, HasNoSwitch, outermost, Word, Follows, after, AbstractGame, AbstractState, Applies, RunPairs, stay, modify, pass, AbstractPlace, Legal, IsLegal, stand_of, IsJoinOfWords}
+use Rattle.rbg_rules.specs.Meaning.{AbstractAction, Expression, act, sequence_of, HasOwnAction, IsNumbered, IsSwitchAt, HasNoSwitch, outermost, Word, Follows, after, AbstractGame, AbstractState, Applies, RunPairs, stay, modify, pass, AbstractPlace, Legal, IsLegal, point_of, IsJoinOfWords}
 use Rattle.rbg_rules.proofs.PositionLemmas.{Among, Among_right}
 use Rattle.rbg_rules.proofs.PatternLemmas.{word_own}
 use Rattle.rbg_rules.proofs.LevelLemmas.{one_level_law}
 use Rattle.rbg_rules.proofs.PlaceLemmas.{RunPairs-append, one_switch}
 use Rattle.rbg_rules.proofs.WordLemmas.{sequence_law}
-use Rattle.rbg_rules.proofs.Standing.{has_such, of_word, ModifiesAt, not_quiet, true_not_false}
+use Rattle.rbg_rules.proofs.ActionsAt.{has_such, of_word, ModifiesAt, not_quiet, true_not_false}
 
 -- What holds of all elements holds of one that is among them.
 pub all_among : (P : ℕ → Type 0) (xs : List ℕ) → All P xs → (x : ℕ) → Among x xs → P x
@@ -145,7 +145,7 @@ differs name (other ∷ names) none zero e =
 differs name (other ∷ names) none (suc k) e = differs name names (or_parts (bytes_eq other name) (list_any (λ n. bytes_eq n name) names) none).1 k e
 
 -- A move: the positions before its last one, that one, the state to which it leads, and why it is legal.
-pub legal_by : {game : AbstractGame} {from : AbstractPlace} {ps : List (ℕ × ℕ)} (before : List ℕ) (last : ℕ) (end : AbstractState) → Follows game.rules (stand_of from.last) (before ++ last ∷ []) → RunPairs game (before ++ last ∷ []) from.state end ps → IsSwitchAt game.rules last → HasNoSwitch game.rules before → IsLegal game from ps
+pub legal_by : {game : AbstractGame} {from : AbstractPlace} {ps : List (ℕ × ℕ)} (before : List ℕ) (last : ℕ) (end : AbstractState) → Follows game.rules (point_of from.last) (before ++ last ∷ []) → RunPairs game (before ++ last ∷ []) from.state end ps → IsSwitchAt game.rules last → HasNoSwitch game.rules before → IsLegal game from ps
 legal_by before last end follows runs switches none_before =
     (record { state = end; last = Some last }, record { before = before; last = last; follows = follows; runs = runs; switches = switches; none_before = none_before; stands = refl })
 

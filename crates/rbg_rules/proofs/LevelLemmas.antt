@@ -3,8 +3,8 @@ use Rattle.std.proofs.Common.{◌≡◌, ℕ, zero, suc, List, [], ◌∷◌, le
 use Rattle.rbg_rules.specs.Expression.{AbstractAction, shift, on, off, assignment, comparison, switch, positive, negative, Expression, act, skip, sequence, fail, choice, star}
 use Rattle.rbg_rules.specs.Positions.{HasAction, HasInside, HasOwnAction, positions_of, positions_inside, IsPatternOf, Level, outermost, inside, IsLevel}
 use Rattle.rbg_rules.specs.Laws.{OneLevelLaw, SomeLevelLaw, OwnWordLaw}
-use Rattle.rbg_rules.proofs.PositionLemmas.{Among, AllDifferent, AllDifferent_left, AllDifferent_right, AllDifferent_apart, has_position, inside_position, numbered_once, one_stands}
-use Rattle.rbg_rules.proofs.PatternLemmas.{own_stands, stands_inside, stays_inside, word_own}
+use Rattle.rbg_rules.proofs.PositionLemmas.{Among, AllDifferent, AllDifferent_left, AllDifferent_right, AllDifferent_apart, has_position, inside_position, numbered_once, one_action_at}
+use Rattle.rbg_rules.proofs.PatternLemmas.{own_is_action, inside_is_within, stays_inside, word_own}
 
 -- An own action of an expression is in no pattern of it.
 own_not_inside : (x : Expression) → AllDifferent (positions_of x) → (i : ℕ) (c : AbstractAction) → HasOwnAction x i c → (p : ℕ) (b : AbstractAction) → HasAction x p b → (a : AbstractAction) → ¬ HasInside b i a
@@ -15,13 +15,13 @@ own_not_inside (act q d) (first, different) i c (here, _) p b h a k = first (sub
     within (inr deep) = stays_inside d p b deep i a k
 own_not_inside skip different i c here p b h a k = absurd here
 own_not_inside (sequence x y) different i c (inl here) p b (inl h) a k = own_not_inside x (AllDifferent_left (positions_of x) (positions_of y) different) i c here p b h a k
-own_not_inside (sequence x y) different i c (inl here) p b (inr h) a k = AllDifferent_apart (positions_of x) (positions_of y) different i (has_position x i c (own_stands x i c here)) (has_position y i a (stands_inside y p b h i a k))
-own_not_inside (sequence x y) different i c (inr here) p b (inl h) a k = AllDifferent_apart (positions_of x) (positions_of y) different i (has_position x i a (stands_inside x p b h i a k)) (has_position y i c (own_stands y i c here))
+own_not_inside (sequence x y) different i c (inl here) p b (inr h) a k = AllDifferent_apart (positions_of x) (positions_of y) different i (has_position x i c (own_is_action x i c here)) (has_position y i a (inside_is_within y p b h i a k))
+own_not_inside (sequence x y) different i c (inr here) p b (inl h) a k = AllDifferent_apart (positions_of x) (positions_of y) different i (has_position x i a (inside_is_within x p b h i a k)) (has_position y i c (own_is_action y i c here))
 own_not_inside (sequence x y) different i c (inr here) p b (inr h) a k = own_not_inside y (AllDifferent_right (positions_of x) (positions_of y) different) i c here p b h a k
 own_not_inside fail different i c here p b h a k = absurd here
 own_not_inside (choice x y) different i c (inl here) p b (inl h) a k = own_not_inside x (AllDifferent_left (positions_of x) (positions_of y) different) i c here p b h a k
-own_not_inside (choice x y) different i c (inl here) p b (inr h) a k = AllDifferent_apart (positions_of x) (positions_of y) different i (has_position x i c (own_stands x i c here)) (has_position y i a (stands_inside y p b h i a k))
-own_not_inside (choice x y) different i c (inr here) p b (inl h) a k = AllDifferent_apart (positions_of x) (positions_of y) different i (has_position x i a (stands_inside x p b h i a k)) (has_position y i c (own_stands y i c here))
+own_not_inside (choice x y) different i c (inl here) p b (inr h) a k = AllDifferent_apart (positions_of x) (positions_of y) different i (has_position x i c (own_is_action x i c here)) (has_position y i a (inside_is_within y p b h i a k))
+own_not_inside (choice x y) different i c (inr here) p b (inl h) a k = AllDifferent_apart (positions_of x) (positions_of y) different i (has_position x i a (inside_is_within x p b h i a k)) (has_position y i c (own_is_action y i c here))
 own_not_inside (choice x y) different i c (inr here) p b (inr h) a k = own_not_inside y (AllDifferent_right (positions_of x) (positions_of y) different) i c here p b h a k
 own_not_inside (star x) different i c here p b h a k = own_not_inside x different i c here p b h a k
 
@@ -38,8 +38,8 @@ HoldsDirectly (switch n) i a = ⊥
 
 held_inside : (b : AbstractAction) (i : ℕ) (a : AbstractAction) → HoldsDirectly b i a → HasInside b i a
 unfolding HoldsDirectly
-held_inside (positive x) i a h = own_stands x i a h
-held_inside (negative x) i a h = own_stands x i a h
+held_inside (positive x) i a h = own_is_action x i a h
+held_inside (negative x) i a h = own_is_action x i a h
 held_inside _ i a h = absurd h
 
 -- .. so no pattern within it has the same in its inside.
@@ -52,7 +52,7 @@ held_once _ different i a held p b' h a' k = absurd held
 -- No two patterns have it directly in their insides.
 module _ (i : ℕ) where
   position_held : (x : Expression) (p : ℕ) (b a : AbstractAction) → HasAction x p b → HoldsDirectly b i a → Among i (positions_of x)
-  position_held x p b a h held = has_position x i a (stands_inside x p b h i a (held_inside b i a held))
+  position_held x p b a h held = has_position x i a (inside_is_within x p b h i a (held_inside b i a held))
 
   mutual
     one_holder : (x : Expression) → AllDifferent (positions_of x) → (p p' : ℕ) (b b' a a' : AbstractAction) → HasAction x p b → HoldsDirectly b i a → HasAction x p' b' → HoldsDirectly b' i a' → p ≡ p'
@@ -105,7 +105,7 @@ one_level_law rules numbered (inside p) (inside p') x x' is is' i a a' own own' 
     let (b, is_pattern, has) = pattern_of rules p x is in
     let (b', is_pattern', has') = pattern_of rules p' x' is' in
     let same : p ≡ p' = one_holder i rules (numbered_once rules numbered) p p' b b' a a' has (holds_own b x is_pattern i a own) has' (holds_own b' x' is_pattern' i a' own') in
-    let same_action : b' ≡ b = one_stands rules numbered p b' b (subst (λ (q : ℕ). HasAction rules q b') (sym same) has') has in
+    let same_action : b' ≡ b = one_action_at rules numbered p b' b (subst (λ (q : ℕ). HasAction rules q b') (sym same) has') has in
     (ap inside same, same_inside b x x' is_pattern (subst (λ (c : AbstractAction). IsPatternOf c x') same_action is_pattern'))
 
 -- A list's element at an index is among the list.

@@ -18,7 +18,7 @@ pub mod AnswerLemmas
 pub mod CutLemmas
 pub mod LocalityLemmas
 -- Lemmas for the examples.
-pub mod Standing
+pub mod ActionsAt
 pub mod ExampleLemmas
 pub mod ExampleStates
 pub mod LookingRight

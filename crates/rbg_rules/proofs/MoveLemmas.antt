@@ -6,14 +6,14 @@ use Rattle.rbg_rules.specs.Words.{Word}
 use Rattle.rbg_rules.specs.State.{AbstractGame, AbstractState}
 use Rattle.rbg_rules.specs.Actions.{rest, step, Acts, Applies, Run}
 use Rattle.rbg_rules.specs.Laws.{RunLaw, OneRunLaw, PatternLaw, PositiveLaw, NegativeLaw}
-use Rattle.rbg_rules.proofs.PositionLemmas.{one_stands}
+use Rattle.rbg_rules.proofs.PositionLemmas.{one_action_at}
 use Rattle.rbg_rules.proofs.RunLemmas.{Acts_one, Runs-append, Runs_join}
 use Rattle.rbg_rules.proofs.PatternLemmas.{inside_runs, runs_inside, positive_inside, negative_inside}
 
 -- What the action at a position does is what any action at that position does.
 pub applied_acts : (game : AbstractGame) → IsNumbered game.rules → (p : ℕ) (a : AbstractAction) → HasAction game.rules p a → {s t : AbstractState} → Applies game p s t → Acts game a s t
 applied_acts game numbered p a stands {s} {t} applied =
-    subst (λ (b : AbstractAction). Acts game b s t) (one_stands game.rules numbered p applied.action a applied.stands stands) applied.acts
+    subst (λ (b : AbstractAction). Acts game b s t) (one_action_at game.rules numbered p applied.action a applied.stands stands) applied.acts
 
 pub Applies_one : (game : AbstractGame) → IsNumbered game.rules → (p : ℕ) {s t t' : AbstractState} → Applies game p s t → Applies game p s t' → t ≡ t'
 Applies_one game numbered p {s} one other = Acts_one game one.action s one.acts (applied_acts game numbered p one.action one.stands other)

@@ -6,34 +6,34 @@ use Rattle.rbg_rules.specs.Positions.{HasAction, HasInside, HasOwnAction, IsNumb
 use Rattle.rbg_rules.specs.Words.{Word, Repeats, done, again}
 use Rattle.rbg_rules.specs.State.{AbstractGame, AbstractState}
 use Rattle.rbg_rules.specs.Actions.{Runs, rest, step, Acts, ActsIn, Applies, Run}
-use Rattle.rbg_rules.proofs.PositionLemmas.{Among, Among_cases, one_stands}
+use Rattle.rbg_rules.proofs.PositionLemmas.{Among, Among_cases, one_action_at}
 
 -- An own action is an action, and what is in an inside is in the whole.
-pub own_stands : (x : Expression) (p : ℕ) (a : AbstractAction) → HasOwnAction x p a → HasAction x p a
-own_stands (act q b) p a h = inl h
-own_stands skip p a h = absurd h
-own_stands (sequence x y) p a (inl h) = inl (own_stands x p a h)
-own_stands (sequence x y) p a (inr h) = inr (own_stands y p a h)
-own_stands fail p a h = absurd h
-own_stands (choice x y) p a (inl h) = inl (own_stands x p a h)
-own_stands (choice x y) p a (inr h) = inr (own_stands y p a h)
-own_stands (star x) p a h = own_stands x p a h
+pub own_is_action : (x : Expression) (p : ℕ) (a : AbstractAction) → HasOwnAction x p a → HasAction x p a
+own_is_action (act q b) p a h = inl h
+own_is_action skip p a h = absurd h
+own_is_action (sequence x y) p a (inl h) = inl (own_is_action x p a h)
+own_is_action (sequence x y) p a (inr h) = inr (own_is_action y p a h)
+own_is_action fail p a h = absurd h
+own_is_action (choice x y) p a (inl h) = inl (own_is_action x p a h)
+own_is_action (choice x y) p a (inr h) = inr (own_is_action y p a h)
+own_is_action (star x) p a h = own_is_action x p a h
 
 mutual
-  pub stands_inside : (x : Expression) (p : ℕ) (b : AbstractAction) → HasAction x p b → (q : ℕ) (a : AbstractAction) → HasInside b q a → HasAction x q a
-  stands_inside (act r c) p b (inl (_, e)) q a k = inr (subst (λ (d : AbstractAction). HasInside d q a) e k)
-  stands_inside (act r c) p b (inr h) q a k = inr (stays_inside c p b h q a k)
-  stands_inside skip p b h q a k = absurd h
-  stands_inside (sequence x y) p b (inl h) q a k = inl (stands_inside x p b h q a k)
-  stands_inside (sequence x y) p b (inr h) q a k = inr (stands_inside y p b h q a k)
-  stands_inside fail p b h q a k = absurd h
-  stands_inside (choice x y) p b (inl h) q a k = inl (stands_inside x p b h q a k)
-  stands_inside (choice x y) p b (inr h) q a k = inr (stands_inside y p b h q a k)
-  stands_inside (star x) p b h q a k = stands_inside x p b h q a k
+  pub inside_is_within : (x : Expression) (p : ℕ) (b : AbstractAction) → HasAction x p b → (q : ℕ) (a : AbstractAction) → HasInside b q a → HasAction x q a
+  inside_is_within (act r c) p b (inl (_, e)) q a k = inr (subst (λ (d : AbstractAction). HasInside d q a) e k)
+  inside_is_within (act r c) p b (inr h) q a k = inr (stays_inside c p b h q a k)
+  inside_is_within skip p b h q a k = absurd h
+  inside_is_within (sequence x y) p b (inl h) q a k = inl (inside_is_within x p b h q a k)
+  inside_is_within (sequence x y) p b (inr h) q a k = inr (inside_is_within y p b h q a k)
+  inside_is_within fail p b h q a k = absurd h
+  inside_is_within (choice x y) p b (inl h) q a k = inl (inside_is_within x p b h q a k)
+  inside_is_within (choice x y) p b (inr h) q a k = inr (inside_is_within y p b h q a k)
+  inside_is_within (star x) p b h q a k = inside_is_within x p b h q a k
 
   pub stays_inside : (c : AbstractAction) (p : ℕ) (b : AbstractAction) → HasInside c p b → (q : ℕ) (a : AbstractAction) → HasInside b q a → HasInside c q a
-  stays_inside (positive x) p b h q a k = stands_inside x p b h q a k
-  stays_inside (negative x) p b h q a k = stands_inside x p b h q a k
+  stays_inside (positive x) p b h q a k = inside_is_within x p b h q a k
+  stays_inside (negative x) p b h q a k = inside_is_within x p b h q a k
   stays_inside _ p b h q a k = absurd h
 
 -- What holds of each position of each repeated word holds of each position of their join.
@@ -94,20 +94,20 @@ IsInsideOf rules x = (q : ℕ) (a : AbstractAction) → HasAction x q a → HasA
 
 pub inside_runs : (game : AbstractGame) (x : Expression) → IsInsideOf game.rules x → {w : List ℕ} {s t : AbstractState} → Runs (ActsIn game x) w s t → Run game w s t
 unfolding IsInsideOf
-inside_runs game x inside run = runs_along (λ q h s t does. let own = acts_in_own game s t x q does in record { action = own.0; stands = inside q own.0 (own_stands x q own.0 own.1); acts = own.2 }) run
+inside_runs game x inside run = runs_along (λ q h s t does. let own = acts_in_own game s t x q does in record { action = own.0; stands = inside q own.0 (own_is_action x q own.0 own.1); acts = own.2 }) run
 
 pub runs_inside : (game : AbstractGame) → IsNumbered game.rules → (x : Expression) → IsInsideOf game.rules x → {w : List ℕ} {s t : AbstractState} → Word x w → Run game w s t → Runs (ActsIn game x) w s t
 unfolding IsInsideOf
 runs_inside game numbered x inside {w} word run = runs_along (λ q h s t (applied : Applies game q s t).
     let own = word_own x w word q h in
-    let stands : HasAction game.rules q own.0 = inside q own.0 (own_stands x q own.0 own.1) in
-    let same : applied.action ≡ own.0 = one_stands game.rules numbered q applied.action own.0 applied.stands stands in
+    let stands : HasAction game.rules q own.0 = inside q own.0 (own_is_action x q own.0 own.1) in
+    let same : applied.action ≡ own.0 = one_action_at game.rules numbered q applied.action own.0 applied.stands stands in
     acts_in game s t x q own.0 own.1 (subst (λ (a : AbstractAction). Acts game a s t) same applied.acts)) run
 
 pub positive_inside : (rules : Expression) (p : ℕ) (x : Expression) → HasAction rules p (positive x) → IsInsideOf rules x
 unfolding IsInsideOf
-positive_inside rules p x h q a k = stands_inside rules p (positive x) h q a k
+positive_inside rules p x h q a k = inside_is_within rules p (positive x) h q a k
 
 pub negative_inside : (rules : Expression) (p : ℕ) (x : Expression) → HasAction rules p (negative x) → IsInsideOf rules x
 unfolding IsInsideOf
-negative_inside rules p x h q a k = stands_inside rules p (negative x) h q a k
+negative_inside rules p x h q a k = inside_is_within rules p (negative x) h q a k

@@ -5,10 +5,10 @@ use Rattle.rbg_rules.specs.Expression.{AbstractAction, shift, on, off, assignmen
 use Rattle.rbg_rules.specs.Positions.{IsNumbered, is_modifier, IsSwitchAt}
 use Rattle.rbg_rules.specs.State.{AbstractGame, AbstractState}
 use Rattle.rbg_rules.specs.Actions.{rest, step, Acts, Applies, Run}
-use Rattle.rbg_rules.specs.Moves.{RunPairs, stay, modify, pass, AbstractPlace, IsLegal, stand_of}
+use Rattle.rbg_rules.specs.Moves.{RunPairs, stay, modify, pass, AbstractPlace, IsLegal, point_of}
 use Rattle.rbg_rules.specs.Questions.{IsMove}
 use Rattle.rbg_rules.specs.Laws.{OnePlaceLaw, MoveLaw, SameButVertex, ByPairs, none, next, PairsStateLaw}
-use Rattle.rbg_rules.proofs.PositionLemmas.{one_stands}
+use Rattle.rbg_rules.proofs.PositionLemmas.{one_action_at}
 use Rattle.rbg_rules.proofs.MoveLemmas.{Applies_one}
 
 -- A run with pairs is a run.
@@ -147,7 +147,7 @@ pub record OneSwitch (game : AbstractGame) (p : ℕ) (s t : AbstractState) (ps :
 pub one_switch : {game : AbstractGame} → IsNumbered game.rules → {p : ℕ} {s t : AbstractState} {ps : List (ℕ × ℕ)} → IsSwitchAt game.rules p → RunPairs game (p ∷ []) s t ps → OneSwitch game p s t ps
 one_switch numbered switches (modify applied modifies stay) = record { applied = applied; pairs = refl }
 one_switch {game} numbered {p} switches (pass applied quiet stay) =
-    let is_switch : applied.action ≡ switch switches.player = one_stands game.rules numbered p applied.action (switch switches.player) applied.stands switches.stands in
+    let is_switch : applied.action ≡ switch switches.player = one_action_at game.rules numbered p applied.action (switch switches.player) applied.stands switches.stands in
     let modifies : is_modifier applied.action ≡ true = ap is_modifier is_switch in
     absurd (true_not_false (sym modifies ∙ quiet))
   where
@@ -186,11 +186,11 @@ one_place_law game numbered from ps to to' one other =
     same_place (Applies_one game numbered one.last end.applied applied) (one.stands ∙ ap Some last ∙ sym other.stands)
 
 -- A legal move is a move of the question at the place, and the other way round.
-legal_moves : (game : AbstractGame) (place : AbstractPlace) (ps : List (ℕ × ℕ)) → IsLegal game place ps → IsMove game place.state (stand_of place.last) ps
+legal_moves : (game : AbstractGame) (place : AbstractPlace) (ps : List (ℕ × ℕ)) → IsLegal game place ps → IsMove game place.state (point_of place.last) ps
 legal_moves game place ps (to, legal) =
     record { before = legal.before; last = legal.last; end = to.state; no_switch = legal.none_before; switches = legal.switches; follows = legal.follows; runs = legal.runs }
 
-moves_legal : (game : AbstractGame) (place : AbstractPlace) (ps : List (ℕ × ℕ)) → IsMove game place.state (stand_of place.last) ps → IsLegal game place ps
+moves_legal : (game : AbstractGame) (place : AbstractPlace) (ps : List (ℕ × ℕ)) → IsMove game place.state (point_of place.last) ps → IsLegal game place ps
 moves_legal game place ps move = (
   record { state = move.end; last = Some move.last },
   record { before = move.before; last = move.last; follows = move.follows; runs = move.runs; switches = move.switches; none_before = move.no_switch; stands = refl },

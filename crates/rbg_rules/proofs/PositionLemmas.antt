@@ -95,5 +95,5 @@ mutual
   one_inside (negative x) d p a b h k = one_action x d p a b h k
   one_inside _ d p a b h k = absurd h
 
-pub one_stands : (x : Expression) → IsNumbered x → (p : ℕ) (a b : AbstractAction) → HasAction x p a → HasAction x p b → a ≡ b
-one_stands x numbered p a b h k = one_action x (numbered_once x numbered) p a b h k
+pub one_action_at : (x : Expression) → IsNumbered x → (p : ℕ) (a b : AbstractAction) → HasAction x p a → HasAction x p b → a ≡ b
+one_action_at x numbered p a b h k = one_action x (numbered_once x numbered) p a b h k

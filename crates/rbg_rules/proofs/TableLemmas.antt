@@ -4,9 +4,9 @@ use Rattle.rbg_rules.proofs.Common.{Action, Shift, On, Off, Assign, Compare, Swi
 use Rattle.rbg_rules.specs.Expression.{AbstractAction, shift, on, off, assignment, comparison, switch, positive, negative, Expression, act, skip, sequence, fail, choice, star}
 use Rattle.rbg_rules.specs.Positions.{HasAction, HasInside, positions_of, positions_inside, IsNumbered, is_pattern, IsPatternAt}
 use Rattle.rbg_rules.specs.Translation.{arithmetic_of, action_of, shows_pattern, action_at, act_of, pattern_of, expression_of}
-use Rattle.rbg_rules.specs.Table.{Stands}
+use Rattle.rbg_rules.specs.Table.{IsActionAt}
 use Rattle.rbg_rules.proofs.TreeLemmas.{layer_of, rolled, trees, action_there}
-use Rattle.rbg_rules.proofs.PositionLemmas.{Among, Among_cases, one_stands}
+use Rattle.rbg_rules.proofs.PositionLemmas.{Among, Among_cases, one_action_at}
 
 -- The table has the action at a position, for a pattern with some inside.
 pub record IsEntry (actions : List Action) (p : ℕ) (a : AbstractAction) : Type 0 where
@@ -110,7 +110,7 @@ pub numbered_action : (x : Expression) → IsNumbered x → (p : ℕ) → 0 < p 
 numbered_action x numbered p from_one there =
     some_action x p (subst (Among p) (sym numbered.in_order) (Among_range 1 (length (positions_of x)) p (omega arith) (omega arith)))
 
-stands_shown : (rules : Expression) (p : ℕ) (a : AbstractAction) (i : Action) (x : Expression) → HasAction rules p a → a ≡ action_of i x → Stands rules p i
+stands_shown : (rules : Expression) (p : ℕ) (a : AbstractAction) (i : Action) (x : Expression) → HasAction rules p a → a ≡ action_of i x → IsActionAt rules p i
 stands_shown rules p a (Shift d) x here shows = subst (HasAction rules p) shows here
 stands_shown rules p a (On pieces) x here shows = subst (HasAction rules p) shows here
 stands_shown rules p a (Off piece) x here shows = subst (HasAction rules p) shows here
@@ -125,25 +125,25 @@ pub of_seen : (P : Expression → Type 0) {inside seen : Expression} {p : ℕ} �
 of_seen P {inside} {seen} {p} same there shows = subst P same (shows (subst (λ (x : Expression). p ≤ length (positions_of x)) (sym same) there))
 
 -- The table has the action at a position.
-pub stands_at : (actions : List Action) (r : Rule) → IsNumbered (expression_of actions r) → length actions ≡ length (positions_of (expression_of actions r)) → (p : ℕ) (d : Action) → 0 < p → p ≤ length (positions_of (expression_of actions r)) → Stands (expression_of actions r) p (get_or actions (p - 1) d)
+pub stands_at : (actions : List Action) (r : Rule) → IsNumbered (expression_of actions r) → length actions ≡ length (positions_of (expression_of actions r)) → (p : ℕ) (d : Action) → 0 < p → p ≤ length (positions_of (expression_of actions r)) → IsActionAt (expression_of actions r) p (get_or actions (p - 1) d)
 stands_at actions r numbered size p d from_one there =
     let (a, here) = numbered_action (expression_of actions r) numbered p from_one there in
     let entry : IsEntry actions p a = found actions r p a here in
     let same : Some entry.action ≡ Some (get_or actions (p - 1) d) = sym entry.at ∙ action_there actions p d from_one (omega (arith, size)) in
     let action : entry.action ≡ get_or actions (p - 1) d = cc in
-    subst (Stands (expression_of actions r) p) action (stands_shown (expression_of actions r) p a entry.action entry.inside here entry.shows)
+    subst (IsActionAt (expression_of actions r) p) action (stands_shown (expression_of actions r) p a entry.action entry.inside here entry.shows)
 
 -- The action of a position is a pattern exactly if a pattern is at that position.
 pub plain_stands : (rules : Expression) → IsNumbered rules → (p : ℕ) (a : AbstractAction) → is_pattern a ≡ false → HasAction rules p a → ¬ IsPatternAt rules p
 plain_stands rules numbered p a plain here pattern = elim pattern.stands [
-  | inl h ↦ let same : a ≡ positive pattern.inside_it = one_stands rules numbered p a (positive pattern.inside_it) here h in not_both (sym plain ∙ ap is_pattern same)
-  | inr h ↦ let same : a ≡ negative pattern.inside_it = one_stands rules numbered p a (negative pattern.inside_it) here h in not_both (sym plain ∙ ap is_pattern same)
+  | inl h ↦ let same : a ≡ positive pattern.inside_it = one_action_at rules numbered p a (positive pattern.inside_it) here h in not_both (sym plain ∙ ap is_pattern same)
+  | inr h ↦ let same : a ≡ negative pattern.inside_it = one_action_at rules numbered p a (negative pattern.inside_it) here h in not_both (sym plain ∙ ap is_pattern same)
 ]
   where
     not_both : false ≡ true → ⊥
     not_both e = cc
 
-pub pattern_stands : (rules : Expression) → IsNumbered rules → (p : ℕ) (i : Action) → Stands rules p i → IsTrue (shows_pattern i) ↔ IsPatternAt rules p
+pub pattern_stands : (rules : Expression) → IsNumbered rules → (p : ℕ) (i : Action) → IsActionAt rules p i → IsTrue (shows_pattern i) ↔ IsPatternAt rules p
 pattern_stands rules numbered p (Shift d) here = ((λ e. absurd cc), (λ h. absurd (plain_stands rules numbered p (shift d) refl here h)))
 pattern_stands rules numbered p (On pieces) here = ((λ e. absurd cc), (λ h. absurd (plain_stands rules numbered p (on pieces.items) refl here h)))
 pattern_stands rules numbered p (Off x) here = ((λ e. absurd cc), (λ h. absurd (plain_stands rules numbered p (off x) refl here h)))

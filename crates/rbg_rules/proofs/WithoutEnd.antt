@@ -3,7 +3,7 @@ use Rattle.std.proofs.Common.{ℕ, List, [], ◌∷◌, ◌++◌, refl, inl, inr
 use Rattle.rbg_rules.specs.Meaning.{off, on, switch, act, star, Expression, sequence_of, IsSwitchAt, Follows, after}
 use Rattle.rbg_rules.specs.ExampleGames.{without_end}
 use Rattle.rbg_rules.proofs.PositionLemmas.{Among_left, Among_right}
-use Rattle.rbg_rules.proofs.Standing.{has_at, is_switch, no_switch_at, of_word}
+use Rattle.rbg_rules.proofs.ActionsAt.{has_at, is_switch, no_switch_at, of_word}
 use Rattle.rbg_rules.proofs.ExampleLemmas.{remains, sequence_word}
 
 abbrev parts : List Expression

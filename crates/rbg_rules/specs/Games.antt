@@ -2,7 +2,7 @@
 use Rattle.std.specs.Prelude.{◌≡◌, ℕ, suc, ◌^◌, ◌<◌, ◌≤◌, ◌⊎◌, length, take, All}
 use Rattle.rbg_board.specs.Graph.{IsClosed}
 use Rattle.rbg_board.specs.Limits.{most_vertices}
-use Rattle.rbg_rules.specs.Limits.{most_players, most_pieces, most_variables, greatest_bound, most_directions, most_positions, most_nested_patterns}
+use Rattle.rbg_rules.specs.Limits.{most_players, most_pieces, most_variables, max_bound, most_directions, most_positions, most_nested_patterns}
 use Rattle.rbg_rules.specs.LawfulNames.{AreLawfulNames}
 use Rattle.rbg_rules.specs.Expression.{AbstractArithmetic, number, variable, piece_count, negated, sum, difference, product, quotient, AbstractAction, shift, on, off, assignment, comparison, switch, positive, negative, Expression, act, skip, sequence, fail, choice, star}
 use Rattle.rbg_rules.specs.Positions.{HasAction, positions_of, IsNumbered, IsLevel, inside}
@@ -69,7 +69,7 @@ pub record IsWithinLimits (game : AbstractGame) : Type 0 where
   pub some_piece : 0 < length game.pieces
   pub pieces : length game.pieces ≤ most_pieces
   pub variables : length game.variables ≤ most_variables
-  pub bounds : All (λ bound. bound ≤ greatest_bound) game.bounds
+  pub bounds : All (λ bound. bound ≤ max_bound) game.bounds
   pub directions : length game.directions ≤ most_directions
   pub vertices : length game.board.first ≤ most_vertices
   pub positions : length (positions_of game.rules) ≤ most_positions

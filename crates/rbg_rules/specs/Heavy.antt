@@ -1,13 +1,13 @@
 -- The limits on the questions that are asked at a place.
 use Rattle.std.specs.Prelude.{ℕ, List}
 use Rattle.rbg_rules.specs.State.{AbstractGame}
-use Rattle.rbg_rules.specs.Moves.{AbstractPlace, stand_of}
+use Rattle.rbg_rules.specs.Moves.{AbstractPlace, point_of}
 use Rattle.rbg_rules.specs.Questions.{Question, find_move, try_move, IsHeavy}
 use Rattle.rbg_rules.specs.Limits.{most_openings, most_modifiers}
 
 -- The question asked at a place is above the limits.
 abbrev pub IsTooHard : AbstractGame → Question → AbstractPlace → Type 0
-IsTooHard game question place = IsHeavy game question place.state (stand_of place.last) most_openings most_modifiers
+IsTooHard game question place = IsHeavy game question place.state (point_of place.last) most_openings most_modifiers
 
 -- The question for a legal move is above the limits.
 abbrev pub IsHeavyToFind : AbstractGame → AbstractPlace → Type 0

@@ -6,7 +6,7 @@ use Rattle.rbg_rules.specs.Positions.{HasAction, HasOwnAction, IsNumbered, Level
 use Rattle.rbg_rules.specs.Words.{Word, Start, beginning, after, Follows, Ends}
 use Rattle.rbg_rules.specs.State.{AbstractGame, AbstractState, start_of, IsStateOf}
 use Rattle.rbg_rules.specs.Actions.{Applies, Run}
-use Rattle.rbg_rules.specs.Moves.{RunPairs, AbstractPlace, Legal, IsLegal, Finished, stand_of}
+use Rattle.rbg_rules.specs.Moves.{RunPairs, AbstractPlace, Legal, IsLegal, Finished, point_of}
 use Rattle.rbg_rules.specs.Questions.{Question, try_move, IsMove, SomeWordRuns, Opening}
 use Rattle.rbg_rules.specs.Games.{IsGame, HasNoEmptySum}
 
@@ -94,8 +94,8 @@ NegativeLaw =
 abbrev pub MoveLaw : Type 0
 MoveLaw =
     (game : AbstractGame) (place : AbstractPlace) →
-    ((ps : List (ℕ × ℕ)) → IsLegal game place ps ↔ IsMove game place.state (stand_of place.last) ps) ×
-    (Finished game place ↔ ((ps : List (ℕ × ℕ)) → ¬ IsMove game place.state (stand_of place.last) ps))
+    ((ps : List (ℕ × ℕ)) → IsLegal game place ps ↔ IsMove game place.state (point_of place.last) ps) ×
+    (Finished game place ↔ ((ps : List (ℕ × ℕ)) → ¬ IsMove game place.state (point_of place.last) ps))
 
 -- A place and a list of pairs reach at most one place.
 abbrev pub OnePlaceLaw : Type 0

@@ -11,8 +11,8 @@ most_pieces = 1000
 abbrev pub most_variables : ℕ
 most_variables = 64
 
-abbrev pub greatest_bound : ℕ
-greatest_bound = 1000000000
+abbrev pub max_bound : ℕ
+max_bound = 1000000000
 
 abbrev pub most_directions : ℕ
 most_directions = 64

@@ -28,9 +28,9 @@ pub record AbstractPlace : Type 0 where
   pub last : Option ℕ
 
 -- the point in the rules at which a place is: the beginning of the rules, or after its last action
-abbrev pub stand_of : Option ℕ → Start
-stand_of None = beginning outermost
-stand_of (Some i) = after i
+abbrev pub point_of : Option ℕ → Start
+point_of None = beginning outermost
+point_of (Some i) = after i
 
 -- The pairs are a move from one place to the other (paper): the rules allow a sequence of actions from the place that
 -- can be carried out, has its only switch last, and leaves these pairs. The new place has the semi-state that they lead
@@ -38,7 +38,7 @@ stand_of (Some i) = after i
 pub record Legal (game : AbstractGame) (from : AbstractPlace) (ps : List (ℕ × ℕ)) (to : AbstractPlace) : Type 0 where
   pub before : List ℕ
   pub last : ℕ
-  pub follows : Follows game.rules (stand_of from.last) (before ++ last ∷ [])
+  pub follows : Follows game.rules (point_of from.last) (before ++ last ∷ [])
   pub runs : RunPairs game (before ++ last ∷ []) from.state to.state ps
   pub switches : IsSwitchAt game.rules last
   pub none_before : HasNoSwitch game.rules before

@@ -21,15 +21,15 @@ Shows a Positive = (x : Expression) × (a ≡ positive x)
 Shows a Negative = (x : Expression) × (a ≡ negative x)
 
 -- The action is at position p of the rules: a pattern with some inside.
-abbrev pub Stands : Expression → ℕ → Action → Type 0
-Stands rules p (Shift d) = HasAction rules p (shift d)
-Stands rules p (On pieces) = HasAction rules p (on pieces.items)
-Stands rules p (Off x) = HasAction rules p (off x)
-Stands rules p (Assign v e) = HasAction rules p (assignment v (arithmetic_of e))
-Stands rules p (Compare e r f) = HasAction rules p (comparison (arithmetic_of e) r (arithmetic_of f))
-Stands rules p (Switch n) = HasAction rules p (switch n)
-Stands rules p Positive = (x : Expression) × HasAction rules p (positive x)
-Stands rules p Negative = (x : Expression) × HasAction rules p (negative x)
+abbrev pub IsActionAt : Expression → ℕ → Action → Type 0
+IsActionAt rules p (Shift d) = HasAction rules p (shift d)
+IsActionAt rules p (On pieces) = HasAction rules p (on pieces.items)
+IsActionAt rules p (Off x) = HasAction rules p (off x)
+IsActionAt rules p (Assign v e) = HasAction rules p (assignment v (arithmetic_of e))
+IsActionAt rules p (Compare e r f) = HasAction rules p (comparison (arithmetic_of e) r (arithmetic_of f))
+IsActionAt rules p (Switch n) = HasAction rules p (switch n)
+IsActionAt rules p Positive = (x : Expression) × HasAction rules p (positive x)
+IsActionAt rules p Negative = (x : Expression) × HasAction rules p (negative x)
 
 abbrev pub greatest : List ℕ → ℕ
 greatest [] = 0

@@ -1,7 +1,7 @@
 //! A checked game: the names of its things with their numbers, its board, its rules and the table of its actions.
 ghost use Rattle.std.specs.Prelude.{◌≡◌, ◌<◌, ◌≤◌, ◌-◌, IsTrue, ◌↔◌, length, slice_get, Some};
 ghost use Rattle.rbg_rules.specs.Games.{IsGame};
-ghost use Rattle.rbg_rules.specs.Table.{Stands};
+ghost use Rattle.rbg_rules.specs.Table.{IsActionAt};
 ghost use Rattle.rbg_rules.specs.Translation.{rules_of};
 ghost use Rattle.rbg_rules.specs.Positions.{positions_of, IsPatternAt};
 
@@ -167,7 +167,7 @@ impl Game {
     pub fn action(&self, position: Position) -> &Action
         requires from_one { 0 < position }
         requires there { position ≤ length (positions_of self.now.rules) }
-        ensures { Stands self.now.rules position result.now }
+        ensures { IsActionAt self.now.rules position result.now }
     {
         &self.parts.rules.actions[position as usize - 1]
     }

@@ -1,7 +1,7 @@
 //! The limits on the size of a game, and on the openings of a question.
 ghost use Rattle.std.specs.Prelude.{◌≡◌};
 ghost use Rattle.rbg_board.specs.Limits.{most_vertices};
-ghost use Rattle.rbg_rules.specs.Limits.{most_players, most_pieces, most_variables, greatest_bound, most_directions, most_positions, most_nested_patterns, most_openings, most_modifiers};
+ghost use Rattle.rbg_rules.specs.Limits.{most_players, most_pieces, most_variables, max_bound, most_directions, most_positions, most_nested_patterns, most_openings, most_modifiers};
 
 pub use rbg_board::MAX_VERTICES;
 
@@ -37,7 +37,7 @@ pub fn limits_are_as_stated()
     ensures players { MAX_PLAYERS ≡ most_players }
     ensures pieces { MAX_PIECES ≡ most_pieces }
     ensures variables { MAX_VARIABLES ≡ most_variables }
-    ensures bound { MAX_BOUND ≡ greatest_bound }
+    ensures bound { MAX_BOUND ≡ max_bound }
     ensures directions { MAX_DIRECTIONS ≡ most_directions }
     ensures positions { MAX_POSITIONS ≡ most_positions }
     ensures vertices { MAX_VERTICES ≡ most_vertices }

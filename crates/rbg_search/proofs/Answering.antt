@@ -1,6 +1,6 @@
 -- What a pattern's answer is by the words of its inside.
 use Rattle.std.proofs.Common.{◌≡◌, ℕ, Bool, true, false, not, refl, sym, IsTrue, ◌↔◌}
-use Rattle.rbg_rules.specs.Meaning.{AbstractAction, shift, off, switch, HasAction, IsNumbered, IsPatternAt, inside, is_pattern, beginning, AbstractGame, AbstractState, Applies, SomeWordRuns, Stands}
+use Rattle.rbg_rules.specs.Meaning.{AbstractAction, shift, off, switch, HasAction, IsNumbered, IsPatternAt, inside, is_pattern, beginning, AbstractGame, AbstractState, Applies, SomeWordRuns, IsActionAt}
 use Rattle.rbg_rules.specs.declared.rule.Action.{Action}
 use Rattle.rbg_rules.specs.declared.rule.Action.TheVariants.{Shift, On, Off, Assign, Compare, Switch, Positive, Negative}
 use Rattle.rbg_rules.proofs.AnswerLemmas.{answer_law}
@@ -19,7 +19,7 @@ module _ (game : AbstractGame) (numbered : IsNumbered game.rules) (p : ℕ) (pat
   plain : {B : Type 0} (a : AbstractAction) → is_pattern a ≡ false → HasAction game.rules p a → B
   plain a is stands = absurd (plain_stands game.rules numbered p a is stands pattern)
 
-  pub pattern_valid : (i : Action) → Stands game.rules p i → (shows_negative i ≡ true → IsTrue (not runs) ↔ Applies game p s s) × (shows_negative i ≡ false → IsTrue runs ↔ Applies game p s s)
+  pub pattern_valid : (i : Action) → IsActionAt game.rules p i → (shows_negative i ≡ true → IsTrue (not runs) ↔ Applies game p s s) × (shows_negative i ≡ false → IsTrue runs ↔ Applies game p s s)
   pattern_valid Negative (x, stands) = (
     (λ _. none_true runs (SomeWordRuns game s (beginning (inside p))) (Applies game p s s) decides ((answer_law game numbered p x s).1 stands)),
     (λ e. absurd (false_not_true (sym e))),

@@ -1,7 +1,7 @@
 -- What is asked of a pattern that was taken, and of a modifier that is applied.
 use Rattle.std.proofs.Common.{◌≡◌, ℕ, suc, ◌+◌, ◌<◌, ◌≤◌, List, take, length, Bool, true, false, refl, sym, ap, ◌∙◌, subst, inl, inr, arith, IsTrue, ◌↔◌}
 use Rattle.rbg_rules.specs.Meaning.{positive, negative, Expression, IsNumbered, IsModifierAt, IsPatternAt, is_modifier, inside, IsLevel, Start, beginning, after, SomeWordRuns, AbstractGame, AbstractState, Applies}
-use Rattle.rbg_rules.proofs.PositionLemmas.{one_stands}
+use Rattle.rbg_rules.proofs.PositionLemmas.{one_action_at}
 use Rattle.rbg_rules.proofs.MoveLemmas.{pattern_law}
 use Rattle.rbg_state.specs.History.{History, states_of, capacity_of, IsAfter}
 use Rattle.rbg_state.proofs.Histories.{no_shorter}
@@ -21,8 +21,8 @@ pub no_modifier : (rules : Expression) → IsNumbered rules → (p : ℕ) → Is
 no_modifier rules numbered p pattern other = by_sign pattern.stands
   where
     by_sign : IsLevel rules (inside p) pattern.inside_it → ⊥
-    by_sign (inl has) = true_not_false (sym other.modifies ∙ ap is_modifier (one_stands rules numbered p other.action (positive pattern.inside_it) other.stands has))
-    by_sign (inr has) = true_not_false (sym other.modifies ∙ ap is_modifier (one_stands rules numbered p other.action (negative pattern.inside_it) other.stands has))
+    by_sign (inl has) = true_not_false (sym other.modifies ∙ ap is_modifier (one_action_at rules numbered p other.action (positive pattern.inside_it) other.stands has))
+    by_sign (inr has) = true_not_false (sym other.modifies ∙ ap is_modifier (one_action_at rules numbered p other.action (negative pattern.inside_it) other.stands has))
 
 pub pattern_position : (rules : Expression) → IsNumbered rules → (p : ℕ) → IsPatternAt rules p → IsPositionOf rules p
 pattern_position rules numbered p pattern = by_sign pattern.stands

@@ -1,7 +1,7 @@
 -- For a search that goes on by `reach` from modifier to modifier: what its question counts, and when it goes too far.
 use Rattle.rbg_base.proofs.Common.{◌≡◌, ◌≢◌, ℕ, suc, ◌+◌, ◌<◌, List, [], ◌∷◌, ◌++◌, length, get_or, take, Option, Some, None, refl, sym, ap, ◌∙◌, subst, arith, All, AllPairs, Contains, All-contains, All-take}
 use Rattle.std.proofs.lemmas.List.{length-take-le, get_or-take, take_more}
-use Rattle.rbg_rules.specs.Meaning.{Expression, switch, IsNumbered, IsModifierAt, IsSwitchAt, Start, after, AbstractGame, AbstractState, stand_of, IsLastOf, HasNoEmptySum, Question, try_move, find_move, list_moves, reach, pattern, Item, modifier_at, items_of, GoesTo, AnswersAfter, Opening, IsDeep, IsWide, IsStart}
+use Rattle.rbg_rules.specs.Meaning.{Expression, switch, IsNumbered, IsModifierAt, IsSwitchAt, Start, after, AbstractGame, AbstractState, point_of, IsLastOf, HasNoEmptySum, Question, try_move, find_move, list_moves, reach, pattern, Item, modifier_at, items_of, GoesTo, AnswersAfter, Opening, IsDeep, IsWide, IsStart}
 use Rattle.rbg_rules.proofs.PlaceLemmas.{RunPairs-Runs}
 use Rattle.rbg_rules.proofs.TableLemmas.{numbered_action}
 use Rattle.rbg_rules.proofs.TrimLemmas.{empty_opening_law}
@@ -14,7 +14,7 @@ use Rattle.rbg_search.proofs.Counts.{begin_joined, more_joined, counts_such, ove
 -- ---- where one stands
 
 -- A place of a game stands somewhere in its rules.
-pub place_start : (rules : Expression) → IsNumbered rules → (last : Option ℕ) → IsLastOf rules last → IsStart rules (stand_of last)
+pub place_start : (rules : Expression) → IsNumbered rules → (last : Option ℕ) → IsLastOf rules last → IsStart rules (point_of last)
 place_start rules numbered None is = (rules, refl)
 place_start rules numbered (Some i) is = numbered_action rules numbered i is.0 is.1
 

@@ -2,7 +2,7 @@
 use Rattle.rbg_base.proofs.Common.{◌≡◌, ℕ, List, [], ◌∷◌, ◌++◌, Bool, true, false, refl, sym, ap, ◌∙◌, subst, append_assoc, All, All-nil, All-cons, All-head, All-tail, All-append, All-weaker}
 use Rattle.rbg_rules.specs.Meaning.{switch, Expression, IsNumbered, IsModifierAt, IsSwitchAt, IsPatternAt, HasNoModifier, HasNoSwitch, is_modifier, inside, WordOf, Start, beginning, after, Follows, Ends, AbstractGame, AbstractState, rest, step, Applies, Run, RunPairs, stay, modify, pass, Question, find_move, reach, pattern, Item, modifier_at, pattern_at, RunsOn, GoesTo, AnswersAfter, IsProperPrefix, Opening, at, beyond}
 use Rattle.rbg_rules.proofs.PlaceLemmas.{RunPairs_join}
-use Rattle.rbg_rules.proofs.PositionLemmas.{one_stands}
+use Rattle.rbg_rules.proofs.PositionLemmas.{one_action_at}
 use Rattle.rbg_rules.proofs.MoveLemmas.{Applies_one}
 use Rattle.rbg_rules.proofs.LocalityLemmas.{locality_law}
 use Rattle.rbg_pairs.proofs.Common.{IsNext, at_vertex, IsReached}
@@ -120,7 +120,7 @@ module _ (game : AbstractGame) (numbered : IsNumbered game.rules) where
   pub lifted_run : (s later : AbstractState) (f : Start) (v p : ℕ) → IsNext game s f v p → Applies game p (at_vertex s v) later → ¬ IsSwitchAt game.rules p → (m : List ℕ) (t : AbstractState) (ps : List (ℕ × ℕ)) → RunsOn game later (after p) m t ps → (w : List ℕ) × RunsOn game s f (w ++ p ∷ m) t ((v, p) ∷ ps) × Follows game.rules f (w ++ p ∷ [])
   lifted_run s later f v p next applies plain m t ps on =
       let words = by_words game numbered s f v p (next_found game numbered s f v p next).reached in
-      let modifies : is_modifier applies.action ≡ true = ap is_modifier (one_stands game.rules numbered p applies.action next.modifies.action applies.stands next.modifies.stands) ∙ next.modifies.modifies in
+      let modifies : is_modifier applies.action ≡ true = ap is_modifier (one_action_at game.rules numbered p applies.action next.modifies.action applies.stands next.modifies.stands) ∙ next.modifies.modifies in
       let first_part : RunPairs game words.before s (at_vertex s v) [] = quiet_pairs game words.before s (at_vertex s v) words.no_modifier words.runs in
       let second_part : RunPairs game (p ∷ m) (at_vertex s v) t ((v, p) ∷ ps) = modify applies modifies on.runs in (
         words.before,

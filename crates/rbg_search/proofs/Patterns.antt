@@ -1,8 +1,8 @@
 -- Where one stands in a pattern: one stays in it, and no switch comes.
 use Rattle.std.proofs.Common.{◌≡◌, ℕ, List, [], ◌∷◌, ◌++◌, refl, sym, ◌∙◌, subst}
 use Rattle.rbg_rules.specs.Meaning.{AbstractAction, switch, Expression, HasAction, IsNumbered, IsSwitchAt, IsPatternAt, Level, inside, IsLevel, Start, beginning, after, Follows, AbstractGame, IsGame, IsStart}
-use Rattle.rbg_rules.proofs.PositionLemmas.{one_stands}
-use Rattle.rbg_rules.proofs.PatternLemmas.{own_stands}
+use Rattle.rbg_rules.proofs.PositionLemmas.{one_action_at}
+use Rattle.rbg_rules.proofs.PatternLemmas.{own_is_action}
 use Rattle.rbg_rules.proofs.LevelLemmas.{one_level_law}
 use Rattle.rbg_search.specs.internal.Asked.{StandsInPattern}
 use Rattle.rbg_shifts.proofs.ShiftLemmas.{level_stands}
@@ -17,7 +17,7 @@ pub inside_start : (rules : Expression) (f : Start) → StandsInPattern rules f 
 inside_start rules (beginning level) in_one = (in_one.expression, subst (λ (l : Level). IsLevel rules l in_one.expression) in_one.stands in_one.is_level)
 inside_start rules (after i) in_one =
     let (a, own) = in_one.stands in
-    (a, level_stands rules (inside in_one.pattern) in_one.expression in_one.is_level i a (own_stands in_one.expression i a own))
+    (a, level_stands rules (inside in_one.pattern) in_one.expression in_one.is_level i a (own_is_action in_one.expression i a own))
 
 -- What comes next stands in the same pattern.
 pub inside_onward : (rules : Expression) → IsNumbered rules → (f : Start) → StandsInPattern rules f → (m : List ℕ) (p : ℕ) → Follows rules f (m ++ p ∷ []) → StandsInPattern rules (after p)
@@ -35,7 +35,7 @@ inside_onward rules numbered (after i) in_one m p follows =
 pub inside_plain : (game : AbstractGame) → IsGame game → (p : ℕ) → StandsInPattern game.rules (after p) → ¬ IsSwitchAt game.rules p
 inside_plain game lawful p in_one switches =
     let (a, own) = in_one.stands in
-    let has : HasAction in_one.expression p a = own_stands in_one.expression p a own in
+    let has : HasAction in_one.expression p a = own_is_action in_one.expression p a own in
     let there : HasAction game.rules p a = level_stands game.rules (inside in_one.pattern) in_one.expression in_one.is_level p a has in
-    let same : a ≡ switch switches.player = one_stands game.rules lawful.numbered p a (switch switches.player) there switches.stands in
+    let same : a ≡ switch switches.player = one_action_at game.rules lawful.numbered p a (switch switches.player) there switches.stands in
     lawful.switches in_one.pattern in_one.expression in_one.is_level p switches.player (subst (λ (b : AbstractAction). HasAction in_one.expression p b) same has)

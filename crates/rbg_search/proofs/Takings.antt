@@ -2,7 +2,7 @@
 use Rattle.rbg_base.proofs.Common.{◌≡◌, ◌≢◌, ℕ, ◌+◌, ◌*◌, ◌≤◌, inl, inr, List, [], ◌∷◌, ◌++◌, length, Bool, true, false, refl, sym, ap, ◌∙◌, subst, arith, Result, Ok, Err, IsOk, IsErrAnd, OnErr, All, AllPairs, Contains, sum, mul-le, sum_by-append, sum_by-le, All-nil, All-push, All-append, All-weaker, All-contains}
 use Rattle.std.proofs.lemmas.List.{length-append}
 use Rattle.rbg_rules.specs.Meaning.{shift, Expression, IsNumbered, IsModifierAt, IsPatternAt, is_modifier, inside, Start, beginning, after, AbstractGame, AbstractState, Question, reach, pattern}
-use Rattle.rbg_rules.proofs.PositionLemmas.{one_stands}
+use Rattle.rbg_rules.proofs.PositionLemmas.{one_action_at}
 use Rattle.rbg_shifts.specs.Leaps.{IsShiftAt, stay}
 use Rattle.rbg_flat.proofs.Common.{IsCandidate, HasCandidates, CountsMet, IsMarked}
 use Rattle.rbg_flat.specs.declared.flat.Flat.{Flat as SetFlat}
@@ -63,7 +63,7 @@ no_shift rules numbered p stands other = no_pattern rules numbered p (shift othe
 
 -- .. nor where a modifier does.
 pub no_modifier_shift : (rules : Expression) → IsNumbered rules → (p : ℕ) → IsModifierAt rules p → ¬ IsShiftAt rules p
-no_modifier_shift rules numbered p m other = false_not_true (ap is_modifier (one_stands rules numbered p (shift other.direction) m.action other.stands m.stands) ∙ m.modifies)
+no_modifier_shift rules numbered p m other = false_not_true (ap is_modifier (one_action_at rules numbered p (shift other.direction) m.action other.stands m.stands) ∙ m.modifies)
   where
     false_not_true : false ≡ true → ⊥
     false_not_true e = cc

@@ -6,18 +6,18 @@ use Rattle.rbg_serving.proofs.Common.{LineState, Heard, Intake, no_intake, queue
 use Rattle.rbg_serving.proofs.HeardLemmas.{SameOf, said_the_same}
 
 -- what each seat has after messages to the seats
-pub extended : (seat : ℕ) (queued : List (List ℕ)) (said : List Delivery) (index : ℕ) →
-    index < length queued → Extends (queued_at queued index) (queued_at (delivered_from seat queued said) index)
-extended seat [] said index within = ([], refl)
-extended seat (bytes ∷ others) said zero within = (bytes_for seat said, refl)
-extended seat (bytes ∷ others) said (suc index) within = extended (suc seat) others said index (omega (arith, within))
+pub extended : (seat : ℕ) (queued : List (List ℕ)) (outgoing : List Delivery) (index : ℕ) →
+    index < length queued → Extends (queued_at queued index) (queued_at (delivered_from seat queued outgoing) index)
+extended seat [] outgoing index within = ([], refl)
+extended seat (bytes ∷ others) outgoing zero within = (bytes_for seat outgoing, refl)
+extended seat (bytes ∷ others) outgoing (suc index) within = extended (suc seat) others outgoing index (omega (arith, within))
 
 -- what a step of a match queues
 pub step_extends : {old new : MatchState} {event : AbstractEvent} {queued now : List (List ℕ)} →
     Steps old event new queued now → ExtendAll queued now
 step_extends {queued = queued} step = λ index within.
     subst (λ bytes. Extends (queued_at queued index) (queued_at bytes index)) (sym step.told)
-    (extended 1 queued step.said index within)
+    (extended 1 queued step.outgoing index within)
 
 -- a line that is served goes on so, where the same was heard of it and more is queued for its seat
 pub still_served : {L : Type 0} (told : L → Told → Type 0) (failure_count : L → ℕ) (seat : ℕ) (heard now : List Heard)
@@ -39,7 +39,7 @@ still_served told failure_count seat heard now queued more before line state int
     told_is : has_taken (has_said seat heard intake.stalls before) queued state.taken
         ≡ has_taken (has_said seat now intake.stalls before) more state.taken
     told_is =
-        ap (λ said. has_taken said queued state.taken) (sym (said_the_same seat heard now intake.stalls before same))
+        ap (λ outgoing. has_taken outgoing queued state.taken) (sym (said_the_same seat heard now intake.stalls before same))
         ∙ ap (λ taken. record (has_said seat now intake.stalls before) { taken = before.taken ++ taken }) taken_is
 
 pub same_of : (seat : ℕ) (heard : List Heard) → SameOf seat heard heard

@@ -147,8 +147,8 @@ module _ {L : Type 0} (told : L → Told → Type 0) (failure_count : L → ℕ)
   abbrev was : IsLineServed told failure_count (index + 1) heard (queued_at queued index) (told_at before index) (get_or lines index old) (get_or states index absent) (intake_at passed.from.intakes index)
   was = passed.from.served.each index old there
 
-  abbrev said : Told
-  said = has_said (index + 1) heard (intake_at passed.from.intakes index).stalls (told_at before index)
+  abbrev outgoing : Told
+  outgoing = has_said (index + 1) heard (intake_at passed.from.intakes index).stalls (told_at before index)
 
   abbrev within : (get_or states index absent).taken ≤ length bytes
   within = subst (λ all. (get_or states index absent).taken ≤ length all) (sym is) was.within
@@ -172,10 +172,10 @@ module _ {L : Type 0} (told : L → Told → Type 0) (failure_count : L → ℕ)
           record {
             tells = subst (λ all. Tells told failure_count line (has_taken (has_said (index + 1) heard intake.stalls (told_at before index)) all one.taken)) is
                 (subst (Tells told failure_count line)
-                (sym (passed_is said bytes one (stall_of bytes one) live refl) ∙ stalls_joined)
-                (passes said within
+                (sym (passed_is outgoing bytes one (stall_of bytes one) live refl) ∙ stalls_joined)
+                (passes outgoing within
                 (subst (λ all. Tells told failure_count (get_or lines index old)
-                (has_taken said all (get_or states index absent).taken)) (sym is) was.tells)));
+                (has_taken outgoing all (get_or states index absent).taken)) (sym is) was.tells)));
             taken = refl;
             within = subst (λ all. one.taken ≤ length all) is (fits within);
             live = λ _. was.live was_live;
@@ -200,9 +200,9 @@ module _ {L : Type 0} (told : L → Told → Type 0) (failure_count : L → ℕ)
       plus_assoc : (a b c : ℕ) → (a + b) + c ≡ a + (b + c)
       plus_assoc a b c = omega arith
 
-      stalls_joined : record (has_taken said bytes one.taken) { stalls = said.stalls + stall_of bytes one }
+      stalls_joined : record (has_taken outgoing bytes one.taken) { stalls = outgoing.stalls + stall_of bytes one }
           ≡ has_taken (has_said (index + 1) heard intake.stalls (told_at before index)) bytes one.taken
-      stalls_joined = λ i. record (has_taken said bytes one.taken) {
+      stalls_joined = λ i. record (has_taken outgoing bytes one.taken) {
         stalls = plus_assoc (told_at before index).stalls (intake_at passed.from.intakes index).stalls (stall_of bytes one) i;
       }
 
@@ -252,13 +252,13 @@ module _ {L : Type 0} (told : L → Told → Type 0) (failure_count : L → ℕ)
             tells = subst (λ all. Tells told failure_count line (has_taken (has_said (index + 1) (heard ++ failed_to_take (index + 1) at ∷ []) intake.stalls (told_at before index)) all one.taken)) is
                 (subst (Tells told failure_count line)
                 (ap (λ alive. if alive
-                then record (has_taken said bytes one.taken) { stalls = said.stalls + stall_of bytes one }
-                else with_failure (has_taken said bytes one.taken)) live
-                ∙ sym (says_failed_to_take (index + 1) at (has_taken said bytes one.taken))
+                then record (has_taken outgoing bytes one.taken) { stalls = outgoing.stalls + stall_of bytes one }
+                else with_failure (has_taken outgoing bytes one.taken)) live
+                ∙ sym (says_failed_to_take (index + 1) at (has_taken outgoing bytes one.taken))
                 ∙ sym (said_one (index + 1) heard (failed_to_take (index + 1) at) intake.stalls (told_at before index) bytes one.taken))
-                (passes said within
+                (passes outgoing within
                 (subst (λ all. Tells told failure_count (get_or lines index old)
-                (has_taken said all (get_or states index absent).taken)) (sym is) was.tells)));
+                (has_taken outgoing all (get_or states index absent).taken)) (sym is) was.tells)));
             taken = refl;
             within = subst (λ all. one.taken ≤ length all) is (fits within);
             live = λ alive. true_or_false (sym alive ∙ live);

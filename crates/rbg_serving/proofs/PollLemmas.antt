@@ -73,7 +73,7 @@ pub one_polled : {L : Type 0} (told : L → Told → Type 0) (failure_count : L 
 one_polled told failure_count before heard queued lines states intakes index at old line one polled buffer there are tells was_live taken live =
     let bytes = queued_at queued index in
     let come = get_or states index absent in
-    let said = has_said (index + 1) heard (intake_at intakes index).stalls (told_at before index) in (
+    let outgoing = has_said (index + 1) heard (intake_at intakes index).stalls (told_at before index) in (
       was.live was_live,
       subst (λ same. AreServed told failure_count before (heard ++ heard_by_poll (index + 1) at polled buffer) queued (set lines index line) (set states index one) same)
           (set_same intakes index no_intake)
@@ -81,7 +81,7 @@ one_polled told failure_count before heard queued lines states intakes index at 
           (λ other differ. others_same (index + 1) at polled buffer heard (other + 1) (other_seat index other differ))
           are
           record {
-            tells = subst (Tells told failure_count line) told_is (tells (has_taken said bytes come.taken) was.tells);
+            tells = subst (Tells told failure_count line) told_is (tells (has_taken outgoing bytes come.taken) was.tells);
             taken = was.taken ∙ sym taken;
             within = subst (λ n. n ≤ length bytes) (sym taken) was.within;
             live = λ alive. live_after_poll (index + 1) at polled buffer heard (was.live was_live) (not_true (is_last polled) (sym live ∙ alive));

@@ -15,15 +15,15 @@ use Rattle.rbg_serving.specs.Written.{at_moment, is_quiet, written, Writes, Repl
 use Rattle.rbg_serving.specs.Written as writing
 
 -- a tick before the due moment does nothing
-in_time : {game : AbstractGame} {config : Config} {play : AbstractPlay} {moment : ℕ} {after : AbstractPlay} {said : List Delivery} → HandlesInTime game config play moment tick after said → (after ≡ play) × (said ≡ [])
+in_time : {game : AbstractGame} {config : Config} {play : AbstractPlay} {moment : ℕ} {after : AbstractPlay} {outgoing : List Delivery} → HandlesInTime game config play moment tick after outgoing → (after ≡ play) × (outgoing ≡ [])
 in_time handling.nothing = (refl, refl)
 
-early_tick : {game : AbstractGame} {config : Config} {play : AbstractPlay} {moment : ℕ} {after : AbstractPlay} {said : List Delivery} → moment < due_of config play → Handles game config play moment tick after said → (after ≡ play) × (said ≡ [])
+early_tick : {game : AbstractGame} {config : Config} {play : AbstractPlay} {moment : ℕ} {after : AbstractPlay} {outgoing : List Delivery} → moment < due_of config play → Handles game config play moment tick after outgoing → (after ≡ play) × (outgoing ≡ [])
 early_tick early (handling.after_end ended) = (refl, refl)
 early_tick early (handling.overdue going late) = absurd (omega (arith, early, late))
 early_tick early (handling.in_time going before handles) = in_time handles
 
-one_tick : {game : AbstractGame} {config : Config} {play : AbstractPlay} {moment : ℕ} {after : AbstractPlay} {said : List Delivery} → moment < due_of config play → HandlesEach game config play (record { moment = moment; input = tick } ∷ []) after said → (after ≡ play) × (said ≡ [])
+one_tick : {game : AbstractGame} {config : Config} {play : AbstractPlay} {moment : ℕ} {after : AbstractPlay} {outgoing : List Delivery} → moment < due_of config play → HandlesEach game config play (record { moment = moment; input = tick } ∷ []) after outgoing → (after ≡ play) × (outgoing ≡ [])
 one_tick early (more {first = first} handles none) =
     let nothing = early_tick early handles in
     (nothing.0, ap (λ (one : List Delivery). one ++ []) nothing.1)
@@ -69,8 +69,8 @@ written_step state new event before after earlier beyond small going step = reco
   same_game = step.same_game;
   same_config = step.same_config;
   same_begin = step.same_begin;
-  said = step.said;
-  handles = subst (λ inputs. HandlesAll state.game state.config state.play inputs new.play step.said) (sym (same_inputs earlier state.streams.moment state.streams.rests beyond small event)) step.handles;
+  outgoing = step.outgoing;
+  handles = subst (λ inputs. HandlesAll state.game state.config state.play inputs new.play step.outgoing) (sym (same_inputs earlier state.streams.moment state.streams.rests beyond small event)) step.handles;
   told = step.told;
   moment = λ _. step.moment going ∙ sym (same_moment earlier state.streams.moment state.streams.rests beyond small event);
   streams = λ goes_on. step.streams goes_on ∙ sym (same_streams earlier state.streams.moment state.streams.rests beyond small event);
@@ -98,7 +98,7 @@ quiet_step state new at before after going early step =
         streams = streams i;
         failed = works i;
       };
-      silent = step.told ∙ ap (λ (said : List Delivery). delivered before said) nothing.1 ∙ delivered-none before;
+      silent = step.told ∙ ap (λ (outgoing : List Delivery). delivered before outgoing) nothing.1 ∙ delivered-none before;
     }
 
 -- a match with its events so far, as those that were written lead there

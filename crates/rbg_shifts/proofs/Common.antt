@@ -19,4 +19,4 @@ pub use Rattle.rbg_shifts.specs.internal.Branches.{AreBranches, IsBranch, no_bra
 pub use Rattle.rbg_shifts.specs.internal.Interned.{AreListsOf, AreListsUpTo, ExtendsInterner, IsKept, IsNodeOf, branches_at, list_at, may_end_at, node_in, origin_node}
 pub use Rattle.rbg_shifts.specs.internal.Spans.{IsNodeWithin, no_node}
 pub use Rattle.rbg_shifts.specs.internal.Steps.{AreDirections, AreDirectionsUpTo, Comes, EndsBy, IsAnswerAt, IsLeapBy, IsOnly, IsUpToLast, by_other, by_shift}
-pub use Rattle.rbg_shifts.specs.internal.Tables.{AddsAll, AddsTarget, AddsUpTo, AreAllClosed, AreClosedFrom, AreFilled, AreLaid, AreSound, AreSoundBy, Fills, FillsDownTo, FillsOne, FillsRightly, FillsUpTo, Grows, IsClosed, IsFilled, IsGathered, IsMarked, IsSoundEntry, IsSoundTable, IsTargetBy, IsTargetOf, IsToldAt, IsToldBy, IsToldEverywhere, IsToldFrom, IsUnder, IsWhole, IsWholeFrom, Keeps, KeepsTold, LeadsBack, LeadsForth, LeadsOneWay, LeadsToMarked, Shares, StaysClosed, StepsBack, StepsForth, Tells, TellsAt, entry_at, no_target, target_at}
+pub use Rattle.rbg_shifts.specs.internal.Tables.{AddsAll, AddsTarget, AddsUpTo, AreAllClosed, AreClosedFrom, AreFilled, AreLaid, AreSound, AreSoundBy, Fills, FillsDownTo, FillsOne, FillsRightly, FillsUpTo, Grows, IsClosed, IsFilled, IsGathered, IsMarked, IsSoundEntry, IsSoundTable, IsTargetBy, IsTargetOf, RecordsStepAt, RecordsStep, RecordsStepEverywhere, RecordsStepFrom, IsUnder, IsWhole, IsWholeFrom, Keeps, KeepsRecorded, LeadsBack, LeadsForth, LeadsOneWay, LeadsToMarked, Shares, StaysClosed, StepsBack, StepsForth, HasEnd, HasEndAt, entry_at, no_target, target_at}

@@ -2,14 +2,14 @@
 use Rattle.rbg_base.proofs.Common.{◌≡◌, ◌≢◌, ℕ, ◌+◌, ◌-◌, ◌*◌, ◌<◌, ◌≤◌, ◌⊎◌, List, length, get_or, set, Bool, true, false, refl, sym, ap, ◌∙◌, subst, inl, inr, zero, suc, arith, All, Contains, IsTrue, replicate, All-contains}
 use Rattle.std.proofs.lemmas.List.{get_or-set_same, get_or-set_other}
 use Rattle.rbg_rules.specs.Meaning.{AbstractGame}
-use Rattle.rbg_shifts.proofs.Common.{Lists, Entry, Table, Target, end_of, IsWithin, IsShiftAt, no_entry, list_at, may_end_at, Comes, EndsBy, IsOnly, entry_at, Tells, IsSoundTable, IsSoundEntry, IsGathered, IsUnder, IsToldBy, IsToldFrom, IsWhole, IsWholeFrom, IsClosed, Keeps, Grows, Shares, KeepsTold, AddsAll, LeadsBack, LeadsForth, LeadsOneWay, Fills, FillsOne, FillsUpTo, FillsDownTo, FillsRightly, IsMarked, LeadsToMarked, AreFilled}
+use Rattle.rbg_shifts.proofs.Common.{Lists, Entry, Table, Target, end_of, IsWithin, IsShiftAt, no_entry, list_at, may_end_at, Comes, EndsBy, IsOnly, entry_at, HasEnd, IsSoundTable, IsSoundEntry, IsGathered, IsUnder, RecordsStep, RecordsStepFrom, IsWhole, IsWholeFrom, IsClosed, Keeps, Grows, Shares, KeepsRecorded, AddsAll, LeadsBack, LeadsForth, LeadsOneWay, Fills, FillsOne, FillsUpTo, FillsDownTo, FillsRightly, IsMarked, LeadsToMarked, AreFilled}
 use Rattle.rbg_shifts.proofs.Places.{below_or_not, same_or_not, one_place, same_item, LastPlace, before, last, last_place}
 use Rattle.rbg_shifts.proofs.Tabling.{entry_gathered, entry_same, entry_within, table_grown, table_shared, whole_end, within_at}
 use Rattle.rbg_shifts.proofs.Targets.{keeps_none, keeps_same, keeps_more, keeps_fewer, tells_kept, tells_before}
 
 -- Targets still record what one step leads to, if they record no less than before, and the entries to which shifts lead
 -- record no more.
-pub told_on : (game : AbstractGame) (lists : Lists) (place : ℕ) (old new : Table) (from to from_new to_new : ℕ) (one two : Bool) (v p : ℕ) → All (IsWithin place) old.entries.items → new.vertices ≡ old.vertices → Keeps place old.targets.items new.targets.items → ((j u : ℕ) → Tells old.targets.items from to j u → Tells new.targets.items from_new to_new j u) → (IsTrue one → IsTrue two) → ((w : ℕ) → IsShiftAt game.rules p → Comes game v p w → w < old.vertices → (entry_at new (get_or lists.afters.items p 0) w ≡ entry_at old (get_or lists.afters.items p 0) w) ⊎ IsUnder new (entry_at new (get_or lists.afters.items p 0) w) from_new to_new two) → IsToldBy game lists old from to one v p → IsToldBy game lists new from_new to_new two v p
+pub told_on : (game : AbstractGame) (lists : Lists) (place : ℕ) (old new : Table) (from to from_new to_new : ℕ) (one two : Bool) (v p : ℕ) → All (IsWithin place) old.entries.items → new.vertices ≡ old.vertices → Keeps place old.targets.items new.targets.items → ((j u : ℕ) → HasEnd old.targets.items from to j u → HasEnd new.targets.items from_new to_new j u) → (IsTrue one → IsTrue two) → ((w : ℕ) → IsShiftAt game.rules p → Comes game v p w → w < old.vertices → (entry_at new (get_or lists.afters.items p 0) w ≡ entry_at old (get_or lists.afters.items p 0) w) ⊎ IsUnder new (entry_at new (get_or lists.afters.items p 0) w) from_new to_new two) → RecordsStep game lists old from to one v p → RecordsStep game lists new from_new to_new two v p
 told_on game lists place old new from to from_new to_new one two v p inside vertices targets keeps more same is = record {
   plain = λ other. keeps p v (is.plain other);
   is_vertex = λ w s comes. subst (λ (k : ℕ). w < k) (sym vertices) (is.is_vertex w s comes);
@@ -31,7 +31,7 @@ told_on game lists place old new from to from_new to_new one two v p inside vert
     still w was (inr now) = now
 
 -- .. at each position of a list.
-pub all_told_on : (game : AbstractGame) (lists : Lists) (old new : Table) (from to from_new to_new : ℕ) (one two : Bool) (v : ℕ) (list : List ℕ) → ((p : ℕ) → Contains list p → IsToldBy game lists old from to one v p → IsToldBy game lists new from_new to_new two v p) → All (IsToldBy game lists old from to one v) list → All (IsToldBy game lists new from_new to_new two v) list
+pub all_told_on : (game : AbstractGame) (lists : Lists) (old new : Table) (from to from_new to_new : ℕ) (one two : Bool) (v : ℕ) (list : List ℕ) → ((p : ℕ) → Contains list p → RecordsStep game lists old from to one v p → RecordsStep game lists new from_new to_new two v p) → All (RecordsStep game lists old from to one v) list → All (RecordsStep game lists new from_new to_new two v) list
 all_told_on game lists old new from to from_new to_new one two v list step all = λ k d below. step (get_or list k d) (k, below, same_item list k (get_or list k d) below ∙ sym (same_item list k d below)) (all k d below)
 
 -- If nothing was missing, nothing is missing after other entries were filled.
@@ -139,11 +139,11 @@ other_vertex : (vertices n v w : ℕ) → w ≢ v → n * vertices + w ≢ n * v
 other_vertex vertices n v w differ same = differ (omega (arith, same))
 
 -- Targets still record what one step leads to after more targets were added.
-pub told_grown : (game : AbstractGame) (lists : Lists) (start : ℕ) (old new : Table) (one two : Bool) (v p : ℕ) → All (IsWithin start) old.entries.items → Grows start old new → KeepsTold start old new → (IsTrue one → IsTrue two) → IsToldFrom game lists old start one v p → IsToldFrom game lists new start two v p
+pub told_grown : (game : AbstractGame) (lists : Lists) (start : ℕ) (old new : Table) (one two : Bool) (v p : ℕ) → All (IsWithin start) old.entries.items → Grows start old new → KeepsRecorded start old new → (IsTrue one → IsTrue two) → RecordsStepFrom game lists old start one v p → RecordsStepFrom game lists new start two v p
 told_grown game lists start old new one two v p inside grows kept more is =
     told_on game lists start old new start (length old.targets.items) start (length new.targets.items) one two v p inside grows.vertices grows.targets kept.tells more (λ w s comes small. inl (entry_same start old new grows (get_or lists.afters.items p 0) w)) is
 
-pub raise_end : (game : AbstractGame) (lists : Lists) (t : Table) (from to : ℕ) (one two : Bool) (v p : ℕ) → (IsTrue one → IsTrue two) → IsToldBy game lists t from to one v p → IsToldBy game lists t from to two v p
+pub raise_end : (game : AbstractGame) (lists : Lists) (t : Table) (from to : ℕ) (one two : Bool) (v p : ℕ) → (IsTrue one → IsTrue two) → RecordsStep game lists t from to one v p → RecordsStep game lists t from to two v p
 raise_end game lists t from to one two v p more is = record {
   plain = is.plain;
   is_vertex = is.is_vertex;
@@ -151,7 +151,7 @@ raise_end game lists t from to one two v p more is = record {
 }
 
 -- A position that is no shift is recorded by a target with the vertex.
-pub told_plain : (game : AbstractGame) (lists : Lists) (t : Table) (from to : ℕ) (may_end : Bool) (v p : ℕ) → ¬ IsShiftAt game.rules p → Tells t.targets.items from to p v → IsToldBy game lists t from to may_end v p
+pub told_plain : (game : AbstractGame) (lists : Lists) (t : Table) (from to : ℕ) (may_end : Bool) (v p : ℕ) → ¬ IsShiftAt game.rules p → HasEnd t.targets.items from to p v → RecordsStep game lists t from to may_end v p
 told_plain game lists t from to may_end v p other told = record {
   plain = λ is_other. told;
   is_vertex = λ w s comes. absurd (other s);
@@ -159,7 +159,7 @@ told_plain game lists t from to may_end v p other told = record {
 }
 
 -- A shift that leads nowhere leaves nothing to record.
-pub told_nowhere : (game : AbstractGame) (lists : Lists) (t : Table) (from to : ℕ) (may_end : Bool) (v p : ℕ) → IsShiftAt game.rules p → ((w : ℕ) → ¬ Comes game v p w) → IsToldBy game lists t from to may_end v p
+pub told_nowhere : (game : AbstractGame) (lists : Lists) (t : Table) (from to : ℕ) (may_end : Bool) (v p : ℕ) → IsShiftAt game.rules p → ((w : ℕ) → ¬ Comes game v p w) → RecordsStep game lists t from to may_end v p
 told_nowhere game lists t from to may_end v p is nowhere = record {
   plain = λ other. absurd (other is);
   is_vertex = λ w s comes. absurd (nowhere w comes);
@@ -167,7 +167,7 @@ told_nowhere game lists t from to may_end v p is nowhere = record {
 }
 
 -- A shift that leads to one vertex, if all that is recorded there was added.
-pub told_after : (game : AbstractGame) (lists : Lists) (t : Table) (from to : ℕ) (may_end : Bool) (v p there : ℕ) → IsShiftAt game.rules p → ((w : ℕ) → Comes game v p w → w ≡ there) → there < t.vertices → IsUnder t (entry_at t (get_or lists.afters.items p 0) there) from to may_end → IsToldBy game lists t from to may_end v p
+pub told_after : (game : AbstractGame) (lists : Lists) (t : Table) (from to : ℕ) (may_end : Bool) (v p there : ℕ) → IsShiftAt game.rules p → ((w : ℕ) → Comes game v p w → w ≡ there) → there < t.vertices → IsUnder t (entry_at t (get_or lists.afters.items p 0) there) from to may_end → RecordsStep game lists t from to may_end v p
 told_after game lists t from to may_end v p there is only small under = record {
   plain = λ other. absurd (other is);
   is_vertex = λ w s comes. subst (λ (x : ℕ). x < t.vertices) (sym (only w comes)) small;
@@ -196,7 +196,7 @@ one_put game lists old middle new n v e below grows shares sound right whole = r
         ends = whole.ends;
         told = all_told_on game lists middle new e.start (end_of e) e.start (end_of e) e.ends e.ends v (list_at lists.interner n)
             (λ p there. told_on game lists (length middle.targets.items) middle new e.start (end_of e) e.start (end_of e) e.ends e.ends v p middle.within shares.vertices (keeps_same (length middle.targets.items) middle.targets.items new.targets.items shares.are_targets)
-            (λ j u told. subst (λ (ts : List Target). Tells ts e.start (end_of e) j u) (sym shares.are_targets) told) (λ t. t)
+            (λ j u told. subst (λ (ts : List Target). HasEnd ts e.start (end_of e) j u) (sym shares.are_targets) told) (λ t. t)
             (λ w s comes small. either (get_or lists.afters.items p 0) w (same_or_not (get_or lists.afters.items p 0 * middle.vertices + w) (n * middle.vertices + v)))) whole.told;
       });
 }
@@ -241,10 +241,10 @@ one_filled game lists old middle new start n v ends at_end below sound grows sha
     e = record { start = start; many = length middle.targets.items - start; ends = ends }
 
 -- What is recorded of the only position of a list is all that there is to record.
-pub whole_of_one : (game : AbstractGame) (lists : Lists) (t : Table) (n v p from to : ℕ) (ends : Bool) → IsOnly (list_at lists.interner n) p → (IsTrue (may_end_at lists.interner n) → IsTrue ends) → IsToldBy game lists t from to ends v p → IsWhole game lists t n v from to ends
+pub whole_of_one : (game : AbstractGame) (lists : Lists) (t : Table) (n v p from to : ℕ) (ends : Bool) → IsOnly (list_at lists.interner n) p → (IsTrue (may_end_at lists.interner n) → IsTrue ends) → RecordsStep game lists t from to ends v p → IsWhole game lists t n v from to ends
 whole_of_one game lists t n v p from to ends only end told = record {
   ends = end;
-  told = λ k d there. subst (IsToldBy game lists t from to ends v) (sym (only_item (list_at lists.interner n) p only.one only.listed k d there)) told;
+  told = λ k d there. subst (RecordsStep game lists t from to ends v) (sym (only_item (list_at lists.interner n) p only.one only.listed k d there)) told;
 }
 
 -- The only position of a list is listed.

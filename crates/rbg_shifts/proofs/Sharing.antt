@@ -1,7 +1,7 @@
 -- An entry that shares what is recorded after a shift.
 use Rattle.std.proofs.Common.{◌≡◌, ◌+◌, ◌*◌, ◌<◌, ◌∙◌, ◌⊎◌, ℕ, length, get_or, sym, ap, subst, Bool, Contains, IsTrue}
 use Rattle.rbg_rules.specs.Meaning.{IsNumbered, AbstractGame, after}
-use Rattle.rbg_shifts.proofs.Common.{Lists, Entry, Table, end_of, IsShiftAt, entry_at, IsSoundEntry, IsSoundTable, IsUnder, IsToldAt, list_at, may_end_at, IsNodeOf, AreListsOf, Comes}
+use Rattle.rbg_shifts.proofs.Common.{Lists, Entry, Table, end_of, IsShiftAt, entry_at, IsSoundEntry, IsSoundTable, IsUnder, RecordsStepAt, list_at, may_end_at, IsNodeOf, AreListsOf, Comes}
 use Rattle.rbg_shifts.proofs.Fillings.{told_after}
 use Rattle.rbg_shifts.proofs.ShiftLemmas.{shift_within}
 use Rattle.rbg_shifts.proofs.Tabling.{place_there, entry_on}
@@ -44,7 +44,7 @@ entry_step game numbered lists are table right n v p w k e there is comes below 
     entry_on game numbered lists table n v p w (get_or lists.afters.items p 0) e there is comes before.node before.sound ends either
 
 -- What is recorded after the only shift, an entry records that shares its targets.
-pub shared_told : (game : AbstractGame) (lists : Lists) (table : Table) → IsSoundTable game lists table → (v p to k : ℕ) (e : Entry) (ends : Bool) → IsShiftAt game.rules p → ((w : ℕ) → Comes game v p w → w ≡ to) → to < length game.board.first → k ≡ get_or lists.afters.items p 0 → e ≡ entry_at table k to → (IsTrue e.ends → IsTrue ends) → IsToldAt game lists table (record { start = e.start; many = e.many; ends = ends }) v p
+pub shared_told : (game : AbstractGame) (lists : Lists) (table : Table) → IsSoundTable game lists table → (v p to k : ℕ) (e : Entry) (ends : Bool) → IsShiftAt game.rules p → ((w : ℕ) → Comes game v p w → w ≡ to) → to < length game.board.first → k ≡ get_or lists.afters.items p 0 → e ≡ entry_at table k to → (IsTrue e.ends → IsTrue ends) → RecordsStepAt game lists table (record { start = e.start; many = e.many; ends = ends }) v p
 shared_told game lists table right v p to k e ends is only below beyond at more =
     let on_board : to < table.vertices = subst (λ (many : ℕ). to < many) (sym right.laid_out.vertices) below in
     let same : e ≡ entry_at table (get_or lists.afters.items p 0) to = at ∙ ap (λ (i : ℕ). entry_at table i to) beyond in

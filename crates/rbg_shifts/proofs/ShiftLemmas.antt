@@ -5,9 +5,9 @@ use Rattle.std.proofs.Math.ListN.{get_or-eq_default}
 use Rattle.rbg_board.specs.Graph.{next}
 use Rattle.rbg_rules.specs.declared.rule.Action.{Action}
 use Rattle.rbg_rules.specs.declared.rule.Action.TheVariants.{Shift, On, Off, Assign, Compare, Switch, Positive, Negative}
-use Rattle.rbg_rules.specs.Meaning.{AbstractAction, shift, on, off, assignment, comparison, switch, positive, negative, Expression, HasAction, positions_of, IsNumbered, Level, outermost, inside, IsLevel, WordOf, Start, beginning, after, Follows, AbstractGame, Stands, arithmetic_of}
-use Rattle.rbg_rules.proofs.PositionLemmas.{Among, Among_right, has_position, one_stands}
-use Rattle.rbg_rules.proofs.PatternLemmas.{own_stands, stands_inside, word_own}
+use Rattle.rbg_rules.specs.Meaning.{AbstractAction, shift, on, off, assignment, comparison, switch, positive, negative, Expression, HasAction, positions_of, IsNumbered, Level, outermost, inside, IsLevel, WordOf, Start, beginning, after, Follows, AbstractGame, IsActionAt, arithmetic_of}
+use Rattle.rbg_rules.proofs.PositionLemmas.{Among, Among_right, has_position, one_action_at}
+use Rattle.rbg_rules.proofs.PatternLemmas.{own_is_action, inside_is_within, word_own}
 use Rattle.rbg_auto.specs.Steps.{AreAllThatFollow}
 use Rattle.rbg_shifts.proofs.Common.{IsShiftAt, AreDirections, AreDirectionsUpTo, Comes, by_shift, by_other, IsUpToLast}
 use Rattle.rbg_shifts.proofs.Cases.{no_some}
@@ -15,13 +15,13 @@ use Rattle.rbg_shifts.proofs.Cases.{no_some}
 -- An action of a level is in the rules.
 pub level_stands : (rules : Expression) (level : Level) (x : Expression) → IsLevel rules level x → (p : ℕ) (a : AbstractAction) → HasAction x p a → HasAction rules p a
 level_stands rules outermost x same p a h = subst (λ (y : Expression). HasAction y p a) same h
-level_stands rules (inside q) x (inl stands) p a h = stands_inside rules q (positive x) stands p a h
-level_stands rules (inside q) x (inr stands) p a h = stands_inside rules q (negative x) stands p a h
+level_stands rules (inside q) x (inl stands) p a h = inside_is_within rules q (positive x) stands p a h
+level_stands rules (inside q) x (inr stands) p a h = inside_is_within rules q (negative x) stands p a h
 
 word_stands : (rules : Expression) (level : Level) (w : List ℕ) → WordOf rules level w → (p : ℕ) → Among p w → (a : AbstractAction) × HasAction rules p a
 word_stands rules level w word p h =
     let (a, own) = word_own word.expression w word.is_word p h in
-    (a, level_stands rules level word.expression word.is_level p a (own_stands word.expression p a own))
+    (a, level_stands rules level word.expression word.is_level p a (own_is_action word.expression p a own))
 
 -- What follows is in the rules.
 pub follower_stands : (rules : Expression) (f : Start) (p : ℕ) → Follows rules f (p ∷ []) → (a : AbstractAction) × HasAction rules p a
@@ -53,36 +53,36 @@ followers_within rules numbered f ps follow =
     All-weaker (Contains ps) (IsUpToLast rules) (λ p h. follower_within rules numbered f p ((follow.exact p).0 h)) ps (All-contains_itself ps)
 
 -- The action at the position of a shift is that shift.
-shift_is : (rules : Expression) → IsNumbered rules → (p d : ℕ) → HasAction rules p (shift d) → (action : Action) → Stands rules p action → action ≡ Shift d
-shift_is rules numbered p d h (Shift e) stands = ap Shift (same (one_stands rules numbered p (shift e) (shift d) stands h))
+shift_is : (rules : Expression) → IsNumbered rules → (p d : ℕ) → HasAction rules p (shift d) → (action : Action) → IsActionAt rules p action → action ≡ Shift d
+shift_is rules numbered p d h (Shift e) stands = ap Shift (same (one_action_at rules numbered p (shift e) (shift d) stands h))
   where
     same : {e d : ℕ} → shift e ≡ shift d → e ≡ d
     same is = cc
-shift_is rules numbered p d h (On pieces) stands = absurd (no (one_stands rules numbered p (on pieces.items) (shift d) stands h))
+shift_is rules numbered p d h (On pieces) stands = absurd (no (one_action_at rules numbered p (on pieces.items) (shift d) stands h))
   where
     no : {xs : List ℕ} {d : ℕ} → on xs ≡ shift d → ⊥
     no is = cc
-shift_is rules numbered p d h (Off x) stands = absurd (no (one_stands rules numbered p (off x) (shift d) stands h))
+shift_is rules numbered p d h (Off x) stands = absurd (no (one_action_at rules numbered p (off x) (shift d) stands h))
   where
     no : {x d : ℕ} → off x ≡ shift d → ⊥
     no is = cc
-shift_is rules numbered p d h (Assign v e) stands = absurd (no (one_stands rules numbered p (assignment v (arithmetic_of e)) (shift d) stands h))
+shift_is rules numbered p d h (Assign v e) stands = absurd (no (one_action_at rules numbered p (assignment v (arithmetic_of e)) (shift d) stands h))
   where
     no : assignment v (arithmetic_of e) ≡ shift d → ⊥
     no is = cc
-shift_is rules numbered p d h (Compare e r f) stands = absurd (no (one_stands rules numbered p (comparison (arithmetic_of e) r (arithmetic_of f)) (shift d) stands h))
+shift_is rules numbered p d h (Compare e r f) stands = absurd (no (one_action_at rules numbered p (comparison (arithmetic_of e) r (arithmetic_of f)) (shift d) stands h))
   where
     no : comparison (arithmetic_of e) r (arithmetic_of f) ≡ shift d → ⊥
     no is = cc
-shift_is rules numbered p d h (Switch n) stands = absurd (no (one_stands rules numbered p (switch n) (shift d) stands h))
+shift_is rules numbered p d h (Switch n) stands = absurd (no (one_action_at rules numbered p (switch n) (shift d) stands h))
   where
     no : {n d : ℕ} → switch n ≡ shift d → ⊥
     no is = cc
-shift_is rules numbered p d h Positive (x, stands) = absurd (no (one_stands rules numbered p (positive x) (shift d) stands h))
+shift_is rules numbered p d h Positive (x, stands) = absurd (no (one_action_at rules numbered p (positive x) (shift d) stands h))
   where
     no : {x : Expression} {d : ℕ} → positive x ≡ shift d → ⊥
     no is = cc
-shift_is rules numbered p d h Negative (x, stands) = absurd (no (one_stands rules numbered p (negative x) (shift d) stands h))
+shift_is rules numbered p d h Negative (x, stands) = absurd (no (one_action_at rules numbered p (negative x) (shift d) stands h))
   where
     no : {x : Expression} {d : ℕ} → negative x ≡ shift d → ⊥
     no is = cc
@@ -116,7 +116,7 @@ place (suc n) (suc p) = up (place n p)
     up (beyond e) = beyond (omega (arith, e))
 
 -- One position more.
-pub one_direction : (rules : Expression) → IsNumbered rules → (last : ℕ) (directions : List (Option ℕ)) (action : Action) (direction : Option ℕ) → AreDirectionsUpTo rules last directions → Stands rules (last + 1) action → IfSome direction (λ d. action ≡ Shift d) → ((d : ℕ) → action ≡ Shift d → direction ≡ Some d) → AreDirectionsUpTo rules (last + 1) (directions ++ direction ∷ [])
+pub one_direction : (rules : Expression) → IsNumbered rules → (last : ℕ) (directions : List (Option ℕ)) (action : Action) (direction : Option ℕ) → AreDirectionsUpTo rules last directions → IsActionAt rules (last + 1) action → IfSome direction (λ d. action ≡ Shift d) → ((d : ℕ) → action ≡ Shift d → direction ≡ Some d) → AreDirectionsUpTo rules (last + 1) (directions ++ direction ∷ [])
 one_direction rules numbered last directions action direction are stands only each = record {
   size = length-append directions (direction ∷ []) ∙ ap (λ (n : ℕ). n + 1) are.size;
   shifts = λ p d is. shifts p d (place (last + 1) p) is;
@@ -139,7 +139,7 @@ one_direction rules numbered last directions action direction are stands only ea
     shift_here d o h is = subst (λ (x : Option ℕ). IfSome x (λ e. action ≡ Shift e)) is h
 
     stands_at : (p d : ℕ) → p ≡ last + 1 → action ≡ Shift d → HasAction rules p (shift d)
-    stands_at p d e is = subst (λ (q : ℕ). HasAction rules q (shift d)) (sym e) (subst (Stands rules (last + 1)) is stands)
+    stands_at p d e is = subst (λ (q : ℕ). HasAction rules q (shift d)) (sym e) (subst (IsActionAt rules (last + 1)) is stands)
 
     shifts : (p d : ℕ) → Place (last + 1) p → get_or more p None ≡ Some d → HasAction rules p (shift d)
     shifts p d (before below) is = are.shifts p d (sym (old p below) ∙ is)
@@ -159,7 +159,7 @@ comes_by game numbered v p d stands to leads u = (λ e. by_shift d stands (sym l
     same e = cc
 
     back : (w : ℕ) → Comes game v p w → to ≡ Some w
-    back w (by_shift e h step) = leads ∙ ap (next game.board v) (same (one_stands game.rules numbered p (shift d) (shift e) stands h)) ∙ step
+    back w (by_shift e h step) = leads ∙ ap (next game.board v) (same (one_action_at game.rules numbered p (shift d) (shift e) stands h)) ∙ step
     back w (by_other plain) = absurd (plain (record { direction = d; stands = stands }))
 
 pub plain_at : (rules : Expression) → (directions : List (Option ℕ)) → IsNumbered rules → AreDirections rules directions → (p : ℕ) → get_or directions p None ≡ None → ¬ IsShiftAt rules p

@@ -2,7 +2,7 @@
 use Rattle.rbg_base.proofs.Common.{◌≡◌, ℕ, ◌<◌, List, [], ◌∷◌, ◌++◌, length, get_or, subst, arith, Contains, IsTrue, Bool, All-contains}
 use Rattle.rbg_rules.specs.Meaning.{IsNumbered, AbstractGame, Start, after, Follows, Ends}
 use Rattle.rbg_rules.proofs.LocalityLemmas.{locality_law}
-use Rattle.rbg_shifts.proofs.Common.{Lists, Table, IsShiftAt, Leads, stay, go, entry_at, TellsAt, IsToldAt, AreAllClosed, list_at, IsNodeOf, AreListsOf, Comes, by_shift, by_other, IsAnswerAt, IsLeapBy, EndsBy}
+use Rattle.rbg_shifts.proofs.Common.{Lists, Table, IsShiftAt, Leads, stay, go, entry_at, HasEndAt, RecordsStepAt, AreAllClosed, list_at, IsNodeOf, AreListsOf, Comes, by_shift, by_other, IsAnswerAt, IsLeapBy, EndsBy}
 use Rattle.rbg_shifts.proofs.ShiftLemmas.{follower_within}
 
 -- A position that isn't a shift is a leap to the vertex where it is asked for.
@@ -50,13 +50,13 @@ module _ (game : AbstractGame) (numbered : IsNumbered game.rules) (lists : Lists
   on_board : (w : ℕ) → w < table.vertices → w < length game.board.first
   on_board w below = subst (λ (n : ℕ). w < n) same below
 
-  told : (f : Start) (n v : ℕ) → IsNodeOf game.rules lists.interner f n → v < length game.board.first → (p : ℕ) → Follows game.rules f (p ∷ []) → IsToldAt game lists table (entry_at table n v) v p
-  told f n v node below p follows = All-contains (IsToldAt game lists table (entry_at table n v) v) (list_at lists.interner n) p (closed n v node.there below).told ((node.answer.follow.exact p).1 follows)
+  told : (f : Start) (n v : ℕ) → IsNodeOf game.rules lists.interner f n → v < length game.board.first → (p : ℕ) → Follows game.rules f (p ∷ []) → RecordsStepAt game lists table (entry_at table n v) v p
+  told f n v node below p follows = All-contains (RecordsStepAt game lists table (entry_at table n v) v) (list_at lists.interner n) p (closed n v node.there below).told ((node.answer.follow.exact p).1 follows)
 
   next_node : (f : Start) (p : ℕ) → Follows game.rules f (p ∷ []) → IsNodeOf game.rules lists.interner (after p) (get_or lists.afters.items p 0)
   next_node f p follows = let small = follower_within game.rules numbered f p follows in are.nodes.after_each p (omega (arith, small))
 
-  pub all_told : (f : Start) (n v : ℕ) → IsNodeOf game.rules lists.interner f n → v < length game.board.first → {u j : ℕ} (m : List ℕ) → Leads game v m u → Follows game.rules f (m ++ j ∷ []) → ¬ IsShiftAt game.rules j → TellsAt table (entry_at table n v) j u
+  pub all_told : (f : Start) (n v : ℕ) → IsNodeOf game.rules lists.interner f n → v < length game.board.first → {u j : ℕ} (m : List ℕ) → Leads game v m u → Follows game.rules f (m ++ j ∷ []) → ¬ IsShiftAt game.rules j → HasEndAt table (entry_at table n v) j u
   all_told f n v node below {j = j} [] stay follows plain = (told f n v node below j follows).plain plain
   all_told f n v node below {j = j} (s ∷ m) (go {w = w} d here step rest) follows plain =
       let cut = (locality_law game.rules numbered f [] s (m ++ j ∷ [])).0.0 follows in

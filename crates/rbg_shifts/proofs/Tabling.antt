@@ -3,7 +3,7 @@ use Rattle.rbg_base.proofs.Common.{◌≡◌, ◌≢◌, ℕ, ◌+◌, ◌-◌, 
 use Rattle.std.proofs.Math.ListN.{get_or-eq_default}
 use Rattle.std.proofs.Math.Nat.{mul-le-mul_right}
 use Rattle.rbg_rules.specs.Meaning.{IsNumbered, AbstractGame, Start, after}
-use Rattle.rbg_shifts.proofs.Common.{Lists, Entry, Table, Target, IsEndOf, AreTargetsFrom, IsShiftAt, IsLeap, end_of, IsWithin, row_words, no_entry, IsEntry, list_at, may_end_at, IsNodeOf, AreListsOf, Comes, IsLeapBy, EndsBy, entry_at, no_target, target_at, Tells, IsTargetOf, IsTargetBy, AreSound, AreSoundBy, TellsAt, IsSoundEntry, IsSoundTable, Keeps, Grows, IsGathered, Shares, IsFilled, IsClosed, StaysClosed, AreClosedFrom}
+use Rattle.rbg_shifts.proofs.Common.{Lists, Entry, Table, Target, IsEndOf, AreTargetsFrom, IsShiftAt, IsLeap, end_of, IsWithin, row_words, no_entry, IsEntry, list_at, may_end_at, IsNodeOf, AreListsOf, Comes, IsLeapBy, EndsBy, entry_at, no_target, target_at, HasEnd, IsTargetOf, IsTargetBy, AreSound, AreSoundBy, HasEndAt, IsSoundEntry, IsSoundTable, Keeps, Grows, IsGathered, Shares, IsFilled, IsClosed, StaysClosed, AreClosedFrom}
 use Rattle.rbg_shifts.proofs.Places.{any_default, below_or_not, same_or_not, one_place, part_item, part_long, part_short}
 use Rattle.rbg_shifts.proofs.Steppings.{leap_here, leap_on, ends_here, ends_on, all_told, all_ends_told}
 use Rattle.rbg_shifts.proofs.Targets.{keeps_none, keeps_same, keeps_more, sound_kept, sound_none}
@@ -177,7 +177,7 @@ entry_of_none game lists table n v ends only = record {
 }
 
 -- Sound targets between two places that record all leaps are what is asked for.
-pub asked_between : (game : AbstractGame) (f : Start) (v : ℕ) (targets : List Target) (from to : ℕ) → to ≤ length targets → AreSound (IsLeap game f v) (row_words game) targets from to → ((j u : ℕ) → IsLeap game f v j u → Tells targets from to j u) → AreTargetsFrom game f v (slice_range targets from to)
+pub asked_between : (game : AbstractGame) (f : Start) (v : ℕ) (targets : List Target) (from to : ℕ) → to ≤ length targets → AreSound (IsLeap game f v) (row_words game) targets from to → ((j u : ℕ) → IsLeap game f v j u → HasEnd targets from to j u) → AreTargetsFrom game f v (slice_range targets from to)
 asked_between game f v targets from to inside are all = record {
   sound = λ t there p u is. (right t there).only p u is;
   all = λ p u leap.
@@ -212,7 +212,7 @@ module _ (game : AbstractGame) (numbered : IsNumbered game.rules) (lists : Lists
   sound : IsSoundEntry game (list_at lists.interner n) (may_end_at lists.interner n) v table own
   sound = filled.sound.sound n v node.there (subst (λ (k : ℕ). v < k) (sym filled.sound.laid_out.vertices) below)
 
-  tells : (j u : ℕ) → IsLeap game f v j u → TellsAt table own j u
+  tells : (j u : ℕ) → IsLeap game f v j u → HasEndAt table own j u
   tells j u leap = all_told game numbered lists are table filled.sound.laid_out.vertices filled.closed f n v node below leap.shifts leap.leads leap.follows leap.plain
 
   leaps : AreSound (IsLeap game f v) (row_words game) table.targets.items own.start (end_of own)

@@ -3,7 +3,7 @@ use native.Mathlib.Numerals.{unary_clauses}
 use Rattle.rbg_base.proofs.Common.{◌≡◌, ◌≢◌, ℕ, ◌+◌, ◌*◌, ◌/◌, ◌%◌, ◌^◌, ◌<◌, ◌≤◌, ◌⊎◌, List, [], ◌∷◌, ◌++◌, length, set, Bool, refl, sym, ap, ◌∙◌, subst, inl, inr, zero, arith, bit_or, bit_at, w64, bit_at-zero, bit_at_set_same, bit_at_set_other}
 use Rattle.std.proofs.lemmas.List.{length-append, length-set, get_or-set_same, get_or-set_other, get_or_append_left, get_or_push}
 use Rattle.rbg_rules.specs.Meaning.{AbstractGame}
-use Rattle.rbg_shifts.proofs.Common.{Target, IsEndOf, no_target, target_at, Tells, IsTargetOf, AreSound, IsTargetBy, AreSoundBy, Keeps, AddsTarget, AddsUpTo, AddsAll}
+use Rattle.rbg_shifts.proofs.Common.{Target, IsEndOf, no_target, target_at, HasEnd, IsTargetOf, AreSound, IsTargetBy, AreSoundBy, Keeps, AddsTarget, AddsUpTo, AddsAll}
 use Rattle.rbg_shifts.proofs.Bits.{either_bit, first_bit, second_bit}
 use Rattle.rbg_shifts.proofs.Places.{same_or_not, LastPlace, before, last, last_place}
 
@@ -90,7 +90,7 @@ keeps_set place k xs t beyond = record {
     other i below e = absurd (omega (arith, below, beyond, e))
 
 -- What is recorded between two places depends on the targets there alone.
-pub tells_kept : (place : ℕ) (old new : List Target) (from to : ℕ) → Keeps place old new → to ≤ place → (j u : ℕ) → Tells old from to j u → Tells new from to j u
+pub tells_kept : (place : ℕ) (old new : List Target) (from to : ℕ) → Keeps place old new → to ≤ place → (j u : ℕ) → HasEnd old from to j u → HasEnd new from to j u
 tells_kept place old new from to keeps inside j u told = record {
   at = told.at;
   beyond = told.beyond;
@@ -98,7 +98,7 @@ tells_kept place old new from to keeps inside j u told = record {
   is = subst (λ (t : Target). IsEndOf t j u) (sym (keeps.same told.at (let short = told.before in omega (arith, short, inside)))) told.is;
 }
 
-pub tells_before : (place : ℕ) (old new : List Target) (from to : ℕ) → Keeps place old new → to ≤ place → (j u : ℕ) → Tells new from to j u → Tells old from to j u
+pub tells_before : (place : ℕ) (old new : List Target) (from to : ℕ) → Keeps place old new → to ≤ place → (j u : ℕ) → HasEnd new from to j u → HasEnd old from to j u
 tells_before place old new from to keeps inside j u told = record {
   at = told.at;
   beyond = told.beyond;
@@ -221,7 +221,7 @@ adds_one start k old middle new from to inside starts ends adds keeps one = reco
     same : target_at middle k ≡ target_at old k
     same = adds.keeps.same k (omega (arith, ends, inside))
 
-    at : (j u : ℕ) (told : Tells old from (k + 1) j u) → LastPlace k told.at → Tells new start (length new) j u
+    at : (j u : ℕ) (told : HasEnd old from (k + 1) j u) → LastPlace k told.at → HasEnd new start (length new) j u
     at j u told (before short) = one.kept.tells j u (adds.has j u (record { at = told.at; beyond = told.beyond; before = short; is = told.is }))
     at j u told (last here) = one.has j u (subst (λ (t : Target). IsEndOf t j u) (ap (target_at old) here ∙ sym same) told.is)
 

@@ -2,7 +2,7 @@
 ghost use Rattle.std.specs.Prelude.{◌≡◌, ℕ, ◌+◌, ◌<◌, length, true, IsTrue};
 ghost use Rattle.rbg_shifts.specs.Asked.{IsEndOf};
 ghost use Rattle.rbg_shifts.specs.Entries.{end_of, IsWithin};
-ghost use Rattle.rbg_shifts.specs.internal.Tables.{entry_at, TellsAt, IsUnder, IsToldAt, IsToldEverywhere, AreClosedAt, IsLaidOut};
+ghost use Rattle.rbg_shifts.specs.internal.Tables.{entry_at, HasEndAt, IsUnder, RecordsStepAt, RecordsStepEverywhere, AreClosedAt, IsLaidOut};
 
 use crate::adding::{NOWHERE, find, unit};
 use crate::ground::Ground;
@@ -15,7 +15,7 @@ use rbg_base::{Position, Vertex};
 /// then that for the next one.
 fn tells(table: &Table, entry: Entry, target: Target, likely: &mut usize) -> bool
     requires { IsWithin (length table.now.targets.items) entry }
-    ensures { IsTrue result → (j u : ℕ) → IsEndOf target j u → TellsAt table.now entry j u }
+    ensures { IsTrue result → (j u : ℕ) → IsEndOf target j u → HasEndAt table.now entry j u }
 {
     let start = entry.start as usize;
     match find(
@@ -42,10 +42,10 @@ fn have_same_targets(entry: Entry, other: Entry) -> bool
 }
 
 /// Whether an entry has all targets of another one.
-fn tells_targets(table: &Table, entry: Entry, other: Entry) -> bool
+fn has_targets(table: &Table, entry: Entry, other: Entry) -> bool
     requires within { IsWithin (length table.now.targets.items) entry }
     requires other { IsWithin (length table.now.targets.items) other }
-    ensures { IsTrue result → (j u : ℕ) → TellsAt table.now other j u → TellsAt table.now entry j u }
+    ensures { IsTrue result → (j u : ℕ) → HasEndAt table.now other j u → HasEndAt table.now entry j u }
 {
     if have_same_targets(entry, other) {
         return true;
@@ -69,7 +69,7 @@ fn tells_all(table: &Table, entry: Entry, other: Entry) -> bool
     if other.ends && !entry.ends {
         return false;
     }
-    tells_targets(table, entry, other)
+    has_targets(table, entry, other)
 }
 
 /// Whether an entry records what one step by a position leads to.
@@ -84,7 +84,7 @@ fn is_told(
     requires laid_out { IsLaidOut ground.now lists.now table.now }
     requires within { IsWithin (length table.now.targets.items) entry }
     requires vertex { vertex < length ground.now.board.first }
-    ensures { IsTrue result → IsToldAt ground.now lists.now table.now entry vertex position }
+    ensures { IsTrue result → RecordsStepAt ground.now lists.now table.now entry vertex position }
 {
     if !ground.is_shift(position) {
         let mut likely = NOWHERE;
@@ -97,7 +97,7 @@ fn is_told(
 }
 
 /// Whether the entries of a node record what one step by a position leads to, at each vertex.
-fn is_told_everywhere(
+fn records_step_everywhere(
     table: &Table,
     lists: &Lists,
     ground: &Ground<'_>,
@@ -105,7 +105,7 @@ fn is_told_everywhere(
     position: Position,
 ) -> bool
     requires laid_out { IsLaidOut ground.now lists.now table.now }
-    ensures { IsTrue result → IsToldEverywhere ground.now lists.now table.now node position }
+    ensures { IsTrue result → RecordsStepEverywhere ground.now lists.now table.now node position }
 {
     for index in 0..ground.vertices() {
         let vertex = index as Vertex;
@@ -139,7 +139,7 @@ pub(crate) fn is_closed(table: &Table, lists: &Lists, ground: &Ground<'_>, node:
         return false;
     }
     for listed in lists.interner.list(node) {
-        if !is_told_everywhere(table, lists, ground, node, *listed) {
+        if !records_step_everywhere(table, lists, ground, node, *listed) {
             return false;
         }
     }

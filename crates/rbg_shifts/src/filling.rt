@@ -5,7 +5,7 @@ ghost use Rattle.rbg_shifts.specs.Leaps.{IsShiftAt};
 ghost use Rattle.rbg_shifts.specs.internal.Interned.{AreListsOf, branches_at, list_at, may_end_at};
 ghost use Rattle.rbg_shifts.specs.internal.Branches.{IsBranch};
 ghost use Rattle.rbg_shifts.specs.internal.Steps.{Comes, IsOnly};
-ghost use Rattle.rbg_shifts.specs.internal.Tables.{IsSoundEntry, IsRightAt, IsRightSoFar, IsToldAt, FillsOne, FillsUpTo, FillsRightly, FillsDownTo, StepsBack, StepsForth, LeadsAway, LeadsBack, LeadsForth, LeadsOneWay, LeadsToMarked, IsMarked, AreClosedAt, AreFilled, AreFilledSoFar};
+ghost use Rattle.rbg_shifts.specs.internal.Tables.{IsSoundEntry, IsRightAt, IsRightSoFar, RecordsStepAt, FillsOne, FillsUpTo, FillsRightly, FillsDownTo, StepsBack, StepsForth, LeadsAway, LeadsBack, LeadsForth, LeadsOneWay, LeadsToMarked, IsMarked, AreClosedAt, AreFilled, AreFilledSoFar};
 
 use crate::adding::unit;
 use crate::branches::Branch;
@@ -63,7 +63,7 @@ fn entry_after(
     requires listed { Contains (list_at lists.now.interner node) branch.now.position }
     ensures within { IsWithin (length table.now.targets.items) result }
     ensures sound { IsSoundEntry ground.now (list_at lists.now.interner node) (may_end_at lists.now.interner node) vertex table.now result }
-    ensures told { IsToldAt ground.now lists.now table.now result vertex branch.now.position }
+    ensures told { RecordsStepAt ground.now lists.now table.now result vertex branch.now.position }
     ensures ends { IsTrue (may_end_at lists.now.interner node) → IsTrue result.ends }
 {
     let Some(to) = ground.step(vertex, direction) else {

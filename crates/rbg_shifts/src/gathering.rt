@@ -4,7 +4,7 @@ ghost use Rattle.rbg_shifts.specs.Entries.{IsWithin};
 ghost use Rattle.rbg_shifts.specs.internal.Interned.{branches_at, list_at, may_end_at};
 ghost use Rattle.rbg_shifts.specs.internal.Branches.{IsBranch};
 ghost use Rattle.rbg_shifts.specs.internal.Steps.{EndsBy};
-ghost use Rattle.rbg_shifts.specs.internal.Tables.{IsRightSoFar, IsGathered, IsToldFrom, IsWholeFrom, KeepsTold, Grows};
+ghost use Rattle.rbg_shifts.specs.internal.Tables.{IsRightSoFar, IsGathered, RecordsStepFrom, IsWholeFrom, KeepsRecorded, Grows};
 
 use crate::adding::unit;
 use crate::branches::Branch;
@@ -34,8 +34,8 @@ fn gather_one(
     ensures grows { OnOk result (Grows start table.old table.new) }
     ensures gathered { OnOk result (IsGathered ground.now lists.now table.new start node vertex) }
     ensures ends { IfOk result (λ ends. IsTrue ends → EndsBy ground.now (list_at lists.now.interner node) (may_end_at lists.now.interner node) vertex) }
-    ensures keeps { OnOk result (KeepsTold start table.old table.new) }
-    ensures told { IfOk result (λ ends. IsToldFrom ground.now lists.now table.new start ends vertex branch.now.position) }
+    ensures keeps { OnOk result (KeepsRecorded start table.old table.new) }
+    ensures told { IfOk result (λ ends. RecordsStepFrom ground.now lists.now table.new start ends vertex branch.now.position) }
 {
     let Some(direction) = branch.direction else {
         table.add(start, unit(branch.position, vertex))?;

@@ -1,6 +1,6 @@
 -- An action is applied in one way.
 use Rattle.rbg_base.proofs.Common.{◌≡◌, ℕ, ◌+◌, ◌<◌, ◌≤◌, ◌⊎◌, false, inl, inr, subst, sym, refl, arith, false_from_ne_true}
-use Rattle.rbg_rules.specs.Meaning.{AbstractAction, shift, on, off, assignment, comparison, switch, Expression, HasAction, IsPatternAt, AbstractGame, AbstractState, IsStateOf, Applies, IsGame, arithmetic_of, shows_pattern, Shows, Stands}
+use Rattle.rbg_rules.specs.Meaning.{AbstractAction, shift, on, off, assignment, comparison, switch, Expression, HasAction, IsPatternAt, AbstractGame, AbstractState, IsStateOf, Applies, IsGame, arithmetic_of, shows_pattern, Shows, IsActionAt}
 use Rattle.rbg_rules.specs.declared.rule.Action.{Action}
 use Rattle.rbg_rules.specs.declared.rule.Action.TheVariants.{Shift, On, Off, Assign, Compare, Switch, Positive, Negative}
 use Rattle.rbg_rules.proofs.MoveLemmas.{applied_acts, Applies_one}
@@ -18,7 +18,7 @@ pub record ShownAction (rules : Expression) (p : ℕ) (i : Action) : Type 0 wher
   pub stands : HasAction rules p action
   pub shown : Shows action i
 
-pub shown_action : (rules : Expression) (p : ℕ) (i : Action) → shows_pattern i ≡ false → Stands rules p i → ShownAction rules p i
+pub shown_action : (rules : Expression) (p : ℕ) (i : Action) → shows_pattern i ≡ false → IsActionAt rules p i → ShownAction rules p i
 shown_action rules p (Shift d) plain stands = record { action = shift d; stands = stands; shown = refl }
 shown_action rules p (On pieces) plain stands = record { action = on pieces.items; stands = stands; shown = refl }
 shown_action rules p (Off x) plain stands = record { action = off x; stands = stands; shown = refl }
@@ -53,7 +53,7 @@ pub record IsAnswered (game : AbstractGame) (p : ℕ) (h k : History) (answer : 
   pub fits : IsStateOf game k.state
   pub step : IsStep h k
 
-module _ (game : AbstractGame) (lawful : IsGame game) (p : ℕ) (i : Action) (stands : Stands game.rules p i) (no_pattern : ¬ IsPatternAt game.rules p) (h k : History) (room : 0 < h.room) where
+module _ (game : AbstractGame) (lawful : IsGame game) (p : ℕ) (i : Action) (stands : IsActionAt game.rules p i) (no_pattern : ¬ IsPatternAt game.rules p) (h k : History) (room : 0 < h.room) where
   answered_by : (answer : Applied) → ShownAction game.rules p i → IsStateOf game h.state → ((a : AbstractAction) → Shows a i → Answers game a h k answer) → IsAnswered game p h k answer
   answered_by Valid here fits answers =
       let (acts, written) = answers here.action here.shown in

@@ -1,14 +1,14 @@
 -- What a trial returns for an action, and for the position of the action.
 use Rattle.std.proofs.Common.{◌≡◌, ℕ, ◌<◌, true, false, sym, refl, ap, subst, ◌∙◌, length, Option, Some, None, IfSome, IfNone}
 use Rattle.rbg_base.specs.declared.relation.Relation.{Relation}
-use Rattle.rbg_rules.specs.Meaning.{AbstractArithmetic, number, variable, piece_count, negated, sum, difference, product, quotient, AbstractAction, comparison, HasAction, IsPatternAt, is_modifier, AbstractGame, AbstractState, IsStateOf, Acts, value_of, IsGame, IsActionOf, shows_pattern, Shows, Stands}
+use Rattle.rbg_rules.specs.Meaning.{AbstractArithmetic, number, variable, piece_count, negated, sum, difference, product, quotient, AbstractAction, comparison, HasAction, IsPatternAt, is_modifier, AbstractGame, AbstractState, IsStateOf, Acts, value_of, IsGame, IsActionOf, shows_pattern, Shows, IsActionAt}
 use Rattle.rbg_rules.specs.declared.rule.Action.{Action}
 use Rattle.rbg_rules.specs.declared.rule.Action.TheVariants.{Shift, On, Off, Assign, Compare, Switch, Positive, Negative}
 use Rattle.rbg_rules.proofs.MoveLemmas.{applied_acts}
-use Rattle.rbg_rules.proofs.PositionLemmas.{one_stands}
+use Rattle.rbg_rules.proofs.PositionLemmas.{one_action_at}
 use Rattle.rbg_rules.proofs.StateLemmas.{state_law}
 use Rattle.rbg_rules.proofs.TableLemmas.{pattern_stands}
-use Rattle.rbg_state.specs.Trials.{at_vertex, Tells, IsTrial}
+use Rattle.rbg_state.specs.Trials.{at_vertex, IsTrialOf, IsTrial}
 use Rattle.rbg_state.specs.declared.state.trials.Trial.{Trial}
 use Rattle.rbg_state.specs.declared.state.trials.Trial.TheVariants.{Invalid, Modifies, LeadsTo}
 use Rattle.rbg_state.proofs.Applying.{ShownAction, shown_action}
@@ -34,14 +34,14 @@ compares_here game e f r s t v (x, y, left, right, holds, same) = (x, y, sym (sa
 true_not_false : true ≡ false → ⊥
 true_not_false e = cc
 
-module _ (game : AbstractGame) (lawful : IsGame game) (p : ℕ) (i : Action) (stands : Stands game.rules p i) where
-  tried_by : (s : AbstractState) (trial : Trial) (here : ShownAction game.rules p i) → Tells game here.action s trial → IsTrial game s p trial
+module _ (game : AbstractGame) (lawful : IsGame game) (p : ℕ) (i : Action) (stands : IsActionAt game.rules p i) where
+  tried_by : (s : AbstractState) (trial : Trial) (here : ShownAction game.rules p i) → IsTrialOf game here.action s trial → IsTrial game s p trial
   tried_by s Invalid here none = λ u applies. none u (applied_acts game lawful.numbered p here.action here.stands applies)
   tried_by s Modifies here (modifies, (t, acts)) = (record { action = here.action; stands = here.stands; modifies = modifies }, (t, record { action = here.action; stands = here.stands; acts = acts }))
-  tried_by s (LeadsTo v) here (quiet, acts) = ((λ m. true_not_false (sym m.modifies ∙ ap is_modifier (one_stands game.rules lawful.numbered p m.action here.action m.stands here.stands) ∙ quiet)), record { action = here.action; stands = here.stands; acts = acts })
+  tried_by s (LeadsTo v) here (quiet, acts) = ((λ m. true_not_false (sym m.modifies ∙ ap is_modifier (one_action_at game.rules lawful.numbered p m.action here.action m.stands here.stands) ∙ quiet)), record { action = here.action; stands = here.stands; acts = acts })
 
   -- A trial that is right for the action at a position is right for the position.
-  pub tried : (s : AbstractState) (told : Option Trial) → IfSome told (λ trial. (a : AbstractAction) → Shows a i → Tells game a s trial) → IfSome told (λ _. shows_pattern i ≡ false) → IfSome told (IsTrial game s p)
+  pub tried : (s : AbstractState) (told : Option Trial) → IfSome told (λ trial. (a : AbstractAction) → Shows a i → IsTrialOf game a s trial) → IfSome told (λ _. shows_pattern i ≡ false) → IfSome told (IsTrial game s p)
   tried s None tells plain = _
   tried s (Some trial) tells plain = let here = shown_action game.rules p i plain stands in tried_by s trial here (tells here.action here.shown)
 
@@ -55,7 +55,7 @@ module _ (game : AbstractGame) (lawful : IsGame game) (p : ℕ) (i : Action) (st
   tried_pattern (Some trial) is = _
 
 -- An action that is shown at a position is one of the game's.
-pub named_here : (game : AbstractGame) → IsGame game → (p : ℕ) (i : Action) → Stands game.rules p i → (a : AbstractAction) → Shows a i → IsActionOf game a
+pub named_here : (game : AbstractGame) → IsGame game → (p : ℕ) (i : Action) → IsActionAt game.rules p i → (a : AbstractAction) → Shows a i → IsActionOf game a
 named_here game lawful p (Shift d) stands a shown = lawful.actions p a (subst (HasAction game.rules p) (sym shown) stands)
 named_here game lawful p (On pieces) stands a shown = lawful.actions p a (subst (HasAction game.rules p) (sym shown) stands)
 named_here game lawful p (Off x) stands a shown = lawful.actions p a (subst (HasAction game.rules p) (sym shown) stands)

@@ -12,10 +12,10 @@ at_vertex s v = record s { vertex = v }
 --   Invalid: the action takes s nowhere
 --   Modifies: it is a modifier, and takes s somewhere
 --   LeadsTo: it is no modifier, and takes s to this vertex; nothing else changes
-abbrev pub Tells : AbstractGame → AbstractAction → AbstractState → Trial → Type 0
-Tells game a s Invalid = (t : AbstractState) → ¬ Acts game a s t
-Tells game a s Modifies = (is_modifier a ≡ true) × ((t : AbstractState) × Acts game a s t)
-Tells game a s (LeadsTo v) = (is_modifier a ≡ false) × Acts game a s (at_vertex s v)
+abbrev pub IsTrialOf : AbstractGame → AbstractAction → AbstractState → Trial → Type 0
+IsTrialOf game a s Invalid = (t : AbstractState) → ¬ Acts game a s t
+IsTrialOf game a s Modifies = (is_modifier a ≡ true) × ((t : AbstractState) × Acts game a s t)
+IsTrialOf game a s (LeadsTo v) = (is_modifier a ≡ false) × Acts game a s (at_vertex s v)
 
 -- The same of the action at position p of the game.
 abbrev pub IsTrial : AbstractGame → AbstractState → ℕ → Trial → Type 0

@@ -8,7 +8,7 @@ use Rattle.rbg_record.specs.declared.line.Content.{Content}
 use Rattle.rbg_record.specs.declared.line.Content.TheVariants as contents
 use Rattle.rbg_record.specs.declared.next.Next.{Next}
 use Rattle.rbg_record.specs.declared.next.Next.TheVariants as nexts
-use Rattle.rbg_record.proofs.LineCommon.{BeginsWith, Left, Says, SpellsIn}
+use Rattle.rbg_record.proofs.LineCommon.{BeginsWith, Left, HasContent, SpellsIn}
 use Rattle.rbg_record.proofs.Stopping.{IsReadSoFar, read_as}
 use Rattle.rbg_record.proofs.Common.{Reached, version_next, players_next, start_next, entry_next, nothing_next, next_of, Leads, LeadTo}
 use Rattle.rbg_record.specs.Lines as lines
@@ -45,7 +45,7 @@ module _ {game : AbstractGame} {bytes : List ℕ} {reached : Reached} {told : To
   }
 
 -- the player's move of an entry that a text spells
-pub entry_moves : (reached : Reached) (text : List ℕ) (told : Timed) (moved : Option (List (ℕ × ℕ))) → IfSome moved (IsByPlayer told.entry) → IfNone moved ((pairs : List (ℕ × ℕ)) → ¬ IsByPlayer told.entry pairs) → Says (next_of reached) text (contents.Entry told) → IsMoveIn reached text moved
+pub entry_moves : (reached : Reached) (text : List ℕ) (told : Timed) (moved : Option (List (ℕ × ℕ))) → IfSome moved (IsByPlayer told.entry) → IfNone moved ((pairs : List (ℕ × ℕ)) → ¬ IsByPlayer told.entry pairs) → HasContent (next_of reached) text (contents.Entry told) → IsMoveIn reached text moved
 entry_moves (entry_next standing) text told None found none says = λ pairs move.
     none pairs (subst (λ (one : Timed). IsByPlayer one.entry pairs) (one_told standing.version text move.told told move.spells says) move.by_player)
 entry_moves (entry_next standing) text told (Some pairs) found none says = record { told = told; spells = says; by_player = found }
@@ -56,7 +56,7 @@ abbrev IsNoEntry : Content → Type 0
 IsNoEntry (contents.Entry told) = ⊥
 IsNoEntry _ = Unit {0}
 
-pub no_move : (reached : Reached) (text : List ℕ) (content : Content) → IsNoEntry content → Says (next_of reached) text content → IsMoveIn reached text None
+pub no_move : (reached : Reached) (text : List ℕ) (content : Content) → IsNoEntry content → HasContent (next_of reached) text content → IsMoveIn reached text None
 no_move (entry_next standing) text (contents.Entry told) other says = absurd other
 no_move (entry_next standing) text _ other says = absurd says
 no_move _ text content other says = tt

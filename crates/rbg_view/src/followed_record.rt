@@ -1,7 +1,7 @@
 //! A record that is followed line by line, as a page shows it.
 ghost use Rattle.std.specs.Prelude.{◌≡◌, ℕ, List, [], ◌++◌, IfErr, IfNone, IfOk, IfSome, OnOk, unwrap_or};
 ghost use Rattle.rbg_rules.specs.Meaning.{IsPlaceOf};
-ghost use Rattle.rbg_record.specs.Reading.{Says};
+ghost use Rattle.rbg_record.specs.Reading.{HasContent};
 ghost use Rattle.rbg_record.specs.ByLine.{IsReachedIn, reached_of};
 ghost use Rattle.rbg_record.specs.Judged.{IsMisfit};
 ghost use Rattle.rbg_record.specs.Lines.{Reached as AnyReached, next_of};
@@ -178,7 +178,7 @@ pub(crate) fn follow_record(
 
 /// The player's move that a line has.
 fn move_in(line: RecordLine<'_>) -> Option<Move>
-    ensures { (reached : AnyReached) → Says (next_of reached) line.entry.text.now line.entry.content
+    ensures { (reached : AnyReached) → HasContent (next_of reached) line.entry.text.now line.entry.content
         → IsMoveIn reached line.entry.text.now result }
 {
     match line.content {

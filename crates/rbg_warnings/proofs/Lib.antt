@@ -2,4 +2,4 @@
 mod Parts
 mod Names
 mod Sifting
-mod Standing
+mod ActionsAt

@@ -13,21 +13,21 @@ use Rattle.rbg_auto.specs.declared.table.Table.{Table}
 use Rattle.rbg_auto.specs.internal.Firsts.{may_be_empty, firsts}
 use Rattle.rbg_auto.specs.internal.Laying.{Laid}
 use Rattle.rbg_auto.specs.internal.Trees.{LaysAll, of_tree, in_sequence}
-use Rattle.rbg_auto.specs.internal.Tables.{IsSpan, Keeps, IsKept, Grows, laid_at, laid_of, told_at}
+use Rattle.rbg_auto.specs.internal.Tables.{IsSpan, Keeps, IsKept, Grows, laid_at, laid_of, glance_at}
 
 -- What the table has at each position.
 abbrev pub laid_in : Table → ℕ → Laid
 laid_in t = laid_at t.entries.items t.nodes.items t.insides.items
 
 -- The glance that the table has of the action at each position.
-abbrev pub told_in : Table → ℕ → Glance
-told_in t = told_at t.nodes.items
+abbrev pub glance_in : Table → ℕ → Glance
+glance_in t = glance_at t.nodes.items
 
 -- The table has the same positions, its lists are where they were, and an action without a glance still has none.
 pub record Extends (old new : Table) : Type 0 where
   pub entries : Grows old.entries.items new.entries.items
   pub size : length new.nodes.items ≡ length old.nodes.items
-  pub untold : (q : ℕ) → told_in old q ≡ Unknown → told_in new q ≡ Unknown
+  pub unknown : (q : ℕ) → glance_in old q ≡ Unknown → glance_in new q ≡ Unknown
 
 -- A list was added, and nothing was laid.
 pub record AddsList (old new : Table) : Type 0 where
@@ -53,11 +53,11 @@ pub record LaysAt (old new : Table) (p : ℕ) (inside : Opening) (rest : Rest) :
   pub sets : SetsNode middle new p (node_of next rest.may_end) inside
 
 -- The glance of the action at the position was recorded, if the table has the position, and nothing else was changed.
-pub record Tells (old new : Table) (p : ℕ) (glance : Glance) : Type 0 where
+pub record SetsGlance (old new : Table) (p : ℕ) (glance : Glance) : Type 0 where
   pub size : length new.nodes.items ≡ length old.nodes.items
   pub entries : new.entries.items ≡ old.entries.items
   pub laid : (q : ℕ) → laid_in new q ≡ laid_in old q
-  pub told : (q : ℕ) → (told_in new q ≡ told_in old q) ⊎ ((q ≡ p) × (told_in new q ≡ glance))
+  pub told : (q : ℕ) → (glance_in new q ≡ glance_in old q) ⊎ ((q ≡ p) × (glance_in new q ≡ glance))
 
 -- The tree is laid, or trees in a sequence.
 pub record LaysTree (old new : Table) (tree : Rule) (k : List ℕ) (end : Bool) : Type 0 where

@@ -9,7 +9,7 @@ use Rattle.rbg_auto.specs.LentSteps.{IsLentOf}
 use Rattle.rbg_auto.specs.Steps.{AreStepsOf, IsGlance}
 use Rattle.rbg_auto.specs.internal.Laying.{first_at, empty_at}
 use Rattle.rbg_auto.specs.internal.Tables.{listed}
-use Rattle.rbg_auto.specs.internal.Building.{laid_in, told_in}
+use Rattle.rbg_auto.specs.internal.Building.{laid_in, glance_in}
 
 -- These steps and entries are right to lend.
 pub record MayBeLent (rules : Expression) (steps : List Step) (entries : List ℕ) : Type 0 where
@@ -24,6 +24,6 @@ pub record IsCompactOf (c : Compact) (rules : Expression) : Type 0 where
       (λ i. (laid_in c.table i).next)
       (λ i. (laid_in c.table i).may_end)
       (empty_at c.rules.may_be_empty (laid_in c.table))
-  pub told : (p : ℕ) → IsGlance rules p (told_in c.table p)
+  pub told : (p : ℕ) → IsGlance rules p (glance_in c.table p)
   pub has : length (positions_of rules) < length c.table.nodes.items
   pub lends : (steps : Vec Step Global) → c.prepared ≡ Some steps → MayBeLent rules steps.items c.table.entries.items

@@ -60,5 +60,5 @@ abbrev pub laid_at : List ℕ → List Node → List Opening → ℕ → Laid
 laid_at entries nodes insides p = laid_of entries (slice_index_or nodes p no_node) (slice_index_or insides p no_inside)
 
 -- The glance of the action at each position.
-abbrev pub told_at : List Node → ℕ → Glance
-told_at nodes p = (slice_index_or nodes p no_node).glance
+abbrev pub glance_at : List Node → ℕ → Glance
+glance_at nodes p = (slice_index_or nodes p no_node).glance

@@ -1,7 +1,7 @@
 -- The players, variables and pieces of a description by their numbers, and the game that is made of them.
 use Rattle.std.specs.Prelude.{◌≡◌, ℕ, ◌≤◌, List, [], ◌++◌, length, All}
 use Rattle.rbg_grammar.specs.Tree.{SpeltBounded, SpeltDescription}
-use Rattle.rbg_rules.specs.Meaning.{Expression, AbstractGame, most_players, most_pieces, most_variables, greatest_bound, AreLawfulNames}
+use Rattle.rbg_rules.specs.Meaning.{Expression, AbstractGame, most_players, most_pieces, most_variables, max_bound, AreLawfulNames}
 use Rattle.rbg_game.specs.declared.checking.boards.NamedBoard.{NamedBoard}
 use Rattle.rbg_game.specs.declared.checking.names.Things.{Things}
 use Rattle.rbg_game.specs.NameNumbers.{texts_of}
@@ -12,7 +12,7 @@ pub record AddsBounds (holders : List SpeltBounded) (old new : List ℕ) : Type 
   pub added : List ℕ
   pub after : new ≡ old ++ added
   pub bounds : AreBounds holders added
-  pub limit : All (λ bound. bound ≤ greatest_bound) added
+  pub limit : All (λ bound. bound ≤ max_bound) added
 
 -- The names and bounds are those of the description, and there are no more of them than are allowed.
 pub record AreThingsOf (d : SpeltDescription) (things : Things) : Type 0 where

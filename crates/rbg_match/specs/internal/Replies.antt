@@ -38,47 +38,47 @@ pub record IsReferee (game : AbstractGame) (config : Config) (moment : ℕ) (pla
 
 -- the same referee, with play at another state, and with these messages after what each seat had
 abbrev pub gone_on : RefereeState → AbstractPlay → List Delivery → RefereeState
-gone_on referee play said = record referee { play = play; outbox = delivered referee.outbox said }
+gone_on referee play outgoing = record referee { play = play; outbox = delivered referee.outbox outgoing }
 
 -- The effect of a call that returns a value: the state of play after it, and the messages.
 abbrev pub Reply : Type 0 → Type 1
-Reply T = RefereeState → T → (after : AbstractPlay) → (said : List Delivery) → Type 0
+Reply T = RefereeState → T → (after : AbstractPlay) → (outgoing : List Delivery) → Type 0
 
 -- A call changes the state of play and queues messages, and nothing else. If it succeeds, both are those of its reply.
 -- After an error they may be others.
 pub record Replies {T E : Type 0} (old new : RefereeState) (result : Result T E) (IsReply : Reply T) : Type 0 where
   pub after : AbstractPlay
-  pub said : List Delivery
-  pub becomes : new ≡ gone_on old after said
-  pub whole : IfOk result (λ value. IsReply old value after said)
+  pub outgoing : List Delivery
+  pub becomes : new ≡ gone_on old after outgoing
+  pub whole : IfOk result (λ value. IsReply old value after outgoing)
 
 -- The match ends with that outcome, which is sent to each seat.
 abbrev pub Ends : {T : Type 0} → Outcome → Reply T
-Ends outcome referee _ after said =
-    (after ≡ ended referee.play outcome) × (said ≡ to_each (seats_of referee.game) (end_message outcome))
+Ends outcome referee _ after outgoing =
+    (after ≡ ended referee.play outcome) × (outgoing ≡ to_each (seats_of referee.game) (end_message outcome))
 
 -- The mover makes the legal move of these pairs, which is sent to every seat.
 pub record Makes (referee : RefereeState) (pairs : List (ℕ × ℕ)) (after : AbstractPlay)
-    (said : List Delivery) : Type 0 where
+    (outgoing : List Delivery) : Type 0 where
   pub to : AbstractPlace
   pub legal : Legal referee.game referee.play.place pairs to
   pub makes : after ≡ moved referee.play referee.moment pairs to
-  pub told : said ≡ to_each (seats_of referee.game) (move_message pairs)
+  pub told : outgoing ≡ to_each (seats_of referee.game) (move_message pairs)
 
 -- After that many moves in a row the keeper makes one more.
 pub record KeeperMoves (referee : RefereeState) (in_a_row : ℕ) (after : AbstractPlay)
-    (said : List Delivery) : Type 0 where
+    (outgoing : List Delivery) : Type 0 where
   pub keeper : mover_of referee.play ≡ 0
   pub may : in_a_row < most_keeper_moves
   pub pairs : List (ℕ × ℕ)
   pub short : length pairs ≤ most_pairs
-  pub makes : Makes referee pairs after said
+  pub makes : Makes referee pairs after outgoing
 
 -- One step of play: it was a move of the keeper, or play has settled.
 abbrev pub PlaysOnOnce : (in_a_row : ℕ) → Reply Progress
-PlaysOnOnce n referee KeeperMoved after said = KeeperMoves referee n after said
-PlaysOnOnce n referee Settled after said = PlaysOn referee.game referee.moment n referee.play after said
+PlaysOnOnce n referee KeeperMoved after outgoing = KeeperMoves referee n after outgoing
+PlaysOnOnce n referee Settled after outgoing = PlaysOn referee.game referee.moment n referee.play after outgoing
 
 -- The referee handles these inputs in turn, each at the counted moment.
-abbrev pub HandlesNow : List AbstractInput → RefereeState → (after : AbstractPlay) → (said : List Delivery) → Type 0
+abbrev pub HandlesNow : List AbstractInput → RefereeState → (after : AbstractPlay) → (outgoing : List Delivery) → Type 0
 HandlesNow inputs referee = HandlesAll referee.game referee.config referee.play (inputs_at referee.moment inputs)

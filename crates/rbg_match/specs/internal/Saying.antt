@@ -4,8 +4,8 @@ use Rattle.rbg_match.specs.Deliveries.{Delivery, delivered}
 
 -- Messages were queued, and their bytes follow what each seat had. If the call succeeds, they are the messages of its
 -- reply. After an error they may be others.
-pub record Says {T E : Type 0} (old new : List (List ℕ)) (result : Result T E)
+pub record QueuesMessages {T E : Type 0} (old new : List (List ℕ)) (result : Result T E)
     (IsToSay : T → List Delivery → Type 0) : Type 0 where
-  pub said : List Delivery
-  pub beyond : new ≡ delivered old said
-  pub whole : IfOk result (λ value. IsToSay value said)
+  pub outgoing : List Delivery
+  pub beyond : new ≡ delivered old outgoing
+  pub whole : IfOk result (λ value. IsToSay value outgoing)

@@ -2,7 +2,7 @@
 use Rattle.std.specs.Prelude.{◌≡◌, ◌≢◌, ℕ, ◌-◌, ◌<◌, ◌≤◌, ◌⊎◌, List, [], ◌∷◌, ◌++◌, length, map, All, AllPairs, Contains, Bool, true, false}
 use Rattle.std.specs.List.Sorted.{IsPermutation}
 use Rattle.rbg_base.specs.Move.{most_pairs, IsMoveLength}
-use Rattle.rbg_rules.specs.Meaning.{Expression, IsSwitchAt, AbstractGame, AbstractPlace, stand_of, IsLegal}
+use Rattle.rbg_rules.specs.Meaning.{Expression, IsSwitchAt, AbstractGame, AbstractPlace, point_of, IsLegal}
 use Rattle.rbg_pairs.specs.Flat.{IsFlatPart}
 use Rattle.rbg_search.specs.Searching.{Searching}
 use Rattle.rbg_moves.specs.internal.Asking.{CountsAnswer, question_of, is_cut}
@@ -71,7 +71,7 @@ pub record ListsSwitches
   where
     pub lists :
         (place : AbstractPlace) (ends : Bool) →
-        IsFlatPart game place.state (stand_of place.last) pairs ends →
+        IsFlatPart game place.state (point_of place.last) pairs ends →
         Gathers (IsLegalBy game place (IsSwitchAmong game.rules done)) front max old new first cut
 
 -- The switches among the pairs were taken, and the others are left.
@@ -99,4 +99,4 @@ pub record IsWalked
     pub gathers : Gathers (IsLegal old.game place) front max had has first ended
     pub counts :
         CountsAnswer old new (is_cut ended max) (question_of max)
-        place.state (stand_of place.last) (most_pairs - length front)
+        place.state (point_of place.last) (most_pairs - length front)

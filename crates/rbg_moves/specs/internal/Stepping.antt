@@ -1,6 +1,6 @@
 -- One modifier of a move, and the place after it.
 use Rattle.std.specs.Prelude.{◌≡◌, ℕ, ◌<◌, List, [], length, false, Option, Some, None, Result, Err, IfOk, IfSome, OnOk}
-use Rattle.rbg_rules.specs.Meaning.{IsModifierAt, AbstractGame, AbstractState, Applies, AbstractPlace, Legal, stand_of, IsPlaceOf, try_move, IsDeep, Start}
+use Rattle.rbg_rules.specs.Meaning.{IsModifierAt, AbstractGame, AbstractState, Applies, AbstractPlace, Legal, point_of, IsPlaceOf, try_move, IsDeep, Start}
 use Rattle.rbg_pairs.specs.Flat.{IsNext}
 use Rattle.rbg_pairs.specs.Start.{IsPositionOf}
 use Rattle.rbg_search.specs.Counting.{CountsOpenings, IsOverBudget}
@@ -52,17 +52,17 @@ pub record IsFollowed
     : Type 0
   where
     pub tried : IfOk result (IsTried old.game place pairs to)
-    pub deep : result ≡ Err Deep → IsDeep old.game (try_move pairs) place.state (stand_of place.last) old.modifiers
+    pub deep : result ≡ Err Deep → IsDeep old.game (try_move pairs) place.state (point_of place.last) old.modifiers
     pub wide :
         result ≡ Err Wide →
-        IsOverBudget old.game (try_move pairs) place.state (stand_of place.last) old.opened old.openings
+        IsOverBudget old.game (try_move pairs) place.state (point_of place.last) old.opened old.openings
     pub counted :
-        OnOk result (CountsOpenings old.game (try_move pairs) place.state (stand_of place.last) old.opened new.opened)
+        OnOk result (CountsOpenings old.game (try_move pairs) place.state (point_of place.last) old.opened new.opened)
     pub paired :
         OnOk result
-        (CountsPairs old.game (try_move pairs) place.state (stand_of place.last)
+        (CountsPairs old.game (try_move pairs) place.state (point_of place.last)
         old.opened new.opened old.taken new.taken (Unit {0}))
     pub forced :
         IfOk result (λ end. IfSome end (λ _.
-        CountsForced old.game false (try_move pairs) place.state (stand_of place.last)
+        CountsForced old.game false (try_move pairs) place.state (point_of place.last)
         old.opened new.opened (length pairs) old.modifiers))

@@ -62,20 +62,20 @@ AnswersMatch description script text status =
     length script ≤ most_input → IsTaskAnswer (task_of Referee description script) text status
 
 -- the line of a description that is not loaded; refused memory has none
-abbrev pub SaysUnloaded : LoadError → (text : List ℕ) → Status → Type 0
-SaysUnloaded error text status = (¬ IsMemory error) × (text ≡ refused_line error) × (status ≡ Refused)
+abbrev pub AnswersUnloaded : LoadError → (text : List ℕ) → Status → Type 0
+AnswersUnloaded error text status = (¬ IsMemory error) × (text ≡ refused_line error) × (status ≡ Refused)
 
 -- the line of a fault of a record; refused memory has none
-abbrev pub SaysFault : RecordError → (text : List ℕ) → Status → Type 0
-SaysFault (Form line) text status = (text ≡ form_line line) × (status ≡ BadInput)
-SaysFault (Over line) text status = (text ≡ over_line line) × (status ≡ BadInput)
-SaysFault Memory text status = ⊥
+abbrev pub AnswersRecordError : RecordError → (text : List ℕ) → Status → Type 0
+AnswersRecordError (Form line) text status = (text ≡ form_line line) × (status ≡ BadInput)
+AnswersRecordError (Over line) text status = (text ≡ over_line line) × (status ≡ BadInput)
+AnswersRecordError Memory text status = ⊥
 
 -- the line of the verdict on a record
-abbrev pub SaysChecked : Result Checked RecordError → (text : List ℕ) → Status → Type 0
-SaysChecked (Ok Good) text status = (text ≡ good_line) × (status ≡ Success)
-SaysChecked (Ok (Bad line)) text status = (text ≡ bad_line line) × (status ≡ BadInput)
-SaysChecked (Err error) text status = SaysFault error text status
+abbrev pub AnswersChecked : Result Checked RecordError → (text : List ℕ) → Status → Type 0
+AnswersChecked (Ok Good) text status = (text ≡ good_line) × (status ≡ Success)
+AnswersChecked (Ok (Bad line)) text status = (text ≡ bad_line line) × (status ≡ BadInput)
+AnswersChecked (Err error) text status = AnswersRecordError error text status
 
 -- what a reading gives: None if there is too much, and nothing if the device failed
 abbrev pub Gives : Input → Option (Vec ℕ Global) → Type 0

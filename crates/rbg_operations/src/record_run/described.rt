@@ -24,7 +24,7 @@ pub(super) fn record_read<F: Files>(
     ensures { IfOk result (λ answer. (description script : List ℕ) →
         IsReadOf longest_text texts.now.description description →
         IsReadOf most_input texts.now.told script →
-        RecordsTask F.tells_new (F.told files.old target.now) (F.told files.new target.now)
+        RecordsTask F.knows_new (F.told files.old target.now) (F.told files.new target.now)
         (task_of Referee description script) answer.text.items answer.status) }
 {
     match &texts.description {

@@ -15,7 +15,7 @@ pub(super) fn record_texts<F: Files>(
     description: &[u8],
     script: &[u8],
 ) -> Result<Answer, AllocError>
-    ensures { IfOk result (λ answer. RecordsTexts F.tells_new (F.told files.old target.now)
+    ensures { IfOk result (λ answer. RecordsTexts F.knows_new (F.told files.old target.now)
         (F.told files.new target.now) description.now script.now answer.text.items answer.status) }
 {
     match files.create_file(alloc, target) {
@@ -33,8 +33,8 @@ fn record_match<F: Files>(
     description: &[u8],
     script: &[u8],
 ) -> Result<Answer, AllocError>
-    requires { F.tells_new → F.NewFile.contents file ≡ Some [] }
-    ensures { IfOk result (λ answer. RecordsMatch F.tells_new (F.told files.new target.now)
+    requires { F.knows_new → F.NewFile.contents file ≡ Some [] }
+    ensures { IfOk result (λ answer. RecordsMatch F.knows_new (F.told files.new target.now)
         description.now script.now answer.text.items answer.status) }
 {
     match referee_recorded(alloc, description, script) {
@@ -51,8 +51,8 @@ fn write_recorded<F: Files>(
     files: &mut F,
     recorded: Recorded,
 ) -> Result<Answer, AllocError>
-    requires { F.tells_new → F.NewFile.contents file ≡ Some [] }
-    ensures { IfOk result (λ answer. WritesRecord F.tells_new (F.told files.new target.now)
+    requires { F.knows_new → F.NewFile.contents file ≡ Some [] }
+    ensures { IfOk result (λ answer. WritesRecord F.knows_new (F.told files.new target.now)
         recorded.lines.items recorded.told.items answer.text.items answer.status) }
 {
     match fill_file(alloc, files, target, file, recorded.told.as_slice()) {

@@ -15,7 +15,7 @@ pub(super) fn record_marked<F: Files>(
     files: &mut F,
     input: &[u8],
 ) -> Result<Answer, AllocError>
-    ensures { IfOk result (λ answer. RecordsInput F.tells_new (F.told files.old target.now)
+    ensures { IfOk result (λ answer. RecordsInput F.knows_new (F.told files.old target.now)
         (F.told files.new target.now) input.now answer.text.items answer.status) }
 {
     match cut_at_mark(input) {

@@ -20,11 +20,11 @@ abbrev pub IsFaultOf : OverLimits → LineFault → Type 0
 IsFaultOf over fault = fault ≡ fault_of over
 
 -- the verdict on a record with a fault at a line
-abbrev pub told_at : LineFault → (line : ℕ) → Result Checked RecordError
-told_at Form line = Err (error.Form line)
-told_at Bad line = Ok (checked.Bad line)
-told_at Over line = Err (error.Over line)
-told_at Memory line = Err error.Memory
+abbrev pub verdict_at : LineFault → (line : ℕ) → Result Checked RecordError
+verdict_at Form line = Err (error.Form line)
+verdict_at Bad line = Ok (checked.Bad line)
+verdict_at Over line = Err (error.Over line)
+verdict_at Memory line = Err error.Memory
 
 -- a question was not answered: it is above the limits, or memory ran out
 abbrev pub IsOverOrMemory : LineFault → Type 0

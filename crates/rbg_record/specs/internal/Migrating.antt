@@ -10,7 +10,7 @@ use Rattle.rbg_record.specs.declared.next.Next.{Next}
 use Rattle.rbg_record.specs.declared.next.Next.TheVariants as nexts
 use Rattle.rbg_record.specs.Entries.{entry_text, timed_text, with_moment, EntryHasSpelling, SpellsEntry}
 use Rattle.rbg_record.specs.Heading.{version_text, players_text, start_text}
-use Rattle.rbg_record.specs.Reading.{Says}
+use Rattle.rbg_record.specs.Reading.{HasContent}
 use Rattle.rbg_wire.specs.Lines.{line_of, lines_of}
 use Rattle.rbg_record.specs.declared.error.RecordError.{RecordError}
 use Rattle.rbg_record.specs.declared.error.RecordError.TheVariants as error
@@ -73,16 +73,16 @@ pub record TellsAll (game : AbstractGame) (texts : List (List ℕ)) (out : List 
   pub told : out ≡ lines_of (timed_texts game moves ++ timed_text (with_moment (End outcome)) ∷ [])
 
 -- what is in version 2 so far
-abbrev pub IsTold : AbstractGame → PlainPart → (texts : List (List ℕ)) → (out : List ℕ) → Type 0
-IsTold game before_version texts out = (texts ≡ []) × (out ≡ [])
-IsTold game among_moves texts out = TellsMoves game texts out
-IsTold game beyond_end texts out = TellsAll game texts out
+abbrev pub IsWritten : AbstractGame → PlainPart → (texts : List (List ℕ)) → (out : List ℕ) → Type 0
+IsWritten game before_version texts out = (texts ≡ []) × (out ≡ [])
+IsWritten game among_moves texts out = TellsMoves game texts out
+IsWritten game beyond_end texts out = TellsAll game texts out
 
 -- Lines of these texts are migrated: this comes next, and this was written of them.
 pub record AreMigrated (game : AbstractGame) (texts : List (List ℕ)) (so_far : Next × List ℕ) : Type 0 where
   pub plain : IsPlainNext so_far.0
   pub lead : IsPlainSoFar texts (part_of so_far.0)
-  pub told : IsTold game (part_of so_far.0) texts so_far.1
+  pub told : IsWritten game (part_of so_far.0) texts so_far.1
 
 -- A line is accepted at this point, and what it is in version 2 was written.
 pub record MigratesLine (game : AbstractGame) (next : Next) (text : List ℕ) (to : Next) (old new : List ℕ) : Type 0 where
@@ -93,7 +93,7 @@ pub record MigratesLine (game : AbstractGame) (next : Next) (text : List ℕ) (t
 abbrev pub RefusesPlain : RecordLine → RecordError → Type 0
 RefusesPlain line (error.Form number) =
     (number ≡ line.number)
-    × ((next : Next) → IsPlainNext next → Says next line.text.now line.content → ¬ HasPlainForm (part_of next) line.text.now)
+    × ((next : Next) → IsPlainNext next → HasContent next line.text.now line.content → ¬ HasPlainForm (part_of next) line.text.now)
 RefusesPlain line (error.Over number) = ⊥
 RefusesPlain line error.Memory = Unit {0}
 

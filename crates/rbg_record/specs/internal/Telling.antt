@@ -21,14 +21,14 @@ use Rattle.rbg_record.specs.declared.script_error.ScriptingError.TheVariants.{Fo
 use Rattle.rbg_record.specs.Scripting.{HasForm, IsHead, IsMove, IsNoRecord, LeadsOn, LeadThere, events_in}
 
 -- Lines are appended that spell these events.
-pub record TellsEvents (events : List AbstractEvent) (old new : List ℕ) : Type 0 where
+pub record AppendsEvents (events : List AbstractEvent) (old new : List ℕ) : Type 0 where
   pub lines : List (List ℕ)
   pub is : new ≡ old ++ lines_of lines
   pub spelled : AllZip SpellsEvent lines events
   pub whole : All (LacksByte line_feed) lines
 
 -- The texts are the first lines of a record and these entries, and this was written of them.
-pub record TellsEntries (version : Version) (entries : List Timed) (texts : List (List ℕ)) (out : List ℕ) : Type 0 where
+pub record WritesEntries (version : Version) (entries : List Timed) (texts : List (List ℕ)) (out : List ℕ) : Type 0 where
   pub head : List (List ℕ)
   pub config : ScriptConfig
   pub is_head : IsHead version head config
@@ -36,7 +36,7 @@ pub record TellsEntries (version : Version) (entries : List Timed) (texts : List
   pub lines : List (List ℕ)
   pub spelled : AllZip (SpellsIn version) lines entries
   pub are : texts ≡ head ++ lines
-  pub events : TellsEvents (flat_map events_in entries) (line_of (config_text config)) out
+  pub events : AppendsEvents (flat_map events_in entries) (line_of (config_text config)) out
 
 pub record TellsPlayers (texts : List (List ℕ)) (out : List ℕ) : Type 0 where
   pub players : List ℕ
@@ -48,7 +48,7 @@ pub record TellsPlayers (texts : List (List ℕ)) (out : List ℕ) : Type 0 wher
 pub record TellsMoves (version : Version) (texts : List (List ℕ)) (out : List ℕ) : Type 0 where
   pub moves : List Timed
   pub are_moves : All (λ (told : Timed). IsMove told.entry) moves
-  pub tells : TellsEntries version moves texts out
+  pub tells : WritesEntries version moves texts out
 
 pub record TellsWhole (texts : List (List ℕ)) (out : List ℕ) : Type 0 where
   pub version : Version
@@ -56,24 +56,24 @@ pub record TellsWhole (texts : List (List ℕ)) (out : List ℕ) : Type 0 where
   pub are_moves : All (λ (told : Timed). IsMove told.entry) moves
   pub at : ℕ
   pub outcome : Option Outcome
-  pub tells : TellsEntries version (moves ++ record { at = at; entry = End outcome } ∷ []) texts out
+  pub tells : WritesEntries version (moves ++ record { at = at; entry = End outcome } ∷ []) texts out
 
 -- what was written of the lines up to that part
-abbrev pub IsTold : Next → (texts : List (List ℕ)) → (out : List ℕ) → Type 0
-IsTold nexts.Version texts out = (texts ≡ []) × (out ≡ [])
-IsTold nexts.Players texts out = (texts ≡ version_text Two ∷ []) × (out ≡ [])
-IsTold nexts.Start texts out = TellsPlayers texts out
-IsTold (nexts.Entry version) texts out = TellsMoves version texts out
-IsTold nexts.Nothing texts out = TellsWhole texts out
+abbrev pub IsWritten : Next → (texts : List (List ℕ)) → (out : List ℕ) → Type 0
+IsWritten nexts.Version texts out = (texts ≡ []) × (out ≡ [])
+IsWritten nexts.Players texts out = (texts ≡ version_text Two ∷ []) × (out ≡ [])
+IsWritten nexts.Start texts out = TellsPlayers texts out
+IsWritten (nexts.Entry version) texts out = TellsMoves version texts out
+IsWritten nexts.Nothing texts out = TellsWhole texts out
 
 -- A line is accepted, and what was written of it is right.
-pub record TellsNext (from : Next) (text : List ℕ) (to : Next) (old new : List ℕ) : Type 0 where
+pub record WritesNext (from : Next) (text : List ℕ) (to : Next) (old new : List ℕ) : Type 0 where
   pub leads : LeadsOn from text to
-  pub told : (texts : List (List ℕ)) → IsTold from texts old → IsTold to (texts ++ text ∷ []) new
+  pub told : (texts : List (List ℕ)) → IsWritten from texts old → IsWritten to (texts ++ text ∷ []) new
 
 -- Lines of these texts were written into the script: this comes next, and this was written of them.
-abbrev pub AreTold : (texts : List (List ℕ)) → Next × List ℕ → Type 0
-AreTold texts so_far = LeadThere texts so_far.0 × IsTold so_far.0 texts so_far.1
+abbrev pub AreWritten : (texts : List (List ℕ)) → Next × List ℕ → Type 0
+AreWritten texts so_far = LeadThere texts so_far.0 × IsWritten so_far.0 texts so_far.1
 
 -- why nothing is written of a line: it isn't of the form, or memory ran out
 abbrev pub RefusesLine : Next → RecordLine → ScriptingError → Type 0

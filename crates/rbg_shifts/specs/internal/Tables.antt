@@ -20,7 +20,7 @@ abbrev pub target_at : List Target → ℕ → Target
 target_at targets i = slice_index_or targets i no_target
 
 -- One of the targets between two places has position j at vertex u.
-pub record Tells (targets : List Target) (from to j u : ℕ) : Type 0 where
+pub record HasEnd (targets : List Target) (from to j u : ℕ) : Type 0 where
   pub at : ℕ
   pub beyond : from ≤ at
   pub before : at < to
@@ -49,8 +49,8 @@ abbrev pub entry_at : Table → (node v : ℕ) → Entry
 entry_at table node v = entry_in table.entries.items table.vertices node v
 
 -- The targets of an entry have position j at vertex u.
-abbrev pub TellsAt : Table → Entry → (j u : ℕ) → Type 0
-TellsAt table e = Tells table.targets.items e.start (end_of e)
+abbrev pub HasEndAt : Table → Entry → (j u : ℕ) → Type 0
+HasEndAt table e = HasEnd table.targets.items e.start (end_of e)
 
 -- The entry has nothing but leaps from vertex v, at a node with that list.
 pub record IsSoundEntry (game : AbstractGame) (list : List ℕ) (may_end : Bool) (v : ℕ) (table : Table) (e : Entry) : Type 0 where
@@ -85,28 +85,28 @@ pub record IsRightAt (game : AbstractGame) (lists : Lists) (table : Table) (n : 
 
 -- What an entry records, the targets between two places record too, and `may_end` is set if the entry lets a word end.
 pub record IsUnder (table : Table) (one : Entry) (from to : ℕ) (may_end : Bool) : Type 0 where
-  pub tells : (j u : ℕ) → TellsAt table one j u → Tells table.targets.items from to j u
+  pub tells : (j u : ℕ) → HasEndAt table one j u → HasEnd table.targets.items from to j u
   pub ends : IsTrue one.ends → IsTrue may_end
 
 -- The targets between two places record what one step by position p leads to from vertex v: p itself if it is no shift,
 -- and all that is recorded at the vertex to which a shift leads.
-pub record IsToldBy
+pub record RecordsStep
     (game : AbstractGame) (lists : Lists) (table : Table) (from to : ℕ) (may_end : Bool) (v p : ℕ)
     : Type 0
   where
-    pub plain : ¬ IsShiftAt game.rules p → Tells table.targets.items from to p v
+    pub plain : ¬ IsShiftAt game.rules p → HasEnd table.targets.items from to p v
     pub is_vertex : (w : ℕ) → IsShiftAt game.rules p → Comes game v p w → w < table.vertices
     pub shift :
         (w : ℕ) → IsShiftAt game.rules p → Comes game v p w →
         IsUnder table (entry_at table (slice_index_or lists.afters.items p 0) w) from to may_end
 
 -- The entry records it.
-abbrev pub IsToldAt : AbstractGame → Lists → Table → Entry → (v p : ℕ) → Type 0
-IsToldAt game lists table e = IsToldBy game lists table e.start (end_of e) e.ends
+abbrev pub RecordsStepAt : AbstractGame → Lists → Table → Entry → (v p : ℕ) → Type 0
+RecordsStepAt game lists table e = RecordsStep game lists table e.start (end_of e) e.ends
 
 -- All targets from a place on record it.
-abbrev pub IsToldFrom : AbstractGame → Lists → Table → (start : ℕ) → Bool → (v p : ℕ) → Type 0
-IsToldFrom game lists table start = IsToldBy game lists table start (length table.targets.items)
+abbrev pub RecordsStepFrom : AbstractGame → Lists → Table → (start : ℕ) → Bool → (v p : ℕ) → Type 0
+RecordsStepFrom game lists table start = RecordsStep game lists table start (length table.targets.items)
 
 -- Nothing is missing in the targets between two places, at a node and a vertex.
 pub record IsWhole
@@ -114,7 +114,7 @@ pub record IsWhole
     : Type 0
   where
     pub ends : IsTrue (may_end_at lists.interner n) → IsTrue may_end
-    pub told : All (IsToldBy game lists table from to may_end v) (list_at lists.interner n)
+    pub told : All (RecordsStep game lists table from to may_end v) (list_at lists.interner n)
 
 -- .. in all targets from a place on.
 abbrev pub IsWholeFrom : AbstractGame → Lists → Table → (start n v : ℕ) → Bool → Type 0
@@ -152,12 +152,12 @@ pub record Shares (old new : Table) (n v : ℕ) (e : Entry) : Type 0 where
       slice_index_or new.entries.items i no_entry ≡ slice_index_or old.entries.items i no_entry
 
 -- The targets from a place on record all that they recorded before.
-pub record TellsStill (start : ℕ) (old new : List Target) : Type 0 where
-  pub tells : (j u : ℕ) → Tells old start (length old) j u → Tells new start (length new) j u
+pub record KeepsEnds (start : ℕ) (old new : List Target) : Type 0 where
+  pub tells : (j u : ℕ) → HasEnd old start (length old) j u → HasEnd new start (length new) j u
 
 -- The table still records, from a place on, all that it recorded before.
-abbrev pub KeepsTold : (start : ℕ) → Table → Table → Type 0
-KeepsTold start old new = TellsStill start old.targets.items new.targets.items
+abbrev pub KeepsRecorded : (start : ℕ) → Table → Table → Type 0
+KeepsRecorded start old new = KeepsEnds start old.targets.items new.targets.items
 
 -- A target was added to those from a place on.
 pub record AddsTarget (start : ℕ) (old new : List Target) (t : Target) : Type 0 where
@@ -165,8 +165,8 @@ pub record AddsTarget (start : ℕ) (old new : List Target) (t : Target) : Type 
       (game : AbstractGame) (list : List ℕ) (may_end : Bool) (v : ℕ) →
       AreSoundBy game list may_end v old start (length old) → IsTargetBy game list may_end v t →
       AreSoundBy game list may_end v new start (length new)
-  pub kept : TellsStill start old new
-  pub has : (j u : ℕ) → IsEndOf t j u → Tells new start (length new) j u
+  pub kept : KeepsEnds start old new
+  pub has : (j u : ℕ) → IsEndOf t j u → HasEnd new start (length new) j u
 
 -- The targets between two places were added to those from `start` on, up to a place.
 pub record AddsUpTo (start : ℕ) (old new : List Target) (from to place : ℕ) : Type 0 where
@@ -176,8 +176,8 @@ pub record AddsUpTo (start : ℕ) (old new : List Target) (from to place : ℕ) 
       AreSoundBy game list may_end v old start (length old) →
       AreSoundBy game list may_end v old from to →
       AreSoundBy game list may_end v new start (length new)
-  pub kept : TellsStill start old new
-  pub has : (j u : ℕ) → Tells old from place j u → Tells new start (length new) j u
+  pub kept : KeepsEnds start old new
+  pub has : (j u : ℕ) → HasEnd old from place j u → HasEnd new start (length new) j u
 
 -- All of them were added.
 abbrev pub AddsAll : (start : ℕ) → (old new : List Target) → (from to : ℕ) → Type 0
@@ -269,9 +269,9 @@ pub record AreFilledSoFar (game : AbstractGame) (lists : Lists) (table : Table) 
   pub filled : AreFilled game lists table marks
 
 -- The entries of a node record what one step by position p leads to, at each vertex.
-abbrev pub IsToldEverywhere : AbstractGame → Lists → Table → (n p : ℕ) → Type 0
-IsToldEverywhere game lists table n p =
-    (v : ℕ) → v < length game.board.first → IsToldAt game lists table (entry_at table n v) v p
+abbrev pub RecordsStepEverywhere : AbstractGame → Lists → Table → (n p : ℕ) → Type 0
+RecordsStepEverywhere game lists table n p =
+    (v : ℕ) → v < length game.board.first → RecordsStepAt game lists table (entry_at table n v) v p
 
 -- Nothing is missing in the entries of a node.
 abbrev pub AreClosedAt : AbstractGame → Lists → Table → (n : ℕ) → Type 0

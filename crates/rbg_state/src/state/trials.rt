@@ -3,7 +3,7 @@ ghost use Rattle.std.specs.Prelude.{◌≡◌, ℕ, ◌<◌, ◌≤◌, ◌↔�
 ghost use Rattle.rbg_board.specs.Graph.{next};
 ghost use Rattle.rbg_rules.specs.Meaning.{AbstractAction, shift, on, assignment, comparison, AbstractGame, AbstractState, IsStateOf, positions_of, IsPatternAt, IsGame, IsActionOf, arithmetic_of, shows_pattern, Shows};
 ghost use Rattle.rbg_state.specs.Reads.{ReadsBelow};
-ghost use Rattle.rbg_state.specs.Trials.{Tells, IsTrial};
+ghost use Rattle.rbg_state.specs.Trials.{IsTrialOf, IsTrial};
 
 use super::SemiState;
 use super::actions::Applied;
@@ -38,32 +38,38 @@ impl SemiState {
         ensures there { IfSome result (λ trial. (v : ℕ) → trial ≡ Trial.LeadsTo v
             → v < length self.now.state.pieces) }
     {
-        self.tell(game, game.board(), game.action(position), vertex)
+        self.try_action(game, game.board(), game.action(position), vertex)
     }
 
     /// What an action would do at a vertex. Returns None if it is a pattern.
     #[inline(always)]
-    fn tell(&self, game: &Game, board: &Board, action: &Action, vertex: Vertex) -> Option<Trial>
+    fn try_action(
+        &self,
+        game: &Game,
+        board: &Board,
+        action: &Action,
+        vertex: Vertex,
+    ) -> Option<Trial>
         requires lawful { IsGame game.now }
         requires board { board.now ≡ game.now.board }
         requires fits { IsStateOf game.now self.now.state }
         requires vertex { vertex < length self.now.state.pieces }
         requires named { (a : AbstractAction) → Shows a action.now → IsActionOf game.now a }
         ensures told { IfSome result (λ trial. (a : AbstractAction) → Shows a action.now
-            → Tells game.now a (record self.now.state { vertex = vertex }) trial) }
+            → IsTrialOf game.now a (record self.now.state { vertex = vertex }) trial) }
         ensures plain { IfSome result (λ _. shows_pattern action.now ≡ false) }
         ensures pattern { IfNone result (shows_pattern action.now ≡ true) }
     {
         match action {
-            Action::Shift { direction } => Some(tell_shift(board.step(vertex, *direction))),
-            Action::On { pieces } => Some(self.tell_on(pieces, vertex)),
+            Action::Shift { direction } => Some(try_shift(board.step(vertex, *direction))),
+            Action::On { pieces } => Some(self.try_on(pieces, vertex)),
             Action::Compare {
                 left,
                 relation,
                 right,
-            } => Some(self.tell_compare(left, *relation, right, vertex)),
+            } => Some(self.try_compare(left, *relation, right, vertex)),
             Action::Assign { variable, value } => {
-                Some(self.tell_assign(value, game.bound(*variable)))
+                Some(self.try_assign(value, game.bound(*variable)))
             }
             Action::Off { .. } => Some(Trial::Modifies),
             Action::Switch { .. } => Some(Trial::Modifies),
@@ -74,10 +80,10 @@ impl SemiState {
 
     /// What an on of these pieces would do at a vertex.
     #[inline(always)]
-    fn tell_on(&self, pieces: &[Piece], vertex: Vertex) -> Trial
+    fn try_on(&self, pieces: &[Piece], vertex: Vertex) -> Trial
         requires { vertex < length self.now.state.pieces }
         ensures { (game : AbstractGame)
-            → Tells game (on pieces.now) (record self.now.state { vertex = vertex }) result }
+            → IsTrialOf game (on pieces.now) (record self.now.state { vertex = vertex }) result }
     {
         if is_among(pieces, self.piece(vertex)) {
             Trial::LeadsTo(vertex)
@@ -88,7 +94,7 @@ impl SemiState {
 
     /// What a comparison would do at a vertex. It is never inlined, so that it stays out of the loops around it.
     #[inline(never)]
-    fn tell_compare(
+    fn try_compare(
         &self,
         left: &Arithmetic,
         relation: Relation,
@@ -98,7 +104,7 @@ impl SemiState {
         requires { ReadsBelow (length self.now.state.values) (arithmetic_of left.now)
             × ReadsBelow (length self.now.state.values) (arithmetic_of right.now) }
         ensures { (game : AbstractGame)
-            → Tells game (comparison (arithmetic_of left.now) relation (arithmetic_of right.now))
+            → IsTrialOf game (comparison (arithmetic_of left.now) relation (arithmetic_of right.now))
             (record self.now.state { vertex = vertex }) result }
     {
         match self.compare(left, relation, right) {
@@ -108,11 +114,11 @@ impl SemiState {
     }
 
     /// What an assignment to a variable with this bound would do, at any vertex.
-    fn tell_assign(&self, expression: &Arithmetic, bound: u32) -> Trial
+    fn try_assign(&self, expression: &Arithmetic, bound: u32) -> Trial
         requires { ReadsBelow (length self.now.state.values) (arithmetic_of expression.now) }
         ensures { (game : AbstractGame) (variable vertex : ℕ)
             → slice_index game.bounds variable ≡ bound
-            → Tells game (assignment variable (arithmetic_of expression.now))
+            → IsTrialOf game (assignment variable (arithmetic_of expression.now))
             (record self.now.state { vertex = vertex }) result }
     {
         match self.assigned(expression, bound) {
@@ -136,10 +142,10 @@ fn is_among(pieces: &[Piece], piece: Piece) -> bool
 }
 
 /// What a shift would do that leads to this vertex, or nowhere.
-fn tell_shift(to: Option<Vertex>) -> Trial
+fn try_shift(to: Option<Vertex>) -> Trial
     ensures { (game : AbstractGame) (s : AbstractState) (direction : ℕ)
         → next game.board s.vertex direction ≡ to
-        → Tells game (shift direction) s result }
+        → IsTrialOf game (shift direction) s result }
 {
     match to {
         Some(vertex) => Trial::LeadsTo(vertex),

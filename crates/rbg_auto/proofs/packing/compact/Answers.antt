@@ -5,8 +5,8 @@ use Rattle.rbg_auto.proofs.packing.compact.Goals as goal
 
 pub returns : goal.returns
 returns c =
-    let told = c.tell_all.new.automaton in
-    let is : IsCompactOf told c.args.game.now.rules = c.tell_all.ensures in
+    let told = c.set_glances.new.automaton in
+    let is : IsCompactOf told c.args.game.now.rules = c.set_glances.ensures in
     record {
       steps = is.steps;
       told = is.told;

@@ -1,7 +1,7 @@
 -- The proof of `packing::compact_tree`.
 use Rattle.std.proofs.Common.{length, ◌+◌}
 use Rattle.rbg_rules.specs.Meaning.{positions_of, expression_of}
-use Rattle.rbg_auto.proofs.CompactLemmas.{IsBlank, compact_steps, has_each, untold}
+use Rattle.rbg_auto.proofs.CompactLemmas.{IsBlank, compact_steps, has_each, unknown}
 use Rattle.rbg_auto.proofs.packing.compact_tree.Goals as goal
 
 pub returns : goal.returns
@@ -11,7 +11,7 @@ returns c = λ actions numbered none count.
     let blank : IsBlank old (c.args.positions + 1) = record { nodes = c.in_ok-builder.ensures.nodes; insides = c.in_ok-builder.ensures.insides; entries = c.in_ok-builder.ensures.entries } in
     record {
       steps = compact_steps actions c.args.tree.now c.args.positions numbered none count old new c.in_ok-rules.rules blank c.in_ok-rules.ensures;
-      told = untold (expression_of actions c.args.tree.now) c.args.tree.now old new c.in_ok-rules.rules (c.args.positions + 1) blank c.in_ok-rules.ensures;
+      told = unknown (expression_of actions c.args.tree.now) c.args.tree.now old new c.in_ok-rules.rules (c.args.positions + 1) blank c.in_ok-rules.ensures;
       has = has_each c.args.tree.now c.args.positions (length (positions_of (expression_of actions c.args.tree.now))) count old new c.in_ok-rules.rules blank c.in_ok-rules.ensures;
       lends = λ steps some. absurd (cc some);
     }

@@ -1,6 +1,6 @@
 use Rattle.rbg_base.proofs.Common.{◌≡◌, ℕ, suc, ◌+◌, ◌<◌, List, ◌∷◌, length, get_or, drop, sym, ap, ◌∙◌, subst, arith, drop_all}
 use Rattle.std.proofs.Math.Seq.{drop-cons}
-use Rattle.rbg_rules.specs.Meaning.{IsGame, AbstractGame, AbstractState, IsStateOf, Applies, AbstractPlace, stand_of, Legal}
+use Rattle.rbg_rules.specs.Meaning.{IsGame, AbstractGame, AbstractState, IsStateOf, Applies, AbstractPlace, point_of, Legal}
 use Rattle.rbg_pairs.specs.Flat.{IsNext}
 use Rattle.rbg_state.specs.History.{History}
 use Rattle.rbg_state.proofs.Histories.{after_nothing, after_both}
@@ -25,13 +25,13 @@ module _ (game : AbstractGame) (lawful : IsGame game) (place to : AbstractPlace)
   goes_there : IsMadeFrom game place ((v, p) ∷ drop (suc k) all) to
   goes_there = subst (λ (ps : List (ℕ × ℕ)). IsMadeFrom game place ps to) cons made
 
-  next : IsNext game place.state (stand_of place.last) v p
+  next : IsNext game place.state (point_of place.last) v p
   next = made_next game lawful.numbered place v p (drop (suc k) all) to goes_there
 
   valid : IsStateOf game place.state → (s : AbstractState) → s ≡ place.state → IsValidAt game s v p
   valid fits s same =
       subst (λ (u : AbstractState). IsValidAt game u v p) (sym same)
-      (valid_next game lawful.numbered place.state (stand_of place.last) v p (next_there game lawful place.state (stand_of place.last) v p fits next) next)
+      (valid_next game lawful.numbered place.state (point_of place.last) v p (next_there game lawful place.state (point_of place.last) v p fits next) next)
 
   made_further : (later : AbstractState) → Applies game p (at_vertex place.state v) later → IsMadeFrom game (place_beyond later p) (drop (k + 1) all) to
   made_further later applied =

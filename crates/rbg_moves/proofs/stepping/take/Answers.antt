@@ -1,5 +1,5 @@
 use Rattle.rbg_base.proofs.Common.{◌≡◌, ◌<◌, ℕ, length, true, false, sym, ap, ◌∙◌, subst, List, Bool, Contains, Result, Ok, All-contains}
-use Rattle.rbg_rules.specs.Meaning.{AbstractGame, AbstractState, IsStateOf, Applies, stand_of, Start, IsStart, reach}
+use Rattle.rbg_rules.specs.Meaning.{AbstractGame, AbstractState, IsStateOf, Applies, point_of, Start, IsStart, reach}
 use Rattle.rbg_pairs.specs.Start.{start_of, IsPositionOf}
 use Rattle.rbg_search.proofs.Common.{IsAnswered, HasReached, Searching, CountsPairs}
 use Rattle.rbg_search.specs.declared.over.Over.{Over}
@@ -37,7 +37,7 @@ apply_at-requires-clause-valid g c =
     let has : Contains items q = subst (Contains items) c.pair.view_is (c.contains-comes_next.ensures.0 c.if-comes_next.true) in
     let within = All-contains (λ (r : ℕ × ℕ). (r.0 < length game.board.first) × IsPositionOf game.rules r.1) items q come.found.within has in
     let here : c.reach_into.new.state.state ≡ s = ap (λ (h : History). h.state) c.in_ok-reach_into.ensures.answered.given_back in
-    valid_as game c.game-game.result.now s c.reach_into.new.state.state q.0 q.1 c.game-game.ensures.game here (valid_next game c.game-game.ensures.lawful.numbered s (stand_of c.args.after) q.0 q.1 within.0 ((come.found.reached.next q.0 q.1).0 has))
+    valid_as game c.game-game.result.now s c.reach_into.new.state.state q.0 q.1 c.game-game.ensures.game here (valid_next game c.game-game.ensures.lawful.numbered s (point_of c.args.after) q.0 q.1 within.0 ((come.found.reached.next q.0 q.1).0 has))
 
 pub returns-then-comes_next-clause-taken : goal.returns-then-comes_next-clause-taken
 returns-then-comes_next-clause-taken g c _ =

@@ -1,6 +1,6 @@
 -- What became of the pairs that were followed.
 use Rattle.rbg_base.proofs.Common.{rules, ◌≡◌, ℕ, List, [], ◌∷◌, length, true, false, refl, sym, ap, ◌∙◌, arith, ◌==◌, Some, None, err_from_is_err_and, Decides-eqb}
-use Rattle.rbg_rules.specs.Meaning.{IsSwitchAt, AbstractPlace, stand_of}
+use Rattle.rbg_rules.specs.Meaning.{IsSwitchAt, AbstractPlace, point_of}
 use Rattle.rbg_moves.specs.internal.Stepping.{IsStep}
 use Rattle.rbg_moves.proofs.Following.{followed_as, follows_none, follows_in_vain, follows_first, follows_on}
 use Rattle.rbg_moves.proofs.Forcing.{last_forced}
@@ -55,11 +55,11 @@ returns-then-is_empty-clause-followed g t c =
     let p = c.pair.inside.position in
     let qs = c.in-Some.rest.now in
     let empty : qs ≡ [] = empty_of qs (sym c.if-is_empty.true ∙ c.is_empty.ensures) in
-    let taken : IsStep game place.state (stand_of place.last) v p c.take.new.state.state = c.in_ok-taken.ensures.taken (search rules) in
+    let taken : IsStep game place.state (point_of place.last) v p c.take.new.state.state = c.in_ok-taken.ensures.taken (search rules) in
     followed_as (first_is c.args.pairs.now qs c.in-Some.pair.now v p (search rules) c.pair.view_is ∙ ap (λ (rs : List (ℕ × ℕ)). (v, p) ∷ rs) empty)
     (follows_first c.args.search.now c.take.new.search place v p [] c.game-game.ensures.lawful.numbered c.take.ensures.counted c.in_ok-taken.ensures.paired (Some p)
     (step_ends game c.game-game.ensures.lawful.numbered place v p c.take.new.state.state taken (switch_by game c.game-game.result.now p c.game-game.ensures.game (c.is_switch.ensures.0 c.if-not-is_switch.false)))
-    (last_forced game c.game-game.ensures.lawful.numbered place.state (stand_of place.last) (v, p) c.args.search.now.opened c.take.new.search.opened 1 c.args.search.now.modifiers (c.in_ok-taken.ensures.forced 1)))
+    (last_forced game c.game-game.ensures.lawful.numbered place.state (point_of place.last) (v, p) c.args.search.now.opened c.take.new.search.opened 1 c.args.search.now.modifiers (c.in_ok-taken.ensures.forced 1)))
 
 pub returns-else-is_empty-clause-followed : goal.returns-else-is_empty-clause-followed
 returns-else-is_empty-clause-followed g t c =
@@ -79,7 +79,7 @@ returns-then-not-is_switch-clause-followed g t c =
     let v = c.pair.inside.vertex in
     let p = c.pair.inside.position in
     let qs = c.in-Some.rest.now in
-    let taken : IsStep game place.state (stand_of place.last) v p c.take.new.state.state = c.in_ok-taken.ensures.taken (search rules) in
+    let taken : IsStep game place.state (point_of place.last) v p c.take.new.state.state = c.in_ok-taken.ensures.taken (search rules) in
     let other : c.is_switch.result ≡ false = search rules in
     let plain : ¬ IsSwitchAt game.rules p = plain_by game c.game-game.result.now p c.is_switch.result c.game-game.ensures.game c.is_switch.ensures.1 other in
     followed_as (first_is c.args.pairs.now qs c.in-Some.pair.now v p (search rules) c.pair.view_is)

@@ -1,6 +1,6 @@
 -- The pairs lead to a place, or nowhere, or the question was given up.
 use Rattle.std.proofs.Common.{◌≡◌, ℕ, List, [], length, true, false, refl, ap, ◌∙◌, subst, arith, Option, Some, None, IfSome}
-use Rattle.rbg_rules.specs.Meaning.{AbstractGame, AbstractState, AbstractPlace, stand_of, IsPlaceOf, try_move}
+use Rattle.rbg_rules.specs.Meaning.{AbstractGame, AbstractState, AbstractPlace, point_of, IsPlaceOf, try_move}
 use Rattle.rbg_rules.proofs.PlaceLemmas.{one_place_law}
 use Rattle.rbg_search.proofs.Common.{CountsForced, somewhere, Searching}
 use Rattle.rbg_moves.specs.Answers.{GivesUp}
@@ -46,7 +46,7 @@ returns-in-Some-clause-tries x c =
       fits = λ cut.
           subst (λ (qs : List (ℕ × ℕ)). FitsLimits game cut (try_move qs) place) c.as_slice.ensures.pairs
           (asked_fits c.search_in-search.ensures.begun there (try_move ps) c.follow.new.search cut (length ps) (omega (arith, c.as_slice.ensures.range)) c.follow.ensures.kept c.budget_is_kept.ensures
-          (uncut_answer (record { counted = c.in_ok-end.ensures.followed.counted; paired = c.in_ok-end.ensures.followed.paired; forced = subst (λ o. IfSome o (λ _. CountsForced c.search_in-search.result.game false (try_move ps) c.to.inside.state.state (stand_of c.to.inside.after) c.search_in-search.result.opened c.follow.new.search.opened (length ps) c.search_in-search.result.modifiers)) c.in-Some.is c.in_ok-end.ensures.followed.forced }) cut));
+          (uncut_answer (record { counted = c.in_ok-end.ensures.followed.counted; paired = c.in_ok-end.ensures.followed.paired; forced = subst (λ o. IfSome o (λ _. CountsForced c.search_in-search.result.game false (try_move ps) c.to.inside.state.state (point_of c.to.inside.after) c.search_in-search.result.opened c.follow.new.search.opened (length ps) c.search_in-search.result.modifiers)) c.in-Some.is c.in_ok-end.ensures.followed.forced }) cut));
     }
 
 pub returns-in-None-clause-tries : goal.returns-in-None-clause-tries
@@ -69,7 +69,7 @@ pub returns-in-Some-clause-tallies : goal.returns-in-Some-clause-tallies
 returns-in-Some-clause-tallies x c =
     let ps : List (ℕ × ℕ) = c.as_slice.result.now in
     let there = c.to.view_is ∙ c.in_ok-to.ensures.copy in
-    let forced = subst (λ o. IfSome o (λ _. CountsForced c.search_in-search.result.game false (try_move ps) c.to.inside.state.state (stand_of c.to.inside.after) c.search_in-search.result.opened c.follow.new.search.opened (length ps) c.search_in-search.result.modifiers)) c.in-Some.is c.in_ok-end.ensures.followed.forced in
+    let forced = subst (λ o. IfSome o (λ _. CountsForced c.search_in-search.result.game false (try_move ps) c.to.inside.state.state (point_of c.to.inside.after) c.search_in-search.result.opened c.follow.new.search.opened (length ps) c.search_in-search.result.modifiers)) c.in-Some.is c.in_ok-end.ensures.followed.forced in
     tallies_one _
     (subst (λ (qs : List (ℕ × ℕ)). IsTallied c.args.rules (try_move qs) c.args.place.now c.args.workspace.now.tally c.leave.new.tally) c.as_slice.ensures.pairs
     (asked_tallies c.search_in-search.ensures.begun there (try_move ps) c.follow.new.search false (length ps) c.args.workspace.now.tally c.copy_of.new.self.tally c.leave.new.tally c.copy_of.ensures.tally c.follow.ensures.kept

@@ -1,7 +1,7 @@
 -- The moves that go on from where one stands.
 use Rattle.rbg_base.proofs.Common.{◌≡◌, ℕ, ◌+◌, ◌-◌, ◌<◌, List, ◌∷◌, [], ◌++◌, length, refl, sym, ap, ◌∙◌, subst, arith, false, true, length_push, length-append, err_from_is_err_and}
 use Rattle.rbg_base.specs.Move.{most_pairs}
-use Rattle.rbg_rules.specs.Meaning.{AbstractGame, IsStateOf, IsStart, IsPlaceOf, AbstractPlace, stand_of}
+use Rattle.rbg_rules.specs.Meaning.{AbstractGame, IsStateOf, IsStart, IsPlaceOf, AbstractPlace, point_of}
 use Rattle.rbg_state.specs.History.{History, IsAfter}
 use Rattle.rbg_state.proofs.Histories.{after_nothing, after_both}
 use Rattle.rbg_pairs.specs.Start.{start_of, IsPositionOf}
@@ -47,7 +47,7 @@ walk-loop-pair-init g t c =
     record {
       done = others.switches;
       first = c.add_switches.new.front.items;
-      whole = record { ends = ends; part = flat_permuted old.game c.args.state.now.state (stand_of c.args.after) pairs (others.switches ++ c.add_switches.new.pairs) ends others.moves come.found.reached };
+      whole = record { ends = ends; part = flat_permuted old.game c.args.state.now.state (point_of c.args.after) pairs (others.switches ++ c.add_switches.new.pairs) ends others.moves come.found.reached };
       plain = others.plain;
       search = kept_since old c.take_list-pairs.new.self c.reach_flat.new.self c.take_list-pairs.ensures c.reach_flat.ensures.answered.kept;
       state = come.asked.given_back;

@@ -1,7 +1,7 @@
 -- How far the recursion goes, and what the loop over the pairs keeps.
 use Rattle.std.proofs.Common.{◌≡◌, ◌≤◌, ◌-◌, ◌*◌, ◌+◌, ◌++◌, ℕ, List, All, length}
 use Rattle.rbg_base.specs.Move.{most_pairs}
-use Rattle.rbg_rules.specs.Meaning.{stand_of, IsSwitchAt}
+use Rattle.rbg_rules.specs.Meaning.{point_of, IsSwitchAt}
 use Rattle.rbg_moves.proofs.Further.{IsSoFar, IsWhole}
 use Rattle.rbg_moves.proofs.walking.+walk.Given as goal
 
@@ -18,7 +18,7 @@ abbrev pub invariant-walk-loop-pair : goal.invariant-walk-loop-pair
 invariant-walk-loop-pair g l = record {
   done : List (ℕ × ℕ);
   first : List (ℕ × ℕ);
-  whole : IsWhole l.fn.search.game l.fn.state.state (stand_of l.fn.after) (done ++ l.pairs);
+  whole : IsWhole l.fn.search.game l.fn.state.state (point_of l.fn.after) (done ++ l.pairs);
   plain : All (λ (q : ℕ × ℕ). ¬ IsSwitchAt l.fn.search.game.rules q.1) l.pairs;
   search : l.search ≡ record l.fn.search { opened = l.search.opened; taken = l.search.taken };
   state : l.state ≡ record l.fn.state { room = l.state.room };

@@ -2,7 +2,7 @@ use Rattle.std.proofs.Common.{refl, sym}
 use Rattle.rbg_wire.specs.Inboxes.{item_of}
 use Rattle.rbg_player.specs.declared.error.PlayerError.TheVariants.{Memory}
 use Rattle.rbg_player.specs.Streams.{no_memory, here}
-use Rattle.rbg_player.specs.internal.Standing.{stage_of, player_of}
+use Rattle.rbg_player.specs.internal.Stages.{stage_of, player_of}
 use Rattle.rbg_base.proofs.Errors.{passed_on}
 use Rattle.rbg_player.proofs.StreamLemmas.{nothing_heard, one_heard, fails_here}
 use Rattle.rbg_player.proofs.player.hear_piece.Goals as goal

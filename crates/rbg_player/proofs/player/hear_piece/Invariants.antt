@@ -1,5 +1,5 @@
 use Rattle.std.proofs.Common.{length}
-use Rattle.rbg_player.specs.internal.Standing.{stage_of}
+use Rattle.rbg_player.specs.internal.Stages.{stage_of}
 use Rattle.rbg_player.proofs.StreamLemmas.{HasHeard}
 use Rattle.rbg_player.proofs.player.hear_piece.Given as goal
 

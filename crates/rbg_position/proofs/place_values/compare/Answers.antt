@@ -1,6 +1,6 @@
 -- Something differs.
 use Rattle.std.proofs.Common.{sym, ◌∙◌}
-use Rattle.rbg_position.specs.Refusals.StandsOtherwise.{pieces, player}
+use Rattle.rbg_position.specs.Refusals.PlacesDiffer.{pieces, player}
 use Rattle.rbg_position.proofs.Faults.{differ_text}
 use Rattle.rbg_position.proofs.place_values.compare.Goals as goal
 

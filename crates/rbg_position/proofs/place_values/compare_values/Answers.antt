@@ -1,5 +1,5 @@
 -- One variable more holds the same, or another number.
-use Rattle.rbg_position.specs.Refusals.StandsOtherwise.{value}
+use Rattle.rbg_position.specs.Refusals.PlacesDiffer.{value}
 use Rattle.rbg_position.proofs.Items.{same_more}
 use Rattle.rbg_position.proofs.place_values.compare_values.Goals as goal
 

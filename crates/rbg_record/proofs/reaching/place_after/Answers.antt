@@ -2,7 +2,7 @@ use Rattle.std.proofs.Common.{refl, subst, sym}
 use Rattle.rbg_base.proofs.Errors.{passed_on}
 use Rattle.rbg_rules.specs.Meaning.{IsPlaceOf}
 use Rattle.rbg_record.specs.declared.next.Next.{Next}
-use Rattle.rbg_record.proofs.LineCommon.{Says}
+use Rattle.rbg_record.proofs.LineCommon.{HasContent}
 use Rattle.rbg_record.proofs.Stopping.{read_more, read_none}
 use Rattle.rbg_record.specs.declared.fault.LineFault.TheVariants.{Form}
 use Rattle.rbg_record.specs.Lines as lines
@@ -22,7 +22,7 @@ returns-in_err-line-clause-misfit c =
 pub judge_line-requires-clause-says : goal.judge_line-requires-clause-says
 judge_line-requires-clause-says c =
     let takes = rw c.in-Some.is at c.in_ok-line.ensures.line in
-    subst (λ (next : Next). Says next c.in-Some.line.text.now c.in-Some.line.content) c.next.ensures takes.says
+    subst (λ (next : Next). HasContent next c.in-Some.line.text.now c.in-Some.line.content) c.next.ensures takes.says
 
 pub returns-in_err-reached-clause-misfit : goal.returns-in_err-reached-clause-misfit
 returns-in_err-reached-clause-misfit c =

@@ -12,4 +12,4 @@ judge-requires c = subst (λ (reached : CodeReached). IsReachedIn c.args.game.no
 
 pub returns : goal.returns
 returns c = λ text says.
-    entry_read c.args.game.now c.args.reached.now c.in-Entry.standing text c.args.told.now c.judge.result c.in-Entry.is says c.judge.ensures.leads c.judge.ensures.in_game c.judge.ensures.refused
+    entry_read c.args.game.now c.args.reached.now c.in-Entry.match_so_far text c.args.told.now c.judge.result c.in-Entry.is says c.judge.ensures.leads c.judge.ensures.in_game c.judge.ensures.refused

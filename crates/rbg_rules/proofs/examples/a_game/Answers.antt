@@ -1,11 +1,11 @@
 -- The proof of `examples::a_game`.
 use Rattle.rbg_base.proofs.Common.{◌≡◌, ℕ, zero, suc, ◌<◌, ◌≤◌, [], ◌∷◌, false, refl, inl, inr, sym, subst, arith, Some, IsTrue, List, list_any, bytes_eq, All-cons, All-nil}
 use Rattle.rbg_board.specs.Graph.{next}
-use Rattle.rbg_rules.specs.Meaning.{greatest_bound, AreLawfulNames, AbstractAction, positive, negative, switch, Expression, HasAction, IsLevel, inside, IsActionOf}
+use Rattle.rbg_rules.specs.Meaning.{max_bound, AreLawfulNames, AbstractAction, positive, negative, switch, Expression, HasAction, IsLevel, inside, IsActionOf}
 use Rattle.rbg_rules.specs.ExampleGames.{looking_right, two_squares}
 use Rattle.rbg_rules.proofs.NameLemmas.{no_names, lawful_name}
 use Rattle.rbg_base.specs.Names.{is_name}
-use Rattle.rbg_rules.proofs.Standing.{none_such, true_not_false, is_switch}
+use Rattle.rbg_rules.proofs.ActionsAt.{none_such, true_not_false, is_switch}
 use Rattle.rbg_rules.proofs.ExampleLemmas.{differs}
 use Rattle.rbg_rules.proofs.LookingRight.{right_off, numbered}
 use Rattle.rbg_rules.proofs.examples.a_game.Goals as goal
@@ -78,5 +78,5 @@ returns c = record {
   board = record { from_vertex = λ v d u e. (edge v d u e).0; to_vertex = λ v d u e. (edge v d u e).1 };
   some_vertex = omega arith;
   first_pieces = All-cons (λ x. x < 2) 0 (0 ∷ []) (omega arith) (All-cons (λ x. x < 2) 0 [] (omega arith) (All-nil (λ x. x < 2)));
-  limits = record { some_player = omega arith; players = omega arith; some_piece = omega arith; pieces = omega arith; variables = omega arith; bounds = All-cons (λ b. b ≤ greatest_bound) 100 (100 ∷ 1 ∷ []) (omega arith) (All-cons (λ b. b ≤ greatest_bound) 100 (1 ∷ []) (omega arith) (All-cons (λ b. b ≤ greatest_bound) 1 [] (omega arith) (All-nil (λ b. b ≤ greatest_bound)))); directions = omega arith; vertices = omega arith; positions = omega arith; nesting = ((((((tt, tt), (7, refl, ((tt, tt), tt))), tt), tt), tt), tt) };
+  limits = record { some_player = omega arith; players = omega arith; some_piece = omega arith; pieces = omega arith; variables = omega arith; bounds = All-cons (λ b. b ≤ max_bound) 100 (100 ∷ 1 ∷ []) (omega arith) (All-cons (λ b. b ≤ max_bound) 100 (1 ∷ []) (omega arith) (All-cons (λ b. b ≤ max_bound) 1 [] (omega arith) (All-nil (λ b. b ≤ max_bound)))); directions = omega arith; vertices = omega arith; positions = omega arith; nesting = ((((((tt, tt), (7, refl, ((tt, tt), tt))), tt), tt), tt), tt) };
 }

@@ -2,7 +2,7 @@
 use Rattle.std.proofs.Common.{[], ◌∷◌, refl, inl, inr, arith}
 use Rattle.rbg_rules.specs.Meaning.{assignment, switch, variable, number, sum, outermost, done, again, stay, modify}
 use Rattle.rbg_rules.specs.ExampleGames.{counting, state_of}
-use Rattle.rbg_rules.proofs.Standing.{no_switches}
+use Rattle.rbg_rules.proofs.ActionsAt.{no_switches}
 use Rattle.rbg_rules.proofs.ExampleLemmas.{legal_by}
 use Rattle.rbg_rules.proofs.examples.bounded_assignment.Goals as goal
 

@@ -3,7 +3,7 @@ use Rattle.std.proofs.Common.{ℕ, zero, suc, List, [], ◌∷◌, refl, inl, in
 use Rattle.std.proofs.lemmas.List.{append-nil}
 use Rattle.rbg_rules.specs.Meaning.{off, outermost, after, Follows, AbstractState, RunPairs, stay, modify, Opening, at, GoesTo, find_move, items_of}
 use Rattle.rbg_rules.specs.ExampleGames.{without_end, state_of}
-use Rattle.rbg_rules.proofs.Standing.{no_switch_at}
+use Rattle.rbg_rules.proofs.ActionsAt.{no_switch_at}
 use Rattle.rbg_rules.proofs.WithoutEnd.{no_switch_follows}
 use Rattle.rbg_rules.proofs.Offs.{offs, pairs, length-pairs, word, no_switch}
 use Rattle.rbg_rules.proofs.examples.deep_question.Goals as goal

@@ -6,7 +6,7 @@ use Rattle.rbg_rules.specs.Meaning.{off, on, switch, act, star, choice_of, seque
 use Rattle.rbg_rules.specs.ExampleGames.{heavy_choice, state_of}
 use Rattle.rbg_rules.proofs.PositionLemmas.{Among, Among_left, Among_right}
 use Rattle.rbg_rules.proofs.MoveLemmas.{applied_acts}
-use Rattle.rbg_rules.proofs.Standing.{has_at, is_switch, no_switch_at, no_switches, ModifiesAt, not_quiet, of_word, true_not_false}
+use Rattle.rbg_rules.proofs.ActionsAt.{has_at, is_switch, no_switch_at, no_switches, ModifiesAt, not_quiet, of_word, true_not_false}
 use Rattle.rbg_rules.proofs.ExampleLemmas.{legal_by, remains, acts_joined, PairAmong, pair_first, pair_later, split}
 use Rattle.rbg_rules.proofs.Offs.{offs, pairs, length-pairs, word, no_switch}
 use Rattle.rbg_rules.proofs.ExampleStates.{start, with_piece}

@@ -2,7 +2,7 @@
 use Rattle.std.proofs.Common.{[], refl, inl}
 use Rattle.rbg_rules.specs.Meaning.{switch, outermost, done, again, start_of, stay, modify}
 use Rattle.rbg_rules.specs.ExampleGames.{keeper_for_ever}
-use Rattle.rbg_rules.proofs.Standing.{no_switches}
+use Rattle.rbg_rules.proofs.ActionsAt.{no_switches}
 use Rattle.rbg_rules.proofs.ExampleLemmas.{legal_by}
 use Rattle.rbg_rules.proofs.examples.keeper_moves.Goals as goal
 

@@ -4,7 +4,7 @@ use Rattle.rbg_rules.specs.Meaning.{off, switch, HasAction, IsNumbered, IsSwitch
 use Rattle.rbg_rules.specs.ExampleGames.{star_of_offs, state_of}
 use Rattle.rbg_rules.proofs.PlaceLemmas.{RunPairs-append, one_switch, snoc_same}
 use Rattle.rbg_rules.proofs.ExampleLemmas.{legal_by, last_pair, PairAmong, pair_first, pair_position, all_among}
-use Rattle.rbg_rules.proofs.Standing.{no_switch_at, no_switches}
+use Rattle.rbg_rules.proofs.ActionsAt.{no_switch_at, no_switches}
 use Rattle.rbg_rules.proofs.examples.moves_through_a_star.Goals as goal
 
 numbered : IsNumbered star_of_offs.rules

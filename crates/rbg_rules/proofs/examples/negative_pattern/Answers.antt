@@ -5,7 +5,7 @@ use Rattle.rbg_rules.specs.Meaning.{AbstractAction, shift, on, off, negative, sw
 use Rattle.rbg_rules.specs.ExampleGames.{nothing_right, one_square, two_squares, state_of}
 use Rattle.rbg_rules.proofs.MoveLemmas.{applied_acts}
 use Rattle.rbg_rules.proofs.ExampleLemmas.{legal_by, remains, first_applies, acts, acts_word, acts_joined, only_word}
-use Rattle.rbg_rules.proofs.Standing.{no_switches}
+use Rattle.rbg_rules.proofs.ActionsAt.{no_switches}
 use Rattle.rbg_rules.proofs.ExampleStates.{start, with_piece, at_first, at_second, after_off}
 use Rattle.rbg_rules.proofs.examples.negative_pattern.Goals as goal
 

@@ -6,7 +6,7 @@ use Rattle.rbg_rules.specs.ExampleGames.{nested, only_right, two_squares, white_
 use Rattle.rbg_rules.proofs.PositionLemmas.{Among}
 use Rattle.rbg_rules.proofs.MoveLemmas.{applied_acts}
 use Rattle.rbg_rules.proofs.PlaceLemmas.{RunPairs-append}
-use Rattle.rbg_rules.proofs.Standing.{has_at, is_switch, no_switch_at, no_switches, not_quiet, not_modifier, of_word, of_both}
+use Rattle.rbg_rules.proofs.ActionsAt.{has_at, is_switch, no_switch_at, no_switches, not_quiet, not_modifier, of_word, of_both}
 use Rattle.rbg_rules.proofs.ExampleLemmas.{legal_by, remains, acts, acts_word, acts_joined, only_word, split}
 use Rattle.rbg_rules.proofs.ExampleStates.{at_first, at_second, after_off, after_switch}
 use Rattle.rbg_rules.proofs.examples.nested_patterns.Goals as goal

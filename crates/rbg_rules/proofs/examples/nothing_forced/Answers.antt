@@ -3,7 +3,7 @@ use Rattle.std.proofs.Common.{◌≡◌, ℕ, List, [], ◌∷◌, ◌++◌, ref
 use Rattle.rbg_rules.specs.Meaning.{IsNumbered, IsSwitchAt, after, at, beyond, IsMove}
 use Rattle.rbg_rules.specs.ExampleGames.{star_of_offs, state_of}
 use Rattle.rbg_rules.proofs.PlaceLemmas.{RunPairs-append, one_switch, snoc_same}
-use Rattle.rbg_rules.proofs.Standing.{no_switch_at}
+use Rattle.rbg_rules.proofs.ActionsAt.{no_switch_at}
 use Rattle.rbg_rules.proofs.examples.nothing_forced.Goals as goal
 
 numbered : IsNumbered star_of_offs.rules

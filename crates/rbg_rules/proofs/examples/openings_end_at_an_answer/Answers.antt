@@ -2,7 +2,7 @@
 use Rattle.std.proofs.Common.{◌≡◌, ℕ, List, [], ◌∷◌, refl, inl, inr}
 use Rattle.rbg_rules.specs.Meaning.{outermost, after, done, stay, at, beyond, AnswersAfter, GoesTo, find_move, is_pattern}
 use Rattle.rbg_rules.specs.ExampleGames.{star_of_offs, state_of}
-use Rattle.rbg_rules.proofs.Standing.{none_such, no_switches, no_pattern_at}
+use Rattle.rbg_rules.proofs.ActionsAt.{none_such, no_switches, no_pattern_at}
 use Rattle.rbg_rules.proofs.examples.openings_end_at_an_answer.Goals as goal
 
 -- The switch to black comes after no modifier.

@@ -3,10 +3,10 @@ use Rattle.std.proofs.Common.{◌≡◌, ℕ, List, [], ◌∷◌, refl, inl, in
 use Rattle.rbg_board.specs.Graph.{next}
 use Rattle.rbg_rules.specs.Meaning.{shift, off, positive, negative, Expression, HasAction, outermost, inside, IsLevel, beginning, WordOf, Word, AbstractState, RunPairs, stay, modify, pass, at, beyond, AnswersAfter, GoesTo, pattern}
 use Rattle.rbg_rules.specs.ExampleGames.{looking_right}
-use Rattle.rbg_rules.proofs.Standing.{no_switches, not_quiet}
+use Rattle.rbg_rules.proofs.ActionsAt.{no_switches, not_quiet}
 use Rattle.rbg_rules.proofs.ExampleLemmas.{only_nothing, all_of_one, acts_word, only_word}
 use Rattle.rbg_rules.proofs.LookingRight.{inner, right_off, actions, numbered, looks}
-use Rattle.rbg_rules.proofs.PositionLemmas.{one_stands}
+use Rattle.rbg_rules.proofs.PositionLemmas.{one_action_at}
 use Rattle.rbg_rules.proofs.ExampleStates.{at_first, at_second, after_off}
 use Rattle.rbg_rules.proofs.examples.openings_in_a_pattern.Goals as goal
 
@@ -22,8 +22,8 @@ runs_inside = pass {middle = at_second} (record { action = shift 3; stands = ste
 
 -- The inside of the pattern at position 2 is the one written there, with one word.
 inside_is : (x : Expression) → IsLevel looking_right.rules (inside 2) x → x ≡ right_off
-inside_is x (inl h) = let same = one_stands looking_right.rules numbered 2 (positive x) (positive right_off) h looks in cc
-inside_is x (inr h) = let same = one_stands looking_right.rules numbered 2 (negative x) (positive right_off) h looks in absurd cc
+inside_is x (inl h) = let same = one_action_at looking_right.rules numbered 2 (positive x) (positive right_off) h looks in cc
+inside_is x (inr h) = let same = one_action_at looking_right.rules numbered 2 (negative x) (positive right_off) h looks in absurd cc
 
 inside_word : (w : List ℕ) → WordOf looking_right.rules (inside 2) w → w ≡ 3 ∷ 4 ∷ []
 inside_word w of_level = only_word inner w (subst (λ (x : Expression). Word x w) (inside_is of_level.expression of_level.is_level) of_level.is_word)

@@ -2,9 +2,9 @@
 use Rattle.std.proofs.Common.{◌≡◌, ℕ, List, [], ◌∷◌, ◌++◌, refl, inl, inr, sym, ap, ◌∙◌, subst, ◌⊎◌, arith, Bool, All, Contains}
 use Rattle.rbg_rules.specs.Meaning.{on, off, positive, negative, Expression, HasAction, IsNumbered, IsPatternAt, IsLevel, inside, Word, WordOf, Start, beginning, Follows, AbstractState, Applies, RunPairs, stay, modify, pass, Item, modifier_at, RunsOn, Opening, at, beyond, GoesTo, Forced, SomeWordRuns, pattern, items_of, is_pattern}
 use Rattle.rbg_rules.specs.ExampleGames.{asking_a_sum, off_and_stop}
-use Rattle.rbg_rules.proofs.PositionLemmas.{Among, Among_left, Among_right, one_stands}
+use Rattle.rbg_rules.proofs.PositionLemmas.{Among, Among_left, Among_right, one_action_at}
 use Rattle.rbg_rules.proofs.MoveLemmas.{applied_acts}
-use Rattle.rbg_rules.proofs.Standing.{has_at, none_at, no_switches, no_pattern_at, of_word}
+use Rattle.rbg_rules.proofs.ActionsAt.{has_at, none_at, no_switches, no_pattern_at, of_word}
 use Rattle.rbg_rules.proofs.ExampleLemmas.{no_pairs, one_pair}
 use Rattle.rbg_rules.proofs.Threes.{all_three, three_apart}
 use Rattle.rbg_rules.proofs.ExampleStates.{start, with_piece}
@@ -30,8 +30,8 @@ stops = inl (inr (inr (inr (inl (refl, refl)))))
 
 -- The inside of the pattern is the one written there, with two words.
 inside_is : (x : Expression) → IsLevel asking_a_sum.rules (inside 2) x → x ≡ off_and_stop
-inside_is x (inl h) = let same = one_stands asking_a_sum.rules numbered 2 (positive x) (negative off_and_stop) h looks in absurd cc
-inside_is x (inr h) = let same = one_stands asking_a_sum.rules numbered 2 (negative x) (negative off_and_stop) h looks in cc
+inside_is x (inl h) = let same = one_action_at asking_a_sum.rules numbered 2 (positive x) (negative off_and_stop) h looks in absurd cc
+inside_is x (inr h) = let same = one_action_at asking_a_sum.rules numbered 2 (negative x) (negative off_and_stop) h looks in cc
 
 abbrev IsOneOfTwo : List ℕ → Type 0
 IsOneOfTwo w = (w ≡ 3 ∷ 5 ∷ []) ⊎ (w ≡ 4 ∷ 5 ∷ [])

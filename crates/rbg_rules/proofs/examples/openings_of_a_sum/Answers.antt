@@ -2,7 +2,7 @@
 use Rattle.std.proofs.Common.{◌≡◌, ℕ, List, [], ◌∷◌, ◌++◌, refl, inl, inr, sym, ap, subst, ◌⊎◌, arith, All, Contains}
 use Rattle.rbg_rules.specs.Meaning.{off, switch, act, choice_of, HasAction, IsNumbered, IsSwitchAt, HasNoSwitch, outermost, after, Follows, Word, AbstractState, RunPairs, stay, modify, pass, IsJoinOfWords, Item, modifier_at, Opening, at, beyond, GoesTo, AnswersAfter, find_move, items_of, is_pattern, Expression}
 use Rattle.rbg_rules.specs.ExampleGames.{small_sum}
-use Rattle.rbg_rules.proofs.Standing.{none_such, no_switch_at, no_switches, no_pattern_at, ModifiesAt, not_quiet}
+use Rattle.rbg_rules.proofs.ActionsAt.{none_such, no_switch_at, no_switches, no_pattern_at, ModifiesAt, not_quiet}
 use Rattle.rbg_rules.proofs.ExampleLemmas.{only_nothing, all_of_one, no_pairs, one_pair, remains, all_among}
 use Rattle.rbg_rules.proofs.Threes.{all_three, three_apart}
 use Rattle.rbg_rules.proofs.ExampleStates.{start, with_piece}

@@ -4,7 +4,7 @@ use Rattle.rbg_board.specs.Graph.{next}
 use Rattle.rbg_rules.specs.Meaning.{shift, on, off, positive, switch, HasAction, outermost, Applies, rest, step, stay, modify, pass}
 use Rattle.rbg_rules.specs.ExampleGames.{looking_right}
 use Rattle.rbg_rules.proofs.PositionLemmas.{Among, Among_left, Among_right}
-use Rattle.rbg_rules.proofs.Standing.{no_switches, of_list, true_not_false}
+use Rattle.rbg_rules.proofs.ActionsAt.{no_switches, of_list, true_not_false}
 use Rattle.rbg_rules.proofs.ExampleLemmas.{legal_by, goes_on, pair_first, pair_position, places, acts_word, only_word}
 use Rattle.rbg_rules.proofs.LookingRight.{right_off, actions, numbered, looks}
 use Rattle.rbg_rules.proofs.ExampleStates.{at_first, at_second, after_off, after_switch}

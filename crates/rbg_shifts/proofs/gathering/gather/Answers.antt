@@ -1,5 +1,5 @@
 use Rattle.std.proofs.Common.{◌≡◌, ◌<◌, ◌∙◌, ℕ, List, length, get_or, sym, ap, subst, arith, All, Contains, IsTrue}
-use Rattle.rbg_shifts.proofs.Common.{Branch, IsWithin, row_words, no_branch, branches_at, list_at, may_end_at, IsLeapBy, IsToldFrom}
+use Rattle.rbg_shifts.proofs.Common.{Branch, IsWithin, row_words, no_branch, branches_at, list_at, may_end_at, IsLeapBy, RecordsStepFrom}
 use Rattle.rbg_shifts.proofs.Cases.{not_both}
 use Rattle.rbg_shifts.proofs.Fillings.{is_listed, told_grown, raise_end}
 use Rattle.rbg_shifts.proofs.Places.{same_item, before, last, last_place}
@@ -72,7 +72,7 @@ loop-branch-preserved c =
         | before e ↦ told_grown game lists start old new c.loop-branch.ends c.if-ends.ends v (get_or (list_at interner n) i 0) inside more c.in_ok-then.ensures.keeps up (inv.told i e)
         | last e ↦
             raise_end game lists new start (length new.targets.items) c.in_ok-then.then c.if-ends.ends v (get_or (list_at interner n) i 0) over
-            (subst (IsToldFrom game lists new start c.in_ok-then.then v) (position ∙ ap (λ (m : ℕ). get_or (list_at interner n) m 0) (sym e)) c.in_ok-then.ensures.told)
+            (subst (RecordsStepFrom game lists new start c.in_ok-then.then v) (position ∙ ap (λ (m : ℕ). get_or (list_at interner n) m 0) (sym e)) c.in_ok-then.ensures.told)
       ];
       ends = elim c.if-ends.branch [
         | then-ends w ↦ λ is. inv.ends w.if-ends.true
@@ -86,7 +86,7 @@ returns-clause-whole c =
     record {
       ends = c.loop-branch.invariant.ends_told;
       told = λ k d there.
-          subst (IsToldFrom c.args.ground.now lists c.loop-branch.table c.args.start c.loop-branch.ends c.args.vertex) (sym (same_item (list_at lists.interner c.args.node) k d there))
+          subst (RecordsStepFrom c.args.ground.now lists c.loop-branch.table c.args.start c.loop-branch.ends c.args.vertex) (sym (same_item (list_at lists.interner c.args.node) k d there))
           (c.loop-branch.invariant.told k
           (let below = branch_there c.args.ground.now.rules lists c.requires.right.nodes.branches c.args.node k c.requires.node there in
           let all = ap length c.requires.list in

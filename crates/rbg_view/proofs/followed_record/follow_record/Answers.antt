@@ -4,7 +4,7 @@ use Rattle.rbg_base.proofs.Errors.{passed_on}
 use Rattle.rbg_rules.specs.Meaning.{AbstractPlace, IsPlaceOf}
 use Rattle.rbg_wire.specs.Lines.{line_of}
 use Rattle.rbg_record.specs.declared.next.Next.{Next}
-use Rattle.rbg_record.proofs.LineCommon.{Says}
+use Rattle.rbg_record.proofs.LineCommon.{HasContent}
 use Rattle.rbg_record.proofs.Stopping.{read_more, read_none}
 use Rattle.rbg_record.specs.declared.fault.LineFault.TheVariants.{Form}
 use Rattle.rbg_record.specs.Lines as lines
@@ -34,7 +34,7 @@ returns-in_err-line-clause-refused c =
 pub judge_line-requires-clause-says : goal.judge_line-requires-clause-says
 judge_line-requires-clause-says c =
     let takes = rw c.in-Some.is at c.in_ok-line.ensures.line in
-    subst (λ (next : Next). Says next c.in-Some.line.text.now c.in-Some.line.content) c.next.ensures takes.says
+    subst (λ (next : Next). HasContent next c.in-Some.line.text.now c.in-Some.line.content) c.next.ensures takes.says
 
 pub returns-in_err-reached-clause-refused : goal.returns-in_err-reached-clause-refused
 returns-in_err-reached-clause-refused c =
@@ -47,7 +47,7 @@ loop-reached-preserved c =
     let takes = rw c.in-Some.is at c.in_ok-line.ensures.line in
     let in_game = c.in_ok-reached.ensures.in_game in
     let game = c.args.game.now in
-    let says = subst (λ (next : Next). Says next c.in-Some.line.text.now c.in-Some.line.content) c.next.ensures takes.says in (
+    let says = subst (λ (next : Next). HasContent next c.in-Some.line.text.now c.in-Some.line.content) c.next.ensures takes.says in (
       read_more c.loop-reached.invariant.0 takes.first takes.later
           (λ texts told. tell_one game texts c.in-Some.line.text.now (reached_of c.loop-reached.reached) (reached_of c.in_ok-reached.reached)
           (record { lines = c.loop-reached.lines.items; place = c.loop-reached.place; marked = unwrap_or c.loop-reached.last [] })

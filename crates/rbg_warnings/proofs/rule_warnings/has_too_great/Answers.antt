@@ -1,5 +1,5 @@
 -- The action at the position is the only one.
-use Rattle.rbg_warnings.proofs.Standing.{too_great}
+use Rattle.rbg_warnings.proofs.ActionsAt.{too_great}
 use Rattle.rbg_warnings.proofs.rule_warnings.has_too_great.Goals as goal
 
 pub returns : goal.returns

@@ -1,6 +1,6 @@
 -- A position after the other.
 use Rattle.rbg_base.proofs.Common.{refl, arith, false≢true}
-use Rattle.rbg_warnings.proofs.Standing.{unused_none, unused_more, unused_all, written}
+use Rattle.rbg_warnings.proofs.ActionsAt.{unused_none, unused_more, unused_all, written}
 use Rattle.rbg_warnings.proofs.rule_warnings.is_written.Goals as goal
 
 pub loop-index-init : goal.loop-index-init

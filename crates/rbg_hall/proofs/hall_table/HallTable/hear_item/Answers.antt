@@ -1,7 +1,7 @@
 use Rattle.std.proofs.Common.{rules, ◌≡◌, true, false, ◌∙◌, is_none}
 use Rattle.rbg_wire.proofs.Common.{item_of, whole_item}
 use Rattle.rbg_match.specs.Limits.{message_limit}
-use Rattle.rbg_hall.proofs.Seated.{ok_so, early, said}
+use Rattle.rbg_hall.proofs.Seated.{ok_so, early, outgoing}
 use Rattle.rbg_hall.proofs.hall_table.HallTable.hear_item.Goals as goal
 
 pub returns-then-is_waiting-clause-hears : goal.returns-then-is_waiting-clause-hears
@@ -13,4 +13,4 @@ pub returns-clause-hears : goal.returns-clause-hears
 returns-clause-hears c =
     let begun : is_none c.args.self.now.begun ≡ false = search rules in
     let whole : c.deref.result.now ≡ whole_item message_limit (item_of c.args.took) = c.deref.ensures.value ∙ c.in_ok-whole.ensures in
-    ok_so c.play.result c.play.ensures.plays (λ play. said c.args.self.now c.play.new.self c.args.line c.args.at c.args.index (item_of c.args.took) c.deref.result.now c.args.out.now c.play.new.out begun c.requires.sits whole play)
+    ok_so c.play.result c.play.ensures.plays (λ play. outgoing c.args.self.now c.play.new.self c.args.line c.args.at c.args.index (item_of c.args.took) c.deref.result.now c.args.out.now c.play.new.out begun c.requires.sits whole play)

@@ -19,4 +19,4 @@ returns-else-is_err-clause-history c =
     let going = is_not_there c.self.inside.referee.play.outcome (sym c.has_ended.ensures ∙ c.if-has_ended.false) in
     rw (← c.self.view_is, handled.ensures.game, handled.ensures.config)
     (on_ok handled.result handled.ensures.says.whole
-    (λ handles has. event_keeps _ _ _ _ c.deref_mut.result.now c.self.inside.began c.self.inside.referee.moment handled.new.self.moment (event_of c.args.event) handled.ensures.says.said before handled.ensures.latest (ap length c.deref_mut.ensures.value ∙ c.self.invariant.seats) going has handles))
+    (λ handles has. event_keeps _ _ _ _ c.deref_mut.result.now c.self.inside.began c.self.inside.referee.moment handled.new.self.moment (event_of c.args.event) handled.ensures.says.outgoing before handled.ensures.latest (ap length c.deref_mut.ensures.value ∙ c.self.invariant.seats) going has handles))

@@ -3,13 +3,13 @@ use Rattle.rbg_match.proofs.Replying.{replies_saying, refuses_saying, still_refe
 use Rattle.rbg_match.proofs.state.Referee.end.Goals as goal
 
 pub invariant_of-self : goal.invariant_of-self
-invariant_of-self c = still_referee c.self.invariant c.tell_each.ensures (ended_in_game c.args.outcome c.self.invariant.in_game)
+invariant_of-self c = still_referee c.self.invariant c.queue_for_each.ensures (ended_in_game c.args.outcome c.self.invariant.in_game)
 
-pub returns-in_err-tell_each : goal.returns-in_err-tell_each
-returns-in_err-tell_each c = rw (← c.self.view_is) (refuses_saying _ c.tell_each.ensures _ c.from_residual.result c.from_residual.ensures.0 _)
+pub returns-in_err-queue_for_each : goal.returns-in_err-queue_for_each
+returns-in_err-queue_for_each c = rw (← c.self.view_is) (refuses_saying _ c.queue_for_each.ensures _ c.from_residual.result c.from_residual.ensures.0 _)
 
 pub invariant_of-self-2 : goal.invariant_of-self-2
-invariant_of-self-2 c = still_referee c.self.invariant c.in_ok-tell_each.ensures (ended_in_game c.args.outcome c.self.invariant.in_game)
+invariant_of-self-2 c = still_referee c.self.invariant c.in_ok-queue_for_each.ensures (ended_in_game c.args.outcome c.self.invariant.in_game)
 
 pub returns : goal.returns
-returns c = rw (← c.self.view_is) (replies_saying _ c.in_ok-tell_each.ensures _ _ _ (refl, rw c.self.invariant.seats at c.in_ok-tell_each.ensures.whole))
+returns c = rw (← c.self.view_is) (replies_saying _ c.in_ok-queue_for_each.ensures _ _ _ (refl, rw c.self.invariant.seats at c.in_ok-queue_for_each.ensures.whole))

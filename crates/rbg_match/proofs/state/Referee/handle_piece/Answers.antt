@@ -16,4 +16,4 @@ loop-took-preserved c = one_taken c.take.follows.lender-at-none (item_of c.in-So
 pub returns-in_err-handle-clause-replies : goal.returns-in_err-handle-clause-replies
 returns-in_err-handle-clause-replies c =
     let has = c.loop-took.invariant in
-    refused_then has.play has.said has.becomes c.handle.ensures.replies c.from_residual-in_err-handle.result c.from_residual-in_err-handle.ensures.0 _
+    refused_then has.play has.outgoing has.becomes c.handle.ensures.replies c.from_residual-in_err-handle.result c.from_residual-in_err-handle.ensures.0 _

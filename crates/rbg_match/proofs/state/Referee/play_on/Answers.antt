@@ -8,7 +8,7 @@ loop-in_a_row-init c = not_yet_come c.args.self.now
 pub returns-in_err-play_on_once : goal.returns-in_err-play_on_once
 returns-in_err-play_on_once c =
     let come = c.loop-in_a_row.invariant in
-    refused_then come.play come.said come.becomes c.play_on_once.ensures c.from_residual.result c.from_residual.ensures.0 _
+    refused_then come.play come.outgoing come.becomes c.play_on_once.ensures c.from_residual.result c.from_residual.ensures.0 _
 
 pub loop-in_a_row-preserved : goal.loop-in_a_row-preserved
 loop-in_a_row-preserved c = come_further c.loop-in_a_row.invariant (rw c.in-KeeperMoved.is at c.in_ok-play_on_once.ensures)

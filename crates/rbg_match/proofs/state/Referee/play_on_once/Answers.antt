@@ -14,12 +14,12 @@ may_be_asked c = λ is_keeper.
 
 pub returns-then-in_a_row-ge-MAX_KEEPER_MOVES : goal.returns-then-in_a_row-ge-MAX_KEEPER_MOVES
 returns-then-in_a_row-ge-MAX_KEEPER_MOVES c =
-    rw (← c.self.view_is) (replies_with (rw (← c.self.view_is) at c.in_ok-end.ensures) Settled _ (λ after said ends. rw (ends.0, ends.1) (endless (sym c.mover-mover.ensures ∙ c.if-mover-eq0.true) c.if-in_a_row-ge-MAX_KEEPER_MOVES.true)))
+    rw (← c.self.view_is) (replies_with (rw (← c.self.view_is) at c.in_ok-end.ensures) Settled _ (λ after outgoing ends. rw (ends.0, ends.1) (endless (sym c.mover-mover.ensures ∙ c.if-mover-eq0.true) c.if-in_a_row-ge-MAX_KEEPER_MOVES.true)))
 
 pub returns-in_ok-end_finished-in-Ok-None : goal.returns-in_ok-end_finished-in-Ok-None
 returns-in_ok-end_finished-in-Ok-None c =
     let nothing = rw c.in-Ok-None.field-0-is at c.in-Ok-None.ensures.finished in
-    rw (← c.self.view_is) (replies_with (rw c.find_pairs.ensures.kept at c.in_ok-end_finished-in-Ok-None.ensures) Settled _ (λ after said ends. rw (ends.0, ends.1) (finished (may_be_asked (goal.at.returns-in_ok-end_finished-in-Ok-None c).After-find_pairs) nothing)))
+    rw (← c.self.view_is) (replies_with (rw c.find_pairs.ensures.kept at c.in_ok-end_finished-in-Ok-None.ensures) Settled _ (λ after outgoing ends. rw (ends.0, ends.1) (finished (may_be_asked (goal.at.returns-in_ok-end_finished-in-Ok-None c).After-find_pairs) nothing)))
 
 pub returns-then-mover-ne0 : goal.returns-then-mover-ne0
 returns-then-mover-ne0 c =
@@ -30,7 +30,7 @@ pub returns-in_ok-make_for_keeper-in-Ok-Some : goal.returns-in_ok-make_for_keepe
 returns-in_ok-make_for_keeper-in-Ok-Some c =
     let many = rw c.in-Ok-Some.field-0-is at c.in-Ok-Some.ensures.length in
     let is_keeper = sym c.mover-mover.ensures ∙ c.if-mover-ne0.false in
-    rw (← c.self.view_is) (replies_with (rw c.find_pairs.ensures.kept at c.in_ok-make_for_keeper-in-Ok-Some.ensures) KeeperMoved _ (λ after said makes. record {
+    rw (← c.self.view_is) (replies_with (rw c.find_pairs.ensures.kept at c.in_ok-make_for_keeper-in-Ok-Some.ensures) KeeperMoved _ (λ after outgoing makes. record {
       keeper = is_keeper;
       may = may_be_asked (goal.at.returns-in_ok-make_for_keeper-in-Ok-Some c).After-find_pairs is_keeper;
       pairs = c.in-Ok-Some.pairs.items;
@@ -40,4 +40,4 @@ returns-in_ok-make_for_keeper-in-Ok-Some c =
 
 pub returns-in_ok-end_heavy-in-Err : goal.returns-in_ok-end_heavy-in-Err
 returns-in_ok-end_heavy-in-Err c =
-    rw (← c.self.view_is) (replies_with (rw c.find_pairs.ensures.kept at c.in_ok-end_heavy-in-Err.ensures) Settled _ (λ after said ends. rw (ends.1.0, ends.1.1) (heavy (may_be_asked (goal.at.returns-in_ok-end_heavy-in-Err c).After-find_pairs) (c.in-Err.ensures.heavy ends.0))))
+    rw (← c.self.view_is) (replies_with (rw c.find_pairs.ensures.kept at c.in_ok-end_heavy-in-Err.ensures) Settled _ (λ after outgoing ends. rw (ends.1.0, ends.1.1) (heavy (may_be_asked (goal.at.returns-in_ok-end_heavy-in-Err c).After-find_pairs) (c.in-Err.ensures.heavy ends.0))))

@@ -12,7 +12,7 @@ use Rattle.rbg_operations.proofs.record_run.described.record_read.Goals as goal
 
 pub returns-in-Some-told : goal.returns-in-Some-told
 returns-in-Some-told g c =
-    let tells = g.F.Files.tells_new in
+    let tells = g.F.Files.knows_new in
     let known = g.F.Files.told c.args.files.now c.args.target.now in
     let after = g.F.Files.told c.record_texts.new.files c.args.target.now in
     let texts = c.args.texts.now in

@@ -8,7 +8,7 @@ use Rattle.rbg_operations.proofs.record_run.filing.record_match.Goals as goal
 
 pub returns-in-Ok : goal.returns-in-Ok
 returns-in-Ok g c =
-    let tells = g.F.Files.tells_new in
+    let tells = g.F.Files.knows_new in
     let after = g.F.Files.told c.write_recorded.new.files c.args.target.now in
     let description = c.args.description.now in
     let script = c.args.script.now in
@@ -20,7 +20,7 @@ returns-in-Ok g c =
 
 pub returns-in-Err : goal.returns-in-Err
 returns-in-Err g c =
-    let tells = g.F.Files.tells_new in
+    let tells = g.F.Files.knows_new in
     let description = c.args.description.now in
     let script = c.args.script.now in
     let error = c.in-Err.error in

@@ -6,7 +6,7 @@ use Rattle.rbg_operations.proofs.record_run.filing.record_texts.Goals as goal
 
 pub returns-in-Ok : goal.returns-in-Ok
 returns-in-Ok g c =
-    let tells = g.F.Files.tells_new in
+    let tells = g.F.Files.knows_new in
     let known = g.F.Files.told c.args.files.now c.args.target.now in
     let after = g.F.Files.told c.record_match.new.files c.args.target.now in
     let description = c.args.description.now in

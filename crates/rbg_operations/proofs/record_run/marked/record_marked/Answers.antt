@@ -6,7 +6,7 @@ use Rattle.rbg_operations.proofs.record_run.marked.record_marked.Goals as goal
 
 pub returns-in-Some : goal.returns-in-Some
 returns-in-Some g c =
-    let tells = g.F.Files.tells_new in
+    let tells = g.F.Files.knows_new in
     let known = g.F.Files.told c.args.files.now c.args.target.now in
     let after = g.F.Files.told c.record_texts.new.files c.args.target.now in
     let texts = c.in-Some.texts in

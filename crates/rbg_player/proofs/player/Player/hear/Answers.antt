@@ -1,6 +1,6 @@
 use Rattle.std.proofs.Common.{sym, ◌∙◌}
 use Rattle.rbg_player.specs.Streams.{again}
-use Rattle.rbg_player.specs.internal.Standing.{stage_of}
+use Rattle.rbg_player.specs.internal.Stages.{stage_of}
 use Rattle.rbg_player.proofs.HearingLemmas.{error_is}
 use Rattle.rbg_player.proofs.player.Player.hear.Goals as goal
 

@@ -3,7 +3,7 @@ use Rattle.rbg_wire.specs.Messages.{move_message}
 use Rattle.rbg_match.specs.Deliveries.{to_each}
 use Rattle.rbg_match.proofs.Delivering.{delivered-none, length-delivered, to_each-more}
 use Rattle.rbg_match.proofs.Sayings.{nothing_err, said_refused, said_more}
-use Rattle.rbg_match.proofs.outbox.Outbox.tell_move.Goals as goal
+use Rattle.rbg_match.proofs.outbox.Outbox.queue_move.Goals as goal
 
 pub returns-in_err-write_move : goal.returns-in_err-write_move
 returns-in_err-write_move c = rw (← c.self.view_is) (nothing_err _ c.from_residual.result c.from_residual.ensures.0 _)

@@ -1,14 +1,14 @@
 use Rattle.std.proofs.Common.{◌≡◌, ◌<◌, ◌∙◌, ℕ, ◌+◌, List, length, sym, subst, arith}
-use Rattle.rbg_shifts.proofs.Common.{Target, IsEndOf, no_target, target_at, Tells}
+use Rattle.rbg_shifts.proofs.Common.{Target, IsEndOf, no_target, target_at, HasEnd}
 use Rattle.rbg_shifts.proofs.Places.{any_default, before, last, last_place}
-use Rattle.rbg_shifts.proofs.closing.tells_targets.Goals as goal
+use Rattle.rbg_shifts.proofs.closing.has_targets.Goals as goal
 
 pub returns-then-have_same_targets : goal.returns-then-have_same_targets
 returns-then-have_same_targets c = λ t j u told.
     let ts : List Target = c.args.table.now.targets.items in
     let same = c.have_same_targets.ensures in
-    subst (λ (a : ℕ). Tells ts a (a + c.args.entry.many) j u) (sym (same.start c.if-have_same_targets.true))
-    (subst (λ (b : ℕ). Tells ts c.args.other.start (c.args.other.start + b) j u) (sym (same.many c.if-have_same_targets.true)) told)
+    subst (λ (a : ℕ). HasEnd ts a (a + c.args.entry.many) j u) (sym (same.start c.if-have_same_targets.true))
+    (subst (λ (b : ℕ). HasEnd ts c.args.other.start (c.args.other.start + b) j u) (sym (same.many c.if-have_same_targets.true)) told)
 
 pub loop-index-preserved : goal.loop-index-preserved
 loop-index-preserved c =

@@ -1,7 +1,7 @@
 use Rattle.std.proofs.Common.{ℕ, sym, subst, arith}
-use Rattle.rbg_shifts.proofs.Common.{Entry, entry_at, IsToldAt}
+use Rattle.rbg_shifts.proofs.Common.{Entry, entry_at, RecordsStepAt}
 use Rattle.rbg_shifts.proofs.Places.{before, last, last_place}
-use Rattle.rbg_shifts.proofs.closing.is_told_everywhere.Goals as goal
+use Rattle.rbg_shifts.proofs.closing.records_step_everywhere.Goals as goal
 
 pub loop-index-preserved : goal.loop-index-preserved
 loop-index-preserved c =
@@ -9,11 +9,11 @@ loop-index-preserved c =
     let lists = c.args.lists.now in
     let table = c.args.table.now in
     let k : ℕ = c.loop-index.index in
-    let here : IsToldAt game lists table (entry_at table c.args.node k) k c.args.position =
-    subst (λ (e : Entry). IsToldAt game lists table e k c.args.position) c.entry-entry.ensures.entry (c.is_told.ensures c.if-not-is_told.false) in
+    let here : RecordsStepAt game lists table (entry_at table c.args.node k) k c.args.position =
+    subst (λ (e : Entry). RecordsStepAt game lists table e k c.args.position) c.entry-entry.ensures.entry (c.is_told.ensures c.if-not-is_told.false) in
     λ v below. elim (last_place k v below) [
       | before e ↦ c.loop-index.invariant v e
-      | last e ↦ subst (λ (w : ℕ). IsToldAt game lists table (entry_at table c.args.node w) w c.args.position) (sym e) here
+      | last e ↦ subst (λ (w : ℕ). RecordsStepAt game lists table (entry_at table c.args.node w) w c.args.position) (sym e) here
     ]
 
 pub returns : goal.returns

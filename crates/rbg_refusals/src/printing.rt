@@ -8,16 +8,16 @@ pub const KEPT: &[u8] = b"kept\0";
 
 /// Prints facts, and doesn't allocate. After a failure to print, nothing more is printed.
 #[derive(Drop)]
-pub struct Telling<W: Write> {
+pub struct Facts<W: Write> {
     output: W,
     /// Whether all was printed so far.
     is_whole: bool,
 }
 
-impl<W: Write> Telling<W> {
+impl<W: Write> Facts<W> {
     /// Nothing was printed yet.
-    pub fn new(output: W) -> Telling<W> {
-        Telling {
+    pub fn new(output: W) -> Facts<W> {
+        Facts {
             output,
             is_whole: true,
         }

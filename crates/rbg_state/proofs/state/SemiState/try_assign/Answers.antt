@@ -2,7 +2,7 @@ use Rattle.std.proofs.Common.{sym, ◌∙◌, refl, subst, ◌≤◌, ℕ, slice
 use Rattle.rbg_rules.specs.Meaning.{arithmetic_of}
 use Rattle.rbg_state.specs.Trials.{at_vertex}
 use Rattle.rbg_state.proofs.Trying.{same_value}
-use Rattle.rbg_state.proofs.state.SemiState.tell_assign.Goals as goal
+use Rattle.rbg_state.proofs.state.SemiState.try_assign.Goals as goal
 
 pub returns-in-Some : goal.returns-in-Some
 returns-in-Some c = λ game variable vertex is.

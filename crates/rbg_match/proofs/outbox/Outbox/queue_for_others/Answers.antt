@@ -3,23 +3,23 @@ use Rattle.rbg_wire.specs.Messages.{message_of}
 use Rattle.rbg_match.specs.Deliveries.{to_others}
 use Rattle.rbg_match.proofs.Delivering.{delivered-none, length-delivered, to_others-more, to_others-same}
 use Rattle.rbg_match.proofs.Sayings.{said_refused, said_more}
-use Rattle.rbg_match.proofs.outbox.Outbox.tell_others.Goals as goal
-use Rattle.rbg_match.proofs.outbox.Outbox.tell_others.Goals.{then-index-one+in_ok-tell, else-index-one}
+use Rattle.rbg_match.proofs.outbox.Outbox.queue_for_others.Goals as goal
+use Rattle.rbg_match.proofs.outbox.Outbox.queue_for_others.Goals.{then-index-one+in_ok-queue_message, else-index-one}
 
 pub loop-index-init : goal.loop-index-init
 loop-index-init c = sym (delivered-none _)
 
-pub tell-requires-clause-is_there : goal.tell-requires-clause-is_there
-tell-requires-clause-is_there c = omega (arith, ap length c.loop-index.invariant, length-delivered c.args.self.now (to_others c.loop-index.index c.args.one (message_of c.args.message.now)))
+pub queue_message-requires-clause-is_there : goal.queue_message-requires-clause-is_there
+queue_message-requires-clause-is_there c = omega (arith, ap length c.loop-index.invariant, length-delivered c.args.self.now (to_others c.loop-index.index c.args.one (message_of c.args.message.now)))
 
-pub returns-in_err-tell : goal.returns-in_err-tell
-returns-in_err-tell c = said_refused _ c.loop-index.invariant c.tell.ensures c.from_residual.result c.from_residual.ensures.0 _
+pub returns-in_err-queue_message : goal.returns-in_err-queue_message
+returns-in_err-queue_message c = said_refused _ c.loop-index.invariant c.queue_message.ensures c.from_residual.result c.from_residual.ensures.0 _
 
 pub loop-index-preserved : goal.loop-index-preserved
 loop-index-preserved c =
     elim c.if-index-one.branch [
-      | then-index-one+in_ok-tell w ↦
-          let told = w.in_ok-tell.ensures in
+      | then-index-one+in_ok-queue_message w ↦
+          let told = w.in_ok-queue_message.ensures in
           rw (to_others-more c.loop-index.index c.args.one (message_of c.args.message.now) w.if-index-one.true, w.self-is) (said_more _ _ _ c.loop-index.invariant (rw (← told.whole) told.beyond))
       | else-index-one w ↦ rw (to_others-same c.loop-index.index c.args.one (message_of c.args.message.now) w.if-index-one.false, w.self-is) c.loop-index.invariant
     ]

@@ -1,7 +1,7 @@
 use Rattle.std.proofs.Common.{refl}
 use Rattle.rbg_rules.specs.Meaning.{arithmetic_of}
 use Rattle.rbg_state.proofs.Trying.{compares_there, compares_here}
-use Rattle.rbg_state.proofs.state.SemiState.tell_compare.Goals as goal
+use Rattle.rbg_state.proofs.state.SemiState.try_compare.Goals as goal
 
 pub returns-in-Valid : goal.returns-in-Valid
 returns-in-Valid c = λ game.

@@ -1,15 +1,15 @@
 -- The actions of a game at its positions.
 use Rattle.rbg_base.proofs.Common.{◌≡◌, ℕ, zero, suc, ◌+◌, ◌<◌, ◌≤◌, ◌⊎◌, inl, inr, Bool, true, false, IsTrue, length, sym, ap, subst, ◌∙◌, arith, range_with_len, cases_lt}
-use Rattle.rbg_rules.specs.Meaning.{AbstractAction, Expression, skip, HasAction, positions_of, IsNumbered, AbstractGame, Stands, action_of}
+use Rattle.rbg_rules.specs.Meaning.{AbstractAction, Expression, skip, HasAction, positions_of, IsNumbered, AbstractGame, IsActionAt, action_of}
 use Rattle.rbg_rules.specs.declared.rule.Action.{Action}
 use Rattle.rbg_rules.specs.declared.rule.Action.TheVariants.{Shift, On, Off, Assign, Compare, Switch, Positive, Negative}
-use Rattle.rbg_rules.proofs.PositionLemmas.{Among, Among-range_with_len, has_position, one_stands}
+use Rattle.rbg_rules.proofs.PositionLemmas.{Among, Among-range_with_len, has_position, one_action_at}
 use Rattle.rbg_warnings.specs.declared.named_thing.NamedThing.{NamedThing}
 use Rattle.rbg_warnings.specs.Warnings.{IsWritten, HasTooGreat, uses, assigns_too_much}
 use Rattle.rbg_warnings.specs.internal.Walking.{IsUnusedUpTo}
 
 -- the action at a position, with some inside
-pub standing : (rules : Expression) (p : ℕ) (i : Action) → Stands rules p i → (x : Expression) × HasAction rules p (action_of i x)
+pub standing : (rules : Expression) (p : ℕ) (i : Action) → IsActionAt rules p i → (x : Expression) × HasAction rules p (action_of i x)
 standing rules p (Shift d) h = (skip, h)
 standing rules p (On xs) h = (skip, h)
 standing rules p (Off y) h = (skip, h)
@@ -20,19 +20,19 @@ standing rules p Positive h = h
 standing rules p Negative h = h
 
 -- a test of the action at a position
-pub tested : (test : AbstractAction → Bool) (rules : Expression) → IsNumbered rules → (p : ℕ) (i : Action) (b : Bool) → Stands rules p i → ((x : Expression) → b ≡ test (action_of i x)) → (a : AbstractAction) → HasAction rules p a → b ≡ test a
+pub tested : (test : AbstractAction → Bool) (rules : Expression) → IsNumbered rules → (p : ℕ) (i : Action) (b : Bool) → IsActionAt rules p i → ((x : Expression) → b ≡ test (action_of i x)) → (a : AbstractAction) → HasAction rules p a → b ≡ test a
 tested test rules numbered p i b stands is a here =
     let there = standing rules p i stands in
-    is there.0 ∙ ap test (one_stands rules numbered p (action_of i there.0) a there.1 here)
+    is there.0 ∙ ap test (one_action_at rules numbered p (action_of i there.0) a there.1 here)
 
-pub too_great : (game : AbstractGame) → IsNumbered game.rules → (p : ℕ) (i : Action) (b : Bool) → Stands game.rules p i → ((x : Expression) → b ≡ assigns_too_much game.bounds (action_of i x)) → (IsTrue b → HasTooGreat game p) × (HasTooGreat game p → IsTrue b)
+pub too_great : (game : AbstractGame) → IsNumbered game.rules → (p : ℕ) (i : Action) (b : Bool) → IsActionAt game.rules p i → ((x : Expression) → b ≡ assigns_too_much game.bounds (action_of i x)) → (IsTrue b → HasTooGreat game p) × (HasTooGreat game p → IsTrue b)
 too_great game numbered p i b stands is =
     let there = standing game.rules p i stands in (
       λ above. record { action = action_of i there.0; stands = there.1; too_great = sym (is there.0) ∙ above },
       λ found. tested (assigns_too_much game.bounds) game.rules numbered p i b stands is found.action found.stands ∙ found.too_great,
     )
 
-pub written : (game : AbstractGame) (thing : NamedThing) (p : ℕ) (i : Action) (b : Bool) → Stands game.rules p i → ((x : Expression) → b ≡ uses thing (action_of i x)) → IsTrue b → IsWritten game thing
+pub written : (game : AbstractGame) (thing : NamedThing) (p : ℕ) (i : Action) (b : Bool) → IsActionAt game.rules p i → ((x : Expression) → b ≡ uses thing (action_of i x)) → IsTrue b → IsWritten game thing
 written game thing p i b stands is used =
     let there = standing game.rules p i stands in
     record { position = p; action = action_of i there.0; stands = there.1; is_used = sym (is there.0) ∙ used }
@@ -41,7 +41,7 @@ at_last : (p q : ℕ) → q ≤ p + 1 → (q ≤ p) ⊎ (q ≡ p + 1)
 at_last p q below = elim (cases_lt p q) [ inl more ↦ inr (omega arith) | inr less ↦ inl less ]
 
 -- the positions up to the next one
-pub unused_more : (game : AbstractGame) (thing : NamedThing) (p : ℕ) (i : Action) (b : Bool) → IsNumbered game.rules → Stands game.rules (p + 1) i → ((x : Expression) → b ≡ uses thing (action_of i x)) → b ≡ false → IsUnusedUpTo game thing p → IsUnusedUpTo game thing (p + 1)
+pub unused_more : (game : AbstractGame) (thing : NamedThing) (p : ℕ) (i : Action) (b : Bool) → IsNumbered game.rules → IsActionAt game.rules (p + 1) i → ((x : Expression) → b ≡ uses thing (action_of i x)) → b ≡ false → IsUnusedUpTo game thing p → IsUnusedUpTo game thing (p + 1)
 unused_more game thing p i b numbered stands is none before q a below here used =
     elim (at_last p q below) [
       | inl earlier ↦ before q a earlier here used

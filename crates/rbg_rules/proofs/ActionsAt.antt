@@ -4,7 +4,7 @@ use Rattle.std.proofs.lemmas.Bool.{or_parts, eq-eqb}
 use Rattle.std.proofs.Math.Bool.{not}
 use Rattle.rbg_rules.specs.Meaning.{AbstractAction, switch, positive, negative, Expression, act, skip, sequence, fail, choice, star, HasAction, HasInside, IsSwitchAt, IsPatternAt, HasNoSwitch, is_modifier, is_pattern, Word, AbstractGame, AbstractState, Applies}
 use Rattle.rbg_rules.proofs.PositionLemmas.{Among, Among_cases}
-use Rattle.rbg_rules.proofs.PatternLemmas.{word_own, own_stands}
+use Rattle.rbg_rules.proofs.PatternLemmas.{word_own, own_is_action}
 
 abbrev mutual
   -- whether some action of the expression, also inside a pattern, passes the test
@@ -87,7 +87,7 @@ of_list test (q ∷ w) none p (inl e) = rw e (or_parts (test q) (list_any test w
 of_list test (q ∷ w) none p (inr h) = of_list test w (or_parts (test q) (list_any test w) none).1 p h
 
 pub of_word : (test : ℕ → Bool) (x : Expression) → has_such (λ q a. test q) x ≡ false → (w : List ℕ) → Word x w → (p : ℕ) → Among p w → test p ≡ false
-of_word test x none w word p h = let (a, own) = word_own x w word p h in none_such (λ q b. test q) x none p a (own_stands x p a own)
+of_word test x none w word p h = let (a, own) = word_own x w word p h in none_such (λ q b. test q) x none p a (own_is_action x p a own)
 
 -- .. and with a word and then a list
 pub of_both : (test : ℕ → Bool) (x : Expression) (u w : List ℕ) → has_such (λ q a. test q) x ≡ false → list_any test w ≡ false → Word x u → (p : ℕ) → Among p (u ++ w) → test p ≡ false

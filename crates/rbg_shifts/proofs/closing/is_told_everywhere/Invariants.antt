@@ -1,7 +1,0 @@
--- The position is recorded at the vertices so far.
-use Rattle.std.proofs.Common.{◌<◌, ℕ}
-use Rattle.rbg_shifts.specs.internal.Tables.{entry_at, IsToldAt}
-use Rattle.rbg_shifts.proofs.closing.is_told_everywhere.Given as goal
-
-abbrev pub invariant-loop-index : goal.invariant-loop-index
-invariant-loop-index l = (v : ℕ) → v < l.index → IsToldAt l.ground l.lists l.table (entry_at l.table l.node v) v l.position
