@@ -63,13 +63,13 @@ help:
 	@echo 'make links    checks that what the pages link and name is there, and that what make docs makes is up to date'
 	@echo 'make docs     makes the page of all commands, the manual pages and the completions, from the sources'
 	@echo 'make lib      proves the library for programs in C, and leaves librbg.a, librbg.so and rbg.pc beside include/rbg.h (with gcc)'
-	@echo 'make library  calls the library in all ways from C, also under valgrind and AddressSanitizer, and lets players in C, C++, Rust and Python play each other (after make lib and make build, with gcc, g++ and rustc)'
-	@echo 'make install  copies ./rbg, ./rbg_author, their manual pages and completions below PREFIX=/usr/local (after make build)'
+	@echo 'make library  calls the library in all ways from C, also under valgrind and AddressSanitizer, tries the package for Python, and lets players in C, C++, Rust and Python play each other (after make lib and make build, with gcc, g++ and rustc)'
+	@echo 'make install  copies ./rbg, ./rbg_author, their manual pages and completions below PREFIX=/usr/local, and the library if make lib has left it (after make build)'
 	@echo 'make try      runs the stored runs, ten with a request for memory refused, and the tests, with no proof; make -j4 try runs four at once'
 	@echo 'make build    proves the programs and what they use, LANES crates at once, and leaves them as ./rbg and ./rbg_author'
 	@echo 'make bench    takes the figures of docs/COSTS.md by valgrind, and writes tools/bench/RESULTS.md (after make build); SECTIONS="texts search" takes some'
 	@echo 'make test     the gate: every proof from nothing, the must-fail edits, each test and program, and then make parts'
-	@echo 'make parts    refusals, compare, crash, storm, tournament, clients, hall, editor and imported with smaller numbers, pages, doctests and links, with the programs as the gate built them'
+	@echo 'make parts    refusals, compare, crash, storm, tournament, clients, hall, library, editor and imported with smaller numbers, pages, doctests and links, with the programs as the gate built them'
 	@echo 'make check    proves what changed since the last check, lowest crates first'
 	@echo 'make fmt      lays out the sources and the proofs'
 	@echo 'make clean    removes what was built'
@@ -127,10 +127,16 @@ lib:
 	@cd crates/rbg_c && $(RT) lib
 	@RT='$(RT)' tools/library --prefix $(PREFIX)
 
+# If `make lib` has left no archive, OVER=FOLDER makes it over the libraries that `rt ci` has proved in a checkout. ARCHIVE=FILE
+# takes another one. The package for Python is tried over the library, and over `rbg ask`.
+OVER :=
+ARCHIVE :=
 library:
 	$(call needs,$(RBG))
-	@RT='$(RT)' tools/library --prefix $(PREFIX)
+	@RT='$(RT)' tools/library --prefix $(PREFIX) $(OVER:%=--over %) $(ARCHIVE:%=--archive %)
 	@TEXTS=$(TEXTS) CALLS=$(CALLS) python3 clients/c/trials.py $(call data,chess tictactoe)
+	@tools/doctests clients/python/rbg
+	@for library in ./librbg.so ''; do RBG_LIBRARY=$$library python3 clients/package_trial.py --rbg $(RBG) $(call data,tictactoe) || exit 1; done
 	@python3 clients/languages.py --rbg $(RBG) $(call data,tictactoe breakthrough)
 
 play:
@@ -188,6 +194,10 @@ install:
 	install -d $(DESTDIR)$(PREFIX)/bin
 	install ./rbg ./rbg_author $(DESTDIR)$(PREFIX)/bin
 	cd share && find * -type f -exec install -D -m 644 {} $(DESTDIR)$(PREFIX)/share/{} \;
+	if test -e librbg.a; then \
+	  install -D -m 644 -t $(DESTDIR)$(PREFIX)/include include/rbg.h clients/cpp/rbg.hpp && \
+	  install -D -m 644 -t $(DESTDIR)$(PREFIX)/lib librbg.a librbg.so && install -d $(DESTDIR)$(PREFIX)/lib/pkgconfig && \
+	  sed 's|^prefix=.*|prefix=$(PREFIX)|' rbg.pc > $(DESTDIR)$(PREFIX)/lib/pkgconfig/rbg.pc; fi
 
 try: $(STORED:%=try-run-%) $(REFUSED:%=try-memory-%) $(TESTED:%=try-test-%)
 

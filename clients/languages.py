@@ -3,9 +3,11 @@
 
     languages.py GAME.. [--rbg FILE] [--think MS]
 
-The players are compiled with librbg.a first. Each plays each other one in each of the games, which have two players. Then
-kings alone play chess, a match is killed twice and goes on from its log, and Python's player plays without the library.
-Each match has to be finished: nobody may be late, or be refused too often.
+The players are compiled with librbg.a first. Each plays each other one, in both orders, in each of the games, which have two
+players. Each plays chess once. Then they meet in a ring: with kings alone, where each of several moves ends play; and in the
+last game, whose referee is killed twice and goes on from its log. At last Python's player plays without the library. Each
+match has to be finished by the rules: nobody may be late, or be refused too often. A turn has a minute, so that nobody is
+late since the machine is slow.
 """
 
 import argparse
@@ -23,9 +25,11 @@ from served import Wrong, end, ended_before, is_good, listen
 
 HERE = Path(__file__).resolve().parent
 ROOT = HERE.parent
-PATIENCE = 120  # seconds in which a match has to end
-TURN, REFUSALS = 3000, 0  # milliseconds for a turn, and how many refusals are allowed: none
-KILLED_AFTER = 0.7  # seconds
+CHESS = ROOT / "crates/rbg_games/data/chess.rbg"
+PATIENCE = 900  # seconds in which a match has to end, however slow the machine is
+TURN = 60_000  # milliseconds
+REFUSALS, AFTER_RESTARTS = 0, 3  # how many are allowed; a player may answer once before all that was played has come
+KILLED_AFTER = (8, 20)  # lines of the log
 
 Players = dict[str, list[str]]
 
@@ -59,8 +63,17 @@ def kings_alone(chess: str) -> str:
     return re.sub(r"(?<=[\[,])([wb][pnbruq])(?=[],])(,?)", lambda found: "e, " if found[2] else "e", chess)
 
 
-class Trial:
-    """Matches of a game between some players."""
+def ring(names: list[str]) -> list[tuple[str, str]]:
+    """Each with the next one.
+
+    >>> ring(["C", "C++", "Rust"])
+    [('C', 'C++'), ('C++', 'Rust'), ('Rust', 'C')]
+    """
+    return list(zip(names, names[1:] + names[:1]))
+
+
+class Table:
+    """Matches of a game."""
 
     def __init__(self, rbg: str, game: Path, folder: Path, think: int):
         self.rbg, self.game, self.think = rbg, game, think
@@ -68,10 +81,9 @@ class Trial:
         for file in folder.glob("match.log*"):
             file.unlink()
 
-    def play(self, players: list[list[str]], *words: str, kill_after: Optional[float] = None, **how: str) -> Optional[str]:
-        """The last line of the record of a match; None if the referee was killed before the end."""
-        settings = [] if "--resume" in words else ["--turn", str(TURN), "--refusals", str(REFUSALS)]
-        referee, port = listen([self.rbg, "serve", str(self.game), "--minutes", "5", *settings, *words])
+    def play(self, players: list[list[str]], *words: str, lines: Optional[int] = None, **how: str) -> Optional[str]:
+        """The last line of the record of a match; None if the referee was killed since its log had so many lines."""
+        referee, port = listen([self.rbg, "serve", str(self.game), "--minutes", "60", *words])
         clients: list[subprocess.Popen[bytes]] = []
         try:
             for seat, player in enumerate(players, 1):
@@ -80,51 +92,76 @@ class Trial:
                 clients.append(subprocess.Popen(given, cwd=ROOT, **pipes))
                 if ended_before(referee, f"seat {seat} connected\n") is not None:
                     raise Wrong(f"the referee ended before seat {seat} was taken")
-            output, said = referee.communicate(timeout=PATIENCE if kill_after is None else kill_after)
+            while lines is not None and referee.poll() is None:
+                if self.log.read_text().count("\n") >= lines:
+                    return None
+                time.sleep(0.002)
+            output, said = referee.communicate(timeout=PATIENCE)
         except subprocess.TimeoutExpired:
-            if kill_after is None:
-                raise Wrong(f"{self.game.name}: not ended after {PATIENCE} seconds") from None
-            return None
+            raise Wrong(f"{self.game.name}: not ended after {PATIENCE} seconds") from None
         finally:
             end(referee, clients)
-        self.record.write_text(output)
-        last = output.splitlines()[-1] if output else ""
-        if referee.returncode or " E0 " not in last:
-            raise Wrong(f"{self.game.name}: status {referee.returncode}, {last or said}")
+        return self.checked(output, referee.returncode, said)
+
+    def checked(self, record: str, status: int, said: str) -> str:
+        """The last line of a record, which has to be good, of a match that was played to its end."""
+        self.record.write_text(record)
+        last = record.splitlines()[-1] if record else ""
+        if status or " E0 " not in last:
+            raise Wrong(f"{self.game.name}: status {status}, {last or said}")
         if not is_good(self.rbg, self.game, self.record):
             raise Wrong(f"{self.game.name}: the record isn't good")
         return last
+
+    def match(self, players: list[list[str]], **how: str) -> str:
+        """A match in which no message is refused."""
+        last = self.play(players, "--turn", str(TURN), "--refusals", str(REFUSALS), **how)
+        assert last is not None
+        return last
+
+    def killed(self, players: list[list[str]]) -> tuple[str, int]:
+        """A match that goes on each time that its referee was killed, and how often it was."""
+        words, times = ["--log", str(self.log), "--turn", str(TURN), "--refusals", str(AFTER_RESTARTS)], 0
+        for lines in (*KILLED_AFTER, None):
+            last = self.play(players, *words, lines=lines)
+            if last is not None:
+                break
+            words, times = ["--resume", str(self.log)], times + 1
+        if last is None or times == 0:
+            raise Wrong(f"{self.game.name}: ended before the referee was killed: {last}")
+        return last, times
 
 
 def tournament(words: argparse.Namespace, folder: Path) -> int:
     """Plays all matches, and returns how many they are."""
     players, matches = compiled(folder), 0
-    for game, (one, other) in itertools.product(words.games, itertools.permutations(players, 2)):
-        last = Trial(words.rbg, game, folder, words.think).play([players[one], players[other]])
-        print(f"{game.stem}: {one} and {other}: {last}", flush=True)
+
+    def report(what: str, one: str, other: str, last: str) -> None:
+        nonlocal matches
         matches += 1
+        print(f"{what}: {one} and {other}: {last}", flush=True)
+
+    for game, (one, other) in itertools.product(words.games, itertools.permutations(players, 2)):
+        report(game.stem, one, other, Table(words.rbg, game, folder, words.think).match([players[one], players[other]]))
+    for one, other in ring(list(players))[::2]:
+        report("chess", one, other, Table(words.rbg, CHESS, folder, 1).match([players[one], players[other]]))
     kings = folder / "kings.rbg"
-    kings.write_text(kings_alone((ROOT / "crates/rbg_games/data/chess.rbg").read_text()))
-    for one, other in zip(players, [*list(players)[1:], "C"]):
-        print(f"kings: {one} and {other}:", Trial(words.rbg, kings, folder, 5).play([players[one], players[other]]), flush=True)
-        trial = Trial(words.rbg, words.games[-1], folder, 100)
-        last, killed = None, 0
-        while last is None:
-            logged = ["--resume" if killed else "--log", str(trial.log)]
-            last = trial.play([players[one], players[other]], *logged, kill_after=KILLED_AFTER if killed < 2 else None)
-            killed += last is None
-        print(f"resumed {killed} times: {one} and {other}: {last}", flush=True)
-        matches += 2
-    last = Trial(words.rbg, words.games[0], folder, words.think).play([players["Python"]] * 2, RBG_LIBRARY="", RBG=words.rbg)
-    print(f"without the library: {last}")
-    return matches + 1
+    kings.write_text(kings_alone(CHESS.read_text()))
+    for one, other in ring(list(players)):
+        pair = [players[one], players[other]]
+        report("kings alone", one, other, Table(words.rbg, kings, folder, words.think).match(pair))
+        last, times = Table(words.rbg, words.games[-1], folder, words.think).killed(pair)
+        report(f"{words.games[-1].stem}, killed {times} times", one, other, last)
+    last = Table(words.rbg, words.games[0], folder, words.think).match([players["Python"]] * 2, RBG_LIBRARY="", RBG=words.rbg)
+    report(f"{words.games[0].stem}, without the library", "Python", "Python", last)
+    return matches
 
 
 def main() -> int:
     parser = argparse.ArgumentParser(description=__doc__.splitlines()[0])
     parser.add_argument("games", type=Path, nargs="+", metavar="GAME")
     parser.add_argument("--rbg", default="./rbg", help="the program")
-    parser.add_argument("--think", type=int, default=20, metavar="MS", help="how long a player thinks about a move")
+    parser.add_argument("--think", type=int, default=5, metavar="MS", help="how long a player thinks about a move")
     words = parser.parse_args()
     words.rbg, words.games = str(Path(words.rbg).resolve()), [game.resolve() for game in words.games]
     began = time.monotonic()

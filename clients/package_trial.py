@@ -3,9 +3,9 @@
 
     package_trial.py GAME.. [--rbg FILE]
 
-In each game one player thinks and the other one chooses at random. One more game lets the keeper make moves that a player
-could make too. The match of the first game is played once more: `rbg serve` is killed in the middle of it, and lets it go
-on from its log. Each game has two players.
+In each game one player thinks and the other one chooses at random. In one more game the keeper makes moves that a player
+could make too, and in another one each of two moves ends play. The match of the first game is played once more: `rbg serve`
+is killed in the middle of it, and lets it go on from its log. Each game has two players.
 """
 
 import argparse
@@ -28,6 +28,12 @@ SHARED = """#players = white(100), black(100)
 #variables = n(40)
 #board = rectangle(up,down,left,right,[e])
 #rules = ([$ n = n + 1] (->white + ->black + ->>))*
+"""
+ENDING = """#players = white(100), black(100)
+#pieces = e, w
+#variables =
+#board = rectangle(up,down,left,right,[e,w,e])
+#rules = [$ white = 50, black = 50] ->white right {w} (left + right) {e} [w] ->> {}
 """
 KILLED_AFTER = 5  # lines of the log
 PATIENCE = 280  # seconds in which a match has to end
@@ -109,14 +115,17 @@ def main() -> int:
     program = os.path.abspath(words.rbg)
     with tempfile.TemporaryDirectory() as name:
         folder = Path(name)
-        shared = folder / "shared.rbg"
+        shared, ending = folder / "shared.rbg", folder / "ending.rbg"
         shared.write_text(SHARED)
+        ending.write_text(ENDING)
         try:
             for game in words.games:
                 table = Table(program, game, [rbg.Thinker(0.1, 1), by_chance(1)])
                 print(f"{game.name}: {check(program, game, table.record(), folder)}, good", flush=True)
             table = Table(program, shared, [by_chance(1), by_chance(2)])
             print(f"{shared.name}: {check(program, shared, table.record(), folder)}, good", flush=True)
+            table = Table(program, ending, [rbg.Thinker(0.3, 1), by_chance(2)])
+            print(f"{ending.name}: {check(program, ending, table.record(), folder)}, good", flush=True)
             print(f"{words.games[0].name}, resumed: {resumed(program, words.games[0], folder)}, good")
         except Wrong as wrong:
             print(f"wrong: {wrong}", file=sys.stderr)

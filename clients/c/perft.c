@@ -12,18 +12,33 @@ static void must(rbg_result result, const char *call) {
   }
 }
 
+typedef struct move {
+  uint64_t length;
+  rbg_pair pairs[RBG_MOST_PAIRS];
+} move;
+
+/* The moves that were found: they are kept here, since a move that is made lets them go. */
+static move *found(rbg_state *state, uint64_t count) {
+  move *moves = malloc((count + 1) * sizeof(move));
+  if (!moves)
+    exit(1);
+  for (uint64_t i = 0; i < count; i++)
+    must(rbg_move(state, i, moves[i].pairs, RBG_MOST_PAIRS, &moves[i].length), "rbg_move");
+  return moves;
+}
+
 static uint64_t count(rbg_state *state, int depth) {
-  uint64_t moves = 0, sum = 0;
-  must(rbg_find_moves(state, &moves), "rbg_find_moves");
+  uint64_t number = 0, sum = 0;
+  must(rbg_find_moves(state, &number), "rbg_find_moves");
   if (depth <= 1)
-    return moves;
-  for (uint64_t i = 0; i < moves; i++) {
-    uint64_t again = 0;
-    must(rbg_find_moves(state, &again), "rbg_find_moves");
-    must(rbg_make_found(state, i), "rbg_make_found");
+    return number;
+  move *moves = found(state, number);
+  for (uint64_t i = 0; i < number; i++) {
+    must(rbg_make(state, moves[i].pairs, moves[i].length), "rbg_make");
     sum += count(state, depth - 1);
     must(rbg_undo(state), "rbg_undo");
   }
+  free(moves);
   return sum;
 }
 

@@ -5,7 +5,7 @@ With --write each section that was taken is written to RESULTS.md, in place of t
 
 Instructions are counted by valgrind's callgrind, and are repeatable. Seconds are processor seconds of one run without
 it, and memory is the greatest of that run; both are only printed. The programs are ./rbg and ./rbg_author, which
-`make build` leaves. Only the sections `forms` and `changes` build a program of their own, in a copy of the repository,
+`make build` leaves, and the library is that of `make lib`, if it is there. Only the sections `forms` and `changes` build a program of their own, in a copy of the repository,
 and so prove what is not proved there yet; --bench names that program if it is built already.
 """
 
@@ -22,6 +22,7 @@ import tempfile
 import time
 
 sys.dont_write_bytecode = True
+import places  # noqa: E402
 import texts  # noqa: E402
 from wire import wire as wires  # noqa: E402
 
@@ -133,6 +134,7 @@ DEPTHS = {
     "breakthrough": 3, "chess": 2, "english_draughts": 4, "reversi": 4, "go_9x9": 2, "connect_four": 4, "tictactoe": 5,
     "hex": 2, "international_draughts": 3, "gomoku": 2, "amazons": 1, "abalone": 2,
 }  # fmt: skip
+PLAYOUTS = 4  # random matches, of which instructions are counted
 
 
 def search(run, programs):
@@ -152,15 +154,38 @@ def search(run, programs):
 
 
 def ask(run, programs):
-    """What questions cost beside the start of a session; of `random` a match of 20."""
-    head("Questions: `rbg ask GAME`", "Game", "Instructions of `moves`", "of `make`", "of a random match")
+    """What questions, random matches and places cost beside the start of a session."""
+    head("Questions: `rbg ask GAME`", "Game", "Moves", "Instructions of `moves`", "of `make`", "of `moves` with `make` and `back` of each, a move")
     for name in DEPTHS:
         words = [programs.rbg, "ask", run.file("text.rbg", texts.game(name))]
         begun = run.counted(words)[1]
         printed, listed, _ = run.counted(words, "moves\n")
-        first = printed.splitlines()[1]
-        made, played = (run.counted(words, question)[1] for question in (f"make {first}\n", "random 1 20\n"))
-        row(name, *(f"{spent:,.0f}" for spent in (listed - begun, made - begun, (played - begun) / 20)))
+        moves = printed.splitlines()[1:]
+        made = run.counted(words, f"make {moves[0]}\n")[1]
+        tried = run.counted(words, "moves\n" + "".join(f"make {move}\nback\n" for move in moves))[1]
+        row(name, len(moves), *(f"{spent:,.0f}" for spent in (listed - begun, made - begun, (tried - begun) / len(moves))))
+    playouts(run, programs)
+    places.places(run, programs.rbg, head, row, texts.game)
+
+
+def playouts(run, programs):
+    """What a move of a random match costs, the keeper's moves after it among it: all moves are found, and one is made."""
+    head("Random matches: `random` of `rbg ask GAME`", "Game", "Moves a match", "Instructions a move", "Moves a second")
+    for name in DEPTHS:
+        file = run.file("text.rbg", texts.game(name))
+
+        def moves(matches):
+            """How many moves these matches have: a seed gives the same ones here."""
+            printed = run.plain([programs.author, "playouts", file, str(matches)])[0]
+            return int(re.search(r"^moves (\d+)$", printed, re.M)[1])
+
+        words = [programs.rbg, "ask", file]
+        spent = (run.counted(words, f"random 1 {PLAYOUTS}\n")[1] - run.counted(words)[1]) / moves(PLAYOUTS)
+        matches, seconds = PLAYOUTS, 0.0
+        while seconds < 0.5:
+            matches *= 4
+            seconds = run.plain(words, f"random 1 {matches}\n")[1]
+        row(name, round(moves(PLAYOUTS) / PLAYOUTS), f"{spent:,.0f}", f"{moves(matches) / seconds:,.0f}")
 
 
 def limit(run, programs):

@@ -47,6 +47,8 @@ def section_of(program: Program, command: Command) -> list[str]:
     if command.options:
         lines += ["| Argument | Meaning |", "|---|---|"]
         lines += [f"| `{described(it)}` | {it.help.replace('|', chr(92) + '|')} |" for it in command.options] + [""]
+    if command.more:
+        lines += ["```text", command.more, "```", ""]
     return lines
 
 
@@ -71,6 +73,8 @@ def manual_of(program: Program) -> str:
         lines += [f".SS {escaped(command.usage())}", escaped(command.about) + ".", f"Example: {escaped(command.example)}"]
         for option in command.options:
             lines += [".TP", f".B {escaped(described(option))}", escaped(option.help) + "."]
+        if command.more:
+            lines += [".PP", ".nf", *map(escaped, command.more.splitlines()), ".fi"]
     lines.append(".SH EXIT STATUS")
     for status, meaning in STATUSES:
         lines += [".TP", f".B {status}", f"{escaped(meaning)}."]

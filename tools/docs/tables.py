@@ -39,6 +39,7 @@ class Command:
     about: str
     example: str
     options: list[Option]
+    more: str = ""  # what help says after the example
 
     def usage(self) -> str:
         """The command with its arguments: words first, then what an option needs, then what may be left out."""
@@ -151,10 +152,10 @@ def program(name: str) -> Program:
     known = constants((ROOT / SHARED).read_text(), {})
     text = (ROOT / SOURCES[name]).read_text()
     listed = constants(text, known)["COMMANDS"]
-    commands = [
-        Command(it["name"], it["about"], it["example"].removeprefix("Example: "), [option_of(each) for each in it["arguments"]])
-        for it in listed
-    ]
+    commands = []
+    for it in listed:
+        example, _, more = it["example"].removeprefix("Example: ").partition("\n\n")
+        commands.append(Command(it["name"], it["about"], example, [option_of(each) for each in it["arguments"]], more))
     version, about = (re.search(rf'\.{it}\("([^"]*)"\)', text) for it in ("version", "about"))
     assert version and about
     return Program(name, version[1], about[1], commands)

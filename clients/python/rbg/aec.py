@@ -3,18 +3,39 @@
 >>> from rbg import Game
 >>> with Game.load("crates/rbg_games/data/tictactoe.rbg") as game:
 ...     environment = Environment(game)
-...     environment.reset()
+...     environment.reset(seed=1)
 ...     for agent in environment.agent_iter():
 ...         observation, reward, termination, truncation, info = environment.last()
-...         environment.step(None if termination else observation["action_mask"].index(1))
-...     print(environment.rewards)
-{'first': 100.0, 'second': 0.0}
+...         mask = observation["action_mask"]
+...         environment.step(None if termination else environment.action_space(agent).sample(mask))
+...     print(sum(environment.rewards.values()), environment.agents, environment.num_actions > 9)
+100.0 [] True
 """
 
-from typing import Any, Iterator, Optional
+import random
+from typing import Any, Iterator, Optional, Sequence
 
 from rbg.game import Game, State
 from rbg.spiel import Actions, mask, planes
+
+
+class Numbers:
+    """The numbers of the moves that have been met, as a space by the names of Gymnasium."""
+
+    def __init__(self, actions: Actions, chance: random.Random):
+        self.actions, self.chance = actions, chance
+
+    @property
+    def n(self) -> int:
+        """How many they are by now."""
+        return len(self.actions)
+
+    def contains(self, number: object) -> bool:
+        return isinstance(number, int) and 0 <= number < self.n
+
+    def sample(self, mask: Optional[Sequence[int]] = None) -> int:
+        """One by chance; with a mask one of those at which there is a 1."""
+        return self.chance.choice(range(self.n) if mask is None else [number for number, flag in enumerate(mask) if flag])
 
 
 class Environment:
@@ -24,13 +45,17 @@ class Environment:
     `action_mask` is as long.
     """
 
+    metadata: dict[str, Any] = {"name": "rbg", "render_modes": []}
+
     def __init__(self, game: Game):
-        self.game, self.actions = game, Actions()
+        self.game, self.actions, self.chance = game, Actions(), random.Random()
         self.possible_agents = list(game.players)
         self.reset()
 
     def reset(self, seed: Optional[int] = None, options: Optional[dict[str, Any]] = None) -> None:
-        """Begins a match. Nothing in it depends on chance, so the seed isn't read."""
+        """Begins a match. Chance chooses nothing but what `sample` of an action space returns."""
+        if seed is not None:
+            self.chance.seed(seed)
         self.state: State = self.game.state()
         self.agents = list(self.possible_agents)
         self.rewards = {agent: 0.0 for agent in self.agents}
@@ -44,6 +69,10 @@ class Environment:
     def num_actions(self) -> int:
         """How many moves have been met by now."""
         return len(self.actions)
+
+    def action_space(self, agent: str) -> Numbers:
+        """The numbers of the moves, the same ones for each agent."""
+        return Numbers(self.actions, self.chance)
 
     @property
     def num_agents(self) -> int:

@@ -8,14 +8,18 @@ of `rbg.h`.
 ...         state = Library.load().open(file.read())
 ...     key = state.key
 ...     state.make("4 9 4 10")
-...     print(state.player, state.count(), state.undo() == key != state.key or state.key == key, state.scores)
+...     player, count = state.player, state.count()
+...     state.undo()
+...     print(player, count, state.key == key, state.scores)
 2 8 True [50, 50]
 """
 
 import ctypes
 import ctypes.util
 import os
+import struct
 from ctypes import POINTER, Structure, byref, c_size_t, c_uint8, c_uint16, c_uint32, c_uint64, c_void_p
+from functools import lru_cache
 from typing import Any, Optional
 
 from rbg.backend import Refused
@@ -25,6 +29,7 @@ WORDS = {
     16: "text", 17: "macro", 18: "syntax", 19: "game",
 }  # fmt: skip
 SMALL, RANGE, MOST_PAIRS = 7, 8, 200
+KEPT = 1 << 16  # so many spellings of moves are kept
 PLAYERS, PIECES, VARIABLES = range(3)
 
 
@@ -41,7 +46,6 @@ CALLS: dict[str, list[Any]] = {
     "rbg_begin": [c_void_p, c_size_t, STATE],
     "rbg_copy": [STATE, STATE],
     "rbg_player": [STATE, POINTER(c_uint32)],
-    "rbg_moves_made": [STATE, NUMBER],
     "rbg_key": [STATE, NUMBER],
     "rbg_board": [STATE, POINTER(c_uint16), c_size_t, NUMBER],
     "rbg_values": [STATE, POINTER(c_uint32), c_size_t, NUMBER],
@@ -109,6 +113,7 @@ class Held:
     def __init__(self, library: Library):
         self.library, self.handle = library, Handle()
         self.found: Optional[dict[str, int]] = None  # the legal moves, if they were asked for
+        self.made = 0  # how many moves can be undone
 
     def __del__(self) -> None:
         self.library.calls.rbg_free(byref(self.handle))
@@ -183,11 +188,12 @@ class Held:
         if self.found is None:
             needed, handle, call = c_uint64(), byref(self.handle), self.library.calls.rbg_move
             pairs, length = (c_uint32 * (2 * MOST_PAIRS))(), byref(needed)
-            listed = []
+            of_bytes, listed = memoryview(pairs).cast("B"), []
             for index in range(self.count()):
                 self.answer("rbg_move", call(handle, index, pairs, MOST_PAIRS, length))
-                listed.append((pairs[: 2 * needed.value], index))
-            self.found = {" ".join(map(str, numbers)): index for numbers, index in sorted(listed)}
+                listed.append((*spelt(of_bytes[: 8 * needed.value].tobytes()), index))
+            listed.sort()
+            self.found = {text: index for _, text, index in listed}
         return self.found
 
     def make(self, move: str) -> None:
@@ -196,18 +202,17 @@ class Held:
             self.ask("rbg_make_found", self.found[move])
         else:
             self.ask("rbg_make", *pairs_of(move))
-        self.found = None
+        self.found, self.made = None, self.made + 1
 
     def hear(self, move: str) -> None:
         """Makes a move as a referee passes it on."""
         self.ask("rbg_hear", *pairs_of(move))
-        self.found = None
+        self.found, self.made = None, 0
 
-    def undo(self) -> int:
-        """Undoes the last move of a player, and returns the key."""
+    def undo(self) -> None:
+        """Undoes the last move of a player."""
         self.ask("rbg_undo")
-        self.found = None
-        return self.key
+        self.found, self.made = None, self.made - 1
 
     def copy(self) -> "Held":
         """A copy, from which no move can be undone."""
@@ -231,8 +236,21 @@ class Held:
         return [list(rows[at : at + width]) for at in range(0, needed.value, width)]
 
 
+@lru_cache(KEPT)
+def spelt(pairs: bytes) -> tuple[bytes, str]:
+    """The move of these pairs: bytes by which moves are in the order of their pairs, and its text.
+
+    >>> moves = [spelt(struct.pack(f"{len(move)}I", *move)) for move in ((4, 300), (4, 9, 4, 10), (4, 9))]
+    >>> [text for _, text in sorted(moves)]
+    ['4 9', '4 9 4 10', '4 300']
+    """
+    numbers = struct.unpack(f"{len(pairs) // 4}I", pairs)
+    return struct.pack(f">{len(numbers)}I", *numbers), " ".join(map(str, numbers))
+
+
+@lru_cache(KEPT)
 def pairs_of(move: str) -> tuple[Any, int]:
-    """The numbers of a move's pairs, and how many pairs they are.
+    """The numbers of a move's pairs, which nobody changes, and how many pairs they are.
 
     >>> numbers, length = pairs_of("4 9 4 10")
     >>> list(numbers), length

@@ -77,7 +77,7 @@ class LoadedPlace:
 
     def undo(self, moves: int, history: list[Move]) -> None:
         """Undoes moves, so that this history is left. A copy can't undo what was made before it, and makes the rest anew."""
-        if moves <= self.held.number("rbg_moves_made"):
+        if moves <= self.held.made:
             for _ in range(moves):
                 self.held.undo()
             return

@@ -12,10 +12,10 @@ Moves are numbered as they are met, so a table of actions grows: `num_distinct_a
 ...     print(other.current_player(), sum(other.legal_actions_mask()), other.action_to_string(1, other.legal_actions()[0]))
 ...     while not other.is_terminal():
 ...         other.apply_action(other.legal_actions()[0])
-...     print(other.returns(), state.is_terminal())
+...     print(other.returns(), state.is_terminal(), state.child(4).current_player())
 0 [0, 1, 2, 3, 4, 5, 6, 7, 8] [7, 9]
 1 8 (0,0)[o] ->>
-[50.0, 50.0] False
+[50.0, 50.0] False 1
 """
 
 from typing import Any, Iterable, Optional
@@ -94,11 +94,22 @@ class SpielState:
     def __init__(self, game: SpielGame, state: State):
         self.game, self.state = game, state
 
+    def get_game(self) -> SpielGame:
+        return self.game
+
     def current_player(self) -> int:
         return TERMINAL if self.state.is_over else self.state.player - 1
 
     def is_terminal(self) -> bool:
         return self.state.is_over
+
+    def is_chance_node(self) -> bool:
+        """Never: a game has no dice."""
+        return False
+
+    def is_simultaneous_node(self) -> bool:
+        """Never: one player is to move."""
+        return False
 
     def legal_actions(self, player: Optional[int] = None) -> list[int]:
         """The numbers of the legal moves: none for a player who isn't to move."""
@@ -113,6 +124,16 @@ class SpielState:
 
     def apply_action(self, action: int) -> None:
         self.state.make(self.game.actions.moves[action])
+
+    def undo_action(self, player: int, action: int) -> None:
+        """Undoes the last move, whatever is given."""
+        self.state.undo()
+
+    def child(self, action: int) -> "SpielState":
+        """The state after a move."""
+        child = self.clone()
+        child.apply_action(action)
+        return child
 
     def action_to_string(self, player: int, action: int) -> str:
         return self.state.spell(self.game.actions.moves[action])
@@ -130,6 +151,10 @@ class SpielState:
 
     def player_return(self, player: int) -> float:
         return self.returns()[player]
+
+    def rewards(self) -> list[float]:
+        """What the last move has brought: all comes at the end."""
+        return self.returns()
 
     def observation_tensor(self, player: int = 0) -> Any:
         """What is seen: each player sees all. See `planes`."""

@@ -11,7 +11,10 @@ use std::alloc::{AllocError, Global};
 use std::io::{ErrorKind, Read, Write};
 
 /// How many bytes are asked for at once.
-const CHUNK: usize = 4096;
+const CHUNK: usize = 16384;
+
+/// Answers of more bytes than this are written before more questions are answered.
+const MANY: usize = 65536;
 
 /// What a part of the input leaves to do.
 #[derive(Clone, Copy, PartialEq, Eq)]
@@ -58,7 +61,7 @@ fn over(alloc: Global) -> Result<Vec<u8>, AllocError> {
     Ok(line)
 }
 
-/// Answers the questions of the whole input.
+/// Answers the questions of the whole input. The answers to questions that came together are written together.
 fn answer_all<R: Read, W: Write>(
     alloc: Global,
     session: &mut Session,
@@ -67,6 +70,7 @@ fn answer_all<R: Read, W: Write>(
 ) -> Result<Vec<u8>, Fault> {
     let mut chunk = vec![in alloc; 0u8; CHUNK]?;
     let mut line = Vec::with_capacity(alloc, MAX_LINE + 1)?;
+    let mut answers = Vec::new(alloc);
     for _ in 0..u64::MAX {
         let count = match input.read(chunk.as_mut_slice()) {
             Ok(count) => count,
@@ -80,14 +84,16 @@ fn answer_all<R: Read, W: Write>(
         if count == 0 {
             break;
         }
-        match hear_piece(alloc, session, &mut line, &chunk[..count], output)? {
-            Next::Read => {}
-            Next::End => return Ok(Vec::new(alloc)),
+        let next = hear_piece(session, &mut line, &chunk[..count], &mut answers, output)?;
+        write_answers(&mut answers, output)?;
+        if next == Next::End {
+            return Ok(Vec::new(alloc));
         }
     }
     // the last line may lack its line feed
     if !line.is_empty() {
-        hear_line(alloc, session, line.as_slice(), output)?;
+        hear_line(session, line.as_slice(), &mut answers, output)?;
+        write_answers(&mut answers, output)?;
     }
     Ok(Vec::new(alloc))
 }
@@ -95,15 +101,15 @@ fn answer_all<R: Read, W: Write>(
 /// Hears a piece of the input: the end of a line, whole lines, and the beginning of a line, which is kept. Of a line that
 /// is too long only so much is kept that it is still too long.
 fn hear_piece<W: Write>(
-    alloc: Global,
     session: &mut Session,
     line: &mut Vec<u8>,
     piece: &[u8],
+    answers: &mut Vec<u8>,
     output: &mut W,
 ) -> Result<Next, Fault> {
     for byte in piece {
         if *byte == b'\n' {
-            let next = hear_line(alloc, session, line.as_slice(), output)?;
+            let next = hear_line(session, line.as_slice(), answers, output)?;
             if next == Next::End {
                 return Ok(next);
             }
@@ -115,21 +121,31 @@ fn hear_piece<W: Write>(
     Ok(Next::Read)
 }
 
-/// Hears a line, and writes what is answered.
+/// Hears a line, and adds its answer to those that are to be written. These are written at once if they are many, or if
+/// there is no memory for one more.
 fn hear_line<W: Write>(
-    alloc: Global,
     session: &mut Session,
     line: &[u8],
+    answers: &mut Vec<u8>,
     output: &mut W,
 ) -> Result<Next, Fault> {
     if line == b"quit".as_slice() {
         return Ok(Next::End);
     }
-    let mut answer = Vec::new(alloc);
-    match session.hear(line, &mut answer) {
-        Ok(()) => output.write_all(answer.as_slice())?,
-        Err(AllocError) => output.write_all(b"error memory\n")?,
+    if let Err(AllocError) = session.hear(line, answers) {
+        write_answers(answers, output)?;
+        output.write_all(b"error memory\n")?;
     }
-    output.flush()?;
+    if answers.len() > MANY {
+        write_answers(answers, output)?;
+    }
     Ok(Next::Read)
+}
+
+/// Writes the answers, of which none is left then.
+fn write_answers<W: Write>(answers: &mut Vec<u8>, output: &mut W) -> Result<(), Fault> {
+    output.write_all(answers.as_slice())?;
+    answers.clear();
+    output.flush()?;
+    Ok(())
 }

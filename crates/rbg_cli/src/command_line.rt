@@ -99,7 +99,21 @@ const MOVES: CommandWords = CommandWords {
 const ASK: CommandWords = CommandWords {
     name: "ask",
     about: "Answer questions about a game, one on each line of standard input",
-    example: "Example: echo moves | rbg ask game.rbg",
+    example: "Example: echo moves | rbg ask game.rbg
+
+Questions:
+  moves [MAX]          the legal moves, by their pairs
+  make PAIRS           makes a move, and the keeper's moves after it
+  back [N]             undoes the last move, or the last N
+  heard PAIRS          makes a move that the referee of a match sends
+  place                who is to move, or the scores
+  board, values        the piece on each vertex, the value of each variable
+  key, state           a number that tells places apart; all of these in one
+  names, shape         the names of the game; its bounds, directions, edges and actions
+  random SEED MATCHES  plays random matches, and counts their endings
+  search SEED MATCHES  plays them after each legal move
+  sample SEED MOVES    plays one, and prints its moves
+  quit                 ends",
     arguments: &[GAME],
 };
 
@@ -173,7 +187,7 @@ const DEMO: CommandWords = CommandWords {
             name: "random",
             kind: Kind::Named("SEED", None),
             value: Value::AnyNumber,
-            help: "Choose each move by chance; a SEED, 0 to 18446744073709551615, always gives the same match",
+            help: "Choose each move at random; a SEED, 0 to 18446744073709551615, always gives the same match",
         },
         TURN,
         REFUSALS,
@@ -287,7 +301,8 @@ pub fn rbg_command<'a>(alloc: Global) -> Result<Command<'a>, AllocError> {
         .version("1.0.0")
         .about("A referee for games of Regular Boardgames")
         .after_help(
-            "Without a command it does what `referee` does without FILE. The program rbg_author helps to write games.",
+            "Without a command it does what `referee` does without FILE. The program rbg_author helps to write games.
+The help of each command has an example: rbg serve --help",
         );
     add_commands(alloc, program, COMMANDS)
 }

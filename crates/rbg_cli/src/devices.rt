@@ -2,7 +2,7 @@
 
 use crate::fault::{Fault, write_fault};
 use crate::output::KeptOutput;
-use rbg_console::{Status, write_text};
+use rbg_console::{Files, Note, Status, meaning_of, write_text};
 use rbg_network::{Network, News};
 use rbg_referee::Answer;
 use std::io::Write;
@@ -16,9 +16,9 @@ pub struct Devices<F, N, R, W> {
     pub output: W,
 }
 
-impl<F, N: Network, R, W: Write> Devices<F, N, R, W> {
+impl<F: Files, N: Network, R, W: Write> Devices<F, N, R, W> {
     /// Writes the answer or the fault's line and returns the status, or `Status::Device` if the output fails. Then it is
-    /// told that this could not be written, and why.
+    /// told that this could not be written, and why; or else what the fault's line means, if it doesn't say it itself.
     pub(crate) fn report(&mut self, what: &str, outcome: &Result<Answer, Fault>) -> Status {
         let mut kept = KeptOutput::new(&mut self.output);
         let status = match outcome {
@@ -30,6 +30,8 @@ impl<F, N: Network, R, W: Write> Devices<F, N, R, W> {
         };
         if let Some(error) = kept.error() {
             self.network.tell(&News::Unwritten { what, error });
+        } else if let Err(fault) = outcome {
+            tell_fault(&mut self.files, fault);
         }
         status
     }
@@ -46,4 +48,16 @@ fn done(lines: Result<Vec<u8>, Fault>) -> Result<Answer, Fault> {
         text: lines?,
         status: Status::Success,
     })
+}
+
+/// Tells what the line of a fault means, if it doesn't say it itself.
+fn tell_fault<F: Files>(files: &mut F, fault: &Fault) {
+    let line: &[u8] = match fault {
+        Fault::Refused(_) => b"refused ",
+        Fault::Script(_) => b"script ",
+        _ => return,
+    };
+    if let Some(text) = meaning_of(line) {
+        files.tell(&Note::Words { text });
+    }
 }

@@ -2,11 +2,11 @@
 
 use crate::choice::Choice;
 use crate::client::Client;
-use crate::command::Seat;
+use crate::command::{Bound, Seat};
 use crate::devices::Devices;
 use crate::fault::Fault;
 use crate::printed::outcome_line;
-use rbg_console::Status;
+use rbg_console::{Files, Status};
 use rbg_network::{ClientError, Network, News};
 use rbg_player::Heard;
 use rbg_serving::{Clock, Pause};
@@ -15,7 +15,7 @@ use std::alloc::Global;
 use std::io::{Read, Write};
 
 /// Plays a seat of the match at the port, or of this one of the matches there, and prints the match's last message.
-pub fn run_play<F, N: Network, R, W: Write>(
+pub fn run_play<F: Files, N: Network, R, W: Write>(
     alloc: Global,
     seat: Seat,
     devices: &mut Devices<F, N, R, W>,
@@ -42,8 +42,10 @@ fn play_on<N: Network>(
     network: &mut N,
     client: &mut Client<N::Stream>,
 ) -> Result<Vec<u8>, Fault> {
-    let outcome = play_rounds(seat, network, client)?;
-    Ok(outcome_line(alloc, &outcome)?)
+    match play_rounds(seat, network, client) {
+        Ok(outcome) => Ok(outcome_line(alloc, &outcome)?),
+        Err(fault) => Err(stopped(network, seat.bound, fault)),
+    }
 }
 
 /// Plays, and tells once for which player.
@@ -90,6 +92,19 @@ fn lost<N: Network>(network: &mut N, port: u16, error: ClientError) -> Fault {
         network.tell(&News::Lost { port, error });
     }
     Fault::from(error)
+}
+
+/// The fault that stopped a player. Where its reads or its minutes are over, this is told.
+fn stopped<N: Network>(network: &mut N, bound: Bound, fault: Fault) -> Fault {
+    if matches!(&fault, Fault::Rounds) {
+        match bound.minutes {
+            Some(minutes) => network.tell(&News::OutOfTime { minutes }),
+            None => network.tell(&News::Unfinished {
+                rounds: bound.rounds,
+            }),
+        }
+    }
+    fault
 }
 
 /// Tells for which player the client plays. False if it isn't known.

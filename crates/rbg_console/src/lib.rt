@@ -1,5 +1,5 @@
-//! What the programs share: reading and writing, files and new ones, words, statuses, counts, printed refusals, and
-//! command lines as tables, from which both programs' commands are made.
+//! What the programs share: reading and writing, files and new ones, words, statuses, counts, printed refusals, what
+//! short lines mean, and command lines as tables, from which both programs' commands are made.
 #![tactic(auto)]
 
 mod argument;
@@ -8,6 +8,7 @@ mod command_line;
 mod counts;
 mod files;
 mod input;
+mod meaning;
 mod memory;
 mod note;
 mod output;
@@ -22,6 +23,7 @@ pub use command_line::{WordsError, match_words, write_words};
 pub use counts::count_line;
 pub use files::{Files, fill_file, read_bytes};
 pub use input::{Input, MAX_INPUT, read_input};
+pub use meaning::meaning_of;
 pub use memory::MemoryFiles;
 pub use note::Note;
 pub use output::write_text;

@@ -10,6 +10,7 @@ mod diagnosed;
 mod doubted;
 mod exact;
 mod explanation;
+mod foreign_comments;
 mod hints;
 mod joined;
 mod listed;

@@ -241,7 +241,7 @@ impl<'a> Spot<'a> {
     }
 
     /// The tokens before this one from the last `[`, `{` or `(` of a call that is not closed.
-    fn innermost(&self) -> &'a [Token<'a>] {
+    pub fn innermost(&self) -> &'a [Token<'a>] {
         let tokens = self.definition();
         let mut closed = 0usize;
         for index in (0..tokens.len()).rev() {

@@ -1,10 +1,10 @@
 //! Where play stands in a game.
-ghost use Rattle.std.specs.Prelude.{◌≡◌, IfOk, OnOk, None};
-ghost use Rattle.rbg_rules.specs.Meaning.{start_of, IsStateOf};
+ghost use Rattle.std.specs.Prelude.{◌≡◌, ◌↔◌, IfOk, IfSome, IfNone, IsTrue, OnOk, None};
+ghost use Rattle.rbg_rules.specs.Meaning.{start_of, IsLastOf, IsPlaceOf, IsStateOf};
 
 use rbg_base::{Memory, Position};
 use rbg_rules::Game;
-use rbg_state::SemiState;
+use rbg_state::{LentState, SemiState};
 use std::alloc::Global;
 use std::marker::Model;
 
@@ -36,6 +36,28 @@ impl Place {
         })
     }
 
+    /// The place of these parts and this last position. None if there is no such place in the game.
+    pub fn of(
+        alloc: Global,
+        game: &Game,
+        parts: &LentState<'_>,
+        after: Option<Position>,
+    ) -> Result<Option<Place>, Memory>
+        ensures made { IfOk result (λ found. IfSome found (λ place.
+            place ≡ record { state = parts.now; last = after })) }
+        ensures fits { IfOk result (λ found. IfSome found (IsPlaceOf game.now)) }
+        ensures none { IfOk result (λ found. IfNone found
+            (¬ IsPlaceOf game.now (record { state = parts.now; last = after }))) }
+    {
+        if !is_last_of(game, after) {
+            return Ok(None);
+        }
+        match SemiState::of(alloc, game, parts)? {
+            Some(state) => Ok(Some(Place { state, after })),
+            None => Ok(None),
+        }
+    }
+
     /// A copy of the place, with no change to take back.
     pub fn try_clone(&self) -> Result<Place, Memory>
         ensures { IfOk result (λ copy. copy ≡ self.now) }
@@ -53,6 +75,16 @@ impl Place {
         self.state.copy_from(&other.state)?;
         self.after = other.after;
         Ok(())
+    }
+}
+
+/// Whether the position, if there is one, is one of the rules.
+fn is_last_of(game: &Game, after: Option<Position>) -> bool
+    ensures { IsTrue result ↔ IsLastOf game.now.rules after }
+{
+    match after {
+        Some(position) => 0 < position && position as usize <= game.positions(),
+        None => true,
     }
 }
 

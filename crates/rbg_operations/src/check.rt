@@ -8,10 +8,11 @@ ghost use Rattle.rbg_operations.specs.internal.Parts.{AnswersWhole, IsFilesAnswe
 
 use crate::loading::{answer_unloaded, load_read};
 use crate::reading::{answer_unread, read_within};
+use crate::telling::write_and_tell;
 use rbg_console::{Files, Status, count_line};
 use rbg_game::Game;
 use rbg_macro::MAX_TEXT;
-use rbg_referee::{Answer, write_answer};
+use rbg_referee::Answer;
 use std::alloc::{AllocError, Global};
 use std::io::Write;
 
@@ -26,7 +27,7 @@ pub fn run_check<F: Files, W: Write>(
         (on_file Check file.now) (W.contents output.old) (W.contents output.new) result }
 {
     let answered = answer_file(alloc, file, files);
-    write_answer(output, answered)
+    write_and_tell(files, output, answered)
 }
 
 /// The answer to what the file has.

@@ -20,6 +20,7 @@ mod recording;
 mod referee;
 mod replay;
 mod run;
+mod telling;
 mod texts;
 
 pub use after::moves_beyond;

@@ -10,10 +10,11 @@ ghost use Rattle.rbg_operations.specs.internal.Parts.{IsFilesAnswer, AnswersChec
 use crate::after::moves_beyond;
 use crate::lines::{answer_bad, answer_form, answer_over};
 use crate::opening::{Opened, open_files, played_game};
+use crate::telling::write_and_tell;
 use rbg_console::{Files, Status};
 use rbg_game::Game;
 use rbg_record::{LineFault, Misfit};
-use rbg_referee::{Answer, write_answer};
+use rbg_referee::Answer;
 use std::alloc::{AllocError, Global};
 use std::io::Write;
 
@@ -31,7 +32,7 @@ pub fn run_moves_after<F: Files, W: Write>(
         (W.contents output.old) (W.contents output.new) result }
 {
     let answered = answer_files(alloc, file, other, files);
-    write_answer(output, answered)
+    write_and_tell(files, output, answered)
 }
 
 /// The answer to what the files have.

@@ -11,13 +11,12 @@ ghost use Rattle.rbg_operations.specs.internal.Parts.{
 };
 
 use crate::reading::{answer_unread, read_match};
+use crate::telling::write_and_tell;
 use crate::texts::Texts;
 use rbg_console::{Files, Status};
 use rbg_game::LoadError;
 use rbg_macro::TextError;
-use rbg_referee::{
-    Answer, answer_fault, answer_refused, answer_script, referee_texts, write_answer,
-};
+use rbg_referee::{Answer, answer_fault, answer_refused, answer_script, referee_texts};
 use std::alloc::{AllocError, Global};
 use std::io::{Read, Write};
 
@@ -34,7 +33,7 @@ pub fn run_match<F: Files, R: Read, W: Write>(
         (on_file Referee file.now) (W.contents output.old) (W.contents output.new) result }
 {
     let answered = answer_files(alloc, file, files, input);
-    write_answer(output, answered)
+    write_and_tell(files, output, answered)
 }
 
 /// The answer to what the file and standard input have.

@@ -8,10 +8,11 @@ ghost use Rattle.rbg_operations.specs.internal.Parts.{IsFilesAnswer, AnswersChec
 
 use crate::lines::{answer_bad, answer_good, answer_record_fault};
 use crate::opening::{Opened, open_files, played_game};
+use crate::telling::write_and_tell;
 use rbg_console::{Files, Status};
 use rbg_game::Game;
 use rbg_record::{Checked, RecordError, check_record};
-use rbg_referee::{Answer, write_answer};
+use rbg_referee::Answer;
 use std::alloc::{AllocError, Global};
 use std::io::Write;
 
@@ -28,7 +29,7 @@ pub fn run_replay<F: Files, W: Write>(
         (W.contents output.old) (W.contents output.new) result }
 {
     let answered = answer_files(alloc, file, other, files);
-    write_answer(output, answered)
+    write_and_tell(files, output, answered)
 }
 
 /// The answer to what the files have.

@@ -3,10 +3,11 @@ ghost use Rattle.std.specs.Prelude.{IfOk};
 ghost use Rattle.rbg_operations.specs.ListingRuns.{IsFilesMoves, IsMovesRun};
 
 use crate::answer::{answer_moves, refuse};
+use crate::telling::write_and_tell;
 use rbg_console::{Files, Input, Status};
 use rbg_game::LoadError;
 use rbg_macro::{MAX_TEXT, TextError};
-use rbg_referee::{Answer, answer_device, write_answer};
+use rbg_referee::{Answer, answer_device};
 use std::alloc::{AllocError, Global};
 use std::io::Write;
 
@@ -20,7 +21,7 @@ pub fn run_moves<F: Files, W: Write>(
     ensures { IsMovesRun (F.told files.old file.now) (W.contents output.old) (W.contents output.new) result }
 {
     let answered = answer_file(alloc, file, files);
-    write_answer(output, answered)
+    write_and_tell(files, output, answered)
 }
 
 /// The answer to a file.

@@ -3,6 +3,7 @@ pub mod Histories
 pub mod Pasts
 pub mod Counts
 pub mod Fits
+pub mod OneMore
 pub mod Applying
 pub mod Reading
 pub mod Chains

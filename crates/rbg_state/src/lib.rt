@@ -2,11 +2,13 @@
 #![tactic(auto)]
 
 mod change;
+mod fitting;
 mod occupancy;
 mod parts;
 mod rows;
 mod state;
 
 pub use change::Mark;
+pub use fitting::LentState;
 pub use rbg_base::Memory;
 pub use state::{Applied, SemiState, Trial};

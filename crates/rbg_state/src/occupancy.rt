@@ -37,6 +37,14 @@ impl Occupancy {
         ensures { IfOk result (λ occupancy. occupancy ≡ board.now.first) }
     {
         let pieces = pieces_at_start(alloc, board)?;
+        Occupancy::of(alloc, pieces, kinds)
+    }
+
+    /// These pieces, with a row for each of the first `kinds` pieces.
+    pub(crate) fn of(alloc: Global, pieces: Vec<Piece>, kinds: usize) -> Result<Occupancy, Memory>
+        requires few { length pieces.items < 2 ^ 16 }
+        ensures { IfOk result (λ occupancy. occupancy ≡ pieces.items) }
+    {
         let rows = Rows::of(alloc, &pieces, kinds)?;
         Ok(Occupancy { pieces, rows })
     }

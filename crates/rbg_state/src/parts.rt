@@ -1,10 +1,11 @@
 //! The parts of a semi-state, one of which is changed at a time.
-ghost use Rattle.std.specs.Prelude.{◌≡◌, ◌*◌, ◌<◌, ◌==◌, Some, length, count_by, slice_get, IfOk, IfSome};
+ghost use Rattle.std.specs.Prelude.{◌≡◌, ◌*◌, ◌<◌, ◌^◌, ◌==◌, Some, length, count_by, slice_get, IfOk, IfSome};
 ghost use Rattle.rbg_rules.specs.Meaning.{start_of, IsStateOf};
 ghost use Rattle.rbg_state.specs.Changes.{set, IsChangeWithin};
 ghost use Rattle.rbg_state.specs.Rows.{IsWordOf};
 
 use crate::change::Change;
+use crate::fitting::LentState;
 use crate::occupancy::{Occupancy, refill};
 use rbg_base::{Memory, Piece, Player, Variable, Vertex};
 use rbg_rules::Game;
@@ -43,6 +44,36 @@ impl StateParts {
             occupancy: Occupancy::start(alloc, game.board(), game.pieces())?,
             values: vec![in alloc; 0; game.variables()]?,
         })
+    }
+
+    /// These parts, of a game with so many kinds of pieces.
+    pub(crate) fn of(
+        alloc: Global,
+        kinds: usize,
+        parts: &LentState<'_>,
+    ) -> Result<StateParts, Memory>
+        requires few { length parts.now.pieces < 2 ^ 16 }
+        ensures { IfOk result (λ made. made ≡ parts.now) }
+    {
+        let pieces = parts.pieces.to_vec(alloc)?;
+        Ok(StateParts {
+            player: parts.player,
+            vertex: parts.vertex,
+            occupancy: Occupancy::of(alloc, pieces, kinds)?,
+            values: parts.values.to_vec(alloc)?,
+        })
+    }
+
+    /// The parts, lent as slices.
+    pub(crate) fn lend(&self) -> LentState<'_>
+        ensures { result ≡ self.now }
+    {
+        LentState {
+            player: self.player(),
+            vertex: self.vertex(),
+            pieces: self.pieces(),
+            values: &self.values,
+        }
     }
 
     /// The parts of a state without a board: no vertices and no variables.

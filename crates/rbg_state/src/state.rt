@@ -1,6 +1,6 @@
 //! A semi-state: the current player, the piece on each vertex, the value of each variable, and the current vertex. It
 //! changes in place and keeps a list of its changes, so that they can be taken back.
-ghost use Rattle.std.specs.Prelude.{◌≡◌, ◌*◌, ◌-◌, ◌<◌, ◌≤◌, ◌==◌, [], length, take, count_by, slice_get, Some, IfOk, IfSome, OnOk, OnErr};
+ghost use Rattle.std.specs.Prelude.{◌≡◌, ◌*◌, ◌-◌, ◌<◌, ◌≤◌, ◌==◌, [], length, take, count_by, slice_get, Some, IfOk, IfSome, IfNone, OnOk, OnErr};
 ghost use Rattle.rbg_rules.specs.Meaning.{AbstractGame, start_of, IsStateOf};
 ghost use Rattle.rbg_state.specs.History.{History, states_of, capacity_of, changed_to, IsAfter};
 ghost use Rattle.rbg_state.specs.Changes.{set, IsChangeWithin};
@@ -11,6 +11,7 @@ mod arithmetic;
 mod trials;
 
 use crate::change::{Change, Mark};
+use crate::fitting::{LentState, is_state_of};
 use crate::parts::StateParts;
 pub use actions::Applied;
 use rbg_base::{Memory, Piece, Player, Variable, Vertex};
@@ -61,6 +62,33 @@ impl SemiState {
             parts: StateParts::start(alloc, game)?,
             changes: Vec::new(alloc),
         })
+    }
+
+    /// The semi-state of these parts, with no change to take back. None if they aren't those of a semi-state of the game.
+    pub fn of(
+        alloc: Global,
+        game: &Game,
+        parts: &LentState<'_>,
+    ) -> Result<Option<SemiState>, Memory>
+        ensures state { IfOk result (λ found. IfSome found (λ made. made.state ≡ parts.now)) }
+        ensures past { IfOk result (λ found. IfSome found (λ made. made.past ≡ [])) }
+        ensures fits { IfOk result (λ found. IfSome found (λ _. IsStateOf game.now parts.now)) }
+        ensures none { IfOk result (λ found. IfNone found (¬ IsStateOf game.now parts.now)) }
+    {
+        if !is_state_of(game, parts) {
+            return Ok(None);
+        }
+        Ok(Some(SemiState {
+            parts: StateParts::of(alloc, game.pieces(), parts)?,
+            changes: Vec::new(alloc),
+        }))
+    }
+
+    /// The parts, lent as slices.
+    pub fn lend(&self) -> LentState<'_>
+        ensures { result ≡ self.now.state }
+    {
+        self.parts.lend()
     }
 
     /// A semi-state of no board. It allocates nothing, and can become a copy of another one.

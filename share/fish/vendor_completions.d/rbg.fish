@@ -9,7 +9,7 @@ complete -c rbg -n __fish_use_subcommand -a replay -d 'Check that a record is a 
 complete -c rbg -n __fish_use_subcommand -a migrate -d 'Print a record of version 1 as one of version 2'
 complete -c rbg -n __fish_use_subcommand -a script -d 'Turn a record into a script that replays it'
 complete -c rbg -n __fish_use_subcommand -a demo -d 'Referee a match between players of its own, and print its record'
-complete -c rbg -n '__fish_seen_subcommand_from demo' -l random -x -d 'Choose each move by chance; a SEED, 0 to 18446744073709551615, always gives the same match'
+complete -c rbg -n '__fish_seen_subcommand_from demo' -l random -x -d 'Choose each move at random; a SEED, 0 to 18446744073709551615, always gives the same match'
 complete -c rbg -n '__fish_seen_subcommand_from demo' -l turn -x -d 'The time for a turn in milliseconds, 1 to 3600000 [default: 60000]'
 complete -c rbg -n '__fish_seen_subcommand_from demo' -l refusals -x -d 'How many refusals a player is allowed, 0 to 100 [default: 3]'
 complete -c rbg -n '__fish_seen_subcommand_from demo' -l rounds -x -d 'The most rounds in which the connections are read, 0 to 4294967295 [default: 100000]'

@@ -12,5 +12,5 @@ returns g c =
     let unread = g.R.Read.remaining c.args.input.now in
     let left = g.R.Read.remaining c.answer_files-answered.new.input in
     let named = on_file Referee c.args.file.now in
-    task_run known unread left named _ _ c.write_answer.result
-    (run_of (IsFilesAnswer known unread left named) _ _ c.answer_files-answered.result c.write_answer.result c.answer_files-answered.ensures c.write_answer.ensures)
+    task_run known unread left named _ _ c.write_and_tell.result
+    (run_of (IsFilesAnswer known unread left named) _ _ c.answer_files-answered.result c.write_and_tell.result c.answer_files-answered.ensures c.write_and_tell.ensures)

@@ -5,4 +5,4 @@ use Rattle.rbg_operations.proofs.run.run_moves.Goals as goal
 
 pub returns : goal.returns
 returns g c =
-    run_of (IsFilesMoves (g.F.Files.told c.args.files.now c.args.file.now)) _ _ c.answer_file-answered.result c.write_answer.result c.answer_file-answered.ensures c.write_answer.ensures
+    run_of (IsFilesMoves (g.F.Files.told c.args.files.now c.args.file.now)) _ _ c.answer_file-answered.result c.write_and_tell.result c.answer_file-answered.ensures c.write_and_tell.ensures
