@@ -19,3 +19,5 @@ mod PlayoutBeginning
 mod Shaping
 mod Searched
 mod Sampled
+mod Packed
+mod Misfits
