@@ -1,0 +1,232 @@
+//! The description of a place by what the keeper does first and by the rest of the rules.
+ghost use Rattle.std.specs.Prelude.{◌≡◌, ◌≤◌, IfOk, IfSome, IsTrue, length};
+ghost use Rattle.rbg_game.specs.Loading.{Loads};
+ghost use Rattle.rbg_rules.specs.Meaning.{IsPlaceOf};
+ghost use Rattle.rbg_position.specs.Onward.{HaveSameRest, HaveSameThings};
+ghost use Rattle.rbg_position.specs.Positions.{GoesOnFrom, SettlesWithRest, game_from};
+ghost use Rattle.rbg_position.specs.Renumbering.{number_in};
+
+use crate::board::board_section;
+use crate::error::PositionError;
+use crate::names::same_names;
+use crate::numbering::old_numbers;
+use crate::opening::settle;
+use crate::place_values::{compare, pieces_of};
+use crate::rest::push_rest;
+use crate::same_board::is_board_with;
+use crate::same_rest::same_rest;
+use crate::spelling::Speller;
+use crate::way::way_to;
+use crate::whole_text::{Opening, push_values};
+use rbg_base::{Direction, Memory, Piece, Position};
+use rbg_game::{Game, load};
+use rbg_macro::Tokens;
+use rbg_moves::{Place, PlayedGame};
+use std::alloc::Global;
+
+/// The description of a place.
+#[derive(Drop)]
+pub struct Setup {
+    pub text: Vec<u8>,
+    /// For each position of its rules, from position 0 on, the number of the action in the old description; 0 for what
+    /// the keeper does first. Empty if all numbers are the same.
+    pub numbers: Vec<Position>,
+}
+
+/// The description of a place by the rest of the rules after its last action, or None if none was found.
+pub(crate) fn continued(
+    alloc: Global,
+    text: &[u8],
+    tokens: &Tokens<'_>,
+    game: &PlayedGame,
+    place: &Place,
+) -> Result<Option<Setup>, Memory>
+    requires { IsPlaceOf game.now place.now }
+    ensures { IfOk result (λ new. IfSome new (λ new.
+        GoesOnFrom game.now place.now new.text.items new.numbers.items)) }
+{
+    let Some(last) = place.after else {
+        return Ok(None);
+    };
+    match way_to(alloc, game.as_game().board(), place.state.vertex())? {
+        Some(way) => right(alloc, text, tokens, game, place, last, &way),
+        None => Ok(None),
+    }
+}
+
+/// The text of a game that begins at the place, if it is right.
+fn right(
+    alloc: Global,
+    text: &[u8],
+    tokens: &Tokens<'_>,
+    game: &PlayedGame,
+    place: &Place,
+    last: Position,
+    way: &[Direction],
+) -> Result<Option<Setup>, Memory>
+    requires { IsPlaceOf game.now place.now }
+    ensures { IfOk result (λ new. IfSome new (λ new.
+        GoesOnFrom game.now place.now new.text.items new.numbers.items)) }
+{
+    let Some(setup) = written(alloc, text, tokens, game.as_game(), place, last, way)? else {
+        return Ok(None);
+    };
+    if is_right(alloc, &setup, game, place)? {
+        Ok(Some(setup))
+    } else {
+        Ok(None)
+    }
+}
+
+/// The text of a game that begins at the place, and the old numbers of its actions. What is written is judged
+/// afterwards.
+fn written(
+    alloc: Global,
+    text: &[u8],
+    tokens: &Tokens<'_>,
+    game: &Game,
+    place: &Place,
+    last: Position,
+    way: &[Direction],
+) -> Result<Option<Setup>, Memory>
+    requires { IsPlaceOf game.now place.now }
+{
+    let rules = game.rules();
+    let mut parts = Vec::new(alloc);
+    if !push_rest(&rules.tree, last, &rules.actions, &mut parts)? {
+        return Ok(None);
+    }
+    let mut values = Vec::new(alloc);
+    push_values(game.variables(), place, &mut values)?;
+    let opening = Opening {
+        values: values.as_slice(),
+        way,
+        player: place.state.player(),
+    };
+    let numbers = old_numbers(alloc, opening.len(), &parts)?;
+    let section = board_section(alloc, tokens, game, pieces_of(place))?;
+    let speller = Speller { alloc, game };
+    let mut out = Vec::new(alloc);
+    out.extend_from_slice(comments_before(text, tokens))?;
+    speller.numbers(&numbers, &mut out)?;
+    speller.names(&mut out)?;
+    out.extend_from_slice(&section)?;
+    out.extend_from_slice(b"\n")?;
+    speller.rules(&opening, &parts, &mut out)?;
+    Ok(Some(Setup { text: out, numbers }))
+}
+
+/// The comments before the first token.
+fn comments_before<'t>(text: &'t [u8], tokens: &Tokens<'_>) -> &'t [u8] {
+    match tokens.as_slice().first() {
+        Some(token) => {
+            let end = token.at.min(text.len());
+            &text[..end]
+        }
+        None => &[],
+    }
+}
+
+/// Whether a text is that of a game from whose beginning play goes on as from the place.
+fn is_right(alloc: Global, setup: &Setup, game: &PlayedGame, place: &Place) -> Result<bool, Memory>
+    requires { IsPlaceOf game.now place.now }
+    ensures { IfOk result (λ is. IsTrue is →
+        GoesOnFrom game.now place.now setup.now.text.items setup.now.numbers.items) }
+{
+    let Some(other) = loaded(alloc, &setup.text)? else {
+        return Ok(false);
+    };
+    if is_game_from(&other, game.as_game(), pieces_of(place)) {
+        let played = PlayedGame::new(alloc, other)?;
+        begins_alike(alloc, &played, game, place, &setup.numbers)
+    } else {
+        Ok(false)
+    }
+}
+
+/// The game of a text, or None if it has a fault.
+fn loaded(alloc: Global, text: &[u8]) -> Result<Option<Game>, Memory>
+    ensures { IfOk result (λ game. IfSome game (Loads text.now)) }
+{
+    match load(alloc, text) {
+        Ok(game) => Ok(Some(game)),
+        Err(error) => {
+            if error.is_memory() {
+                Err(Memory)
+            } else {
+                Ok(None)
+            }
+        }
+    }
+}
+
+/// Whether a game is another one with these pieces on the board, but for the rules.
+fn is_game_from(new: &Game, old: &Game, pieces: &[Piece]) -> bool
+    ensures { IsTrue result → new.now ≡ game_from old.now pieces.now new.now.rules }
+{
+    same_names(old, new) && is_board_with(new.board(), old.board(), pieces)
+}
+
+/// Whether play goes on as from a place of an old game, after the keeper's first moves in a new one.
+fn begins_alike(
+    alloc: Global,
+    new: &PlayedGame,
+    old: &PlayedGame,
+    place: &Place,
+    numbers: &[Position],
+) -> Result<bool, Memory>
+    requires things { HaveSameThings new.now old.now }
+    requires values { length place.now.state.values ≡ length new.now.bounds }
+    ensures { IfOk result (λ alike. IsTrue alike →
+        SettlesWithRest new.now old.now place.now (number_in numbers.now)) }
+{
+    new.is_accepted();
+    old.is_accepted();
+    let mut here = new.start()?;
+    match settle(alloc, new, &mut here) {
+        Ok(()) => goes_on(alloc, new, &here, old, place, numbers),
+        Err(PositionError::Memory) => Err(Memory),
+        Err(_) => Ok(false),
+    }
+}
+
+/// Whether a place of a new game and one of an old game have the same semi-state and the same rest of the rules.
+fn goes_on(
+    alloc: Global,
+    new: &PlayedGame,
+    here: &Place,
+    old: &PlayedGame,
+    there: &Place,
+    numbers: &[Position],
+) -> Result<bool, Memory>
+    requires here { IsPlaceOf new.now here.now }
+    requires values { length there.now.state.values ≡ length new.now.bounds }
+    ensures { IfOk result (λ alike. IsTrue alike →
+        HaveSameRest new.now here.now old.now there.now (number_in numbers.now)) }
+{
+    if !same_states(new.as_game().variables(), here, there) {
+        return Ok(false);
+    }
+    let Some(first) = here.after else {
+        return Ok(false);
+    };
+    let Some(last) = there.after else {
+        return Ok(false);
+    };
+    let new_rules = new.as_game().rules();
+    let old_rules = old.as_game().rules();
+    same_rest(alloc, new_rules, first, old_rules, last, numbers)
+}
+
+/// Whether two places of games with `count` variables have the same semi-state.
+fn same_states(count: usize, here: &Place, there: &Place) -> bool
+    requires few { count ≤ 65536 }
+    requires here { length here.now.state.values ≡ count }
+    requires there { length there.now.state.values ≡ count }
+    ensures { IsTrue result → here.now.state ≡ there.now.state }
+{
+    match compare(count, here, there) {
+        Ok(()) => here.state.vertex() == there.state.vertex(),
+        Err(_) => false,
+    }
+}
