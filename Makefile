@@ -194,7 +194,7 @@ install:
 	install -d $(DESTDIR)$(PREFIX)/bin
 	install ./rbg ./rbg_author $(DESTDIR)$(PREFIX)/bin
 	cd share && find * -type f -exec install -D -m 644 {} $(DESTDIR)$(PREFIX)/share/{} \;
-	if test -e librbg.a; then \
+	if test -e rbg.pc; then \
 	  install -D -m 644 -t $(DESTDIR)$(PREFIX)/include include/rbg.h clients/cpp/rbg.hpp && \
 	  install -D -m 644 -t $(DESTDIR)$(PREFIX)/lib librbg.a librbg.so && install -d $(DESTDIR)$(PREFIX)/lib/pkgconfig && \
 	  sed 's|^prefix=.*|prefix=$(PREFIX)|' rbg.pc > $(DESTDIR)$(PREFIX)/lib/pkgconfig/rbg.pc; fi

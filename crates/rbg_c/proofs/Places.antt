@@ -1,12 +1,11 @@
 -- The places of states.
-use Rattle.rbg_base.proofs.Common.{◌≡◌, ◌≢◌, ℕ, List, [], ◌∷◌, ◌++◌, All, ap, sym, ◌∙◌, refl, subst, All-head, All-tail, All-nil, All-cons, All-append}
+use Rattle.rbg_base.proofs.Common.{◌≡◌, ℕ, List, [], ◌∷◌, ◌++◌, All, sym, ◌∙◌, refl, subst, All-head, All-tail, All-nil, All-cons, All-append}
 use Rattle.std.specs.Prelude.{None}
 use Rattle.rbg_rules.specs.Meaning.{AbstractGame, AbstractPlace, Legal, IsPlaceOf}
 use Rattle.rbg_moves.specs.Settling.{KeeperMoves, none, more, Settles}
 use Rattle.rbg_questions.specs.Sessions.{AreHeard, no_move, one_more, HasLedTo, at_start, at_heard, by_move, Leads, beginning_of}
 use Rattle.rbg_questions.specs.internal.Places.{AreReached}
-use Rattle.rbg_questions.specs.Packing.{packed_of}
-use Rattle.rbg_c.specs.States.{AbstractState, Hears, IsState, Unpacks, beginning_at}
+use Rattle.rbg_c.specs.States.{AbstractState, Hears, IsState, beginning_at}
 
 -- moves of the keeper are legal moves
 heard_by_keeper : (game : AbstractGame) (origin from to : AbstractPlace) (many : ℕ) → AreHeard game origin from → KeeperMoves game from many to → AreHeard game origin to
@@ -128,18 +127,6 @@ unpacked_state game same begin first items place is_game is_first first_place is
 pub unpacked_is : (game same : AbstractGame) (begin first : AbstractPlace) (items : List AbstractPlace) (place : AbstractPlace) → same ≡ game → begin ≡ first → first ≡ place → items ≡ [] → record { game = same; origin = begin; before = items; place = place; found = None } ≡ beginning_at game place place
 unpacked_is game same begin first items place is_game is_first first_place is_items =
     λ i. record { game = is_game i; origin = (is_first ∙ first_place) i; before = is_items i; place = place; found = None }
-
-pub unpacks : (old new : AbstractState) (bytes : List ℕ) (game : AbstractGame) (place : AbstractPlace) → game ≡ old.game → IsPlaceOf game place → bytes ≡ packed_of place → new ≡ beginning_at old.game place place → Unpacks old bytes new
-unpacks old new bytes game place same_game fits packed is =
-    let there : new.place ≡ place = ap (λ (s : AbstractState). s.place) is in
-    record {
-      fits = subst (λ (p : AbstractPlace). IsPlaceOf old.game p) (sym there) (subst (λ (g : AbstractGame). IsPlaceOf g place) same_game fits);
-      packed = packed ∙ sym (ap packed_of there);
-      is = is ∙ sym (ap (λ (p : AbstractPlace). beginning_at old.game p p) there);
-    }
-
-pub not_unpacked : (old : AbstractState) (bytes : List ℕ) (game : AbstractGame) → game ≡ old.game → ((place : AbstractPlace) → IsPlaceOf game place → bytes ≢ packed_of place) → (place : AbstractPlace) → IsPlaceOf old.game place → bytes ≢ packed_of place
-not_unpacked old bytes game same_game none place fits = none place (subst (λ (g : AbstractGame). IsPlaceOf g place) (sym same_game) fits)
 
 -- the state after a move that was heard
 pub heard_state : (state : AbstractState) (game : AbstractGame) (pairs : List (ℕ × ℕ)) (items : List AbstractPlace) (now to : AbstractPlace) → IsState state → game ≡ state.game → Legal game state.place pairs to → IsPlaceOf game to → items ≡ [] → now ≡ to → IsState (record { game = state.game; origin = state.origin; before = items; place = now; found = None })

@@ -11,7 +11,7 @@ use Rattle.rbg_flat.proofs.Leadings.{one_more, among_apart, among_first, among_s
 use Rattle.rbg_flat.proofs.Leaping.{among_leap, leap_among}
 use Rattle.rbg_flat.proofs.ToTry.{holds_to_try, pattern_to_try}
 
-no_bit : (word b : ℕ) → word ≡ 0 → bit_at word b ≡ 1 → ⊥
+pub no_bit : (word b : ℕ) → word ≡ 0 → bit_at word b ≡ 1 → ⊥
 no_bit word b none set =
     let clear : bit_at word b ≡ 0 = ap (λ (k : ℕ). bit_at k b) none ∙ bit_at-zero b in
     omega (arith, set, clear)

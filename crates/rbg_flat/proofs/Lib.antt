@@ -29,3 +29,4 @@ pub mod Countings
 pub mod Finishings
 pub mod Stills
 mod Endings
+mod Walkings

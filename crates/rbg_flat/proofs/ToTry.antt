@@ -13,7 +13,7 @@ true_not_false : true ≡ false → ⊥
 true_not_false e = cc
 
 -- No on stands where a pattern stands.
-no_on : (rules : Expression) → IsNumbered rules → (p : ℕ) → IsPatternAt rules p → (wanted : List ℕ) → ¬ HasAction rules p (on wanted)
+pub no_on : (rules : Expression) → IsNumbered rules → (p : ℕ) → IsPatternAt rules p → (wanted : List ℕ) → ¬ HasAction rules p (on wanted)
 no_on rules numbered p pattern wanted stands = elim pattern.stands [
   | inl is ↦ true_not_false (ap is_pattern (one_action_at rules numbered p (positive pattern.inside_it) (on wanted) is stands))
   | inr is ↦ true_not_false (ap is_pattern (one_action_at rules numbered p (negative pattern.inside_it) (on wanted) is stands))

@@ -11,3 +11,4 @@ pub mod Counted
 pub mod Bits
 pub mod Ending
 pub mod Setting
+pub mod Walking

@@ -1,4 +1,4 @@
-//! Patterns in which nothing goes on, as is seen at once.
+//! Patterns in which no modifier and no pattern comes next, as is seen at once or by a walk.
 ghost use Rattle.std.specs.Prelude.{ℕ, ◌<◌, length, All, IfSome, IsTrue};
 ghost use Rattle.rbg_rules.specs.Meaning.{IsGame, IsStart, inside, IsStateOf, beginning};
 ghost use Rattle.rbg_flat.specs.Chains.{at_vertex};
@@ -11,6 +11,7 @@ use crate::gathering::is_modifier;
 use crate::passing::to_try;
 use crate::paths::Paths;
 use crate::setting::Setting;
+use crate::walk::walked_end;
 use crate::words::{lowest, shared, without};
 use rbg_auto::Expr;
 use rbg_base::{Position, Vertex};
@@ -18,7 +19,7 @@ use rbg_rules::Game;
 use rbg_shifts::{Origin, Target};
 use rbg_state::SemiState;
 
-/// What is told of the inside of a pattern at a vertex from which nothing goes on.
+/// What is told of the inside of a pattern at a vertex where no modifier and no pattern comes next.
 #[derive(Clone, Copy, Drop)]
 pub struct DeadEnd {
     /// How many candidates there are.
@@ -28,9 +29,9 @@ pub struct DeadEnd {
 }
 
 impl Paths {
-    /// How many candidates the inside of a pattern has at a vertex, and whether a word may end, where the first leaps lead
-    /// nowhere, or only to ons and comparisons that don't hold. This needs no sets. It is looked for only where the first
-    /// leaps lead to one vertex at each position; else it is None.
+    /// How many candidates the inside of a pattern has at a vertex, and whether a word may end, where ons and comparisons
+    /// alone come next. This needs no sets. It is looked for only where the first leaps lead to one vertex at each position:
+    /// mostly they lead nowhere, or to what doesn't hold, and else a walk may tell. Where neither does, it is None.
     #[inline(always)]
     pub fn dead_end(
         &self,
@@ -60,8 +61,10 @@ impl Paths {
         if are_dead(&setting, targets) {
             let many = targets.len();
             Some(DeadEnd { many, ends })
-        } else {
+        } else if !self.is_plain(pattern) {
             None
+        } else {
+            walked_end(game, self, state, pattern, vertex)
         }
     }
 }

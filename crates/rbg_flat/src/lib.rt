@@ -13,6 +13,7 @@ mod paths;
 mod sets;
 mod setting;
 mod table;
+mod walk;
 mod words;
 
 pub use ending::DeadEnd;

@@ -58,6 +58,9 @@ pub struct Paths {
     /// or with none, as far as was looked. It only tells where to look for a dead end: nothing rests on it. It is kept
     /// apart, so that the facts of a position stay one word.
     narrow: Vec<bool>,
+    /// Whether such a pattern stands at each position, from 0 on, and ons, comparisons and shifts alone stand inside it. It
+    /// only tells where a walk may be worth while.
+    plain: Vec<bool>,
     /// What comes next after each position, from 0 on, where it is one modifier alone.
     pub(crate) onward: Vec<Onward>,
 }
@@ -69,6 +72,7 @@ impl Drop for Paths {
             leaps: _,
             facts: _,
             narrow: _,
+            plain: _,
             onward: _,
         } = self;
     }
@@ -86,11 +90,13 @@ impl Paths {
         };
         let facts = all_facts(alloc, game, steps)?;
         let narrow = all_narrow(alloc, game, &leaps)?;
+        let plain = all_plain(alloc, game, steps, &facts, &narrow)?;
         let onward = all_onward(alloc, game, steps)?;
         Ok(Some(Paths {
             leaps,
             facts,
             narrow,
+            plain,
             onward,
         }))
     }
@@ -120,10 +126,13 @@ impl Paths {
     /// Whether to look for a dead end in the pattern at a position.
     #[inline(always)]
     pub(crate) fn is_narrow(&self, position: Position) -> bool {
-        match self.narrow.get(position as usize) {
-            Some(narrow) => *narrow,
-            None => false,
-        }
+        flag_at(&self.narrow, position)
+    }
+
+    /// Whether to walk through the pattern at a position.
+    #[inline(always)]
+    pub(crate) fn is_plain(&self, position: Position) -> bool {
+        flag_at(&self.plain, position)
     }
 }
 
@@ -142,6 +151,15 @@ fn all_facts<S: Steps>(alloc: Global, game: &Game, steps: &S) -> Result<Vec<Fact
         facts.push(facts_at(game, position, steps.next(position)))?;
     }
     Ok(facts)
+}
+
+/// The flag of a position; false where there is none.
+#[inline(always)]
+fn flag_at(flags: &[bool], position: Position) -> bool {
+    match flags.get(position as usize) {
+        Some(flag) => *flag,
+        None => false,
+    }
 }
 
 /// Whether the inside of a pattern is narrow at its beginning, for each position, from 0 on.
@@ -166,6 +184,70 @@ fn is_narrow_inside(game: &Game, leaps: &Leaps, pattern: Position) -> bool {
         }
     }
     true
+}
+
+/// Whether a narrow pattern stands at each position, from 0 on, with ons, comparisons and shifts alone inside it.
+fn all_plain<S: Steps>(
+    alloc: Global,
+    game: &Game,
+    steps: &S,
+    facts: &[Facts],
+    narrow: &[bool],
+) -> Result<Vec<bool>, Memory> {
+    let count = game.positions() + 1;
+    let mut plain = vec![in alloc; false; count]?;
+    let mut comes = vec![in alloc; false; count]?;
+    for index in 1..count {
+        let position = index as Position;
+        if flag_at(narrow, position) {
+            plain[index] = is_plain_inside(steps, facts, position, comes.as_mut_slice());
+        }
+    }
+    Ok(plain)
+}
+
+/// Whether ons, comparisons and shifts alone stand inside a pattern. What comes next is noted in a list of no notes, and
+/// is looked at in order of positions; the notes are taken off again.
+fn is_plain_inside<S: Steps>(
+    steps: &S,
+    facts: &[Facts],
+    pattern: Position,
+    comes: &mut [bool],
+) -> bool {
+    let mut plain = true;
+    let mut last = note(comes, steps.first(Expr::Inside(pattern)));
+    for index in pattern as usize..facts.len() {
+        if index > last {
+            break;
+        }
+        let Ok(position) = Position::try_from(index) else {
+            break;
+        };
+        if index < comes.len() && comes[index] {
+            comes[index] = false;
+            plain = plain && !is_inner(&facts[index]);
+            last = last.max(note(comes, steps.next(position)));
+        }
+    }
+    plain
+}
+
+/// Notes positions. Returns the greatest of them.
+fn note(comes: &mut [bool], positions: &[Position]) -> usize {
+    let mut last = 0;
+    for position in positions {
+        let index = *position as usize;
+        if index < comes.len() {
+            comes[index] = true;
+            last = last.max(index);
+        }
+    }
+    last
+}
+
+/// Whether a modifier or a pattern stands at a position of which these are the facts.
+fn is_inner(facts: &Facts) -> bool {
+    matches!(facts.kind, Kind::Modifier | Kind::Pattern)
 }
 
 /// Whether each target has one vertex.

@@ -11,6 +11,7 @@ Without a proof a wrong index isn't found here: nobody may be given these progra
 import argparse
 import re
 import shutil
+import signal
 import subprocess
 import sys
 import tempfile
@@ -151,6 +152,7 @@ def main() -> None:
     parser.add_argument("--to", type=Path, required=True, metavar="FOLDER", help="where the programs are left")
     words = parser.parse_args()
     words.to.mkdir(parents=True, exist_ok=True)
+    signal.signal(signal.SIGTERM, lambda number, _: sys.exit(128 + number))  # so that the folder is removed
     with tempfile.TemporaryDirectory(prefix="rbg-unproved-") as folder:
         builder = Builder(Path(folder))
         for crate in words.crates:
