@@ -14,6 +14,7 @@ mod hearing;
 mod joining;
 mod keeping_serving;
 pub mod laws;
+mod names;
 mod preparing;
 mod printed;
 mod reading;

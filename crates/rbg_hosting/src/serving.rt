@@ -20,10 +20,11 @@ use crate::task::{Keeping, Serving};
 use rbg_console::Status;
 use rbg_hall::{Hall, HallOut};
 use rbg_match::Match;
-use rbg_network::{Archive, Hosting, Network, News, StreamLine};
+use rbg_network::{Archive, Hosting, MatchNews, Network, News, StreamLine};
 use rbg_record::write_record;
 use rbg_referee::Answer;
 use rbg_serving::{Clock, Log, serve_engine};
+use rbg_wire::Outcome;
 use std::alloc::{AllocError, Global};
 use std::io::{Read, Write};
 
@@ -86,6 +87,7 @@ fn play<N: Network, A: Archive>(
         rounds_of(serving),
     );
     tell_stalled(network, serving.hosting, lines.as_slice());
+    tell_ends(network, recorded.hall(), matches, &served, serving);
     let answer = answer_of(alloc, &recorded, matches, served);
     (answer, recorded.into_archive())
 }
@@ -174,6 +176,50 @@ fn status_of(lost: bool) -> Status
     } else {
         Status::Success
     }
+}
+
+/// Tells how each of so many matches ended, or that it did not end within its bound where this is the result.
+fn tell_ends<N: Network, W: Log>(
+    network: &mut N,
+    hall: &Hall<W>,
+    matches: usize,
+    served: &Result<(), ServingFault>,
+    serving: &Serving<'_>,
+) {
+    for index in 0..matches {
+        let number = index as u64 + 1;
+        if let Some(news) = end_news(hall, number, served, serving) {
+            serving
+                .hosting
+                .tell(network, &News::OfMatch { number, news });
+        }
+    }
+}
+
+/// The news of how the match of a number ended, or that it did not within its bound.
+fn end_news<W: Log>(
+    hall: &Hall<W>,
+    number: u64,
+    served: &Result<(), ServingFault>,
+    serving: &Serving<'_>,
+) -> Option<MatchNews<'static>> {
+    if let Some(outcome) = outcome_of(hall, number) {
+        return Some(MatchNews::Ended { outcome });
+    }
+    if !matches!(served, Err(ServingFault::Rounds)) {
+        return None;
+    }
+    match serving.keeping.minutes {
+        Some(minutes) => Some(MatchNews::OutOfTime { minutes }),
+        None => Some(MatchNews::Unfinished {
+            rounds: serving.rounds,
+        }),
+    }
+}
+
+/// The outcome of the match of a number, if it has ended.
+fn outcome_of<W: Log>(hall: &Hall<W>, number: u64) -> Option<Outcome> {
+    hall.begun(number)?.outcome()
 }
 
 /// Reports which connections took nothing of what was left for them after the end. Connections are numbered from 1.
