@@ -48,15 +48,7 @@ Choose = Callable[[State, Clock], Optional[Move]]  # None says nothing
 
 
 def connected(host: str, port: int) -> socket.socket:
-    """A connection. Where nothing listens yet it is tried again for a while, since a referee may start after its players.
-
-    >>> import threading
-    >>> server = socket.socket()
-    >>> server.bind(("127.0.0.1", 0))
-    >>> threading.Timer(0.2, server.listen).start()
-    >>> connected("127.0.0.1", server.getsockname()[1]).close()
-    >>> server.close()
-    """
+    """A connection. Where nothing listens yet it is tried again for a while, since a referee may start after its players."""
     last = time.monotonic() + PATIENCE
     while True:
         try:

@@ -110,8 +110,8 @@ fn position_bytes(
 {
     let game = PlayedGame::new(alloc, game)?;
     match position(alloc, text, tokens, &game, bytes) {
-        Ok(setup) => Ok(Report {
-            text: setup.text,
+        Ok(text) => Ok(Report {
+            text,
             status: Status::Success,
         }),
         Err(error) => no_position(alloc, game.as_game(), error),
@@ -137,9 +137,6 @@ fn no_position(alloc: Global, game: &Game, error: PositionError) -> Result<Repor
         }
         PositionError::Refused => {
             "no position: the description with this board isn't accepted\n".to_string(alloc)?
-        }
-        PositionError::Moves => {
-            "no position: with this board alone other moves may be legal\n".to_string(alloc)?
         }
     };
     Ok(Report {

@@ -1,7 +1,6 @@
 //! What the author's program does with its words and the file that they name.
 ghost use Rattle.rbg_questions.specs.Limits.{IsCount};
 
-use crate::board::board_file;
 use crate::explain::{Lists, check_file, explain_file};
 use crate::game_files::{Read, read_game};
 use crate::import::import_file;
@@ -85,7 +84,6 @@ fn answer<F: Files, R: io::Read, W: Write>(
         }
         Some(("lsp", _)) => serve_editor(alloc, files, input, output),
         Some(("import", words)) => import_file(alloc, files, input, file_of(words)),
-        Some(("board", words)) => board_file(alloc, files, input, file_of(words)),
         Some(("page", words)) => {
             let record = words.get_str("RECORD");
             page_file(alloc, files, file_of(words), record, input)
@@ -299,12 +297,6 @@ const COMMANDS: &[CommandWords] = &[
                 help: "Show only the last move and the board after it",
             },
         ],
-    },
-    CommandWords {
-        name: "board",
-        about: "Print a picture of the empty board, an SVG with numbers, names and directions",
-        example: "Example: rbg_author board game.rbg > board.svg",
-        arguments: &[GAME_OR_INPUT],
     },
     CommandWords {
         name: "page",

@@ -109,7 +109,6 @@ Questions:
   place                who is to move, or the scores
   board, values        the piece on each vertex, the value of each variable
   key, state           a number that tells places apart; all of these in one
-  pack, unpack DIGITS  the place as digits; stands at the place of such digits
   names, shape         the names of the game; its bounds, directions, edges and actions
   random SEED MATCHES  plays random matches, and counts their endings
   search SEED MATCHES  plays them after each legal move
@@ -257,9 +256,15 @@ const HALL: CommandWords = CommandWords {
         GAMES,
         Argument {
             name: "log",
-            kind: Kind::Named("LOG", None),
+            kind: Kind::Named("LOG", Some("resume")),
             value: Value::Text,
             help: "A new file for the events of each match, LOG.1 and so on, each written before it is handled; LOG.1.game and so on name the games",
+        },
+        Argument {
+            name: "resume",
+            kind: Kind::Named("LOG", None),
+            value: Value::Text,
+            help: "The logs of a stopped hall to go on with, LOG.1 and so on; their time for a turn and their refusals hold",
         },
         SYNC,
         RECORDS,

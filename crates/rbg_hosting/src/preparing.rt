@@ -11,6 +11,7 @@ use crate::archive::begin_records;
 use crate::fault::ServingFault;
 use crate::joining::most_of;
 use crate::names::{names_in, tell_match_names};
+use crate::past::name_of;
 use crate::tables::tables_of;
 use crate::task::{Keeping, Serving};
 use rbg_hall::{Hall, HallError, HallOut, LINES, Table};
@@ -49,7 +50,7 @@ pub(crate) fn prepare<N: Network, A: Archive>(
     let matches = tables.len();
     let players = players_of(tables.as_slice());
     let noted = places_for(alloc, archive, matches)?;
-    begin_records(archive, noted.len())?;
+    begin_records(archive, noted.len(), false)?;
     let (mut hall, out) = open_hall(alloc, tables)?;
     keep_logs(alloc, network, &mut hall, descriptions, &serving.keeping)?;
     let lines = accept_lines(alloc, network, players, serving)?;
@@ -66,7 +67,7 @@ pub(crate) fn prepare<N: Network, A: Archive>(
 }
 
 /// A place for each of so many matches, if their records are wanted. None was handed over.
-fn places_for<A: Archive>(
+pub(crate) fn places_for<A: Archive>(
     alloc: Global,
     archive: &A,
     matches: usize,
@@ -78,7 +79,10 @@ fn places_for<A: Archive>(
 }
 
 /// A new hall of these tables.
-fn open_hall<W: Log>(alloc: Global, tables: Vec<Table>) -> Result<(Hall<W>, HallOut), ServingFault>
+pub(crate) fn open_hall<W: Log>(
+    alloc: Global,
+    tables: Vec<Table>,
+) -> Result<(Hall<W>, HallOut), ServingFault>
     requires { AreLoaded tables.items }
     ensures { IfOk result (λ made. IsNewHall (starts_of tables.items) made.0 made.1) }
 {
@@ -107,7 +111,7 @@ fn keep_logs<N: Network>(
     };
     for (index, description) in descriptions.iter().enumerate() {
         let number = index as u64 + 1;
-        let log = format!(in alloc; "{name}.{number}")?;
+        let log = name_of(alloc, name, number)?;
         let named = Named {
             description: description.as_slice(),
             names: names_in(keeping.names, index),

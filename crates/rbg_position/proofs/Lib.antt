@@ -15,13 +15,3 @@ pub mod Spaces
 pub mod Tokens
 pub mod VertexNames
 pub mod WrittenBoards
--- The rest of the rules after an action, and how play goes on from there.
-pub mod RestWords
-pub mod RestParts
-pub mod Renumbered
-pub mod RenumberedActs
-pub mod GoesOn
-pub mod SameMoves
-pub mod Beginnings
-pub mod RestFound
-pub mod RestKeys

@@ -1,13 +1,10 @@
--- What the section of a game's board means for its vertices, and how play goes on where the rest of the rules is the same.
-use Rattle.std.specs.Prelude.{◌≡◌, ◌↔◌, ℕ, List, [], Some, map, filter}
+-- What the section of a game's board means for its vertices.
+use Rattle.std.specs.Prelude.{◌≡◌, ℕ, List, Some, map, filter}
 use Rattle.std.specs.List.{enumerate_from}
 use Rattle.rbg_game.specs.Loading.{Loads}
-use Rattle.rbg_rules.specs.Meaning.{AbstractAction, AbstractGame, AbstractPlace, Ends, Expression, HasNoEmptySum, HasOwnAction, IsGame, IsNumbered, Word, after, sequence_of}
+use Rattle.rbg_rules.specs.Meaning.{AbstractGame}
 use Rattle.rbg_macro.specs.Text.{HasTokens}
 use Rattle.rbg_macro.specs.Token.{Lexeme}
-use Rattle.rbg_position.specs.Onward.{GoesOnAs, HaveSameMoves, HaveSameRest, HaveSameThings}
-use Rattle.rbg_position.specs.Renumbering.{number_in}
-use Rattle.rbg_position.specs.Rest.{IsRest}
 use Rattle.rbg_position.specs.Sections.{ExpandsBoard, name_of, names_piece}
 
 -- the names in brackets among the tokens of a section
@@ -26,44 +23,3 @@ NamesAreOfVerticesLaw =
     → HasTokens text tokens
     → ExpandsBoard tokens ts
     → names_in_brackets ts ≡ names_of_pieces game game.board.first
-
--- In numbered rules without an empty sum the words of the rest after an action are exactly what follows the action to
--- the end of a word.
-abbrev pub RestLaw : Type 0
-RestLaw =
-    (rules : Expression)
-    → IsNumbered rules
-    → HasNoEmptySum rules
-    → (p : ℕ) (rest : List Expression)
-    → IsRest rules p rest
-    → (w : List ℕ)
-    → Ends rules (after p) w ↔ Word (sequence_of rest) w
-
--- Each own action of an expression has a rest after it.
-abbrev pub SomeRestLaw : Type 0
-SomeRestLaw =
-    (x : Expression) (p : ℕ) (a : AbstractAction)
-    → HasOwnAction x p a
-    → (rest : List Expression) × IsRest x p rest
-
--- Play goes on alike where the rest of the rules is the same.
-abbrev pub RestGoesOnLaw : Type 0
-RestGoesOnLaw =
-    (new old : AbstractGame)
-    → IsGame new
-    → IsGame old
-    → HaveSameThings new old
-    → (here there : AbstractPlace) (number : ℕ → ℕ)
-    → HaveSameRest new here old there number
-    → GoesOnAs new here old there number
-
--- Play goes on alike where the moves are the same. No action has another number.
-abbrev pub SameMovesGoOnLaw : Type 0
-SameMovesGoOnLaw =
-    (new old : AbstractGame)
-    → IsGame new
-    → IsGame old
-    → HaveSameThings new old
-    → (here there : AbstractPlace)
-    → HaveSameMoves new here old there
-    → GoesOnAs new here old there (number_in [])

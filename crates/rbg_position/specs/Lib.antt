@@ -6,9 +6,6 @@ pub mod internal
 pub mod Boards
 pub mod Examples
 pub mod Laws
-pub mod Onward
 pub mod Positions
 pub mod Refusals
-pub mod Renumbering
-pub mod Rest
 pub mod Sections

@@ -1,16 +1,15 @@
 -- Why there is no description of a place.
-use Rattle.std.specs.Prelude.{◌≡◌, ◌≢◌, ℕ, List, slice_get, Some, true, false}
-use Rattle.rbg_rules.specs.Meaning.{AbstractGame, AbstractPlace, IsTooHard, list_moves}
-use Rattle.rbg_moves.specs.Listing.{IsListed}
+use Rattle.std.specs.Prelude.{◌≡◌, ◌≢◌, ℕ, List, slice_get, Some}
+use Rattle.rbg_rules.specs.Meaning.{AbstractGame, AbstractPlace}
 use Rattle.rbg_moves.specs.Settling.{Settles, MeetsHeavy, IsEndless}
 use Rattle.rbg_game.specs.Loading.{Loads, IsMemory, IsRefused as IsRefusedText}
 use Rattle.rbg_game.specs.declared.error.LoadError.{LoadError}
 use Rattle.rbg_record.specs.declared.fault.Misfit.{Misfit}
 use Rattle.rbg_record.specs.Judged.{IsMisfit}
 use Rattle.rbg_record.specs.Reaching.{IsPlaceAfter}
-use Rattle.rbg_position.specs.Positions.{first_place, game_at, IsTextAt, ArePlacesAlike}
+use Rattle.rbg_position.specs.Positions.{first_place, game_at, IsTextAt}
 use Rattle.rbg_position.specs.declared.error.PositionError.{PositionError}
-use Rattle.rbg_position.specs.declared.error.PositionError.TheVariants.{Record, Value, Turn, Keeper, Unsettled, Refused, Moves, Memory}
+use Rattle.rbg_position.specs.declared.error.PositionError.TheVariants.{Record, Value, Turn, Keeper, Unsettled, Refused, Memory}
 
 -- The variable holds one number at one place, and another one at the other.
 pub record HoldsOther (variable here there : ℕ) (at place : AbstractPlace) : Type 0 where
@@ -34,36 +33,13 @@ pub data IsUnsettled (game : AbstractGame) (place : AbstractPlace) : PositionErr
   endless : IsEndless game place → IsUnsettled game place Unsettled
   no_memory : IsUnsettled game place Memory
 
--- how many moves are compared at most
-abbrev pub most_compared : ℕ
-most_compared = 10000
-
--- The legal moves at a place aren't all listed: the question is above the limits, or there are more than are compared.
-pub data IsUnlisted (game : AbstractGame) (place : AbstractPlace) : Type 0 where
-  hard : IsTooHard game list_moves place → IsUnlisted game place
-  many : {moves : List (List (ℕ × ℕ))} → IsListed game place most_compared moves true → IsUnlisted game place
-
--- Other moves are legal at one place than at the other, since their lists in order differ; or they can't be compared.
-pub data MayMovesDiffer (new : AbstractGame) (here : AbstractPlace) (old : AbstractGame) (there : AbstractPlace) : Type 0
-  where
-    differ : {news olds : List (List (ℕ × ℕ))} →
-        IsListed new here most_compared news false →
-        IsListed old there most_compared olds false →
-        news ≢ olds →
-        MayMovesDiffer new here old there
-    here_unlisted : IsUnlisted new here → MayMovesDiffer new here old there
-    there_unlisted : IsUnlisted old there → MayMovesDiffer new here old there
-
 -- Why a game doesn't begin as play is at the place.
 --   otherwise: the keeper's first moves lead to a place at which something differs.
---   moves: nothing else differs there, but other moves are legal, or that can't be told.
 --   unsettled: they lead to no place at which play could begin.
-pub data BeginsOtherwise (game old : AbstractGame) (place : AbstractPlace) : PositionError → Type 0 where
+pub data BeginsOtherwise (game : AbstractGame) (place : AbstractPlace) : PositionError → Type 0 where
   otherwise : {at : AbstractPlace} {error : PositionError} →
-      Settles game (first_place game) at → PlacesDiffer at place error → BeginsOtherwise game old place error
-  moves : {at : AbstractPlace} →
-      Settles game (first_place game) at → ArePlacesAlike at place → MayMovesDiffer game at old place → BeginsOtherwise game old place Moves
-  unsettled : {error : PositionError} → IsUnsettled game (first_place game) error → BeginsOtherwise game old place error
+      Settles game (first_place game) at → PlacesDiffer at place error → BeginsOtherwise game place error
+  unsettled : {error : PositionError} → IsUnsettled game (first_place game) error → BeginsOtherwise game place error
 
 -- Why there is no description of the place.
 --   refused: the text with the section of its board for the pieces of the place has a fault, and is no game's.
@@ -77,7 +53,7 @@ pub data IsUndescribed (text : List ℕ) (game : AbstractGame) (place : Abstract
       IsTextAt text game place new →
       Loads new other → other ≢ game_at game place → IsUndescribed text game place Refused
   otherwise : {error : PositionError} →
-      BeginsOtherwise (game_at game place) game place error → IsUndescribed text game place error
+      BeginsOtherwise (game_at game place) place error → IsUndescribed text game place error
 
 -- Why there is no description of the place to which a record leads: the record isn't right, or the place has none.
 pub data IsNoPosition (text : List ℕ) (game : AbstractGame) (bytes : List ℕ) : PositionError → Type 0 where

@@ -1,7 +1,6 @@
 -- Definitions that only this crate's own proofs and private contracts use.
 pub mod Marks
 pub mod Parts
-pub mod RestParts
 pub mod Missing
 pub mod Texts
 pub mod Walking

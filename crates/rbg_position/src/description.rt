@@ -1,16 +1,14 @@
 //! The description of a place.
-ghost use Rattle.std.specs.Prelude.{◌≡◌, ℕ, List, [], IfErr, IfOk};
+ghost use Rattle.std.specs.Prelude.{◌≡◌, ℕ, List, IfErr, IfOk};
 ghost use Rattle.rbg_game.specs.Loading.{IsRefused, Loads};
 ghost use Rattle.rbg_rules.specs.Meaning.{IsPlaceOf, AbstractGame};
 ghost use Rattle.rbg_position.specs.Same.{IsNarrow};
 ghost use Rattle.rbg_macro.specs.Text.{HasTokens};
 ghost use Rattle.rbg_position.specs.internal.Texts.{IsNoBeginning, IsNoText};
-ghost use Rattle.rbg_position.specs.Positions.{Describes, IsDescription, IsPosition, SettlesAs, game_at};
-ghost use Rattle.rbg_position.specs.Renumbering.{number_in};
+ghost use Rattle.rbg_position.specs.Positions.{BeginsAs, IsDescription, IsPosition, game_at};
 ghost use Rattle.rbg_position.specs.Refusals.{IsNoPosition, IsUndescribed};
 
 use crate::board::board_section;
-use crate::continued::{Setup, continued};
 use crate::error::PositionError;
 use crate::new_text::rewritten;
 use crate::opening::begin;
@@ -22,55 +20,27 @@ use rbg_moves::{Place, PlayedGame};
 use rbg_record::place_after;
 use std::alloc::Global;
 
-/// The description of the place to which a record of the game of a text leads. If the board says all, it is the text
-/// with the pieces of that place on the board, and the actions keep their numbers. Else the keeper makes the place
-/// first, and the rules are the rest of the rules. After the keeper's first moves play goes on as from that place.
+/// The description of the place to which a record of the game of a text leads: the text with the pieces of that place
+/// on the board. After the keeper's first moves a match of it is at that place: the same pieces are on the board, the
+/// variables have the same values, and the same player is to move.
 pub fn position(
     alloc: Global,
     text: &[u8],
     tokens: &Tokens<'_>,
     game: &PlayedGame,
     bytes: &[u8],
-) -> Result<Setup, PositionError>
+) -> Result<Vec<u8>, PositionError>
     requires tokens { HasTokens text.now tokens.now }
     requires loads { Loads text.now game.now }
-    ensures described { IfOk result (λ new.
-        IsPosition text.now game.now bytes.now new.text.items new.numbers.items) }
+    ensures described { IfOk result (λ new. IsPosition text.now game.now bytes.now new.items) }
     ensures refused { IfErr result (IsNoPosition text.now game.now bytes.now) }
 {
     let place = place_after(game, bytes)?;
-    let new = describe_place(alloc, text, tokens, game, &place)?;
+    let new = describe(alloc, text, tokens, game, &place)?;
     Ok(new)
 }
 
-/// The description of a place, by the board alone or by the rest of the rules.
-fn describe_place(
-    alloc: Global,
-    text: &[u8],
-    tokens: &Tokens<'_>,
-    game: &PlayedGame,
-    place: &Place,
-) -> Result<Setup, PositionError>
-    requires tokens { HasTokens text.now tokens.now }
-    requires loads { Loads text.now game.now }
-    requires place { IsPlaceOf game.now place.now }
-    ensures described { IfOk result (λ new.
-        Describes text.now game.now place.now new.text.items new.numbers.items) }
-    ensures refused { IfErr result (IsUndescribed text.now game.now place.now) }
-{
-    match describe(alloc, text, tokens, game, place) {
-        Ok(text) => Ok(Setup {
-            text,
-            numbers: Vec::new(alloc),
-        }),
-        Err(error) => match continued(alloc, text, tokens, game, place)? {
-            Some(new) => Ok(new),
-            None => Err(error),
-        },
-    }
-}
-
-/// The description of a place by the board alone.
+/// The description of a place.
 fn describe(
     alloc: Global,
     text: &[u8],
@@ -93,8 +63,7 @@ fn describe(
     Ok(new)
 }
 
-/// Whether a text describes the game with the pieces of the place on the board, and play goes on from its beginning as
-/// from the place.
+/// Whether a text describes the game with the pieces of the place on the board, and begins as play is at the place.
 fn begin_at(
     alloc: Global,
     game: &PlayedGame,
@@ -104,12 +73,11 @@ fn begin_at(
     requires narrow { IsNarrow game.now.board }
     requires place { IsPlaceOf game.now place.now }
     ensures loads { IfOk result (λ _. Loads new.now (game_at game.now place.now)) }
-    ensures begins { IfOk result (λ _.
-        SettlesAs (game_at game.now place.now) game.now place.now (number_in [])) }
-    ensures refused { IfErr result (IsNoBeginning new.now (game_at game.now place.now) game.now place.now) }
+    ensures begins { IfOk result (λ _. BeginsAs (game_at game.now place.now) place.now) }
+    ensures refused { IfErr result (IsNoBeginning new.now (game_at game.now place.now) place.now) }
 {
     let other = new_game(alloc, game, place, new)?;
-    begin(alloc, other, game, place)?;
+    begin(alloc, other, place)?;
     Ok(())
 }
 

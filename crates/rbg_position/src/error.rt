@@ -38,9 +38,6 @@ pub enum PositionError {
     /// The description with this board isn't accepted, for example if it is too long.
     #[error("the description with this board isn't accepted")]
     Refused,
-    /// With this board alone other moves are legal than at the place, or that can't be told.
-    #[error("with this board alone other moves may be legal")]
-    Moves,
     /// A request for memory failed.
     #[error("out of memory")]
     Memory,

@@ -4,7 +4,6 @@
 
 mod action_keys;
 mod board;
-mod continued;
 mod description;
 mod error;
 pub mod examples;
@@ -12,20 +11,12 @@ mod key_mark;
 pub mod laws;
 mod names;
 mod new_text;
-mod numbering;
 mod opening;
 mod place_values;
-mod rest;
 mod rule_keys;
 mod same_board;
 mod same_game;
-mod same_moves;
-mod same_rest;
-mod spelling;
-mod way;
-mod whole_text;
 
-pub use continued::Setup;
 pub use description::position;
 pub use error::PositionError;
 pub use same_game::is_game_with;

@@ -1,66 +1,40 @@
 //! The beginning of a game, compared with a place.
-ghost use Rattle.std.specs.Prelude.{◌≡◌, [], IfErr, IfOk, length};
+ghost use Rattle.std.specs.Prelude.{◌≡◌, IfErr, IfOk, length};
 ghost use Rattle.rbg_rules.specs.Meaning.{IsPlaceOf};
 ghost use Rattle.rbg_moves.specs.Settling.{Settles};
-ghost use Rattle.rbg_position.specs.Positions.{SettlesAs, game_at};
+ghost use Rattle.rbg_position.specs.Positions.{BeginsAs};
 ghost use Rattle.rbg_position.specs.Refusals.{BeginsOtherwise, IsUnsettled};
-ghost use Rattle.rbg_position.specs.Renumbering.{number_in};
 ghost use Rattle.rbg_position.specs.internal.Texts.{error_of};
 
 use crate::error::PositionError;
 use crate::place_values::compare;
-use crate::same_moves::same_moves;
 use rbg_game::Game;
 use rbg_moves::{Place, PlayedGame, Unsettled, Workspace};
 use std::alloc::Global;
 
-/// Whether play of a game with other pieces on its board goes on as from a place, after the keeper's first moves.
-/// Returns an error if it doesn't, or if that isn't known.
-pub(crate) fn begin(
-    alloc: Global,
-    new: Game,
-    old: &PlayedGame,
-    place: &Place,
-) -> Result<(), PositionError>
-    requires is { new ≡ game_at old.now place.now }
-    requires place { IsPlaceOf old.now place.now }
-    requires values { length place.now.state.values ≡ length new.bounds }
-    ensures begins { IfOk result (λ _. SettlesAs new old.now place.now (number_in [])) }
-    ensures otherwise { IfErr result (BeginsOtherwise new old.now place.now) }
+/// Whether a game begins as play is at a place. Returns an error if it doesn't.
+pub(crate) fn begin(alloc: Global, game: Game, place: &Place) -> Result<(), PositionError>
+    requires { length place.now.state.values ≡ length game.bounds }
+    ensures begins { IfOk result (λ _. BeginsAs game place.now) }
+    ensures otherwise { IfErr result (BeginsOtherwise game place.now) }
 {
-    let new = PlayedGame::new(alloc, new)?;
-    begin_played(alloc, &new, old, place)
+    let game = PlayedGame::new(alloc, game)?;
+    begin_played(alloc, &game, place)
 }
 
-fn begin_played(
-    alloc: Global,
-    new: &PlayedGame,
-    old: &PlayedGame,
-    place: &Place,
-) -> Result<(), PositionError>
-    requires is { new.now ≡ game_at old.now place.now }
-    requires place { IsPlaceOf old.now place.now }
-    requires values { length place.now.state.values ≡ length new.now.bounds }
-    ensures begins { IfOk result (λ _. SettlesAs new.now old.now place.now (number_in [])) }
-    ensures otherwise { IfErr result (BeginsOtherwise new.now old.now place.now) }
+fn begin_played(alloc: Global, game: &PlayedGame, place: &Place) -> Result<(), PositionError>
+    requires { length place.now.state.values ≡ length game.now.bounds }
+    ensures begins { IfOk result (λ _. BeginsAs game.now place.now) }
+    ensures otherwise { IfErr result (BeginsOtherwise game.now place.now) }
 {
-    let mut first = new.start()?;
-    settle(alloc, new, &mut first)?;
-    compare(new.as_game().variables(), &first, place)?;
-    old.is_accepted();
-    if same_moves(new, &first, old, place)? {
-        Ok(())
-    } else {
-        Err(PositionError::Moves)
-    }
+    let mut first = game.start()?;
+    settle(alloc, game, &mut first)?;
+    compare(game.as_game().variables(), &first, place)?;
+    Ok(())
 }
 
 /// Makes the keeper's moves.
-pub(crate) fn settle(
-    alloc: Global,
-    game: &PlayedGame,
-    place: &mut Place,
-) -> Result<(), PositionError>
+fn settle(alloc: Global, game: &PlayedGame, place: &mut Place) -> Result<(), PositionError>
     requires { IsPlaceOf game.now place.old }
     ensures settles { IfOk result (λ _. Settles game.now place.old place.new) }
     ensures place { IsPlaceOf game.now place.new }

@@ -62,7 +62,7 @@ fn player_of(place: &Place) -> Player
     place.state.player()
 }
 
-pub(crate) fn value_of(place: &Place, variable: Variable) -> u32
+fn value_of(place: &Place, variable: Variable) -> u32
     requires { variable < length place.now.state.values }
     ensures { slice_get place.now.state.values variable ≡ Some result }
 {

@@ -99,7 +99,7 @@ fn put_pattern(mark: KeyMark, position: Position, key: &mut Vec<KeyMark>) -> Res
 }
 
 /// The action at a position of the table, which begins at position 1.
-pub(crate) fn find_action(position: Position, actions: &[Action]) -> Option<&Action>
+fn find_action(position: Position, actions: &[Action]) -> Option<&Action>
     ensures found { IfSome result (λ action. action_at actions.now position ≡ Some action.now) }
     ensures none { IfNone result (action_at actions.now position ≡ None) }
 {

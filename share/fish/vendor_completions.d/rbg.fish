@@ -33,6 +33,7 @@ complete -c rbg -n '__fish_seen_subcommand_from play' -l minutes -x -d 'How long
 complete -c rbg -n '__fish_seen_subcommand_from play' -l rounds -x -d 'The most rounds in which the connections are read, 0 to 4294967295 [default: 100000]'
 complete -c rbg -n __fish_use_subcommand -a hall -d 'Referee a match of each game at once between the players that connect to a port, and print the records'
 complete -c rbg -n '__fish_seen_subcommand_from hall' -l log -r -d 'A new file for the events of each match, LOG.1 and so on, each written before it is handled; LOG.1.game and so on name the games'
+complete -c rbg -n '__fish_seen_subcommand_from hall' -l resume -r -d 'The logs of a stopped hall to go on with, LOG.1 and so on; their time for a turn and their refusals hold'
 complete -c rbg -n '__fish_seen_subcommand_from hall' -l sync -d 'Flush the log to disk before each event is handled'
 complete -c rbg -n '__fish_seen_subcommand_from hall' -l records -r -d 'A folder for the record of each match, DIR/1.record and so on, written when the match has ended'
 complete -c rbg -n '__fish_seen_subcommand_from hall' -l minutes -x -d 'How long the match may take, 1 to 4294967295, in place of a bound on rounds'

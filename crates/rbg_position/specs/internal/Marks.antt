@@ -43,8 +43,3 @@ abbrev mutual
 -- the mark is that of what joins two rules
 abbrev pub Marks : KeyMark → (Expression → Expression → Expression) → Type 0
 Marks m join = (x y : Expression) → rules_key (join x y) ≡ rules_key x ++ rules_key y ++ m ∷ []
-
--- a mark, if each position p becomes `to p`
-abbrev pub renumbered_mark : (ℕ → ℕ) → KeyMark → KeyMark
-renumbered_mark to (Act p) = Act (to p)
-renumbered_mark to mark = mark

@@ -16,9 +16,9 @@ pub data IsNoText (text : List ℕ) (game : AbstractGame) : PositionError → Ty
   no_memory : IsNoText text game Memory
 
 -- It is none, or the game doesn't begin as play is at the place.
-pub data IsNoBeginning (text : List ℕ) (game old : AbstractGame) (place : AbstractPlace) : PositionError → Type 0 where
-  no_text : {error : PositionError} → IsNoText text game error → IsNoBeginning text game old place error
-  otherwise : {error : PositionError} → BeginsOtherwise game old place error → IsNoBeginning text game old place error
+pub data IsNoBeginning (text : List ℕ) (game : AbstractGame) (place : AbstractPlace) : PositionError → Type 0 where
+  no_text : {error : PositionError} → IsNoText text game error → IsNoBeginning text game place error
+  otherwise : {error : PositionError} → BeginsOtherwise game place error → IsNoBeginning text game place error
 
 -- the error if the keeper's moves lead to no place
 abbrev pub error_of : Why → PositionError

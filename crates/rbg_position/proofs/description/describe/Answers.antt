@@ -45,7 +45,7 @@ text_at text tokens game lent place pieces section read new cut loads same stand
       rewritten = rewritten;
     }
 
-undescribed : (text new lent : List ℕ) (game : AbstractGame) (place : AbstractPlace) (error : PositionError) → IsTextAt text game place new → lent ≡ new → IsNoBeginning lent (game_at game place) game place error → IsUndescribed text game place error
+undescribed : (text new lent : List ℕ) (game : AbstractGame) (place : AbstractPlace) (error : PositionError) → IsTextAt text game place new → lent ≡ new → IsNoBeginning lent (game_at game place) place error → IsUndescribed text game place error
 undescribed text new lent game place _ is same (no_text (text_refused fault other)) = refused (subst (IsTextAt text game place) (sym same) is) fault other
 undescribed text new lent game place _ is same (no_text (text_other loads other)) = other_game (subst (IsTextAt text game place) (sym same) is) loads other
 undescribed text new lent game place _ is same (no_text text_memory) = otherwise (unsettled no_memory)
@@ -79,5 +79,5 @@ returns-clause-described c = record {
       text_at c.args.text.now c.args.tokens.now c.args.game.now c.as_game.result.now c.args.place.now c.pieces_of.result.now _ c.deref.result.now _ c.requires.tokens c.requires.loads c.as_game.ensures.game c.pieces_of.ensures c.deref.ensures.value c.in_ok-section.ensures
       (found _ c.in-Some.new _ c.in-Some.is c.in_ok-new.ensures.found);
   loads = subst (λ n. Loads n (game_at c.args.game.now c.args.place.now)) c.deref-2.ensures.value c.in_ok-begin_at.ensures.loads;
-  settles = c.in_ok-begin_at.ensures.begins;
+  begins = c.in_ok-begin_at.ensures.begins;
 }
