@@ -67,7 +67,7 @@ help:
 	@echo 'make install  copies ./rbg, ./rbg_author, their manual pages and completions below PREFIX=/usr/local, and the library if make lib has left it (after make build)'
 	@echo 'make try      runs the stored runs, ten with a request for memory refused, and the tests, with no proof; make -j4 try runs four at once'
 	@echo 'make build    proves the programs and what they use, LANES crates at once, and leaves them as ./rbg and ./rbg_author'
-	@echo 'make bench    takes the figures of docs/COSTS.md by valgrind, and writes tools/bench/RESULTS.md (after make build, and make lib for what the library costs); SECTIONS="texts search" takes some'
+	@echo 'make bench    takes the figures of docs/COSTS.md by valgrind, and writes tools/bench/RESULTS.md (after make build); SECTIONS="texts search" takes some'
 	@echo 'make test     the gate: every proof from nothing, the must-fail edits, each test and program, and then make parts'
 	@echo 'make parts    refusals, compare, crash, storm, tournament, clients, hall, library, editor and imported with smaller numbers, pages, doctests and links, with the programs as the gate built them'
 	@echo 'make check    proves what changed since the last check, lowest crates first'

@@ -41,7 +41,6 @@ enum {
   RBG_START = 6,   /* there is no move to undo */
   RBG_SMALL = 7,   /* a buffer has too little room */
   RBG_RANGE = 8,   /* a number is out of its range */
-  RBG_NO_PLACE = 9, /* bytes are those of no place of the game */
   RBG_TEXT = 16,   /* a description has bytes that are no text of the language */
   RBG_MACRO = 17,  /* its macros are wrong */
   RBG_SYNTAX = 18, /* its syntax is wrong */
@@ -82,11 +81,6 @@ void rbg_free(rbg_state *state);
    A state that `to` held is let go, if the call succeeds. */
 rbg_result rbg_copy(rbg_state *from, rbg_state *to);
 
-/* Makes `to` the state at the place of these bytes, as rbg_pack gives them, in the game of `from`. It may be a place that
-   play never reaches. No move can be undone there. RBG_NO_PLACE if they are the bytes of no place of the game; which game
-   they came from they don't say. A state that `to` held is let go, if the call succeeds. */
-rbg_result rbg_unpack(rbg_state *from, const uint8_t *bytes, size_t length, rbg_state *to);
-
 /* ---- what a state says */
 
 /* The player to move, from 1; 0 is the keeper, or nobody: play is finished if rbg_find_moves finds no move. */
@@ -97,12 +91,6 @@ rbg_result rbg_moves_made(rbg_state *state, uint64_t *made);
 
 /* The key of the place: 64 bits that are equal for equal places, and hardly ever for others. `rbg ask` prints the same. */
 rbg_result rbg_key(rbg_state *state, uint64_t *key);
-
-/* The place as bytes: all that the rules know of it, and nothing of the way there. They begin with 1. Two bytes each, the
-   higher one first, are the player, the current vertex, the position of the last action (0 for none) and the piece on each
-   vertex; four bytes each, the highest first, are the values of the variables. Each place of a game has bytes of its
-   own, so they serve as a key too. `rbg ask` prints the same in hexadecimal digits. */
-rbg_result rbg_pack(rbg_state *state, uint8_t *bytes, size_t room, uint64_t *needed);
 
 /* The number of the piece on each vertex; what each variable holds, of which the first are the players' scores; and
    these scores alone. */

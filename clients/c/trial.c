@@ -93,43 +93,17 @@ static rbg_result played(rbg_state *state, rbg_state *other) {
   return result;
 }
 
-/* A place that is packed, and unpacked into another handle: the same place, or another one, or none, if it was spoilt. */
-static rbg_result packed(rbg_state *state, rbg_state *other) {
-  size_t room = chance(4) ? 9000 : chance(64);
-  uint64_t needed = 0, one = 0, two = 0;
-  uint8_t *bytes = room_for(room, 1);
-  rbg_result result = rbg_pack(state, bytes, room, &needed);
-  check(result != RBG_OK || needed <= room, "room");
-  check(result != RBG_SMALL || (needed > room && bytes[0] == 0x5a), "a buffer that is too small");
-  if (result == RBG_OK && state != other) {
-    int spoilt = chance(2) == 0;
-    if (spoilt)
-      bytes[chance(needed)] ^= (uint8_t)(1 + chance(255));
-    size_t length = chance(8) ? needed : chance(needed);
-    result = rbg_unpack(state, bytes, length, other);
-    check(result == RBG_OK || result == RBG_NO_PLACE, "a place or none");
-    check(length == needed || result == RBG_NO_PLACE, "a place that was cut");
-    check(spoilt || length < needed || result == RBG_OK, "a place that was packed");
-    if (result == RBG_OK && !spoilt)
-      check(rbg_key(state, &one) == RBG_OK && rbg_key(other, &two) == RBG_OK && one == two, "one place");
-  }
-  free(bytes);
-  return result;
-}
-
 /* One call, good or bad. */
 static rbg_result call(rbg_state *state, rbg_state *other) {
   uint64_t key = 0, count = 0, made = 0;
   uint32_t player = 0;
-  switch (chance(16)) {
+  switch (chance(15)) {
   case 12:
     return tell(state);
   case 13:
     return pairs_made(state);
   case 14:
     return played(state, other);
-  case 15:
-    return packed(state, other);
   case 0: { /* a text that is cut, or spoilt, or whole */
     static uint8_t spoilt[1 << 20];
     size_t length = chance(4) ? text_length : chance(text_length + 1);

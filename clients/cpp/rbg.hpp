@@ -88,15 +88,6 @@ public:
   /// A number that is the same for equal places, and hardly ever for others.
   uint64_t key() const { return number(rbg_key); }
 
-  /// The place as bytes, and the state at the place of such bytes in the game of this one.
-  std::vector<uint8_t> pack() const { return items<uint8_t>(rbg_pack, at()); }
-  State unpack(const std::vector<uint8_t> &packed) const {
-    static const uint8_t none = 0; // no pointer may be null
-    State to;
-    must(rbg_unpack(at(), packed.empty() ? &none : packed.data(), packed.size(), &to.held));
-    return to;
-  }
-
   /// How many moves can be undone.
   uint64_t moves_made() const { return number(rbg_moves_made); }
 

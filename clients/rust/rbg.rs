@@ -22,8 +22,6 @@ extern "C" {
     fn rbg_begin(text: *const u8, length: usize, state: *mut Handle) -> u32;
     fn rbg_free(state: *mut Handle);
     fn rbg_copy(from: *mut Handle, to: *mut Handle) -> u32;
-    fn rbg_unpack(from: *mut Handle, bytes: *const u8, length: usize, to: *mut Handle) -> u32;
-    fn rbg_pack(state: *mut Handle, bytes: *mut u8, room: usize, needed: *mut u64) -> u32;
     fn rbg_player(state: *mut Handle, player: *mut u32) -> u32;
     fn rbg_moves_made(state: *mut Handle, made: *mut u64) -> u32;
     fn rbg_key(state: *mut Handle, key: *mut u64) -> u32;
@@ -50,7 +48,6 @@ pub enum Refused {
     Illegal,
     Start,
     Range,
-    NoPlace,
     Text,
     Macro,
     Syntax,
@@ -78,7 +75,6 @@ fn answer(result: u32) -> Result<(), Refused> {
         5 => Refused::Illegal,
         6 => Refused::Start,
         8 => Refused::Range,
-        9 => Refused::NoPlace,
         16 => Refused::Text,
         17 => Refused::Macro,
         18 => Refused::Syntax,
@@ -118,45 +114,36 @@ impl State {
         State { handle: Box::new(Handle { inside: std::ptr::null_mut() }) }
     }
 
-    /// The state that a call puts into a handle.
-    fn made(call: impl FnOnce(*mut Handle) -> u32) -> Result<State, Refused> {
-        let mut state = State::empty();
-        answer(call(&mut *state.handle))?;
-        Ok(state)
-    }
-
     /// The state to which the keeper's first moves lead in the game of a description.
     pub fn open(text: &[u8]) -> Result<State, Refused> {
-        State::made(|to| unsafe { rbg_open(text.as_ptr(), text.len(), to) })
+        let mut state = State::empty();
+        answer(unsafe { rbg_open(text.as_ptr(), text.len(), &mut *state.handle) })?;
+        Ok(state)
     }
 
     /// The state where the rules begin: a match is followed from there by `hear`.
     pub fn begin(text: &[u8]) -> Result<State, Refused> {
-        State::made(|to| unsafe { rbg_begin(text.as_ptr(), text.len(), to) })
+        let mut state = State::empty();
+        answer(unsafe { rbg_begin(text.as_ptr(), text.len(), &mut *state.handle) })?;
+        Ok(state)
     }
 
     /// A copy, from which no move can be undone.
     pub fn copy(&mut self) -> Result<State, Refused> {
-        State::made(|to| unsafe { rbg_copy(&mut *self.handle, to) })
-    }
-
-    /// The place as bytes.
-    pub fn pack(&mut self) -> Result<Vec<u8>, Refused> {
-        self.items(|state, items, room, needed| unsafe { rbg_pack(state, items, room, needed) })
-    }
-
-    /// The state at the place of these bytes in this game, from which no move can be undone.
-    pub fn unpack(&mut self, bytes: &[u8]) -> Result<State, Refused> {
-        State::made(|to| unsafe { rbg_unpack(&mut *self.handle, bytes.as_ptr(), bytes.len(), to) })
+        let mut copy = State::empty();
+        answer(unsafe { rbg_copy(&mut *self.handle, &mut *copy.handle) })?;
+        Ok(copy)
     }
 
     /// The player to move, from 1; 0 is the keeper, or nobody.
     pub fn player(&mut self) -> Result<u32, Refused> {
-        self.number(rbg_player)
+        let mut player = 0;
+        answer(unsafe { rbg_player(&mut *self.handle, &mut player) })?;
+        Ok(player)
     }
 
-    fn number<T: Default>(&mut self, call: unsafe extern "C" fn(*mut Handle, *mut T) -> u32) -> Result<T, Refused> {
-        let mut number = T::default();
+    fn number(&mut self, call: unsafe extern "C" fn(*mut Handle, *mut u64) -> u32) -> Result<u64, Refused> {
+        let mut number = 0;
         answer(unsafe { call(&mut *self.handle, &mut number) })?;
         Ok(number)
     }
@@ -244,6 +231,8 @@ impl State {
 
     /// A copy on which random moves were made, at most this many, until play is finished. They can be undone there.
     pub fn play_on(&mut self, seed: u64, most: u64) -> Result<State, Refused> {
-        State::made(|to| unsafe { rbg_play_on(&mut *self.handle, to, seed, most, &mut 0) })
+        let (mut to, mut made) = (State::empty(), 0);
+        answer(unsafe { rbg_play_on(&mut *self.handle, &mut *to.handle, seed, most, &mut made) })?;
+        Ok(to)
     }
 }

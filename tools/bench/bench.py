@@ -134,7 +134,7 @@ DEPTHS = {
     "breakthrough": 3, "chess": 2, "english_draughts": 4, "reversi": 4, "go_9x9": 2, "connect_four": 4, "tictactoe": 5,
     "hex": 2, "international_draughts": 3, "gomoku": 2, "amazons": 1, "abalone": 2,
 }  # fmt: skip
-PLAYOUTS = 5  # random matches, of which instructions are counted
+PLAYOUTS = 4  # random matches, of which instructions are counted
 
 
 def search(run, programs):
@@ -170,24 +170,21 @@ def ask(run, programs):
 
 def playouts(run, programs):
     """What a move of a random match costs, the keeper's moves after it among it: all moves are found, and one is made."""
-    head("Random matches: `random SEED 1` of `rbg ask GAME`", "Game", "Moves a match", "Instructions a move", "Moves in a second of the processor")
+    head("Random matches: `random` of `rbg ask GAME`", "Game", "Moves a match", "Instructions a move", "Moves a second")
     for name in DEPTHS:
         file = run.file("text.rbg", texts.game(name))
-        words = [programs.rbg, "ask", file]
-
-        def questions(matches):
-            return "".join(f"random {seed} 1\n" for seed in range(1, matches + 1))
 
         def moves(matches):
-            """How many moves these matches have, as `rbg_author playouts` counts them: it plays those of the same seeds."""
+            """How many moves these matches have: a seed gives the same ones here."""
             printed = run.plain([programs.author, "playouts", file, str(matches)])[0]
             return int(re.search(r"^moves (\d+)$", printed, re.M)[1])
 
-        spent = (run.counted(words, questions(PLAYOUTS))[1] - run.counted(words)[1]) / moves(PLAYOUTS)
+        words = [programs.rbg, "ask", file]
+        spent = (run.counted(words, f"random 1 {PLAYOUTS}\n")[1] - run.counted(words)[1]) / moves(PLAYOUTS)
         matches, seconds = PLAYOUTS, 0.0
         while seconds < 0.5:
             matches *= 4
-            seconds = run.plain(words, questions(matches))[1]
+            seconds = run.plain(words, f"random 1 {matches}\n")[1]
         row(name, round(moves(PLAYOUTS) / PLAYOUTS), f"{spent:,.0f}", f"{moves(matches) / seconds:,.0f}")
 
 

@@ -322,7 +322,7 @@ def play_page(words, page):
     leave(page, "page")
     broken = "\n".join([*moves[:3], moves[0]])
     made = subprocess.run([words.author, "page", str(game)], input=broken, capture_output=True, text=True)
-    if (made.returncode, made.stdout, made.stderr.split()[:2]) != (2, "", ["bad", "4"]):
+    if (made.returncode, made.stdout, made.stderr) != (2, "", "bad 4\n"):
         sys.exit(f"a fault is reported as {made}")
     print(f"page: a list of {last} moves has a page, and {last} and other numbers after its address lead where they should", flush=True)
 

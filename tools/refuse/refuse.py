@@ -32,8 +32,6 @@ Run = collections.namedtuple("Run", "name command given refusals")
 
 # What a program answers, and how many requests it made: the status is below 0 if a signal ended it.
 Answer = collections.namedtuple("Answer", "status printed complained requests")
-# What standard error says of the meaning of a line, which is no complaint.
-MEANING = re.compile(r"(?m)^(bad|form|over|script|refused)( 0)?: .*\n")
 
 # The ways to refuse: the Nth request alone, or each from the Nth on.
 WAYS = {"once": "0", "from then on": "1"}
@@ -167,8 +165,7 @@ class Refuser:
         requests = int(pathlib.Path(count).read_text()) if os.path.exists(count) else -1
         if requests >= 0:
             os.remove(count)
-        complained = MEANING.sub("", ran.stderr.decode(errors="replace"))
-        return Answer(ran.returncode, ran.stdout.decode(errors="replace"), complained, requests)
+        return Answer(ran.returncode, ran.stdout.decode(errors="replace"), ran.stderr.decode(errors="replace"), requests)
 
 
 def never_answered(run, answers):

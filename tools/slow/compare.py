@@ -24,9 +24,7 @@ SECONDS = 60  # for one run of the program
 STEPS = 1_000_000  # of the interpreter's questions, for one random case
 TRIES = 400  # to make a difference smaller
 # What standard error says of files and records beside the answer, which the interpreter doesn't know.
-REPORTED = re.compile(
-    rb"(?m)^(can't (read|create) .*|lines of .* end in CR LF, and not in LF alone|(bad|form|over|script|refused)( 0)?: .*)\n"
-)
+REPORTED = re.compile(rb"(?m)^(can't (read|create) .*|lines of .* end in CR LF, and not in LF alone)\n")
 
 
 class TooLate(Exception):

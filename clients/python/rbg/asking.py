@@ -11,7 +11,6 @@
 >>> ground.close()
 """
 
-import tempfile
 from typing import Optional
 
 from rbg.backend import Answer, Backend, Question, Refused
@@ -26,33 +25,16 @@ def endings_of(answer: Answer) -> list[Ending]:
     return found
 
 
-def session_of(text: bytes, file: Optional[str], program: Optional[str]) -> Backend:
-    """A session about the game of a file, or of a text if there is no file."""
-    if file is not None:
-        return Backend(file, program)
-    with tempfile.NamedTemporaryFile(suffix=".rbg") as written:
-        written.write(text)
-        written.flush()
-        session = Backend(written.name, program)
-        session.ask(["names"])  # it has read the file then
-        return session
-
-
 class AskedGround:
-    """A game, and one session in which its places are looked at. Places that were unpacked have a session of their own."""
+    """A game, and one session in which its places are looked at."""
 
-    def __init__(self, file: Optional[str], program: Optional[str] = None, text: bytes = b""):
-        self.text, self.file, self.program = text, file, program
-        self.session = session_of(text, file, program)
-        self.root = ""  # the digits of the place that was unpacked last
-        self.unpacked: Optional[AskedGround] = None
+    def __init__(self, file: str, program: Optional[str] = None):
+        self.session = Backend(file, program)
         self.made: list[Move] = []  # the moves that the session has made since the last one that it heard
         self.heard = 0
 
     def close(self) -> None:
-        """Ends the sessions."""
-        if self.unpacked is not None:
-            self.unpacked.close()
+        """Ends the session."""
         self.session.close()
 
     def names(self) -> list[list[str]]:
@@ -62,30 +44,16 @@ class AskedGround:
 
     def hear(self, move: Move) -> None:
         """Follows a move as a referee passes it on. Places of before can't be asked any more."""
-        self.ask_at(self.root, self.made, ["heard " + move])
+        self.ask_at(self.made, ["heard " + move])
         self.made = []
         self.heard += 1
 
     def place(self) -> "AskedPlace":
         """Where play begins, or goes on after the moves that were heard."""
-        return AskedPlace(self, "", [])
+        return AskedPlace(self, [])
 
-    def unpack(self, packed: bytes) -> "AskedPlace":
-        """The place of these bytes."""
-        if not packed:
-            raise Refused("place", "unpack")
-        if self.unpacked is None:
-            self.unpacked = AskedGround(self.file, self.program, self.text)
-        self.unpacked.ask_at(packed.hex(), [], [])
-        return AskedPlace(self.unpacked, packed.hex(), [])
-
-    def ask_at(self, root: str, history: list[Move], questions: list[Question]) -> list[Answer]:
-        """The answers after these moves from a root. What has to be undone and made is asked in the same write."""
-        if root != self.root:
-            [[standing]] = self.session.ask(["unpack " + root])
-            if standing[0] == "error":
-                raise Refused(standing[1], "unpack")
-            self.root, self.made = root, []
+    def ask_at(self, history: list[Move], questions: list[Question]) -> list[Answer]:
+        """The answers after this many moves. What has to be undone and made is asked in the same write."""
         same = 0
         for one, other in zip(self.made, history):
             if one != other:
@@ -108,16 +76,16 @@ class AskedGround:
 
 
 class AskedPlace:
-    """A place, by the root and the moves that lead there."""
+    """A place, by the moves that lead there."""
 
-    def __init__(self, ground: AskedGround, root: str, history: list[Move]):
-        self.ground, self.root, self.history, self.after = ground, root, history, ground.heard
+    def __init__(self, ground: AskedGround, history: list[Move]):
+        self.ground, self.history, self.after = ground, history, ground.heard
 
     def ask(self, *questions: Question) -> list[Answer]:
         """The answers to questions about this place."""
         if self.after != self.ground.heard:
             raise ValueError("the game has heard moves since")
-        return self.ground.ask_at(self.root, self.history, list(questions))
+        return self.ground.ask_at(self.history, list(questions))
 
     def look(self) -> Place:
         """All that is known of it."""
@@ -154,14 +122,9 @@ class AskedPlace:
 
     def copy(self) -> "AskedPlace":
         """A place of its own."""
-        copy = AskedPlace(self.ground, self.root, self.history)
+        copy = AskedPlace(self.ground, self.history)
         copy.after = self.after
         return copy
-
-    def pack(self) -> bytes:
-        """The place as bytes."""
-        [[[_, digits]]] = self.ask("pack")
-        return bytes.fromhex(digits)
 
     def playouts(self, count: int, seed: int) -> list[Ending]:
         """How this many random matches from here end."""

@@ -20,8 +20,7 @@ TOGETHER = 32_768  # this many bytes of questions are asked at once, at most: mo
 
 
 class Refused(Exception):
-    """A question that isn't answered. `word` says why: `illegal`, `start`, `place`, `over`, `keeper`,
-    `memory`, `long`, `empty`, `return`, `word`, `form`."""
+    """A question that isn't answered. `word` says why: `illegal`, `start`, `over`, `keeper`, `memory`, `form`, `long`."""
 
     def __init__(self, word: str, question: Question = ""):
         super().__init__(f"{word}: {question}" if question else word)

@@ -16,6 +16,7 @@ True True
 """
 
 import os
+import tempfile
 from pathlib import Path
 from typing import Optional, Union
 
@@ -40,8 +41,14 @@ class Game:
         path = None if library is False else find_library(library if isinstance(library, str) else None)
         if path is not None:
             self.ground = LoadedGround(Library.load(path), text)
+        elif file is not None:
+            self.ground = AskedGround(file, program)
         else:
-            self.ground = AskedGround(file, program, text)
+            with tempfile.NamedTemporaryFile(suffix=".rbg") as written:
+                written.write(text)
+                written.flush()
+                self.ground = AskedGround(written.name, program)
+                self.ground.names()  # it has read the file then
         self.players, self.pieces, self.variables = self.ground.names()
         self.heard: list[Move] = []  # the moves that were heard, the keeper's too
         self.spellings: Optional[Spelling] = None
@@ -77,9 +84,17 @@ class Game:
         self.ground.hear(move)
         self.heard.append(move)
 
-    def unpack(self, packed: bytes) -> "State":
-        """The state of such bytes as `State.pack` gives. No move can be undone in it, and play may never reach it."""
-        return State(self, [], self.ground.unpack(packed))
+    def unpack(self, text: str) -> "State":
+        """The state of a text that `State.pack` gave."""
+        heard, made = (part.split(";") if part else [] for part in text.split("|"))
+        if heard[: len(self.heard)] != self.heard:
+            raise ValueError("this game has heard other moves")
+        for move in heard[len(self.heard) :]:
+            self.hear(move)
+        state = self.state()
+        for move in made:
+            state.make(move)
+        return state
 
     def spell(self, move: Move) -> str:
         """The move for people. If there is no program `rbg_author`, these are its pairs."""
@@ -93,6 +108,7 @@ class State:
 
     def __init__(self, game: Game, history: list[Move], stands: Union[AskedPlace, LoadedPlace]):
         self.game, self.history, self.stands = game, history, stands
+        self.after = len(game.heard)  # how many moves were heard before it
         self.known: Optional[Place] = None
 
     @property
@@ -156,13 +172,12 @@ class State:
     def copy(self) -> "State":
         """A state of its own at the place of this one."""
         copy = State(self.game, self.history, self.stands.copy())
-        copy.known = self.known
+        copy.after, copy.known = self.after, self.known
         return copy
 
-    def pack(self) -> bytes:
-        """The state as bytes, which `Game.unpack` reads. They have nothing of the moves that led there: states are equal
-        exactly if their bytes are."""
-        return self.stands.pack()
+    def pack(self) -> str:
+        """The state as a text, which `Game.unpack` reads: the moves that lead there."""
+        return ";".join(self.game.heard[: self.after]) + "|" + ";".join(self.history)
 
     def playouts(self, count: int = 1, seed: int = 0) -> list[Ending]:
         """How this many random matches from here end."""

@@ -25,7 +25,7 @@ from typing import Any, Optional
 from rbg.backend import Refused
 
 WORDS = {
-    1: "empty", 2: "memory", 3: "over", 4: "keeper", 5: "illegal", 6: "start", 7: "small", 8: "form", 9: "place",
+    1: "empty", 2: "memory", 3: "over", 4: "keeper", 5: "illegal", 6: "start", 7: "small", 8: "form",
     16: "text", 17: "macro", 18: "syntax", 19: "game",
 }  # fmt: skip
 SMALL, RANGE, MOST_PAIRS = 7, 8, 200
@@ -45,8 +45,6 @@ CALLS: dict[str, list[Any]] = {
     "rbg_open": [c_void_p, c_size_t, STATE],
     "rbg_begin": [c_void_p, c_size_t, STATE],
     "rbg_copy": [STATE, STATE],
-    "rbg_unpack": [STATE, c_void_p, c_size_t, STATE],
-    "rbg_pack": [STATE, POINTER(c_uint8), c_size_t, NUMBER],
     "rbg_player": [STATE, POINTER(c_uint32)],
     "rbg_key": [STATE, NUMBER],
     "rbg_board": [STATE, POINTER(c_uint16), c_size_t, NUMBER],
@@ -104,13 +102,9 @@ class Library:
 
     def opened(self, name: str, text: bytes) -> "Held":
         held = Held(self)
-        held.answer(name, getattr(self.calls, name)(array_of(text), len(text), byref(held.handle)))
+        bytes_of = (c_uint8 * max(1, len(text))).from_buffer_copy(text or b"\0")
+        held.answer(name, getattr(self.calls, name)(bytes_of, len(text), byref(held.handle)))
         return held
-
-
-def array_of(text: bytes) -> Any:
-    """The bytes as an array of C, which isn't empty."""
-    return (c_uint8 * max(1, len(text))).from_buffer_copy(text or b"\0")
 
 
 class Held:
@@ -225,16 +219,6 @@ class Held:
         copy = Held(self.library)
         self.ask("rbg_copy", byref(copy.handle))
         return copy
-
-    def pack(self) -> bytes:
-        """The place as bytes."""
-        return bytes(self.items("rbg_pack", c_uint8))
-
-    def unpack(self, packed: bytes) -> "Held":
-        """The state at the place of these bytes in this game, from which no move can be undone."""
-        to = Held(self.library)
-        self.ask("rbg_unpack", array_of(packed), len(packed), byref(to.handle))
-        return to
 
     def playouts(self, seed: int, count: int) -> list[list[int]]:
         """A row for each ending of random matches: how many ended so, and the scores. Those that were stopped have none."""

@@ -48,11 +48,6 @@ class LoadedGround:
         from_there = self.held if self.heard is None else self.heard
         return LoadedPlace(from_there, from_there.copy())
 
-    def unpack(self, packed: bytes) -> "LoadedPlace":
-        """The place of these bytes."""
-        held = self.held.unpack(packed)
-        return LoadedPlace(held, held.copy())
-
 
 class LoadedPlace:
     """A place, and the one where the moves began that lead there."""
@@ -94,10 +89,6 @@ class LoadedPlace:
     def copy(self) -> "LoadedPlace":
         """A place of its own."""
         return LoadedPlace(self.root, self.held.copy())
-
-    def pack(self) -> bytes:
-        """The place as bytes."""
-        return self.held.pack()
 
     def playouts(self, count: int, seed: int) -> list[Ending]:
         """How this many random matches from here end."""

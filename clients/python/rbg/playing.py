@@ -16,7 +16,6 @@ from rbg.game import Game, State
 from rbg.places import Move
 
 QUIET = 0.005  # seconds in which nothing comes before a move is said
-PATIENCE = 3.0  # seconds for which a port is tried again on which nothing listens yet
 
 
 class Clock(NamedTuple):
@@ -47,31 +46,11 @@ class Outcome(NamedTuple):
 Choose = Callable[[State, Clock], Optional[Move]]  # None says nothing
 
 
-def connected(host: str, port: int) -> socket.socket:
-    """A connection. Where nothing listens yet it is tried again for a while, since a referee may start after its players.
-
-    >>> import threading
-    >>> server = socket.socket()
-    >>> server.bind(("127.0.0.1", 0))
-    >>> threading.Timer(0.2, server.listen).start()
-    >>> connected("127.0.0.1", server.getsockname()[1]).close()
-    >>> server.close()
-    """
-    last = time.monotonic() + PATIENCE
-    while True:
-        try:
-            return socket.create_connection((host, port))
-        except ConnectionRefusedError:
-            if time.monotonic() >= last:
-                raise
-            time.sleep(0.05)
-
-
 class Stream:
     """Messages over a connection: a message is the bytes before a zero byte."""
 
     def __init__(self, host: str, port: int):
-        self.socket = connected(host, port)
+        self.socket = socket.create_connection((host, port))
         self.rest = b""
 
     def hear(self) -> Optional[bytes]:

@@ -1,7 +1,7 @@
 //! The text of a file and the game that it describes, or what is said of the file.
 
 use crate::report::Report;
-use rbg_console::{Files, Input, Status, read_input, read_record, read_record_input};
+use rbg_console::{Files, Input, Status, read_input};
 use rbg_explain::explain;
 use rbg_game::{LoadError, LoadedGame, load_with_layout};
 use rbg_macro::{MAX_TEXT, TextError, Tokens, tokens};
@@ -83,28 +83,6 @@ pub(crate) fn read_text<F: Files>(
     file: &str,
 ) -> Result<Read<Vec<u8>>, AllocError> {
     text_of(alloc, file, files.read_file(alloc, file, MAX_TEXT)?)
-}
-
-/// Reads a record, a script or a list of moves: of a file, or of standard input for `-` and where no file is named. If lines
-/// of it end in CR LF, a note reports it.
-pub(crate) fn read_moves<F: Files, R: io::Read>(
-    alloc: Global,
-    files: &mut F,
-    record: Option<&str>,
-    input: &mut R,
-) -> Result<Input, AllocError> {
-    match record {
-        Some(name) if name != "-" => read_record(alloc, files, name),
-        _ => read_record_input(alloc, files, input),
-    }
-}
-
-/// What a source of moves is called.
-pub(crate) fn source_name(record: Option<&str>) -> &str {
-    match record {
-        Some(name) if name != "-" => name,
-        _ => "standard input",
-    }
 }
 
 /// The text that was read, or what is said of the file.

@@ -1,10 +1,8 @@
 //! The program for authors of games: why a description is refused, what its game has, how many sequences of moves, how
-//! random matches end, how the empty board looks and the board after each move of a match, the page of a match, the
-//! description of a place, a description of the paper's language as this one spells it, and a page on which a game is
-//! played.
+//! matches by chance end, how the board looks after each move of a match, the page of a match, the description of a
+//! place, a description of the paper's language as this one spells it, and a page on which a game is played.
 #![tactic(auto)]
 
-mod board;
 mod explain;
 mod game_files;
 mod import;

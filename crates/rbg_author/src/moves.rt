@@ -1,52 +1,47 @@
 //! What `moves` prints of a game, or of a game and a record: the legal moves, as people read them.
 ghost use Rattle.rbg_rules.specs.Meaning.{IsPlaceOf};
 
-use crate::game_files::{Read, load_text, read_moves, read_text, source_name, unreadable};
+use crate::game_files::{Read, load_text, read_text, unreadable};
 use crate::page::{TOO_LONG, refused};
 use crate::report::Report;
 use rbg_base::{Move, Pair, Piece, Vertex};
-use rbg_console::{Files, Input, Status};
+use rbg_console::{Files, Input, Status, read_record};
 use rbg_game::{Layout, LoadedGame};
 use rbg_moves::{Over, Place, PlayedGame, Unsettled};
 use rbg_record::place_after;
 use rbg_rules::{Action, Game};
 use rbg_wire::{after_text, cut_number, read_pairs, write_number, write_pairs};
 use std::alloc::{AllocError, Global};
-use std::io;
 
 /// The most moves that are printed.
 const MOST: usize = 1_000;
 
 /// The legal moves of a game's opening, or of the place after a record.
-pub(crate) fn moves_file<F: Files, R: io::Read>(
+pub(crate) fn moves_file<F: Files>(
     alloc: Global,
     files: &mut F,
     file: &str,
     record: Option<&str>,
-    input: &mut R,
 ) -> Result<Report, AllocError> {
     match read_text(alloc, files, file)? {
         Read::Found(text) => match record {
-            Some(_) => {
-                let moves = read_moves(alloc, files, record, input)?;
-                moves_record(alloc, file, &text, source_name(record), &moves)
-            }
+            Some(record) => moves_record(alloc, files, file, &text, record),
             None => moves_text(alloc, file, &text, None),
         },
         Read::Other(report) => Ok(report),
     }
 }
 
-/// The same of a text, after what was read of a record.
-fn moves_record(
+/// The same of a text, after the record of a file.
+fn moves_record<F: Files>(
     alloc: Global,
+    files: &mut F,
     file: &str,
     text: &[u8],
     record: &str,
-    moves: &Input,
 ) -> Result<Report, AllocError> {
-    match moves {
-        Input::Whole(bytes) => moves_text(alloc, file, text, Some(bytes)),
+    match read_record(alloc, files, record)? {
+        Input::Whole(bytes) => moves_text(alloc, file, text, Some(&bytes)),
         Input::TooLong => refused(alloc, TOO_LONG),
         Input::Device => unreadable(alloc, record),
     }

@@ -1,8 +1,8 @@
 //! What `page` prints of a game and a match.
 
-use crate::game_files::{Read, load_text, read_moves, read_text, source_name, unreadable};
-use crate::report::{Report, tell_meaning};
-use rbg_console::{Files, Input, Note, Status};
+use crate::game_files::{Read, load_text, read_text, unreadable};
+use crate::report::Report;
+use rbg_console::{Files, Input, Note, Status, read_record_input};
 use rbg_game::LoadedGame;
 use rbg_moves::PlayedGame;
 use rbg_record::{LineFault, Misfit};
@@ -17,17 +17,15 @@ pub(crate) const TOO_LONG: Misfit = Misfit {
     fault: LineFault::Form,
 };
 
-/// The page of the match that a record's file or the input holds, of the game that the file describes. Both are read before
-/// either is looked into. Why there is no page is reported, and nothing is printed, since what is printed mostly goes to a
-/// file.
+/// The page of the match that the input holds, of the game that the file describes. Both are read before either is looked
+/// into. Why there is no page is reported, and nothing is printed, since what is printed mostly goes to a file.
 pub(crate) fn page_file<F: Files, R: io::Read>(
     alloc: Global,
     files: &mut F,
     file: &str,
-    record: Option<&str>,
     input: &mut R,
 ) -> Result<Report, AllocError> {
-    match page_of(alloc, files, file, record, input) {
+    match page_of(alloc, files, file, input) {
         Ok(report) => Ok(without_fault(alloc, files, report)),
         Err(_) => {
             write_note(files, "out of memory");
@@ -58,7 +56,6 @@ fn without_fault<F: Files>(alloc: Global, files: &mut F, report: Report) -> Repo
         Ok(text) => write_note(files, text),
         Err(_) => write_note(files, "no page: the reason is no text of UTF-8"),
     }
-    tell_meaning(files, &report);
     nothing(alloc, report.status)
 }
 
@@ -67,14 +64,13 @@ fn page_of<F: Files, R: io::Read>(
     alloc: Global,
     files: &mut F,
     file: &str,
-    record: Option<&str>,
     input: &mut R,
 ) -> Result<Report, AllocError> {
     match read_text(alloc, files, file)? {
-        Read::Found(text) => match read_moves(alloc, files, record, input)? {
+        Read::Found(text) => match read_record_input(alloc, files, input)? {
             Input::Whole(moves) => page_texts(alloc, file, &text, Some(moves)),
             Input::TooLong => page_texts(alloc, file, &text, None),
-            Input::Device => unreadable(alloc, source_name(record)),
+            Input::Device => unreadable(alloc, "standard input"),
         },
         Read::Other(report) => Ok(report),
     }

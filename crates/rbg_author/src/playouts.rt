@@ -3,18 +3,12 @@ ghost use Rattle.rbg_questions.specs.Limits.{IsCount};
 
 use crate::game_files::{Read, load_text, read_text};
 use crate::report::Report;
-use rbg_console::{Files, Note, Status, fill_file};
+use rbg_console::{Files, Status, fill_file};
 use rbg_game::Game;
 use rbg_questions::{Matches, PlayedGame, Refusal, moves_of, playouts, put_details};
 use rbg_record::LineFault;
 use rbg_workbench::record_text;
 use std::alloc::{AllocError, Global};
-
-/// From so many matches on it is told that they take their time.
-const LONG: u64 = 1_000;
-
-/// What is told then.
-const WAIT: &str = "the lines are printed when all matches have ended";
 
 /// The matches that are wanted.
 #[derive(Clone, Copy)]
@@ -72,9 +66,6 @@ fn playouts_game<F: Files>(
     requires { IsCount wanted.count }
 {
     let game = PlayedGame::new(alloc, game)?;
-    if wanted.count >= LONG {
-        files.tell(&Note::Words { text: WAIT });
-    }
     match playouts(alloc, &game, wanted.seed, wanted.count) {
         Ok(made) => {
             let described = DescribedGame { text, game: &game };
@@ -112,23 +103,11 @@ fn matches_report<F: Files>(
                 status = Status::Device;
             }
         }
-        if matches!(status, Status::Device) {
-            tell_folder(alloc, files, folder)?;
-        }
     }
     Ok(Report {
         text: lines,
         status,
     })
-}
-
-/// Tells what a folder must be in which records can't be made.
-fn tell_folder<F: Files>(alloc: Global, files: &mut F, folder: &str) -> Result<(), AllocError> {
-    let text = format!(in alloc;
-        "not all records are written: make the folder {folder} first, and take none that has files of these names"
-    )?;
-    files.tell(&Note::Words { text: &text });
-    Ok(())
 }
 
 /// Keeps the record of the match of a seed in a folder. Returns whether it could.

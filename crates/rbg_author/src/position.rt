@@ -2,53 +2,30 @@
 ghost use Rattle.rbg_game.specs.Loading.{Loads};
 ghost use Rattle.rbg_macro.specs.Text.{HasTokens};
 
-use crate::game_files::{Read, read_moves, read_text, refuse, source_name, unreadable};
+use crate::game_files::{Read, read_text, refuse, unreadable};
 use crate::page::{TOO_LONG, refused};
 use crate::report::Report;
-use rbg_console::{Files, Input, Note, Status};
+use rbg_console::{Files, Input, Status, read_record};
 use rbg_game::{LoadError, LoadedGame, load_with_layout};
 use rbg_macro::{Tokens, tokens};
 use rbg_moves::PlayedGame;
 use rbg_position::{PositionError, position};
 use rbg_rules::Game;
 use std::alloc::{AllocError, Global};
-use std::io;
 
-/// What is said on standard error where values or the player to move are others than where play begins.
-const ADVICE: &str =
-    "setup changes the board alone: give a record of fewer moves, after which all values and the player to move are those with which play begins; or write the board that `rbg_author show --last` prints into the description yourself, and the values as `[$ black = 100]` before the first `->` of its rules";
-
-/// The description of a file with the board as it stands after the moves of a record, which another file or standard input
-/// has. Both are read before either is looked into. Where there is none since the board isn't all that differs, a note
-/// gives advice.
-pub(crate) fn position_file<F: Files, R: io::Read>(
+/// The description of a file with the board as it stands after the moves of the record of another file. Both are read
+/// before either is looked into.
+pub(crate) fn position_file<F: Files>(
     alloc: Global,
     files: &mut F,
     file: &str,
-    record: Option<&str>,
-    input: &mut R,
-) -> Result<Report, AllocError> {
-    let report = position_of(alloc, files, file, record, input)?;
-    let needs_advice = report.text.ends_with(b" where play begins\n");
-    if matches!(report.status, Status::Refused) && needs_advice {
-        files.tell(&Note::Words { text: ADVICE });
-    }
-    Ok(report)
-}
-
-/// The description of the place, or what is said where there is none.
-fn position_of<F: Files, R: io::Read>(
-    alloc: Global,
-    files: &mut F,
-    file: &str,
-    record: Option<&str>,
-    input: &mut R,
+    other: &str,
 ) -> Result<Report, AllocError> {
     match read_text(alloc, files, file)? {
-        Read::Found(text) => match read_moves(alloc, files, record, input)? {
+        Read::Found(text) => match read_record(alloc, files, other)? {
             Input::Whole(bytes) => position_texts(alloc, file, &text, Some(bytes.as_slice())),
             Input::TooLong => position_texts(alloc, file, &text, None),
-            Input::Device => unreadable(alloc, source_name(record)),
+            Input::Device => unreadable(alloc, other),
         },
         Read::Other(report) => Ok(report),
     }

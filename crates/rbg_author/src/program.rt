@@ -1,7 +1,6 @@
 //! What the author's program does with its words and the file that they name.
 ghost use Rattle.rbg_questions.specs.Limits.{IsCount};
 
-use crate::board::board_file;
 use crate::explain::{Lists, check_file, explain_file};
 use crate::game_files::{Read, read_game};
 use crate::import::import_file;
@@ -13,10 +12,11 @@ use crate::play::no_network;
 use crate::playouts::{Wanted, playouts_file};
 use crate::position::position_file;
 use crate::report::{Report, print};
-use crate::show::{Shown, show_file};
+use crate::show::show_file;
 use clap::{ArgMatches, Command};
 use rbg_console::{
-    Argument, CommandWords, Files, GAME, Kind, Status, Value, WordsError, add_commands, match_words,
+    Argument, CommandWords, Files, GAME, Kind, RECORD, Status, Value, WordsError, add_commands,
+    match_words,
 };
 use rbg_questions::{Extent, MAX_COUNT};
 use std::alloc::{AllocError, Global};
@@ -73,11 +73,8 @@ fn answer<F: Files, R: io::Read, W: Write>(
             playouts_file(alloc, files, file_of(words), wanted)
         }
         Some(("show", words)) => {
-            let shown = Shown {
-                record: words.get_str("RECORD"),
-                only_last: words.get_flag("last"),
-            };
-            show_file(alloc, files, file_of(words), shown, input)
+            let only_last = words.get_flag("last");
+            show_file(alloc, files, file_of(words), input, only_last)
         }
         Some(("check" | "lint", words)) => {
             let strict = words.get_flag("strict");
@@ -85,20 +82,13 @@ fn answer<F: Files, R: io::Read, W: Write>(
         }
         Some(("lsp", _)) => serve_editor(alloc, files, input, output),
         Some(("import", words)) => import_file(alloc, files, input, file_of(words)),
-        Some(("board", words)) => board_file(alloc, files, input, file_of(words)),
-        Some(("page", words)) => {
-            let record = words.get_str("RECORD");
-            page_file(alloc, files, file_of(words), record, input)
-        }
-        Some(("moves", words)) => {
-            let record = words.get_str("RECORD");
-            moves_file(alloc, files, file_of(words), record, input)
-        }
+        Some(("page", words)) => page_file(alloc, files, file_of(words), input),
+        Some(("moves", words)) => moves_file(alloc, files, file_of(words), words.get_str("RECORD")),
         // (the program serves it before it comes here)
         Some(("play", _)) => no_network(alloc),
         Some(("position" | "setup", words)) => {
-            let record = words.get_str("RECORD");
-            position_file(alloc, files, file_of(words), record, input)
+            let record = words.get_str("RECORD").unwrap_or("");
+            position_file(alloc, files, file_of(words), record)
         }
         Some((_, words)) => {
             let lists = Lists {
@@ -158,22 +148,6 @@ const GAME_OR_INPUT: Argument = Argument {
     help: "The description of a game, `-` for standard input",
 };
 
-/// The file of a record, or the standard input.
-const RECORD_OR_INPUT: Argument = Argument {
-    name: "RECORD",
-    kind: Kind::Needed,
-    value: Value::Text,
-    help: "The record of a match, `-` for standard input",
-};
-
-/// The file of moves, or the standard input.
-const MOVES_OR_INPUT: Argument = Argument {
-    name: "RECORD",
-    kind: Kind::Free,
-    value: Value::Text,
-    help: "A record, a script or a list of moves as pairs [default: standard input]",
-};
-
 /// The arguments of `check`.
 const CHECK: &[Argument] = &[
     GAME_OR_INPUT,
@@ -221,7 +195,7 @@ const COMMANDS: &[CommandWords] = &[
     },
     CommandWords {
         name: "check",
-        about: "The old word for lint",
+        about: "The same as lint, by its name of version 0",
         example: "Example: rbg_author check game.rbg",
         arguments: CHECK,
     },
@@ -267,7 +241,7 @@ const COMMANDS: &[CommandWords] = &[
                 name: "record",
                 kind: Kind::Named("DIR", None),
                 value: Value::Text,
-                help: "A folder that is there, for a record of one match of each way of ending, DIR/seed-SEED.record",
+                help: "A folder for a record of one match of each way of ending, DIR/seed-SEED.record",
             },
         ],
     },
@@ -281,17 +255,16 @@ const COMMANDS: &[CommandWords] = &[
                 name: "RECORD",
                 kind: Kind::Free,
                 value: Value::Text,
-                help: "A record of a match, `-` for standard input",
+                help: "A record of a match",
             },
         ],
     },
     CommandWords {
         name: "show",
-        about: "Show the moves of a record, a script or a list, each with the board after it",
-        example: "Example: rbg_author show game.rbg record",
+        about: "Show the moves on standard input, as pairs, a script or a record, on the board",
+        example: "Example: rbg_author show game.rbg < record",
         arguments: &[
             GAME,
-            MOVES_OR_INPUT,
             Argument {
                 name: "last",
                 kind: Kind::Flag(None),
@@ -301,16 +274,10 @@ const COMMANDS: &[CommandWords] = &[
         ],
     },
     CommandWords {
-        name: "board",
-        about: "Print a picture of the empty board, an SVG with numbers, names and directions",
-        example: "Example: rbg_author board game.rbg > board.svg",
-        arguments: &[GAME_OR_INPUT],
-    },
-    CommandWords {
         name: "page",
-        about: "Make a page for a browser of a record, a script or a list of moves",
-        example: "Example: rbg_author page game.rbg record > match.html",
-        arguments: &[GAME, MOVES_OR_INPUT],
+        about: "Make a page for a browser of the record, the script or the moves on standard input",
+        example: "Example: rbg_author page game.rbg < record > match.html",
+        arguments: &[GAME],
     },
     CommandWords {
         name: "play",
@@ -330,13 +297,13 @@ const COMMANDS: &[CommandWords] = &[
         name: "setup",
         about: "Print the description with the board after a record's moves, or say why not",
         example: "Example: rbg_author setup game.rbg record > later.rbg",
-        arguments: &[GAME, RECORD_OR_INPUT],
+        arguments: &[GAME, RECORD],
     },
     CommandWords {
         name: "position",
-        about: "The old word for setup",
+        about: "The same as setup, by its name of version 0",
         example: "Example: rbg_author position game.rbg record > later.rbg",
-        arguments: &[GAME, RECORD_OR_INPUT],
+        arguments: &[GAME, RECORD],
     },
     CommandWords {
         name: "import",
@@ -356,7 +323,6 @@ pub(crate) fn author_command<'a>(alloc: Global) -> Result<Command<'a>, AllocErro
     let program = Command::new(alloc, "rbg_author")
         .version("1.0.0")
         .about("Help for authors of games of Regular Boardgames")
-        .after_help("The help of each command has an example: rbg_author lint --help")
         .subcommand_required(true);
     add_commands(alloc, program, COMMANDS)
 }

@@ -18,12 +18,12 @@ nothing_there (y ∷ ys) x h same = omega (arith, same)
 pub rests_here : (old mid : AbstractState) (count : ℕ) → FindsMoves old count mid → count ≡ 0 → GoesOn old false mid
 rests_here old mid count finds nothing =
     rests (record { no_move = λ pairs to legal. nothing_there finds.moves pairs (finds.are.whole pairs (to, legal)) (sym finds.many ∙ nothing) })
-    (ap (λ (s : AbstractState). s.game) finds.is) (ap (λ (s : AbstractState). s.origin) finds.is) (ap (λ (s : AbstractState). s.before) finds.is) (ap (λ (s : AbstractState). s.place) finds.is)
+    (ap (λ (s : AbstractState). s.game) finds.is) (ap (λ (s : AbstractState). s.before) finds.is) (ap (λ (s : AbstractState). s.place) finds.is)
 
 -- one of the moves that were found is made
 pub goes_here : (old mid new : AbstractState) (count index : ℕ) → FindsMoves old count mid → MakesFound mid index new → GoesOn old true new
 goes_here old mid new count index finds made =
-    let makes : Makes (record { game = old.game; origin = old.origin; before = old.before; place = old.place; found = Some finds.moves }) made.pairs new = subst (λ (s : AbstractState). Makes s made.pairs new) finds.is made.makes in
+    let makes : Makes (record { game = old.game; before = old.before; place = old.place; found = Some finds.moves }) made.pairs new = subst (λ (s : AbstractState). Makes s made.pairs new) finds.is made.makes in
     let on : Makes old made.pairs new = record { leads = makes.leads; is = makes.is } in
     moved on
 
@@ -34,14 +34,13 @@ stuck_here old mid count index refusal finds why = unmade (ap (λ (s : AbstractS
 -- So many moves were made by chance.
 pub record GoneOn (old : AbstractState) (made : ℕ) (now : AbstractState) : Type 0 where
   pub game : now.game ≡ old.game
-  pub origin : now.origin ≡ old.origin
   pub moves : List (List (ℕ × ℕ))
   pub many : length moves ≡ made
   pub plays : Plays old.game old.place moves now.place
   pub before : length now.before ≡ length old.before + made
 
 pub gone_none : (old : AbstractState) → GoneOn old 0 old
-gone_none old = record { game = refl; origin = refl; moves = []; many = refl; plays = no_move; before = omega arith }
+gone_none old = record { game = refl; moves = []; many = refl; plays = no_move; before = omega arith }
 
 one_longer : (old now new : AbstractState) (made : ℕ) → GoneOn old made now → new ≡ moved_to now new.place → length new.before ≡ length old.before + (made + 1)
 one_longer old now new made gone is =
@@ -52,7 +51,6 @@ one_longer old now new made gone is =
 pub gone_one : (old now new : AbstractState) (made : ℕ) → GoneOn old made now → GoesOn now true new → GoneOn old (made + 1) new
 gone_one old now new made gone (moved {pairs} makes) = record {
   game = ap (λ (s : AbstractState). s.game) makes.is ∙ gone.game;
-  origin = ap (λ (s : AbstractState). s.origin) makes.is ∙ gone.origin;
   moves = gone.moves ++ pairs ∷ [];
   many = length-append gone.moves (pairs ∷ []) ∙ ap (λ n. n + 1) gone.many;
   plays = one_more gone.plays (subst (λ (g : AbstractGame). Leads g now.place pairs new.place) gone.game makes.leads);
@@ -60,8 +58,8 @@ gone_one old now new made gone (moved {pairs} makes) = record {
 }
 
 -- the moves so far, where there is no other
-pub ends_so : (old now new : AbstractState) (most made : ℕ) → GoneOn old made now → GoesOn now false new → made < most → PlaysOn old.game old.place most made new.place × (length new.before ≡ length old.before + made) × (new.game ≡ old.game) × (new.origin ≡ old.origin)
-ends_so old now new most made gone (rests over game origin before place) few = (
+pub ends_so : (old now new : AbstractState) (most made : ℕ) → GoneOn old made now → GoesOn now false new → made < most → PlaysOn old.game old.place most made new.place × (length new.before ≡ length old.before + made) × (new.game ≡ old.game)
+ends_so old now new most made gone (rests over game before place) few = (
   record {
     moves = gone.moves;
     plays = subst (Plays old.game old.place gone.moves) (sym place) gone.plays;
@@ -71,7 +69,6 @@ ends_so old now new most made gone (rests over game origin before place) few = (
   },
   ap (λ (ps : List AbstractPlace). length ps) before ∙ gone.before,
   game ∙ gone.game,
-  origin ∙ gone.origin,
 )
 
 -- as many moves as were wanted
@@ -99,20 +96,19 @@ pub no_copy : (old : AbstractState) → IsNotPlayedOn old Memory
 no_copy old = record { moves = []; to = old.place; plays = no_move; stuck = no_memory }
 
 -- a copy on which moves were made
-pub copy_played : (state copy played : AbstractState) (most made : ℕ) → copy ≡ beginning_at state.game state.origin state.place → PlaysOn copy.game copy.place most made played.place → length played.before ≡ length copy.before + made → played.game ≡ copy.game → played.origin ≡ copy.origin → IsPlayedOn state most played
-copy_played state copy played most made is plays before game origin =
+pub copy_played : (state copy played : AbstractState) (most made : ℕ) → copy ≡ beginning_at state.game state.place → PlaysOn copy.game copy.place most made played.place → length played.before ≡ length copy.before + made → played.game ≡ copy.game → IsPlayedOn state most played
+copy_played state copy played most made is plays before game =
     let none : length copy.before ≡ 0 = ap (λ (s : AbstractState). length s.before) is in
     let long : length played.before ≡ made = omega (arith, before, none) in
     record {
       game = game ∙ ap (λ (s : AbstractState). s.game) is;
-      origin = origin ∙ ap (λ (s : AbstractState). s.origin) is;
       plays = subst (λ n. PlaysOn state.game state.place most n played.place) (sym long)
           (subst (λ (s : AbstractState). PlaysOn s.game s.place most made played.place) is plays);
     }
 
-pub copy_stuck : (state copy : AbstractState) (refusal : Refusal) → copy ≡ beginning_at state.game state.origin state.place → IsNotPlayedOn copy refusal → IsNotPlayedOn state refusal
+pub copy_stuck : (state copy : AbstractState) (refusal : Refusal) → copy ≡ beginning_at state.game state.place → IsNotPlayedOn copy refusal → IsNotPlayedOn state refusal
 copy_stuck state copy refusal is stuck =
-    let it : IsNotPlayedOn (beginning_at state.game state.origin state.place) refusal = subst (λ (s : AbstractState). IsNotPlayedOn s refusal) is stuck in
+    let it : IsNotPlayedOn (beginning_at state.game state.place) refusal = subst (λ (s : AbstractState). IsNotPlayedOn s refusal) is stuck in
     record { moves = it.moves; to = it.to; plays = it.plays; stuck = it.stuck }
 
 -- the state that a handle held

@@ -37,11 +37,11 @@ moves_there : (state : AbstractState) (game : AbstractGame) (max : ℕ) (moves :
 moves_there state game max moves cut len same_game gathered same small large =
     subst (λ (g : AbstractGame). AreMoves g state.place moves) same_game (are_moves game state.place max moves cut len gathered same small large)
 
-pub found_state : (state : AbstractState) (game : AbstractGame) (max : ℕ) (moves : List (List (ℕ × ℕ))) (cut : Bool) (len : ℕ) → IsState state → game ≡ state.game → IsGathered game state.place max moves cut → len ≡ length moves → len < 2 ^ 63 → 2 ^ 63 ≤ max → IsState (record { game = state.game; origin = state.origin; before = state.before; place = state.place; found = Some moves })
+pub found_state : (state : AbstractState) (game : AbstractGame) (max : ℕ) (moves : List (List (ℕ × ℕ))) (cut : Bool) (len : ℕ) → IsState state → game ≡ state.game → IsGathered game state.place max moves cut → len ≡ length moves → len < 2 ^ 63 → 2 ^ 63 ≤ max → IsState (record { game = state.game; before = state.before; place = state.place; found = Some moves })
 found_state state game max moves cut len is same_game gathered same small large =
     record { reached = is.reached; found = moves_there state game max moves cut len same_game gathered same small large }
 
-pub finds_moves : (state : AbstractState) (game : AbstractGame) (max : ℕ) (moves : List (List (ℕ × ℕ))) (cut : Bool) (len : ℕ) → IsState state → game ≡ state.game → IsGathered game state.place max moves cut → len ≡ length moves → len < 2 ^ 63 → 2 ^ 63 ≤ max → FindsMoves state len (record { game = state.game; origin = state.origin; before = state.before; place = state.place; found = Some moves })
+pub finds_moves : (state : AbstractState) (game : AbstractGame) (max : ℕ) (moves : List (List (ℕ × ℕ))) (cut : Bool) (len : ℕ) → IsState state → game ≡ state.game → IsGathered game state.place max moves cut → len ≡ length moves → len < 2 ^ 63 → 2 ^ 63 ≤ max → FindsMoves state len (record { game = state.game; before = state.before; place = state.place; found = Some moves })
 finds_moves state game max moves cut len is same_game gathered same small large =
     record { moves = moves; are = moves_there state game max moves cut len same_game gathered same small large; many = same; is = refl }
 

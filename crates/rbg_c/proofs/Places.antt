@@ -1,56 +1,48 @@
 -- The places of states.
-use Rattle.rbg_base.proofs.Common.{◌≡◌, ◌≢◌, ℕ, List, [], ◌∷◌, ◌++◌, All, ap, sym, ◌∙◌, refl, subst, All-head, All-tail, All-nil, All-cons, All-append}
+use Rattle.rbg_base.proofs.Common.{◌≡◌, ℕ, List, [], ◌∷◌, ◌++◌, All, sym, ◌∙◌, refl, subst, All-head, All-tail, All-nil, All-cons, All-append}
 use Rattle.std.specs.Prelude.{None}
 use Rattle.rbg_rules.specs.Meaning.{AbstractGame, AbstractPlace, Legal, IsPlaceOf}
 use Rattle.rbg_moves.specs.Settling.{KeeperMoves, none, more, Settles}
 use Rattle.rbg_questions.specs.Sessions.{AreHeard, no_move, one_more, HasLedTo, at_start, at_heard, by_move, Leads, beginning_of}
 use Rattle.rbg_questions.specs.internal.Places.{AreReached}
-use Rattle.rbg_questions.specs.Packing.{packed_of}
-use Rattle.rbg_c.specs.States.{AbstractState, Hears, IsState, Unpacks, beginning_at}
+use Rattle.rbg_c.specs.States.{AbstractState, Hears, IsState}
 
 -- moves of the keeper are legal moves
-heard_by_keeper : (game : AbstractGame) (origin from to : AbstractPlace) (many : ℕ) → AreHeard game origin from → KeeperMoves game from many to → AreHeard game origin to
-heard_by_keeper game origin from _ _ heard none = heard
-heard_by_keeper game origin from to _ heard (more {many} {middle} moves player legal fits) = one_more (heard_by_keeper game origin from middle many heard moves) legal
+heard_by_keeper : (game : AbstractGame) (from to : AbstractPlace) (many : ℕ) → AreHeard game from → KeeperMoves game from many to → AreHeard game to
+heard_by_keeper game from _ _ heard none = heard
+heard_by_keeper game from to _ heard (more {many} {middle} moves player legal fits) = one_more (heard_by_keeper game from middle many heard moves) legal
 
 -- legal moves, one after the other, lead to each place to which play has led
-led_heard : (game : AbstractGame) (origin : AbstractPlace) (before : List AbstractPlace) (place : AbstractPlace) → HasLedTo game origin before place → AreHeard game origin place
-led_heard game origin _ place (at_start settles) = heard_by_keeper game origin origin place settles.many no_move settles.moves
-led_heard game origin _ place (at_heard heard) = heard
-led_heard game origin _ place (by_move {before} {from} led leads) =
-    heard_by_keeper game origin leads.middle place leads.settles.many (one_more (led_heard game origin before from led) leads.legal) leads.settles.moves
+led_heard : (game : AbstractGame) (before : List AbstractPlace) (place : AbstractPlace) → HasLedTo game before place → AreHeard game place
+led_heard game _ place (at_start settles) = heard_by_keeper game (beginning_of game) place settles.many no_move settles.moves
+led_heard game _ place (at_heard heard) = heard
+led_heard game _ place (by_move {before} {from} led leads) =
+    heard_by_keeper game leads.middle place leads.settles.many (one_more (led_heard game before from led) leads.legal) leads.settles.moves
 
 -- the state of which nothing but its place is known
-lone_at : (game : AbstractGame) (origin place : AbstractPlace) → IsPlaceOf game origin → IsPlaceOf game place → HasLedTo game origin [] place → IsState (record { game = game; origin = origin; before = []; place = place; found = None })
-lone_at game origin place origin_fits fits led = record { reached = record { start = origin_fits; earlier = All-nil (IsPlaceOf game); here = fits; led = led }; found = tt }
+lone_at : (game : AbstractGame) (place : AbstractPlace) → IsPlaceOf game place → HasLedTo game [] place → IsState (record { game = game; before = []; place = place; found = None })
+lone_at game place fits led = record { reached = record { earlier = All-nil (IsPlaceOf game); here = fits; led = led }; found = tt }
 
 -- a state with equal parts
-alike : (game same : AbstractGame) (origin begin : AbstractPlace) (items others : List AbstractPlace) (place there : AbstractPlace) → same ≡ game → begin ≡ origin → others ≡ items → there ≡ place → IsState (record { game = game; origin = origin; before = items; place = place; found = None }) → IsState (record { game = same; origin = begin; before = others; place = there; found = None })
-alike game same origin begin items others place there is_game is_origin is_items is_place state =
-    subst (λ (g : AbstractGame). IsState (record { game = g; origin = begin; before = others; place = there; found = None })) (sym is_game)
-    (subst (λ (o : AbstractPlace). IsState (record { game = game; origin = o; before = others; place = there; found = None })) (sym is_origin)
-    (subst (λ (ps : List AbstractPlace). IsState (record { game = game; origin = origin; before = ps; place = there; found = None })) (sym is_items)
-    (subst (λ (p : AbstractPlace). IsState (record { game = game; origin = origin; before = items; place = p; found = None })) (sym is_place) state)))
+alike : (game same : AbstractGame) (items others : List AbstractPlace) (place there : AbstractPlace) → same ≡ game → others ≡ items → there ≡ place → IsState (record { game = game; before = items; place = place; found = None }) → IsState (record { game = same; before = others; place = there; found = None })
+alike game same items others place there is_game is_items is_place state =
+    subst (λ (g : AbstractGame). IsState (record { game = g; before = others; place = there; found = None })) (sym is_game)
+    (subst (λ (ps : List AbstractPlace). IsState (record { game = game; before = ps; place = there; found = None })) (sym is_items)
+    (subst (λ (p : AbstractPlace). IsState (record { game = game; before = items; place = p; found = None })) (sym is_place) state))
 
 -- the first state
-pub first_state : (game same : AbstractGame) (begin first : AbstractPlace) (items : List AbstractPlace) (place : AbstractPlace) → same ≡ game → begin ≡ first → first ≡ beginning_of game → IsPlaceOf game first → items ≡ [] → Settles game (beginning_of game) place → IsPlaceOf game place → IsState (record { game = same; origin = begin; before = items; place = place; found = None })
-first_state game same begin first items place is_game is_first start first_fits is_items settles fits =
-    alike game same (beginning_of game) begin [] items place place is_game (is_first ∙ start) is_items refl (lone_at game (beginning_of game) place (subst (IsPlaceOf game) start first_fits) fits (at_start settles))
-
-pub first_is : (game same : AbstractGame) (begin first : AbstractPlace) (items : List AbstractPlace) (place : AbstractPlace) → same ≡ game → begin ≡ first → first ≡ beginning_of game → items ≡ [] → record { game = same; origin = begin; before = items; place = place; found = None } ≡ beginning_at game (beginning_of game) place
-first_is game same begin first items place is_game is_first start is_items =
-    λ i. record { game = is_game i; origin = (is_first ∙ start) i; before = is_items i; place = place; found = None }
+pub first_state : (game same : AbstractGame) (items : List AbstractPlace) (place : AbstractPlace) → same ≡ game → items ≡ [] → Settles game (beginning_of game) place → IsPlaceOf game place → IsState (record { game = same; before = items; place = place; found = None })
+first_state game same items place is_game is_items settles fits = alike game same [] items place place is_game is_items refl (lone_at game place fits (at_start settles))
 
 -- a copy
-pub copied_state : (state : AbstractState) (same : AbstractGame) (begin : AbstractPlace) (items : List AbstractPlace) (there : AbstractPlace) → IsState state → same ≡ state.game → begin ≡ state.origin → items ≡ [] → there ≡ state.place → IsState (record { game = same; origin = begin; before = items; place = there; found = None })
-copied_state state same begin items there is is_game is_origin is_items is_place =
-    alike state.game same state.origin begin [] items state.place there is_game is_origin is_items is_place
-    (lone_at state.game state.origin state.place is.reached.start is.reached.here (at_heard (led_heard state.game state.origin state.before state.place is.reached.led)))
+pub copied_state : (state : AbstractState) (same : AbstractGame) (items : List AbstractPlace) (there : AbstractPlace) → IsState state → same ≡ state.game → items ≡ [] → there ≡ state.place → IsState (record { game = same; before = items; place = there; found = None })
+copied_state state same items there is is_game is_items is_place =
+    alike state.game same [] items state.place there is_game is_items is_place
+    (lone_at state.game state.place is.reached.here (at_heard (led_heard state.game state.before state.place is.reached.led)))
 
 -- what holds of the places after one more move
-reached_next : (game : AbstractGame) (origin : AbstractPlace) (before : List AbstractPlace) (from to : AbstractPlace) (pairs : List (ℕ × ℕ)) → AreReached game origin before from → Leads game from pairs to → IsPlaceOf game to → AreReached game origin (before ++ from ∷ []) to
-reached_next game origin before from to pairs reached leads fits = record {
-  start = reached.start;
+reached_next : (game : AbstractGame) (before : List AbstractPlace) (from to : AbstractPlace) (pairs : List (ℕ × ℕ)) → AreReached game before from → Leads game from pairs to → IsPlaceOf game to → AreReached game (before ++ from ∷ []) to
+reached_next game before from to pairs reached leads fits = record {
   earlier = All-append (IsPlaceOf game) before (from ∷ []) reached.earlier (All-cons (IsPlaceOf game) from [] reached.here (All-nil (IsPlaceOf game)));
   here = fits;
   led = by_move reached.led leads;
@@ -60,11 +52,11 @@ longer : (before kept items : List AbstractPlace) (place value : AbstractPlace) 
 longer before kept items place value same_before same_place is = is ∙ (λ i. same_before i ++ same_place i ∷ [])
 
 -- the state after a move
-pub made_state : (state : AbstractState) (game : AbstractGame) (pairs : List (ℕ × ℕ)) (items kept : List AbstractPlace) (value now to : AbstractPlace) → IsState state → game ≡ state.game → Leads game state.place pairs to → IsPlaceOf game to → kept ≡ state.before → value ≡ state.place → now ≡ to → items ≡ kept ++ value ∷ [] → IsState (record { game = state.game; origin = state.origin; before = items; place = now; found = None })
+pub made_state : (state : AbstractState) (game : AbstractGame) (pairs : List (ℕ × ℕ)) (items kept : List AbstractPlace) (value now to : AbstractPlace) → IsState state → game ≡ state.game → Leads game state.place pairs to → IsPlaceOf game to → kept ≡ state.before → value ≡ state.place → now ≡ to → items ≡ kept ++ value ∷ [] → IsState (record { game = state.game; before = items; place = now; found = None })
 made_state state game pairs items kept value now to is same_game leads fits same_before same_place same_to so =
-    alike state.game state.game state.origin state.origin (state.before ++ state.place ∷ []) items to now refl refl (longer state.before kept items state.place value same_before same_place so) same_to
+    alike state.game state.game (state.before ++ state.place ∷ []) items to now refl (longer state.before kept items state.place value same_before same_place so) same_to
     (record {
-      reached = reached_next state.game state.origin state.before state.place to pairs is.reached
+      reached = reached_next state.game state.before state.place to pairs is.reached
           (subst (λ (g : AbstractGame). Leads g state.place pairs to) same_game leads) (subst (λ (g : AbstractGame). IsPlaceOf g to) same_game fits);
       found = tt;
     })
@@ -90,12 +82,12 @@ same_end (f ∷ xs) (b ∷ ys) x y same =
     let both = same_end xs ys x y others in
     ((λ i. first i ∷ both.0 i), both.1)
 
-led_last : (game : AbstractGame) (origin : AbstractPlace) (all : List AbstractPlace) (to : AbstractPlace) → HasLedTo game origin all to → (front : List AbstractPlace) (place : AbstractPlace) → all ≡ front ++ place ∷ [] → HasLedTo game origin front place
-led_last game origin _ to (at_start settles) front place same = absurd (no_end front place same)
-led_last game origin _ to (at_heard heard) front place same = absurd (no_end front place same)
-led_last game origin _ to (by_move {before} {from} led leads) front place same =
+led_last : (game : AbstractGame) (all : List AbstractPlace) (to : AbstractPlace) → HasLedTo game all to → (front : List AbstractPlace) (place : AbstractPlace) → all ≡ front ++ place ∷ [] → HasLedTo game front place
+led_last game _ to (at_start settles) front place same = absurd (no_end front place same)
+led_last game _ to (at_heard heard) front place same = absurd (no_end front place same)
+led_last game _ to (by_move {before} {from} led leads) front place same =
     let both = same_end before front from place same in
-    subst (λ (p : AbstractPlace). HasLedTo game origin front p) both.1 (subst (λ (ps : List AbstractPlace). HasLedTo game origin ps from) both.0 led)
+    subst (λ (p : AbstractPlace). HasLedTo game front p) both.1 (subst (λ (ps : List AbstractPlace). HasLedTo game ps from) both.0 led)
 
 all_last : {X : Type 0} (P : X → Type 0) (front : List X) (x : X) → All P (front ++ x ∷ []) → All P front × P x
 all_last P [] x h = (All-nil P, All-head P x [] h)
@@ -104,52 +96,27 @@ all_last P (f ∷ front) x h =
     (All-cons P f front (All-head P f (front ++ x ∷ []) h) others.0, others.1)
 
 -- the state before the last move
-pub undone_state : (state : AbstractState) (front : List AbstractPlace) (place now : AbstractPlace) → IsState state → state.before ≡ front ++ place ∷ [] → now ≡ place → IsState (record { game = state.game; origin = state.origin; before = front; place = now; found = None })
+pub undone_state : (state : AbstractState) (front : List AbstractPlace) (place now : AbstractPlace) → IsState state → state.before ≡ front ++ place ∷ [] → now ≡ place → IsState (record { game = state.game; before = front; place = now; found = None })
 undone_state state front place now is same same_place =
     let places = all_last (IsPlaceOf state.game) front place (subst (All (IsPlaceOf state.game)) same is.reached.earlier) in
-    alike state.game state.game state.origin state.origin front front place now refl refl refl same_place
-    (record { reached = record { start = is.reached.start; earlier = places.0; here = places.1; led = led_last state.game state.origin state.before state.place is.reached.led front place same }; found = tt })
+    alike state.game state.game front front place now refl refl same_place
+    (record { reached = record { earlier = places.0; here = places.1; led = led_last state.game state.before state.place is.reached.led front place same }; found = tt })
 
 -- the state where the rules begin
-pub begun_state : (game same : AbstractGame) (begin first : AbstractPlace) (items : List AbstractPlace) (place : AbstractPlace) → same ≡ game → begin ≡ first → first ≡ beginning_of game → items ≡ [] → place ≡ beginning_of game → IsPlaceOf game place → IsState (record { game = same; origin = begin; before = items; place = place; found = None })
-begun_state game same begin first items place is_game is_first first_start is_items start fits =
-    alike game same (beginning_of game) begin [] items place place is_game (is_first ∙ first_start) is_items refl
-    (lone_at game (beginning_of game) place (subst (IsPlaceOf game) start fits) fits (at_heard (subst (λ (p : AbstractPlace). AreHeard game (beginning_of game) p) (sym start) no_move)))
-
-pub begun_is : (game same : AbstractGame) (begin first : AbstractPlace) (items : List AbstractPlace) (place : AbstractPlace) → same ≡ game → begin ≡ first → first ≡ beginning_of game → items ≡ [] → place ≡ beginning_of game → record { game = same; origin = begin; before = items; place = place; found = None } ≡ beginning_at game (beginning_of game) (beginning_of game)
-begun_is game same begin first items place is_game is_first first_start is_items start =
-    λ i. record { game = is_game i; origin = (is_first ∙ first_start) i; before = is_items i; place = start i; found = None }
-
--- the state at a place that was unpacked
-pub unpacked_state : (game same : AbstractGame) (begin first : AbstractPlace) (items : List AbstractPlace) (place : AbstractPlace) → same ≡ game → begin ≡ first → first ≡ place → items ≡ [] → IsPlaceOf game place → IsState (record { game = same; origin = begin; before = items; place = place; found = None })
-unpacked_state game same begin first items place is_game is_first first_place is_items fits =
-    alike game same place begin [] items place place is_game (is_first ∙ first_place) is_items refl (lone_at game place place fits fits (at_heard no_move))
-
-pub unpacked_is : (game same : AbstractGame) (begin first : AbstractPlace) (items : List AbstractPlace) (place : AbstractPlace) → same ≡ game → begin ≡ first → first ≡ place → items ≡ [] → record { game = same; origin = begin; before = items; place = place; found = None } ≡ beginning_at game place place
-unpacked_is game same begin first items place is_game is_first first_place is_items =
-    λ i. record { game = is_game i; origin = (is_first ∙ first_place) i; before = is_items i; place = place; found = None }
-
-pub unpacks : (old new : AbstractState) (bytes : List ℕ) (game : AbstractGame) (place : AbstractPlace) → game ≡ old.game → IsPlaceOf game place → bytes ≡ packed_of place → new ≡ beginning_at old.game place place → Unpacks old bytes new
-unpacks old new bytes game place same_game fits packed is =
-    let there : new.place ≡ place = ap (λ (s : AbstractState). s.place) is in
-    record {
-      fits = subst (λ (p : AbstractPlace). IsPlaceOf old.game p) (sym there) (subst (λ (g : AbstractGame). IsPlaceOf g place) same_game fits);
-      packed = packed ∙ sym (ap packed_of there);
-      is = is ∙ sym (ap (λ (p : AbstractPlace). beginning_at old.game p p) there);
-    }
-
-pub not_unpacked : (old : AbstractState) (bytes : List ℕ) (game : AbstractGame) → game ≡ old.game → ((place : AbstractPlace) → IsPlaceOf game place → bytes ≢ packed_of place) → (place : AbstractPlace) → IsPlaceOf old.game place → bytes ≢ packed_of place
-not_unpacked old bytes game same_game none place fits = none place (subst (λ (g : AbstractGame). IsPlaceOf g place) (sym same_game) fits)
+pub begun_state : (game same : AbstractGame) (items : List AbstractPlace) (place : AbstractPlace) → same ≡ game → items ≡ [] → place ≡ beginning_of game → IsPlaceOf game place → IsState (record { game = same; before = items; place = place; found = None })
+begun_state game same items place is_game is_items start fits =
+    alike game same [] items place place is_game is_items refl
+    (lone_at game place fits (at_heard (subst (λ (p : AbstractPlace). AreHeard game p) (sym start) no_move)))
 
 -- the state after a move that was heard
-pub heard_state : (state : AbstractState) (game : AbstractGame) (pairs : List (ℕ × ℕ)) (items : List AbstractPlace) (now to : AbstractPlace) → IsState state → game ≡ state.game → Legal game state.place pairs to → IsPlaceOf game to → items ≡ [] → now ≡ to → IsState (record { game = state.game; origin = state.origin; before = items; place = now; found = None })
+pub heard_state : (state : AbstractState) (game : AbstractGame) (pairs : List (ℕ × ℕ)) (items : List AbstractPlace) (now to : AbstractPlace) → IsState state → game ≡ state.game → Legal game state.place pairs to → IsPlaceOf game to → items ≡ [] → now ≡ to → IsState (record { game = state.game; before = items; place = now; found = None })
 heard_state state game pairs items now to is same_game legal fits no_items same_to =
-    alike state.game state.game state.origin state.origin [] items to now refl refl no_items same_to
-    (lone_at state.game state.origin to is.reached.start (subst (λ (g : AbstractGame). IsPlaceOf g to) same_game fits)
-    (at_heard (one_more (led_heard state.game state.origin state.before state.place is.reached.led) (subst (λ (g : AbstractGame). Legal g state.place pairs to) same_game legal))))
+    alike state.game state.game [] items to now refl no_items same_to
+    (lone_at state.game to (subst (λ (g : AbstractGame). IsPlaceOf g to) same_game fits)
+    (at_heard (one_more (led_heard state.game state.before state.place is.reached.led) (subst (λ (g : AbstractGame). Legal g state.place pairs to) same_game legal))))
 
-pub hears_move : (state : AbstractState) (game : AbstractGame) (pairs : List (ℕ × ℕ)) (items : List AbstractPlace) (now to : AbstractPlace) → IsState state → game ≡ state.game → Legal game state.place pairs to → items ≡ [] → now ≡ to → Hears state pairs (record { game = state.game; origin = state.origin; before = items; place = now; found = None })
+pub hears_move : (state : AbstractState) (game : AbstractGame) (pairs : List (ℕ × ℕ)) (items : List AbstractPlace) (now to : AbstractPlace) → IsState state → game ≡ state.game → Legal game state.place pairs to → items ≡ [] → now ≡ to → Hears state pairs (record { game = state.game; before = items; place = now; found = None })
 hears_move state game pairs items now to state_is same_game legal nothing same_to = record {
   legal = subst (λ (p : AbstractPlace). Legal state.game state.place pairs p) (sym same_to) (subst (λ (g : AbstractGame). Legal g state.place pairs to) same_game legal);
-  is = λ i. record { game = state.game; origin = state.origin; before = nothing i; place = now; found = None };
+  is = λ i. record { game = state.game; before = nothing i; place = now; found = None };
 }

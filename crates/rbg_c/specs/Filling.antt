@@ -1,8 +1,7 @@
 -- What becomes of a buffer of the caller.
 use Rattle.std.specs.Prelude.{◌≡◌, ℕ, ◌<◌, List, ◌++◌, length, drop, Option, None, Some}
-use Rattle.rbg_questions.specs.Packing.{packed_of}
 use Rattle.rbg_c.specs.States.{AbstractState}
-use Rattle.rbg_c.specs.Results.{ok, empty, memory, small}
+use Rattle.rbg_c.specs.Results.{ok, empty, small}
 
 -- Items are put into a buffer, and it is told how many they are.
 --   filled: they stand at its beginning, and the rest is as it was.
@@ -40,21 +39,3 @@ pub data FetchesSome {X : Type 0}
         after ≡ Some state →
         FillsSome (Is state) why old new needed result →
         FetchesSome Is why before after old new needed result
-
--- The bytes of the place of a state are put into a buffer.
---   packed: they are put, or they are too many.
---   no_room: memory ran out, and the buffer is as it was.
-pub data PacksAt (state : AbstractState) (before after : List ℕ) (needed result : ℕ) : Type 0 where
-  packed : Fills (packed_of state.place) before after needed result → PacksAt state before after needed result
-  no_room : after ≡ before → result ≡ memory → PacksAt state before after needed result
-
--- The same of the state of a handle.
---   no_state: there is none, and the buffer is as it was.
---   there: it is this one, and as before.
-pub data PacksFrom (before after : Option AbstractState) (old new : List ℕ) (needed result : ℕ) : Type 0 where
-  no_state : before ≡ None → after ≡ None → new ≡ old → result ≡ empty → PacksFrom before after old new needed result
-  there : {state : AbstractState} →
-      before ≡ Some state →
-      after ≡ Some state →
-      PacksAt state old new needed result →
-      PacksFrom before after old new needed result

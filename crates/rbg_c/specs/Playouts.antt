@@ -56,7 +56,6 @@ pub data GoesOn (old : AbstractState) : Bool → (new : AbstractState) → Type 
   rests : {new : AbstractState} →
       Finished old.game old.place →
       new.game ≡ old.game →
-      new.origin ≡ old.origin →
       new.before ≡ old.before →
       new.place ≡ old.place →
       GoesOn old false new
@@ -72,7 +71,6 @@ pub record PlaysOn (game : AbstractGame) (from : AbstractPlace) (most made : ℕ
 -- The state is a copy of the other one, from which moves by chance were made. They can be undone.
 pub record IsPlayedOn (state : AbstractState) (most : ℕ) (played : AbstractState) : Type 0 where
   pub game : played.game ≡ state.game
-  pub origin : played.origin ≡ state.origin
   pub plays : PlaysOn state.game state.place most (length played.before) played.place
 
 -- Why no moves are made by chance: some moves lead to a place where the next one isn't made.

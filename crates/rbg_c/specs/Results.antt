@@ -26,19 +26,12 @@ small = 7
 abbrev pub range : ℕ
 range = 8
 
-abbrev pub no_place : ℕ
-no_place = 9
-
 -- the number of a refusal
 abbrev pub number_of : Refusal → ℕ
 number_of refusals.Long = range
-number_of refusals.Empty = range
-number_of refusals.Return = range
-number_of refusals.Word = range
 number_of refusals.Form = range
 number_of refusals.Illegal = illegal
 number_of refusals.Start = start
-number_of refusals.NoPlace = no_place
 number_of refusals.Over = 3
 number_of refusals.Keeper = 4
 number_of refusals.Memory = memory

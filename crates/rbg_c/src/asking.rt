@@ -2,9 +2,9 @@
 ghost use Rattle.std.specs.Prelude.{◌≡◌, length, take};
 ghost use Rattle.rbg_questions.specs.Keys.{key_of};
 ghost use Rattle.rbg_c.specs.Calls.{Tells};
-ghost use Rattle.rbg_c.specs.Filling.{Fetches, PacksFrom};
+ghost use Rattle.rbg_c.specs.Filling.{Fetches};
 
-use crate::filling::{fill, fill_packed, fill_scores, fill_values};
+use crate::filling::{fill, fill_scores, fill_values};
 use crate::handle::Handle;
 use crate::results::{EMPTY, OK};
 use std::alloc::Global;
@@ -104,24 +104,6 @@ pub extern "C" fn rbg_scores(
         return EMPTY;
     };
     let result = fill_scores(&held, scores, needed);
-    state.put(held);
-    result
-}
-
-/// `rbg_pack`: the bytes of the place.
-#[unsafe(no_mangle)]
-pub extern "C" fn rbg_pack(
-    alloc: Global,
-    state: &mut Handle,
-    bytes: &mut [u8],
-    needed: &mut u64,
-) -> u32
-    ensures { PacksFrom state.old.value state.new.value bytes.old bytes.new needed.new result }
-{
-    let Some(held) = state.take(alloc) else {
-        return EMPTY;
-    };
-    let result = fill_packed(&held, bytes, needed);
     state.put(held);
     result
 }

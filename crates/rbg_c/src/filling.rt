@@ -1,8 +1,8 @@
 //! Buffers of the caller, and what is put into them.
 ghost use Rattle.std.specs.Prelude.{◌≡◌, ◌<◌, ◌≤◌, ◌^◌, ◌++◌, drop, length, take};
-ghost use Rattle.rbg_c.specs.Filling.{Fills, PacksAt};
+ghost use Rattle.rbg_c.specs.Filling.{Fills};
 
-use crate::results::{MEMORY, OK, SMALL};
+use crate::results::{OK, SMALL};
 use crate::state::State;
 use rbg_base::Variable;
 
@@ -52,14 +52,4 @@ pub(crate) fn fill_scores(state: &State, buffer: &mut [u64], needed: &mut u64) -
 {
     let scores = state.scores();
     fill(scores.as_slice(), buffer, needed)
-}
-
-/// Puts the bytes of the place at the beginning of a buffer, if there is room, and tells how many they are.
-pub(crate) fn fill_packed(state: &State, buffer: &mut [u8], needed: &mut u64) -> u32
-    ensures { PacksAt state.now buffer.old buffer.new needed.new result }
-{
-    match state.pack() {
-        Ok(packed) => fill(packed.as_slice(), buffer, needed),
-        Err(_) => MEMORY,
-    }
 }

@@ -1,10 +1,10 @@
 //! Calls that check a description, open its game, copy a state and let one go.
 ghost use Rattle.std.specs.Prelude.{◌≡◌, None};
 ghost use Rattle.rbg_c.specs.States.{beginning_at};
-ghost use Rattle.rbg_c.specs.Opening.{Begins, Checks, Copies, Keeps, Opens, UnpacksAt, UnpacksFrom};
+ghost use Rattle.rbg_c.specs.Opening.{Begins, Checks, Copies, Keeps, Opens};
 
 use crate::handle::Handle;
-use crate::results::{EMPTY, MEMORY, NO_PLACE, OK, layer, number};
+use crate::results::{EMPTY, MEMORY, OK, layer, number};
 use crate::state::State;
 use rbg_game::load;
 use std::alloc::Global;
@@ -89,38 +89,11 @@ pub extern "C" fn rbg_copy(alloc: Global, from: &mut Handle, to: &mut Handle) ->
 
 /// Keeps a copy of a state.
 fn copy_to(alloc: Global, state: &State, to: &mut Handle) -> u32
-    ensures { Keeps (beginning_at state.now.game state.now.origin state.now.place) to.old.value
-        to.new.value result }
+    ensures { Keeps (beginning_at state.now.game state.now.place) to.old.value to.new.value
+        result }
 {
     match state.try_clone() {
         Ok(copy) => keep(alloc, copy, to),
-        Err(_) => MEMORY,
-    }
-}
-
-/// `rbg_unpack`: the state at the place of these bytes, of the game of a state.
-#[unsafe(no_mangle)]
-pub extern "C" fn rbg_unpack(alloc: Global, from: &mut Handle, bytes: &[u8], to: &mut Handle) -> u32
-    ensures from { from.new.value ≡ from.old.value }
-    ensures to { UnpacksFrom from.old.value bytes.now to.old.value to.new.value result }
-{
-    match from.take(alloc) {
-        None => EMPTY,
-        Some(state) => {
-            let result = unpack_to(alloc, &state, bytes, to);
-            from.put(state);
-            result
-        }
-    }
-}
-
-/// Keeps the state at the place of these bytes.
-fn unpack_to(alloc: Global, state: &State, bytes: &[u8], to: &mut Handle) -> u32
-    ensures { UnpacksAt state.now bytes.now to.old.value to.new.value result }
-{
-    match state.unpack(bytes) {
-        Ok(Some(unpacked)) => keep(alloc, unpacked, to),
-        Ok(None) => NO_PLACE,
         Err(_) => MEMORY,
     }
 }

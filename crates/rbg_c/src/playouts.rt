@@ -73,7 +73,6 @@ fn play_on(state: &mut State, seed: u64, most: u64) -> Result<u64, Refusal>
     ensures before { IfOk result (λ made.
         length state.new.before ≡ length state.old.before + made) }
     ensures game { OnOk result (state.new.game ≡ state.old.game) }
-    ensures origin { OnOk result (state.new.origin ≡ state.old.origin) }
     ensures stuck { IfErr result (IsNotPlayedOn state.old) }
 {
     let mut chance = Pcg32::seed_from_u64(seed);

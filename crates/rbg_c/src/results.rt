@@ -23,8 +23,6 @@ pub(crate) const SMALL: u32 = 7;
 
 pub(crate) const RANGE: u32 = 8;
 
-pub(crate) const NO_PLACE: u32 = 9;
-
 const TEXT: u32 = 16;
 
 const MACRO: u32 = 17;
@@ -40,13 +38,9 @@ pub(crate) fn number(refusal: Refusal) -> u32
 {
     match refusal {
         Refusal::Long => RANGE,
-        Refusal::Empty => RANGE,
-        Refusal::Return => RANGE,
-        Refusal::Word => RANGE,
         Refusal::Form => RANGE,
         Refusal::Illegal => ILLEGAL,
         Refusal::Start => START,
-        Refusal::NoPlace => NO_PLACE,
         Refusal::Over => OVER,
         Refusal::Keeper => KEEPER,
         Refusal::Memory => MEMORY,

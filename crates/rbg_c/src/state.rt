@@ -1,16 +1,15 @@
 //! A state of a game, as a value.
-ghost use Rattle.std.specs.Prelude.{◌≡◌, ◌≢◌, ◌<◌, ◌^◌, [], length, map, slice_get, take, All, IfErr, IfNone, IfOk, IfSome, IsTrue, None, OnErr, OnOk, Some};
+ghost use Rattle.std.specs.Prelude.{◌≡◌, ◌<◌, ◌^◌, [], length, map, slice_get, take, All, IfErr, IfOk, IsTrue, None, OnErr, OnOk, Some};
 ghost use Rattle.std.specs.Option.{MatchOption};
-ghost use Rattle.rbg_rules.specs.Meaning.{AbstractPlace, IsGame, IsPlaceOf, most_players};
+ghost use Rattle.rbg_rules.specs.Meaning.{IsGame, most_players};
 ghost use Rattle.rbg_moves.specs.Settling.{IsEndless, MeetsHeavy, Settles};
 ghost use Rattle.rbg_questions.specs.declared.refusal.Refusal.TheVariants.{Keeper, Over};
 ghost use Rattle.rbg_questions.specs.Chance.{AreTallied, IsUnplayed, counted_by};
 ghost use Rattle.rbg_questions.specs.Keys.{key_of};
 ghost use Rattle.rbg_questions.specs.Limits.{IsCount};
-ghost use Rattle.rbg_questions.specs.Packing.{packed_of};
 ghost use Rattle.rbg_questions.specs.Sessions.{HasLedTo, beginning_of};
 ghost use Rattle.rbg_questions.specs.internal.Places.{IsUnfollowed, IsUnlisted, IsUnmade};
-ghost use Rattle.rbg_c.specs.States.{AreMoves, FindsMoves, Hears, Makes, MakesFound, Undoes, Unpacks, beginning_at};
+ghost use Rattle.rbg_c.specs.States.{AreMoves, FindsMoves, Hears, Makes, MakesFound, Undoes, beginning_at};
 ghost use Rattle.rbg_c.specs.Stepping.{IsUnmadeAt};
 
 use crate::keys::key_at;
@@ -18,7 +17,7 @@ use crate::stepping::{first_place, follow, lead, moves_at, step};
 use arrayvec::ArrayVec;
 use rbg_base::{Memory, Move, MoveList, Piece, Player, Variable};
 use rbg_moves::{Place, PlayedGame, Workspace};
-use rbg_questions::{Refusal, Tally, pack, play_matches, unpack};
+use rbg_questions::{Refusal, Tally, play_matches};
 use rbg_rules::Game;
 use rbg_rules::limits::MAX_PLAYERS;
 use std::alloc::Global;
@@ -27,13 +26,11 @@ use std::mem::replace;
 use std::ops::Deref;
 use std::sync::Arc;
 
-/// A state of a game: where play stands. States of one game share it. Contracts see the game, the place from which the
-/// moves count, the places before, the place, and the legal moves there, where they were asked for.
+/// A state of a game: where play stands. States of one game share it. Contracts see the game, the places before, the
+/// place, and the legal moves there, where they were asked for.
 pub struct State {
     alloc: Global,
     game: Arc<PlayedGame>,
-    /// The place from which the moves count.
-    origin: Arc<Place>,
     before: Vec<Place>,
     place: Place,
     found: Option<MoveList>,
@@ -50,10 +47,10 @@ impl Model for State {
 
     ghost coded = { coded_state };
 
-    ghost view = { λ s. record { game = s.game.value; origin = s.origin.value; before = s.before.items; place = s.place; found = s.found } };
+    ghost view = { λ s. record { game = s.game.value; before = s.before.items; place = s.place; found = s.found } };
 
     ghost invariant = { λ s.
-        IsState (record { game = s.game.value; origin = s.origin.value; before = s.before.items; place = s.place; found = s.found }) };
+        IsState (record { game = s.game.value; before = s.before.items; place = s.place; found = s.found }) };
 }
 
 /// Written out, so that letting a state go is one call in the proofs of those who hold one, not a step for each part.
@@ -62,7 +59,6 @@ impl Drop for State {
         let State {
             alloc: _,
             game: _,
-            origin: _,
             before: _,
             place: _,
             found: _,
@@ -81,32 +77,19 @@ fn shared(alloc: Global, game: PlayedGame) -> Result<Arc<PlayedGame>, Memory>
     }
 }
 
-/// A place that states share.
-fn shared_place(alloc: Global, place: Place) -> Result<Arc<Place>, Memory>
-    ensures { IfOk result (λ shared. shared.value ≡ place) }
-{
-    match Arc::new(alloc, place) {
-        Ok(shared) => Ok(shared),
-        Err(_) => Err(Memory),
-    }
-}
-
 impl State {
     /// The state to which the keeper's first moves lead.
     pub fn open(alloc: Global, game: Game) -> Result<State, Refusal>
-        ensures game { IfOk result (λ state.
-            state ≡ beginning_at game (beginning_of game) state.place) }
+        ensures game { IfOk result (λ state. state ≡ beginning_at game state.place) }
         ensures place { IfOk result (λ state. Settles game (beginning_of game) state.place) }
     {
         let game = PlayedGame::new(alloc, game)?;
         let mut workspace = Workspace::new(alloc);
         let place = first_place(&game, &mut workspace)?;
-        let origin = shared_place(alloc, game.start()?)?;
         let game = shared(alloc, game)?;
         Ok(State {
             alloc,
             game,
-            origin,
             before: Vec::new(alloc),
             place,
             found: None,
@@ -116,17 +99,14 @@ impl State {
 
     /// The state where the rules begin: the keeper's first moves aren't made.
     pub fn begin(alloc: Global, game: Game) -> Result<State, Memory>
-        ensures { IfOk result (λ state.
-            state ≡ beginning_at game (beginning_of game) (beginning_of game)) }
+        ensures { IfOk result (λ state. state ≡ beginning_at game (beginning_of game)) }
     {
         let game = PlayedGame::new(alloc, game)?;
         let place = game.start()?;
-        let origin = shared_place(alloc, game.start()?)?;
         let game = shared(alloc, game)?;
         Ok(State {
             alloc,
             game,
-            origin,
             before: Vec::new(alloc),
             place,
             found: None,
@@ -136,58 +116,18 @@ impl State {
 
     /// A copy of the state, of the same game, from which no move can be undone.
     pub fn try_clone(&self) -> Result<State, Memory>
-        ensures { IfOk result (λ copy.
-            copy ≡ beginning_at self.now.game self.now.origin self.now.place) }
+        ensures { IfOk result (λ copy. copy ≡ beginning_at self.now.game self.now.place) }
     {
         let game = Arc::try_clone(&self.game)?;
-        let origin = Arc::try_clone(&self.origin)?;
         let place = self.place.try_clone()?;
         Ok(State {
             alloc: self.alloc,
             game,
-            origin,
             before: Vec::new(self.alloc),
             place,
             found: None,
             workspace: Workspace::new(self.alloc),
         })
-    }
-
-    /// The state at the place of these bytes, of the same game. None if no place of the game is packed so.
-    pub fn unpack(&self, bytes: &[u8]) -> Result<Option<State>, Memory>
-        ensures unpacked { IfOk result (λ found. IfSome found (Unpacks self.now bytes.now)) }
-        ensures none { IfOk result (λ found. IfNone found ((place : AbstractPlace)
-            → IsPlaceOf self.now.game place → bytes.now ≢ packed_of place)) }
-    {
-        match unpack(self.alloc, self.game(), bytes)? {
-            Some(place) => Ok(Some(self.at(place)?)),
-            None => Ok(None),
-        }
-    }
-
-    /// The state at a place of the same game. Its moves count from there.
-    fn at(&self, place: Place) -> Result<State, Memory>
-        requires { IsPlaceOf self.now.game place }
-        ensures { IfOk result (λ state. state ≡ beginning_at self.now.game place place) }
-    {
-        let game = Arc::try_clone(&self.game)?;
-        let origin = shared_place(self.alloc, place.try_clone()?)?;
-        Ok(State {
-            alloc: self.alloc,
-            game,
-            origin,
-            before: Vec::new(self.alloc),
-            place,
-            found: None,
-            workspace: Workspace::new(self.alloc),
-        })
-    }
-
-    /// The bytes of the place.
-    pub fn pack(&self) -> Result<Vec<u8>, Memory>
-        ensures { IfOk result (λ bytes. bytes.items ≡ packed_of self.now.place) }
-    {
-        pack(self.alloc, self.game(), &self.place)
     }
 
     /// The game.
@@ -201,8 +141,7 @@ impl State {
     /// How many moves of players can be undone.
     pub fn moves_made(&self) -> usize
         ensures count { result ≡ length self.now.before }
-        ensures led { HasLedTo self.now.game self.now.origin self.now.before
-            self.now.place }
+        ensures led { HasLedTo self.now.game self.now.before self.now.place }
     {
         self.before.len()
     }

@@ -109,7 +109,6 @@ Questions:
   place                who is to move, or the scores
   board, values        the piece on each vertex, the value of each variable
   key, state           a number that tells places apart; all of these in one
-  pack, unpack DIGITS  the place as digits; stands at the place of such digits
   names, shape         the names of the game; its bounds, directions, edges and actions
   random SEED MATCHES  plays random matches, and counts their endings
   search SEED MATCHES  plays them after each legal move

@@ -21,14 +21,6 @@ impl<'a> Described<'a> {
         self.actions.get(index_at(position)).copied().unwrap_or(&[])
     }
 
-    fn name(&self, variable: Variable) -> &'a str {
-        if (variable as usize) < self.game.variables() {
-            self.game.variable_name(variable)
-        } else {
-            ""
-        }
-    }
-
     /// The greatest number that a variable holds.
     fn bound(&self, variable: Variable) -> u32 {
         if (variable as usize) < self.game.variables() {
@@ -75,20 +67,6 @@ fn push_doubt(
             push_never(alloc, described.action(position), bound, value, found)
         }
         Doubt::NoValue { position } => push_no_value(alloc, described.action(position), found),
-        Doubt::Decided {
-            position,
-            variable,
-            value,
-            holds,
-        } => {
-            let held = Held {
-                name: described.name(variable),
-                bound: described.bound(variable),
-                value,
-            };
-            push_decided(alloc, described.action(position), held, holds, found)
-        }
-        Doubt::KeeperBegins { off } => push_beginning(alloc, described.action(off), found),
         Doubt::GoesBack { position, off } => {
             let back = described.action(off);
             push_going_back(
@@ -156,59 +134,6 @@ fn push_no_value(
     let mut writer = MessageWriter::new(alloc, &mut warning.message);
     writer.text(NO_VALUE);
     writer.text(", so this comparison is never valid");
-    writer.end()?;
-    push_new(found, warning)
-}
-
-/// A variable, the greatest number that it holds, and a number that it never holds.
-#[derive(Clone, Copy)]
-struct Held<'a> {
-    name: &'a str,
-    bound: u32,
-    value: i64,
-}
-
-/// Adds that a comparison with a number that a variable never holds is always valid, or never.
-fn push_decided(
-    alloc: Global,
-    action: &[Token<'_>],
-    held: Held<'_>,
-    holds: bool,
-    found: &mut Vec<Diagnostic>,
-) -> Result<(), AllocError> {
-    let Some(token) = action.first() else {
-        return Ok(());
-    };
-    let (code, end) = if holds {
-        ("AlwaysValid", " is always valid")
-    } else {
-        ("NeverValid", " is never valid")
-    };
-    let mut warning = warning_at(alloc, code, *token);
-    let mut writer = MessageWriter::new(alloc, &mut warning.message);
-    writer.named("", held.name.as_bytes(), " holds numbers from 0 to ");
-    writer.shown(&held.bound);
-    writer.text(", so this comparison with ");
-    writer.shown(&held.value);
-    writer.text(end);
-    writer.end()?;
-    push_new(found, warning)
-}
-
-/// Adds that the keeper puts a piece before any player is to move.
-fn push_beginning(
-    alloc: Global,
-    action: &[Token<'_>],
-    found: &mut Vec<Diagnostic>,
-) -> Result<(), AllocError> {
-    let Some(token) = action.first() else {
-        return Ok(());
-    };
-    let mut warning = warning_at(alloc, "KeeperBegins", *token);
-    let mut writer = MessageWriter::new(alloc, &mut warning.message);
-    writer.text(
-        "the keeper puts this piece, since no switch comes before it: if a player is to move here, begin the rules with a `->` and its name",
-    );
     writer.end()?;
     push_new(found, warning)
 }

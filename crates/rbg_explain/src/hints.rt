@@ -5,9 +5,6 @@ use rbg_lint::is_at;
 use rbg_macro::{Symbol, Token, TokenKind};
 use rbg_syntax::Expectation;
 
-/// What is said of a relation in brackets where it doesn't fit.
-const LISTS: &str = ": `[$ a = 1]` assigns, and `{$ a == 1}` compares";
-
 impl<'a> Spot<'a> {
     /// Whether the token stands in a section that lists names with bounds.
     pub fn lists_bounds(&self) -> bool {
@@ -36,8 +33,6 @@ impl<'a> Spot<'a> {
         match what {
             Expectation::Item if ends => ": a part of rules may not be empty",
             Expectation::End if self.token.kind.closes() => ", which closes no bracket",
-            Expectation::Relation | Expectation::Equals if self.relates() => LISTS,
-            Expectation::Closing if self.relates() && !self.is_in_list() => LISTS,
             _ => "",
         }
     }
@@ -50,47 +45,17 @@ impl<'a> Spot<'a> {
         }
     }
 
-    /// Whether the token assigns or compares.
-    fn relates(&self) -> bool {
-        matches!(
-            self.token.kind,
-            TokenKind::Symbol(
-                Symbol::Equals
-                    | Symbol::DoubleEquals
-                    | Symbol::NotEquals
-                    | Symbol::LessThan
-                    | Symbol::LessOrEqual
-                    | Symbol::GreaterThan
-                    | Symbol::GreaterOrEqual
-            )
-        )
-    }
-
-    /// Whether the token stands after the `$` of a list of assignments or comparisons.
-    fn is_in_list(&self) -> bool {
-        matches!(self.innermost(), [_, mark, ..] if mark.is(Symbol::Dollar))
-    }
-
     /// What is said of a token by which a comment is probably meant.
     pub fn comment_words(&self) -> &'static str {
         let is_meant = match self.token.kind {
             TokenKind::Symbol(Symbol::Slash) => is_at(self.after(), 0, Symbol::Star),
             TokenKind::Symbol(Symbol::Semicolon) => self.index() == 0,
-            _ => self.is_prose(),
+            _ => false,
         };
         if is_meant {
             ": comments begin with `//`"
         } else {
             ""
-        }
-    }
-
-    /// Whether the token follows a `#` as in a comment: it is no name and no `=` there, or a name after another name.
-    fn is_prose(&self) -> bool {
-        match self.definition() {
-            [_] => !self.token.is(Symbol::Equals),
-            [_, _] => self.token.kind.is_name(),
-            _ => false,
         }
     }
 

@@ -10,7 +10,6 @@ mod diagnosed;
 mod doubted;
 mod exact;
 mod explanation;
-mod foreign_comments;
 mod hints;
 mod joined;
 mod listed;

@@ -2,15 +2,14 @@
 
 use crate::boards::row_lengths;
 use crate::brackets::CallForm;
-use crate::foreign_comments::is_in_comment;
 use crate::spot::{Needed, Spot};
 use crate::traced::Trace;
-use crate::words::{expectation_words, head_words, most_of, needed_words, use_words};
+use crate::words::{expectation_words, head_words, most_of, needed_words};
 use rbg_board::BoardError;
 use rbg_game::limits::{MAX_BOUND, MAX_NESTED_PATTERNS, MAX_VERTICES};
 use rbg_game::{GameError, LoadError};
 use rbg_lint::{
-    MessageWriter, NameKind, TokenOrigin, Unrolled, kind_of, line_and_column, stray_character_at,
+    MessageWriter, TokenOrigin, Unrolled, kind_of, line_and_column, stray_character_at,
 };
 use rbg_macro::{
     MAX_JOINED, MAX_KEPT, MAX_LEVEL, MAX_READ, MAX_TEXT, MacroError, SectionKind, Symbol,
@@ -204,11 +203,7 @@ impl<'a, 'k> Message<'a, 'k> {
             }
             None => writer.text("a byte that begins none"),
         }
-        writer.text(if is_in_comment(self.text, at) {
-            ": comments begin with `//`"
-        } else {
-            shown.meant
-        });
+        writer.text(shown.meant);
     }
 
     fn write_macro(&self, writer: &mut MessageWriter<'_>, error: &MacroError) {
@@ -405,23 +400,14 @@ impl<'a, 'k> Message<'a, 'k> {
         writer.text(needed_words(self.needed()));
         self.write_parameter(writer);
         writer.text(", found ");
-        let Some(kind) = self.kind_found() else {
-            self.write_found(writer);
-            return;
-        };
-        writer.text("the ");
-        writer.text(kind.words());
-        writer.text(" ");
-        self.write_found(writer);
-        if self.parameter().is_none() {
-            writer.text(use_words(self.needed(), kind));
+        if let Some(trace) = self.trace()
+            && let Some(kind) = kind_of(trace.flat.tokens, trace.text())
+        {
+            writer.text("the ");
+            writer.text(kind.words());
+            writer.text(" ");
         }
-    }
-
-    /// Of what kind the name is that was found.
-    fn kind_found(&self) -> Option<NameKind> {
-        let trace = self.trace()?;
-        kind_of(trace.flat.tokens, trace.text())
+        self.write_found(writer);
     }
 
     /// What is said of too great a number.

@@ -241,7 +241,7 @@ impl<'a> Spot<'a> {
     }
 
     /// The tokens before this one from the last `[`, `{` or `(` of a call that is not closed.
-    pub fn innermost(&self) -> &'a [Token<'a>] {
+    fn innermost(&self) -> &'a [Token<'a>] {
         let tokens = self.definition();
         let mut closed = 0usize;
         for index in (0..tokens.len()).rev() {

@@ -3,7 +3,6 @@
 use crate::spot::{Needed, Spot};
 use rbg_game::Thing;
 use rbg_game::limits::{MAX_DIRECTIONS, MAX_PIECES, MAX_PLAYERS, MAX_POSITIONS, MAX_VARIABLES};
-use rbg_lint::NameKind;
 use rbg_macro::{Symbol, Token};
 use rbg_syntax::Expectation;
 
@@ -55,21 +54,6 @@ pub(crate) fn needed_words(needed: Needed) -> &'static str {
         Needed::Variable => "the name of a variable",
         Needed::Value => "the name of a variable or a piece",
         Needed::Anything => "the name of a direction, a piece, a player or a variable",
-    }
-}
-
-/// How a name of such a kind is used, where another name is needed.
-pub(crate) fn use_words(needed: Needed, kind: NameKind) -> &'static str {
-    match (needed, kind) {
-        (Needed::Direction, NameKind::Piece) => ": `{w}` asks for a piece `w`, and `[w]` puts it",
-        (Needed::Direction, NameKind::Player) => ": `->white` gives the turn to a player `white`",
-        (Needed::Direction, NameKind::Variable) => {
-            ": `[$ a = 1]` assigns to a variable `a`, and `{$ a == 1}` compares it"
-        }
-        (Needed::Piece, NameKind::Direction) => {
-            ": `{? up}` asks whether there is a way `up`, and `{! up}` whether there is none"
-        }
-        _ => "",
     }
 }
 

@@ -1,6 +1,6 @@
 //! Constant arithmetic.
 
-use rbg_base::{Operator, Relation, Variable};
+use rbg_base::Operator;
 use rbg_rules::{Arithmetic, Operation};
 
 /// What is known of the value of arithmetic.
@@ -64,58 +64,5 @@ fn compute(operator: Operator, left: i64, right: i64) -> Option<i64> {
         Operator::Minus => left.checked_sub(right),
         Operator::Times => left.checked_mul(right),
         Operator::Over => left.checked_div(right),
-    }
-}
-
-/// A comparison of a variable with a constant value.
-#[derive(Clone, Copy)]
-pub(crate) struct Compared {
-    pub variable: Variable,
-    pub relation: Relation,
-    pub value: i64,
-}
-
-/// A comparison as one of a variable with a constant value, if it is one, on either side.
-pub(crate) fn comparison_of(
-    left: &Arithmetic,
-    relation: Relation,
-    right: &Arithmetic,
-) -> Option<Compared> {
-    match (variable_of(left), variable_of(right)) {
-        (Some(variable), None) => compared_with(variable, relation, right),
-        (None, Some(variable)) => compared_with(variable, turned(relation), left),
-        _ => None,
-    }
-}
-
-fn compared_with(variable: Variable, relation: Relation, other: &Arithmetic) -> Option<Compared> {
-    match constant_of(other) {
-        Constant::Value(value) => Some(Compared {
-            variable,
-            relation,
-            value,
-        }),
-        Constant::Unknown | Constant::NoValue => None,
-    }
-}
-
-/// The variable that arithmetic is.
-fn variable_of(arithmetic: &Arithmetic) -> Option<Variable> {
-    match arithmetic {
-        Arithmetic::Variable(variable) => Some(*variable),
-        Arithmetic::Chain { first, rest } if rest.is_empty() => variable_of(first),
-        _ => None,
-    }
-}
-
-/// The relation that holds for the sides exchanged.
-fn turned(relation: Relation) -> Relation {
-    match relation {
-        Relation::Equal => Relation::Equal,
-        Relation::NotEqual => Relation::NotEqual,
-        Relation::Less => Relation::Greater,
-        Relation::LessOrEqual => Relation::GreaterOrEqual,
-        Relation::Greater => Relation::Less,
-        Relation::GreaterOrEqual => Relation::LessOrEqual,
     }
 }

@@ -1,9 +1,9 @@
 //! Doubts, and how they are found.
 
-use crate::constants::{Compared, Constant, comparison_of, constant_of};
+use crate::constants::{Constant, constant_of};
 use crate::keeper_search::KeeperSearch;
 use rbg_auto::compact;
-use rbg_base::{Memory, Position, Relation, Variable};
+use rbg_base::{Memory, Position, Variable};
 use rbg_rules::{Action, Arithmetic, Game};
 use std::alloc::Global;
 
@@ -21,18 +21,6 @@ pub enum Doubt {
     NoValue {
         position: Position,
     },
-    /// The comparison at the position has always this truth, since it is of a variable and this number, which the variable
-    /// never holds: it is negative or above the bound.
-    Decided {
-        position: Position,
-        variable: Variable,
-        value: i64,
-        holds: bool,
-    },
-    /// Before any switch the keeper puts a piece at the position.
-    KeeperBegins {
-        off: Position,
-    },
     /// After the `->>` at the position the keeper goes back in the rules without another switch, and puts a piece at a
     /// position before.
     GoesBack {
@@ -45,7 +33,7 @@ pub enum Doubt {
 pub fn doubts(alloc: Global, game: &Game) -> Result<Vec<Doubt>, Memory> {
     let mut found = Vec::new(alloc);
     push_constants(game, &mut found)?;
-    push_keepers(alloc, game, &mut found)?;
+    push_going_back(alloc, game, &mut found)?;
     Ok(found)
 }
 
@@ -67,46 +55,7 @@ fn doubt_at(game: &Game, position: Position, action: &Action) -> Option<Doubt> {
         Action::Compare { left, right, .. } if has_no_value(left) || has_no_value(right) => {
             Some(Doubt::NoValue { position })
         }
-        Action::Compare {
-            left,
-            relation,
-            right,
-        } => doubt_about(game, position, left, *relation, right),
         _ => None,
-    }
-}
-
-/// The doubt about a comparison.
-fn doubt_about(
-    game: &Game,
-    position: Position,
-    left: &Arithmetic,
-    relation: Relation,
-    right: &Arithmetic,
-) -> Option<Doubt> {
-    let Compared {
-        variable,
-        relation,
-        value,
-    } = comparison_of(left, relation, right)?;
-    if is_within(game, variable, value) {
-        return None;
-    }
-    Some(Doubt::Decided {
-        position,
-        variable,
-        value,
-        holds: holds_outside(relation, value < 0),
-    })
-}
-
-/// Whether a number that is in this relation to one outside of a variable's bounds, below or above, holds it always.
-fn holds_outside(relation: Relation, is_below: bool) -> bool {
-    match relation {
-        Relation::Equal => false,
-        Relation::NotEqual => true,
-        Relation::Less | Relation::LessOrEqual => !is_below,
-        Relation::Greater | Relation::GreaterOrEqual => is_below,
     }
 }
 
@@ -147,14 +96,11 @@ fn is_within(game: &Game, variable: Variable, value: i64) -> bool {
     0 <= value && value <= i64::from(bound)
 }
 
-/// Adds that the keeper puts a piece before any switch, and each `->>` after which it goes back.
-fn push_keepers(alloc: Global, game: &Game, found: &mut Vec<Doubt>) -> Result<(), Memory> {
+/// Adds each `->>` after which the keeper goes back.
+fn push_going_back(alloc: Global, game: &Game, found: &mut Vec<Doubt>) -> Result<(), Memory> {
     game.is_accepted();
     let steps = compact(alloc, game)?;
     let mut search = KeeperSearch::new(alloc, game, &steps);
-    if let Some(off) = search.first_off()? {
-        found.push(Doubt::KeeperBegins { off })?;
-    }
     for index in 0..game.positions() {
         let position = index as Position + 1;
         if is_keepers(game.action(position))

@@ -1,6 +1,6 @@
 //! Points in the rules at which the keeper goes back.
 
-use rbg_auto::{Compact, Expr, Steps};
+use rbg_auto::{Compact, Steps};
 use rbg_base::{Memory, Position};
 use rbg_rules::{Action, Game};
 use std::alloc::Global;
@@ -35,26 +35,8 @@ impl<'a> KeeperSearch<'a> {
         }
     }
 
-    /// The position of an off that is reached from the beginning of the rules without a switch.
-    pub fn first_off(&mut self) -> Result<Option<Position>, Memory> {
-        let mut reached = self.nothing_reached()?;
-        let steps = self.steps;
-        let off = self.meet_all(steps.first(Expr::Rules), Position::MAX, &mut reached)?;
-        if off.is_some() {
-            return Ok(off);
-        }
-        self.follow(Position::MAX, &mut reached)
-    }
-
     /// The position of an off before a switch that is reached from it without another switch.
     pub fn off_before(&mut self, switch: Position) -> Result<Option<Position>, Memory> {
-        let mut reached = self.nothing_reached()?;
-        reached.pending.push(switch)?;
-        self.follow(switch, &mut reached)
-    }
-
-    /// A search before its first step.
-    fn nothing_reached(&self) -> Result<Reached, Memory> {
         let mut reached = Reached {
             is_met: Vec::new(self.alloc),
             pending: Vec::new(self.alloc),
@@ -62,7 +44,8 @@ impl<'a> KeeperSearch<'a> {
         for _ in 0..=self.game.positions() {
             reached.is_met.push(false)?;
         }
-        Ok(reached)
+        reached.pending.push(switch)?;
+        self.follow(switch, &mut reached)
     }
 
     /// Follows the rules from the pending positions on.
@@ -75,8 +58,7 @@ impl<'a> KeeperSearch<'a> {
             let Some(position) = reached.pending.pop() else {
                 return Ok(None);
             };
-            let steps = self.steps;
-            let off = self.meet_all(steps.next(position), switch, reached)?;
+            let off = self.step(position, switch, reached)?;
             if off.is_some() || self.left == 0 {
                 return Ok(off);
             }
@@ -84,14 +66,15 @@ impl<'a> KeeperSearch<'a> {
         Ok(None)
     }
 
-    /// Goes to positions. Returns one of an off before the switch, if it comes to one.
-    fn meet_all(
+    /// Goes to the positions after one.
+    fn step(
         &mut self,
-        positions: &[Position],
+        position: Position,
         switch: Position,
         reached: &mut Reached,
     ) -> Result<Option<Position>, Memory> {
-        for next in positions {
+        let steps = self.steps;
+        for next in steps.next(position) {
             self.left = self.left.saturating_sub(1);
             if meet(&mut reached.is_met, *next) {
                 if *next < switch && self.is_off(*next) {

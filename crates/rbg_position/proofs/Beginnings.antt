@@ -6,7 +6,7 @@ use Rattle.rbg_game.specs.Loading.{Loads}
 use Rattle.rbg_moves.specs.Listing.{IsListed}
 use Rattle.rbg_moves.specs.Settling.{Settles}
 use Rattle.rbg_rules.specs.Meaning.{AbstractGame, AbstractPlace, Expression, IsGame, IsLegal, IsPlaceOf}
-use Rattle.rbg_position.specs.Onward.{HaveSameRest, HaveSameThings, SameRest}
+use Rattle.rbg_position.specs.Onward.{HaveSameRest, HaveSameWaysAndBounds, SameRest}
 use Rattle.rbg_position.specs.Positions.{ArePlacesAlike, GoesOnFrom, SettlesAs, SettlesWithRest, first_place, game_at, game_from}
 use Rattle.rbg_position.specs.Refusals.{most_compared}
 use Rattle.rbg_position.specs.Renumbering.{number_in}
@@ -15,7 +15,7 @@ use Rattle.rbg_position.proofs.GoesOn.{rest_goes_on_law}
 use Rattle.rbg_position.proofs.SameMoves.{same_moves_go_on_law}
 
 -- A game that is another one but for the pieces on the board and the rules has the same things.
-pub same_things : (new old : AbstractGame) (pieces : List ℕ) (rules : Expression) → new ≡ game_from old pieces rules → HaveSameThings new old
+pub same_things : (new old : AbstractGame) (pieces : List ℕ) (rules : Expression) → new ≡ game_from old pieces rules → HaveSameWaysAndBounds new old
 same_things new old pieces rules is = record {
   ways = ap (λ (g : AbstractGame). g.board.ways) is;
   bounds = ap (λ (g : AbstractGame). g.bounds) is;
@@ -37,7 +37,7 @@ settles_by_moves new old first to place begins settles alike game_new game_old i
 }
 
 -- .. by the same rest of the rules.
-pub settles_by_rest : (new old : AbstractGame) (first to place : AbstractPlace) (number : ℕ → ℕ) → first ≡ first_place new → Settles new first to → IsGame new → IsGame old → HaveSameThings new old → HaveSameRest new to old place number → SettlesWithRest new old place number
+pub settles_by_rest : (new old : AbstractGame) (first to place : AbstractPlace) (number : ℕ → ℕ) → first ≡ first_place new → Settles new first to → IsGame new → IsGame old → HaveSameWaysAndBounds new old → HaveSameRest new to old place number → SettlesWithRest new old place number
 settles_by_rest new old first to place number begins settles game_new game_old things same = record {
   to = to;
   settles = subst (λ (p : AbstractPlace). Settles new p to) begins settles;
@@ -74,7 +74,7 @@ game_is new old pieces a b a_is b_is names board = λ i. record {
     is_board = λ i. record { first = board.first i; ways = board.ways i }
 
 -- What was written is right.
-pub things_of : (played other old game : AbstractGame) (pieces : List ℕ) → played ≡ other → other ≡ game_from old pieces other.rules → old ≡ game → HaveSameThings played game
+pub things_of : (played other old game : AbstractGame) (pieces : List ℕ) → played ≡ other → other ≡ game_from old pieces other.rules → old ≡ game → HaveSameWaysAndBounds played game
 things_of played other old game pieces is_played is is_old =
     same_things played game pieces other.rules (is_played ∙ is ∙ ap (λ (g : AbstractGame). game_from g pieces other.rules) is_old)
 

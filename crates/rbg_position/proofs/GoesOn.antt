@@ -6,7 +6,7 @@ use Rattle.rbg_rules.specs.Meaning.{AbstractAction, shift, on, off, assignment, 
 use Rattle.rbg_rules.proofs.PositionLemmas.{Among, Among_left, Among_right, one_action_at}
 use Rattle.rbg_rules.proofs.PatternLemmas.{own_is_action}
 use Rattle.rbg_position.specs.Laws.{RestGoesOnLaw}
-use Rattle.rbg_position.specs.Onward.{GoesOnAs, HaveSameRest, HaveSameThings, LeadOn}
+use Rattle.rbg_position.specs.Onward.{GoesOnAs, HaveSameRest, HaveSameWaysAndBounds, LeadOn}
 use Rattle.rbg_position.specs.Renumbering.{renumbered, renumbered_action, renumbered_pairs}
 use Rattle.rbg_position.specs.Rest.{IsRest}
 use Rattle.rbg_position.proofs.RestWords.{follows_joined, joined_follows, some_rest_law}
@@ -57,7 +57,7 @@ same_but same = record {
   values = ap (λ (u : AbstractState). u.values) same;
 }
 
-module _ (new old : AbstractGame) (game_new : IsGame new) (game_old : IsGame old) (same : HaveSameThings new old) (number : ℕ → ℕ) where
+module _ (new old : AbstractGame) (game_new : IsGame new) (game_old : IsGame old) (same : HaveSameWaysAndBounds new old) (number : ℕ → ℕ) where
   abbrev InBoth : ℕ → Type 0
   InBoth q = StandsInBoth new old same number q
 

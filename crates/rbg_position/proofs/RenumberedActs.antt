@@ -5,7 +5,7 @@ use Rattle.rbg_rules.specs.Meaning.{AbstractAction, shift, on, off, assignment, 
 use Rattle.rbg_rules.proofs.PositionLemmas.{Among, AllDifferent, AllDifferent_left, AllDifferent_right, AllDifferent_apart, has_position, numbered_once, one_action_at}
 use Rattle.rbg_rules.proofs.PatternLemmas.{own_is_action, word_own, acts_in_own}
 use Rattle.rbg_rules.proofs.MoveLemmas.{applied_acts}
-use Rattle.rbg_position.specs.Onward.{HaveSameThings}
+use Rattle.rbg_position.specs.Onward.{HaveSameWaysAndBounds}
 use Rattle.rbg_position.specs.Renumbering.{renumbered, renumbered_action, renumbered_pairs}
 use Rattle.rbg_position.proofs.Renumbered.{same_modifier, own_renumbered, word_renumbered, word_back}
 
@@ -42,7 +42,7 @@ runs_back number [] does s _ rest = rest
 runs_back number (p ∷ w) does s t (step {middle} done run) =
     step (does p (inl refl) s middle done) (runs_back number w (λ q among. does q (inr among)) middle t run)
 
-module _ (new old : AbstractGame) (same : HaveSameThings new old) (number : ℕ → ℕ) where
+module _ (new old : AbstractGame) (same : HaveSameWaysAndBounds new old) (number : ℕ → ℕ) where
   -- An own action, and an action that does something, are among the positions.
   own_among : (x : Expression) (p : ℕ) (a : AbstractAction) → HasOwnAction x p a → Among (number p) (positions_of (renumbered number x))
   own_among x p a own = has_position (renumbered number x) (number p) (renumbered_action number a) (own_is_action (renumbered number x) (number p) (renumbered_action number a) (own_renumbered number x p a own))

@@ -8,7 +8,7 @@ use Rattle.rbg_rules.proofs.PatternLemmas.{own_is_action}
 use Rattle.rbg_rules.proofs.PlaceLemmas.{pairs_state_law, same_state, SameButVertex_sym, snoc_same}
 use Rattle.rbg_rules.proofs.PositionLemmas.{one_action_at}
 use Rattle.rbg_position.specs.Laws.{SameMovesGoOnLaw}
-use Rattle.rbg_position.specs.Onward.{GoesOnAs, HaveSameMoves, HaveSameRest, HaveSameThings, LeadOn}
+use Rattle.rbg_position.specs.Onward.{GoesOnAs, HaveSameMoves, HaveSameRest, HaveSameWaysAndBounds, LeadOn}
 use Rattle.rbg_position.specs.Renumbering.{number_in, renumbered, renumbered_action, renumbered_pairs}
 use Rattle.rbg_position.specs.Rest.{IsRest}
 use Rattle.rbg_position.proofs.GoesOn.{goes_on}
@@ -67,7 +67,7 @@ but_trans one other = record { player = one.player ∙ other.player; pieces = on
 but_self : (s : AbstractState) → SameButVertex s s
 but_self s = record { player = refl; pieces = refl; values = refl }
 
-module _ (new old : AbstractGame) (game_new : IsGame new) (game_old : IsGame old) (same : HaveSameThings new old) (rules : new.rules ≡ old.rules) where
+module _ (new old : AbstractGame) (game_new : IsGame new) (game_old : IsGame old) (same : HaveSameWaysAndBounds new old) (rules : new.rules ≡ old.rules) where
   in_both : (p : ℕ) (a : AbstractAction) → HasAction new.rules p a → StandsInBoth new old same (number_in []) p
   in_both p a stands = record {
     action = a;

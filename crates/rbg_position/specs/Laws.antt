@@ -5,7 +5,7 @@ use Rattle.rbg_game.specs.Loading.{Loads}
 use Rattle.rbg_rules.specs.Meaning.{AbstractAction, AbstractGame, AbstractPlace, Ends, Expression, HasNoEmptySum, HasOwnAction, IsGame, IsNumbered, Word, after, sequence_of}
 use Rattle.rbg_macro.specs.Text.{HasTokens}
 use Rattle.rbg_macro.specs.Token.{Lexeme}
-use Rattle.rbg_position.specs.Onward.{GoesOnAs, HaveSameMoves, HaveSameRest, HaveSameThings}
+use Rattle.rbg_position.specs.Onward.{GoesOnAs, HaveSameMoves, HaveSameRest, HaveSameWaysAndBounds}
 use Rattle.rbg_position.specs.Renumbering.{number_in}
 use Rattle.rbg_position.specs.Rest.{IsRest}
 use Rattle.rbg_position.specs.Sections.{ExpandsBoard, name_of, names_piece}
@@ -52,7 +52,7 @@ RestGoesOnLaw =
     (new old : AbstractGame)
     → IsGame new
     → IsGame old
-    → HaveSameThings new old
+    → HaveSameWaysAndBounds new old
     → (here there : AbstractPlace) (number : ℕ → ℕ)
     → HaveSameRest new here old there number
     → GoesOnAs new here old there number
@@ -63,7 +63,7 @@ SameMovesGoOnLaw =
     (new old : AbstractGame)
     → IsGame new
     → IsGame old
-    → HaveSameThings new old
+    → HaveSameWaysAndBounds new old
     → (here there : AbstractPlace)
     → HaveSameMoves new here old there
     → GoesOnAs new here old there (number_in [])

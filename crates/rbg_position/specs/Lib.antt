@@ -4,6 +4,7 @@ pub mod internal
 -- The description of a place: what the section of a board is, how it is written anew, when a text is such a
 -- description, and why there is none.
 pub mod Boards
+pub mod Described
 pub mod Examples
 pub mod Laws
 pub mod Onward

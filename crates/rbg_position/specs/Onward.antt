@@ -27,7 +27,7 @@ pub record GoesOnAs (new : AbstractGame) (here : AbstractPlace) (old : AbstractG
         SameButVertex to.state end.state
 
 -- Two games have boards with the same ways, and the same bounds.
-pub record HaveSameThings (new old : AbstractGame) : Type 0 where
+pub record HaveSameWaysAndBounds (new old : AbstractGame) : Type 0 where
   pub ways : new.board.ways ≡ old.board.ways
   pub bounds : new.bounds ≡ old.bounds
 

@@ -4,7 +4,6 @@ use Rattle.std.specs.Prelude.{◌≡◌, ℕ, List, [], None}
 use Rattle.rbg_rules.specs.Meaning.{AbstractGame, start_of, AbstractPlace, Expression}
 use Rattle.rbg_moves.specs.Settling.{Settles}
 use Rattle.rbg_game.specs.Loading.{Loads}
-use Rattle.rbg_record.specs.Reaching.{IsPlaceAfter}
 use Rattle.rbg_position.specs.Onward.{GoesOnAs, HaveSameRest}
 use Rattle.rbg_position.specs.Renumbering.{number_in}
 use Rattle.rbg_position.specs.Same.{game_with}
@@ -61,19 +60,3 @@ pub record GoesOnFrom (game : AbstractGame) (place : AbstractPlace) (new numbers
   pub rules : Expression
   pub loads : Loads new (game_from game place.state.pieces rules)
   pub settles : SettlesWithRest (game_from game place.state.pieces rules) game place (number_in numbers)
-
--- The new text describes the place, and these are the old numbers of its actions. In both cases play goes on from its
--- beginning as from the place.
---   by_board: the text is the old one with another board, and each action keeps its number.
---   by_rest: the rules are other ones.
-pub data Describes (text : List ℕ) (game : AbstractGame) (place : AbstractPlace) :
-    (new numbers : List ℕ) → Type 0
-  where
-    by_board : {new : List ℕ} → IsDescription text game place new → Describes text game place new []
-    by_rest : {new numbers : List ℕ} → GoesOnFrom game place new numbers → Describes text game place new numbers
-
--- The bytes are those of a right record of the game, and the new text describes the place to which it leads.
-pub record IsPosition (text : List ℕ) (game : AbstractGame) (bytes new numbers : List ℕ) : Type 0 where
-  pub place : AbstractPlace
-  pub after : IsPlaceAfter game bytes place
-  pub describes : Describes text game place new numbers

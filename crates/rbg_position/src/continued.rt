@@ -2,7 +2,7 @@
 ghost use Rattle.std.specs.Prelude.{◌≡◌, ◌≤◌, IfOk, IfSome, IsTrue, length};
 ghost use Rattle.rbg_game.specs.Loading.{Loads};
 ghost use Rattle.rbg_rules.specs.Meaning.{IsPlaceOf};
-ghost use Rattle.rbg_position.specs.Onward.{HaveSameRest, HaveSameThings};
+ghost use Rattle.rbg_position.specs.Onward.{HaveSameRest, HaveSameWaysAndBounds};
 ghost use Rattle.rbg_position.specs.Positions.{GoesOnFrom, SettlesWithRest, game_from};
 ghost use Rattle.rbg_position.specs.Renumbering.{number_in};
 
@@ -175,7 +175,7 @@ fn begins_alike(
     place: &Place,
     numbers: &[Position],
 ) -> Result<bool, Memory>
-    requires things { HaveSameThings new.now old.now }
+    requires things { HaveSameWaysAndBounds new.now old.now }
     requires values { length place.now.state.values ≡ length new.now.bounds }
     ensures { IfOk result (λ alike. IsTrue alike →
         SettlesWithRest new.now old.now place.now (number_in numbers.now)) }

@@ -5,7 +5,8 @@ ghost use Rattle.rbg_rules.specs.Meaning.{IsPlaceOf, AbstractGame};
 ghost use Rattle.rbg_position.specs.Same.{IsNarrow};
 ghost use Rattle.rbg_macro.specs.Text.{HasTokens};
 ghost use Rattle.rbg_position.specs.internal.Texts.{IsNoBeginning, IsNoText};
-ghost use Rattle.rbg_position.specs.Positions.{Describes, IsDescription, IsPosition, SettlesAs, game_at};
+ghost use Rattle.rbg_position.specs.Described.{Describes, IsPosition};
+ghost use Rattle.rbg_position.specs.Positions.{IsDescription, SettlesAs, game_at};
 ghost use Rattle.rbg_position.specs.Renumbering.{number_in};
 ghost use Rattle.rbg_position.specs.Refusals.{IsNoPosition, IsUndescribed};
 

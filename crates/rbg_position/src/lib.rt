@@ -1,5 +1,5 @@
-//! A place as a description: the game with the pieces of the place that a record's moves reach. And whether two games
-//! differ in their boards' pieces alone.
+//! A description that begins at the place that a record's moves reach: the game with another board, or with the rest of
+//! its rules. And whether two games differ in their boards' pieces alone.
 #![tactic(auto)]
 
 mod action_keys;

@@ -1,18 +1,16 @@
 -- What a session answers.
 use Rattle.std.proofs.Common.{◌≡◌, ℕ, ◌-◌, ◌<◌, ◌≤◌, List, [], ◌∷◌, ◌++◌, length, slice_get, Bool, true, false, Option, Some, None, Result, Ok, Err, refl, sym, ap, ◌∙◌, subst, append-nil, arith, ◌^◌, OnOk, IfErr, IfSome, IfNone}
-use Rattle.std.specs.Borrow.{Bor}
-use Rattle.rbg_rules.specs.Meaning.{AbstractGame, AbstractPlace, IsPlaceOf, Legal}
+use Rattle.rbg_rules.specs.Meaning.{AbstractGame, AbstractPlace, Legal}
 use Rattle.rbg_moves.specs.Listing.{IsListed}
 use Rattle.rbg_questions.specs.declared.question.Question.{Question}
-use Rattle.rbg_questions.specs.declared.question.Question.TheVariants.{Moves, Make, Back, Heard, Place, State, Key, Values, Board, Names, Shape, Random, Pack, Unpack, Quit}
+use Rattle.rbg_questions.specs.declared.question.Question.TheVariants.{Moves, Make, Back, Heard, Place, State, Key, Values, Board, Names, Shape, Random, Quit}
 use Rattle.rbg_questions.specs.declared.refusal.Refusal.{Refusal}
 use Rattle.rbg_questions.specs.Questions.{SpellsQuestion}
-use Rattle.rbg_questions.specs.Answers.{Answer, moves, to_move, state, key, values, board, names, shape, by_chance, packed, farewell, answer_text, refusal_text}
+use Rattle.rbg_questions.specs.Answers.{Answer, moves, to_move, state, key, values, board, names, shape, by_chance, farewell, answer_text, refusal_text}
 use Rattle.rbg_questions.specs.Chance.{AreTallied, Counted}
 use Rattle.rbg_questions.specs.Keys.{key_of}
-use Rattle.rbg_questions.specs.Packing.{packed_of, packed_text}
 use Rattle.rbg_questions.specs.Sessions.{AbstractSession, Leads}
-use Rattle.rbg_questions.specs.Answering.{AnswersIn, GoesBack, HasMoves, StandsAt, goes_on, lists, lists_all, makes, undoes, hears, heard_to, tells, tells_state, tells_key, tells_values, tells_board, tells_names, tells_shape, plays, packs, unpacks, placed_at, ends, moved_to, undone, Hears, answered, refused_line, IsLineRefused, refused, IsRefused}
+use Rattle.rbg_questions.specs.Answering.{AnswersIn, GoesBack, HasMoves, StandsAt, goes_on, lists, lists_all, makes, undoes, hears, heard_to, tells, tells_state, tells_key, tells_values, tells_board, tells_names, tells_shape, plays, ends, moved_to, undone, Hears, answered, refused_line, IsLineRefused, refused, IsRefused}
 use Rattle.rbg_questions.specs.internal.Places.{AreReached}
 use Rattle.rbg_questions.specs.internal.Shaping.{WritesShape}
 use Rattle.rbg_questions.proofs.Places.{led_before, not_finished, place_at}
@@ -40,17 +38,17 @@ hears_move session new pairs to answer before after same legal is told =
     subst (λ (s : AbstractSession). AnswersIn session (Heard pairs) s before after) (sym same) (record { answer = answer; answers = hears legal is; told = told })
 
 -- where the places were changed one by one
-pub heard_move : (session : AbstractSession) (pairs : List (ℕ × ℕ)) (to : AbstractPlace) (answer : Answer) (before after : List ℕ) (items : List AbstractPlace) (kept place now : AbstractPlace) → Legal session.game session.heard pairs to → StandsAt session.game to answer → after ≡ before ++ answer_text answer → items ≡ [] → kept ≡ to → place ≡ to → now ≡ place → AnswersIn session (Heard pairs) (record { game = session.game; origin = session.origin; heard = kept; before = items; place = now }) before after
+pub heard_move : (session : AbstractSession) (pairs : List (ℕ × ℕ)) (to : AbstractPlace) (answer : Answer) (before after : List ℕ) (items : List AbstractPlace) (kept place now : AbstractPlace) → Legal session.game session.heard pairs to → StandsAt session.game to answer → after ≡ before ++ answer_text answer → items ≡ [] → kept ≡ to → place ≡ to → now ≡ place → AnswersIn session (Heard pairs) (record { game = session.game; heard = kept; before = items; place = now }) before after
 heard_move session pairs to answer before after items kept place now legal is told none same_kept same_place same_now =
-    let new : AbstractSession = record { game = session.game; origin = session.origin; heard = kept; before = items; place = now } in
-    let same : new ≡ heard_to session to = λ i. record { game = session.game; origin = session.origin; heard = same_kept i; before = none i; place = (same_now ∙ same_place) i } in
+    let new : AbstractSession = record { game = session.game; heard = kept; before = items; place = now } in
+    let same : new ≡ heard_to session to = λ i. record { game = session.game; heard = same_kept i; before = none i; place = (same_now ∙ same_place) i } in
     hears_move session new pairs to answer before after same legal is told
 
 -- how play stands where moves are undone: a move was made there
-pub stands_before : (session : AbstractSession) (index : ℕ) (found : AbstractPlace) → AreReached session.game session.origin session.before session.place → index < length session.before → slice_get session.before index ≡ Some found → (new : AbstractSession) → GoesBack session (length session.before - index) new → StandsAt new.game new.place (to_move found.state.player)
+pub stands_before : (session : AbstractSession) (index : ℕ) (found : AbstractPlace) → AreReached session.game session.before session.place → index < length session.before → slice_get session.before index ≡ Some found → (new : AbstractSession) → GoesBack session (length session.before - index) new → StandsAt new.game new.place (to_move found.state.player)
 stands_before session index found reached within there new back =
     let same = place_at session.before index found new.before new.place back.later within there back.places back.all in
-    let led = led_before session.game session.origin session.before session.place reached.led new.before new.place back.later back.places in
+    let led = led_before session.game session.before session.place reached.led new.before new.place back.later back.places in
     subst (λ (p : AbstractPlace). StandsAt new.game new.place (to_move p.state.player)) (sym same)
     (goes_on (not_finished new.game new.place (rw back.game led.1)))
 
@@ -68,10 +66,6 @@ tells_all session count number standing pieces shown before after has stands sam
 pub tells_the_key : (session : AbstractSession) (number : ℕ) (before after : List ℕ) → number ≡ key_of session.place → after ≡ before ++ answer_text (key number) → AnswersIn session Key session before after
 tells_the_key session number before after same told =
     record { answer = key (key_of session.place); answers = tells_key; told = told ∙ ap (λ n. before ++ answer_text (key n)) same }
-
-pub packs_the_place : (session : AbstractSession) (bytes before after : List ℕ) → bytes ≡ packed_of session.place → after ≡ before ++ answer_text (packed bytes) → AnswersIn session Pack session before after
-packs_the_place session bytes before after same told =
-    record { answer = packed (packed_of session.place); answers = packs; told = told ∙ ap (λ (bs : List ℕ). before ++ answer_text (packed bs)) same }
 
 pub tells_what_variables_hold : (session : AbstractSession) (before after shown : List ℕ) → shown ≡ session.place.state.values → after ≡ before ++ answer_text (values shown) → AnswersIn session Values session before after
 tells_what_variables_hold session before after shown same told =
@@ -114,20 +108,13 @@ hears_refusal (Ok x) old new line refusal before mid after same kept why told =
 hears_refusal (Err e) old new line refusal before mid after same kept why told = tt
 
 -- a move that is made, where the places were changed one by one
-pub made_move : (session : AbstractSession) (pairs : List (ℕ × ℕ)) (to : AbstractPlace) (answer : Answer) (before after : List ℕ) (items kept : List AbstractPlace) (value now : AbstractPlace) → Leads session.game session.place pairs to → StandsAt session.game to answer → after ≡ before ++ answer_text answer → kept ≡ session.before → value ≡ session.place → now ≡ to → items ≡ kept ++ value ∷ [] → AnswersIn session (Make pairs) (record { game = session.game; origin = session.origin; heard = session.heard; before = items; place = now }) before after
+pub made_move : (session : AbstractSession) (pairs : List (ℕ × ℕ)) (to : AbstractPlace) (answer : Answer) (before after : List ℕ) (items kept : List AbstractPlace) (value now : AbstractPlace) → Leads session.game session.place pairs to → StandsAt session.game to answer → after ≡ before ++ answer_text answer → kept ≡ session.before → value ≡ session.place → now ≡ to → items ≡ kept ++ value ∷ [] → AnswersIn session (Make pairs) (record { game = session.game; heard = session.heard; before = items; place = now }) before after
 made_move session pairs to answer before after items kept value now leads is told same_before same_place same_to all =
     let whole : items ≡ session.before ++ session.place ∷ [] = all ∙ (λ i. same_before i ++ same_place i ∷ []) in
-    let new : AbstractSession = record { game = session.game; origin = session.origin; heard = session.heard; before = items; place = now } in
-    let same : new ≡ moved_to session to = λ i. record { game = session.game; origin = session.origin; heard = session.heard; before = whole i; place = same_to i } in
+    let new : AbstractSession = record { game = session.game; heard = session.heard; before = items; place = now } in
+    let same : new ≡ moved_to session to = λ i. record { game = session.game; heard = session.heard; before = whole i; place = same_to i } in
     subst (λ (s : AbstractSession). AnswersIn session (Make pairs) s before after) (sym same) (makes_move session pairs to answer before after leads is told)
 
 -- matches that were played by chance
 pub plays_matches : (session : AbstractSession) (seed count : ℕ) (counted : List Counted) (before after : List ℕ) → AreTallied session.game session.place count counted → after ≡ before ++ answer_text (by_chance count counted) → AnswersIn session (Random seed count) session before after
 plays_matches session seed count counted before after tallied told = record { answer = by_chance count counted; answers = plays tallied; told = told }
-
--- a place that is unpacked, where the places were changed one by one
-pub unpacks_place : (session : AbstractSession) (text : Bor (List ℕ)) (place : AbstractPlace) (answer : Answer) (before after : List ℕ) (items : List AbstractPlace) (first from origin heard now : AbstractPlace) → IsPlaceOf session.game place → text.now ≡ packed_text place → StandsAt session.game place answer → after ≡ before ++ answer_text answer → items ≡ [] → first ≡ place → from ≡ place → origin ≡ first → heard ≡ from → now ≡ place → AnswersIn session (Unpack text) (record { game = session.game; origin = origin; heard = heard; before = items; place = now }) before after
-unpacks_place session text place answer before after items first from origin heard now fits is stands told none same_first same_from is_origin is_heard is_now =
-    let new : AbstractSession = record { game = session.game; origin = origin; heard = heard; before = items; place = now } in
-    let same : new ≡ placed_at session place = λ i. record { game = session.game; origin = (is_origin ∙ same_first) i; heard = (is_heard ∙ same_from) i; before = none i; place = is_now i } in
-    subst (λ (s : AbstractSession). AnswersIn session (Unpack text) s before after) (sym same) (record { answer = answer; answers = unpacks fits is stands; told = told })

@@ -1,21 +1,18 @@
 -- Why a move isn't made, and why it isn't told how play stands.
-use Rattle.std.proofs.Common.{◌≡◌, ◌≢◌, ℕ, ◌⊎◌, List, Result, Err, inl, inr, sym, subst, refl, length, take}
-use Rattle.std.specs.Borrow.{Bor}
-use Rattle.rbg_rules.specs.Meaning.{AbstractGame, AbstractPlace, Legal, IsLegal, IsPlaceOf, Finished, IsHeavyToFind, IsHeavyToTry}
+use Rattle.std.proofs.Common.{◌≡◌, ℕ, ◌⊎◌, List, Result, Err, inl, inr, sym, subst, refl, length, take}
+use Rattle.rbg_rules.specs.Meaning.{AbstractGame, AbstractPlace, Legal, IsLegal, Finished, IsHeavyToFind, IsHeavyToTry}
 use Rattle.rbg_moves.specs.Settling.{IsEndless, MeetsHeavy}
 use Rattle.rbg_search.specs.declared.over.Over.{Over}
 use Rattle.rbg_search.specs.declared.over.Over.TheVariants.{Deep, Wide, Memory}
 use Rattle.rbg_moves.specs.declared.unsettled.Unsettled.{Unsettled}
 use Rattle.rbg_moves.specs.declared.unsettled.Unsettled.TheVariants as unsettled
-use Rattle.rbg_questions.specs.declared.question.Question.TheVariants.{Heard, Make, Place, Unpack}
+use Rattle.rbg_questions.specs.declared.question.Question.TheVariants.{Heard, Make, Place}
 use Rattle.rbg_questions.specs.declared.refusal.Refusal.{Refusal}
-use Rattle.rbg_questions.specs.declared.refusal.Refusal.TheVariants.{NoPlace}
 use Rattle.rbg_questions.specs.Sessions.{AbstractSession, Leads}
 use Rattle.rbg_questions.specs.Answers.{to_move, finished}
-use Rattle.rbg_questions.specs.Packing.{packed_text}
 use Rattle.rbg_questions.specs.Answering.{IsRefused, StandsAt, goes_on, is_over}
 use Rattle.rbg_questions.specs.Answering as faults
-use Rattle.rbg_questions.specs.internal.Places.{IsUnmade, IsUntold, IsUnfollowed, IsNotUnpacked, no_place, no_bytes, heavy, memory, illegal, heavy_to_try, heavy_to_settle, endless, no_memory, not_legal, hard_to_try, lost}
+use Rattle.rbg_questions.specs.internal.Places.{IsUnmade, IsUntold, IsUnfollowed, heavy, memory, illegal, heavy_to_try, heavy_to_settle, endless, no_memory, not_legal, hard_to_try, lost}
 use Rattle.rbg_questions.specs.internal.Refusing.{refusal_of_over, refusal_of_unsettled}
 
 -- a question that was given up
@@ -61,17 +58,6 @@ heard_refused session pairs _ lost = faults.no_memory
 pub untold_where_heard : (session : AbstractSession) (pairs : List (ℕ × ℕ)) (to : AbstractPlace) (refusal : Refusal) → Legal session.game session.heard pairs to → IsUntold session.game to refusal → IsRefused session (Heard pairs) refusal
 untold_where_heard session pairs to _ legal (heavy hard) = faults.heavy_where_heard legal hard
 untold_where_heard session pairs to _ legal memory = faults.no_memory
-
-pub unpack_refused : (session : AbstractSession) (text : Bor (List ℕ)) (refusal : Refusal) → IsNotUnpacked session.game text.now refusal → IsRefused session (Unpack text) refusal
-unpack_refused session text _ (no_place none) = faults.not_packed none
-unpack_refused session text _ no_bytes = faults.no_memory
-
-pub not_unpacked_in : (game same : AbstractGame) (text : List ℕ) → same ≡ game → ((place : AbstractPlace) → IsPlaceOf same place → text ≢ packed_text place) → IsNotUnpacked game text NoPlace
-not_unpacked_in game same text is none = no_place (λ place fits. none place (subst (λ (g : AbstractGame). IsPlaceOf g place) (sym is) fits))
-
-pub untold_where_unpacked : (session : AbstractSession) (text : Bor (List ℕ)) (place : AbstractPlace) (refusal : Refusal) → IsPlaceOf session.game place → text.now ≡ packed_text place → IsUntold session.game place refusal → IsRefused session (Unpack text) refusal
-untold_where_unpacked session text place _ fits is (heavy hard) = faults.heavy_where_unpacked fits is hard
-untold_where_unpacked session text place _ fits is memory = faults.no_memory
 
 pub place_refused : (session : AbstractSession) (refusal : Refusal) → IsUntold session.game session.place refusal → IsRefused session Place refusal
 place_refused session _ (heavy hard) = faults.heavy_to_find hard

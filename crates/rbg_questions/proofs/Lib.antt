@@ -19,5 +19,3 @@ mod PlayoutBeginning
 mod Shaping
 mod Searched
 mod Sampled
-mod Packed
-mod Misfits

@@ -37,13 +37,13 @@ pub record WasMade (game : AbstractGame) (place : AbstractPlace) : Type 0 where
   pub legal : Legal game place pairs to
 
 -- Play has led to each of the places before, and a move was made there.
-pub led_before : (game : AbstractGame) (origin : AbstractPlace) (all : List AbstractPlace) (to : AbstractPlace) → HasLedTo game origin all to → (front : List AbstractPlace) (place : AbstractPlace) (later : List AbstractPlace) → all ≡ front ++ place ∷ later → HasLedTo game origin front place × WasMade game place
-led_before game origin _ to (at_start settles) front place later same = absurd (no_end front place later same)
-led_before game origin _ to (at_heard heard) front place later same = absurd (no_end front place later same)
-led_before game origin _ to (by_move {before} {from} {pairs} led leads) front place later same =
+pub led_before : (game : AbstractGame) (all : List AbstractPlace) (to : AbstractPlace) → HasLedTo game all to → (front : List AbstractPlace) (place : AbstractPlace) (later : List AbstractPlace) → all ≡ front ++ place ∷ later → HasLedTo game front place × WasMade game place
+led_before game _ to (at_start settles) front place later same = absurd (no_end front place later same)
+led_before game _ to (at_heard heard) front place later same = absurd (no_end front place later same)
+led_before game _ to (by_move {before} {from} {pairs} led leads) front place later same =
     elim (last_or_before before from front place later same) [
-      | inl last ↦ (subst (λ (p : AbstractPlace). HasLedTo game origin front p) last.1 (subst (λ ps. HasLedTo game origin ps from) last.0 led), subst (WasMade game) last.1 (record { pairs = pairs; to = leads.middle; legal = leads.legal }))
-      | inr others ↦ led_before game origin before from led front place others.0 others.1
+      | inl last ↦ (subst (λ (p : AbstractPlace). HasLedTo game front p) last.1 (subst (λ ps. HasLedTo game ps from) last.0 led), subst (WasMade game) last.1 (record { pairs = pairs; to = leads.middle; legal = leads.legal }))
+      | inr others ↦ led_before game before from led front place others.0 others.1
     ]
 
 all_before : {X : Type 0} (P : X → Type 0) (before : List X) (x : X) (later : List X) → All P (before ++ x ∷ later) → All P before × P x
@@ -53,15 +53,14 @@ all_before P (b ∷ before) x later h =
     (All-cons P b before (All-head P b (before ++ x ∷ later) h) others.0, others.1)
 
 -- what holds of the places holds of those before one of them
-pub reached_before : (game : AbstractGame) (origin : AbstractPlace) (all : List AbstractPlace) (to : AbstractPlace) → AreReached game origin all to → (before : List AbstractPlace) (place : AbstractPlace) (later : List AbstractPlace) → all ≡ before ++ place ∷ later → AreReached game origin before place
-reached_before game origin all to reached before place later same =
+pub reached_before : (game : AbstractGame) (all : List AbstractPlace) (to : AbstractPlace) → AreReached game all to → (before : List AbstractPlace) (place : AbstractPlace) (later : List AbstractPlace) → all ≡ before ++ place ∷ later → AreReached game before place
+reached_before game all to reached before place later same =
     let places = all_before (IsPlaceOf game) before place later (subst (All (IsPlaceOf game)) same reached.earlier) in
-    record { start = reached.start; earlier = places.0; here = places.1; led = (led_before game origin all to reached.led before place later same).0 }
+    record { earlier = places.0; here = places.1; led = (led_before game all to reached.led before place later same).0 }
 
 -- and of one more place
-pub reached_next : (game : AbstractGame) (origin : AbstractPlace) (before : List AbstractPlace) (from to : AbstractPlace) (pairs : List (ℕ × ℕ)) → AreReached game origin before from → Leads game from pairs to → IsPlaceOf game to → AreReached game origin (before ++ from ∷ []) to
-reached_next game origin before from to pairs reached leads fits = record {
-  start = reached.start;
+pub reached_next : (game : AbstractGame) (before : List AbstractPlace) (from to : AbstractPlace) (pairs : List (ℕ × ℕ)) → AreReached game before from → Leads game from pairs to → IsPlaceOf game to → AreReached game (before ++ from ∷ []) to
+reached_next game before from to pairs reached leads fits = record {
   earlier = All-append (IsPlaceOf game) before (from ∷ []) reached.earlier (All-cons (IsPlaceOf game) from [] reached.here (All-nil (IsPlaceOf game)));
   here = fits;
   led = by_move reached.led leads;
@@ -87,56 +86,41 @@ place_at all index found before place later within there same many =
     cc
 
 -- the first place
-pub reached_first : (game : AbstractGame) (first place : AbstractPlace) → first ≡ beginning_of game → IsPlaceOf game first → Settles game first place → IsPlaceOf game place → AreReached game (beginning_of game) [] place
-reached_first game first place start first_fits settles fits = record {
-  start = subst (IsPlaceOf game) start first_fits;
+pub reached_first : (game : AbstractGame) (first place : AbstractPlace) → first ≡ beginning_of game → Settles game first place → IsPlaceOf game place → AreReached game [] place
+reached_first game first place start settles fits = record {
   earlier = All-nil (IsPlaceOf game);
   here = fits;
   led = at_start (subst (λ (p : AbstractPlace). Settles game p place) start settles);
 }
 
--- where they count from there
-pub reached_from : (game : AbstractGame) (origin : AbstractPlace) (items before : List AbstractPlace) (place : AbstractPlace) → origin ≡ beginning_of game → items ≡ before → AreReached game (beginning_of game) before place → AreReached game origin items place
-reached_from game origin items before place start same reached =
-    subst (λ (o : AbstractPlace). AreReached game o items place) (sym start) (subst (λ ps. AreReached game (beginning_of game) ps place) (sym same) reached)
-
 -- the session that goes back to a place
-pub goes_back_to : (session : AbstractSession) (index : ℕ) (front : List AbstractPlace) (place : AbstractPlace) → index < length session.before → session.before ≡ front ++ place ∷ drop (index + 1) session.before → GoesBack session (length session.before - index) (record { game = session.game; origin = session.origin; heard = session.heard; before = front; place = place })
+pub goes_back_to : (session : AbstractSession) (index : ℕ) (front : List AbstractPlace) (place : AbstractPlace) → index < length session.before → session.before ≡ front ++ place ∷ drop (index + 1) session.before → GoesBack session (length session.before - index) (record { game = session.game; heard = session.heard; before = front; place = place })
 goes_back_to session index front place within same = record {
   game = refl;
-  origin = refl;
-  heard = refl;
   later = drop (index + 1) session.before;
   places = same;
   all = let left : length (drop (index + 1) session.before) ≡ length session.before - (index + 1) = length-drop (index + 1) session.before in omega (arith, within, left);
 }
 
 -- what holds of the places after one more move
-pub reached_made : (game : AbstractGame) (origin : AbstractPlace) (before : List AbstractPlace) (place to : AbstractPlace) (pairs : List (ℕ × ℕ)) (items kept : List AbstractPlace) (value now : AbstractPlace) → AreReached game origin before place → Leads game place pairs to → IsPlaceOf game to → kept ≡ before → value ≡ place → now ≡ to → items ≡ kept ++ value ∷ [] → AreReached game origin items now
-reached_made game origin before place to pairs items kept value now reached leads fits same_before same_place same_to is =
+pub reached_made : (game : AbstractGame) (before : List AbstractPlace) (place to : AbstractPlace) (pairs : List (ℕ × ℕ)) (items kept : List AbstractPlace) (value now : AbstractPlace) → AreReached game before place → Leads game place pairs to → IsPlaceOf game to → kept ≡ before → value ≡ place → now ≡ to → items ≡ kept ++ value ∷ [] → AreReached game items now
+reached_made game before place to pairs items kept value now reached leads fits same_before same_place same_to is =
     let all : items ≡ before ++ place ∷ [] = is ∙ (λ i. same_before i ++ same_place i ∷ []) in
-    subst (λ (p : AbstractPlace). AreReached game origin items p) (sym same_to)
-    (subst (λ ps. AreReached game origin ps to) (sym all) (reached_next game origin before place to pairs reached leads fits))
+    subst (λ (p : AbstractPlace). AreReached game items p) (sym same_to)
+    (subst (λ ps. AreReached game ps to) (sym all) (reached_next game before place to pairs reached leads fits))
 
 -- where the rules begin, no move was heard
-pub heard_first : (game : AbstractGame) (origin first : AbstractPlace) → origin ≡ beginning_of game → first ≡ beginning_of game → IsPlaceOf game first → IsHeardPlace game origin first
-heard_first game origin first begin start fits = record { fits = fits; heard = subst (λ (p : AbstractPlace). AreHeard game origin p) (begin ∙ sym start) no_move }
+pub heard_first : (game : AbstractGame) (first : AbstractPlace) → first ≡ beginning_of game → IsPlaceOf game first → IsHeardPlace game first
+heard_first game first start fits = record { fits = fits; heard = subst (λ (p : AbstractPlace). AreHeard game p) (sym start) no_move }
 
 -- the place to which one more move leads that was heard
-pub heard_next : (game : AbstractGame) (origin from to : AbstractPlace) (pairs : List (ℕ × ℕ)) → IsHeardPlace game origin from → Legal game from pairs to → AreHeard game origin to
-heard_next game origin from to pairs from_there legal = one_more from_there.heard legal
+pub heard_next : (game : AbstractGame) (from to : AbstractPlace) (pairs : List (ℕ × ℕ)) → IsHeardPlace game from → Legal game from pairs to → AreHeard game to
+heard_next game from to pairs from_there legal = one_more from_there.heard legal
 
 -- the places of a session that stands where the moves lead that were heard
-pub reached_heard : (game : AbstractGame) (origin : AbstractPlace) (items : List AbstractPlace) (place now heard kept : AbstractPlace) → items ≡ [] → place ≡ heard → now ≡ place → kept ≡ heard → IsPlaceOf game origin → IsPlaceOf game heard → AreHeard game origin heard → AreReached game origin items now × IsHeardPlace game origin kept
-reached_heard game origin items place now heard kept none same is same_kept origin_fits fits heard_there = (
-  subst (λ (p : AbstractPlace). AreReached game origin items p) (sym (is ∙ same))
-      (subst (λ ps. AreReached game origin ps heard) (sym none) (record { start = origin_fits; earlier = All-nil (IsPlaceOf game); here = fits; led = at_heard heard_there })),
-  subst (λ (p : AbstractPlace). IsHeardPlace game origin p) (sym same_kept) (record { fits = fits; heard = heard_there }),
+pub reached_heard : (game : AbstractGame) (items : List AbstractPlace) (place now heard kept : AbstractPlace) → items ≡ [] → place ≡ heard → now ≡ place → kept ≡ heard → IsPlaceOf game heard → AreHeard game heard → AreReached game items now × IsHeardPlace game kept
+reached_heard game items place now heard kept none same is same_kept fits heard_there = (
+  subst (λ (p : AbstractPlace). AreReached game items p) (sym (is ∙ same))
+      (subst (λ ps. AreReached game ps heard) (sym none) (record { earlier = All-nil (IsPlaceOf game); here = fits; led = at_heard heard_there })),
+  subst (λ (p : AbstractPlace). IsHeardPlace game p) (sym same_kept) (record { fits = fits; heard = heard_there }),
 )
-
--- the places of a session that stands at a place that was unpacked
-pub reached_unpacked : (game : AbstractGame) (items : List AbstractPlace) (place first from origin heard now : AbstractPlace) → items ≡ [] → first ≡ place → from ≡ place → origin ≡ first → heard ≡ from → now ≡ place → IsPlaceOf game place → AreReached game origin items now × IsHeardPlace game origin heard
-reached_unpacked game items place first from origin heard now none same_first same_from is_origin is_heard is fits =
-    let from_origin : origin ≡ place = is_origin ∙ same_first in
-    reached_heard game origin items place now place heard none refl is (is_heard ∙ same_from) (subst (IsPlaceOf game) (sym from_origin) fits) fits
-    (subst (λ (o : AbstractPlace). AreHeard game o place) (sym from_origin) no_move)

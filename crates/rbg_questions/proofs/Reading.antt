@@ -1,62 +1,57 @@
 -- What the calls find that read a question, and what they leave out.
-use Rattle.std.proofs.Common.{◌≡◌, ℕ, zero, suc, ◌==◌, ◌<◌, ◌≤◌, false, arith, Some, None, IfNone, Result, Ok, List, ◌++◌, length, decimal, codes, ap, sym, ◌∙◌, Option, append_assoc, ◌∷◌}
-use Rattle.std.specs.Borrow.{Bor}
+use Rattle.std.proofs.Common.{◌≡◌, ℕ, ◌≤◌, Some, None, IfNone, Result, Ok, List, ◌++◌, length, decimal, codes, ap, sym, ◌∙◌, Option, append_assoc, ◌∷◌}
 use Rattle.std.specs.Result.{result_ok}
 use Rattle.rbg_wire.specs.declared.error.WireError.{WireError}
 use Rattle.rbg_wire.proofs.Common.{ArePairs, pairs_text, SpellsPairs, LacksByte}
 use Rattle.rbg_wire.proofs.ByteLemmas.{same_end}
 use Rattle.rbg_wire.proofs.FieldLemmas.{cut_fields, no_fields}
 use Rattle.rbg_questions.specs.declared.question.Question.{Question}
-use Rattle.rbg_questions.specs.declared.question.Question.TheVariants.{Moves, Make, Back, Heard, Place, State, Key, Values, Board, Names, Shape, Random, Search, Sample, Pack, Unpack, Quit}
+use Rattle.rbg_questions.specs.declared.question.Question.TheVariants.{Moves, Make, Back, Heard, Place, State, Key, Values, Board, Names, Shape, Random, Search, Sample, Quit}
 use Rattle.rbg_questions.specs.Limits.{IsCount, IsSeed}
-use Rattle.rbg_questions.specs.Questions.{AreHexDigits, SpellsQuestion, question_text}
+use Rattle.rbg_questions.specs.Questions.{SpellsQuestion, question_text}
 use Rattle.rbg_questions.specs.internal.Reading.{IsPlain, SpellsChance}
 
 -- no question of one word but these
-pub no_plain : (text : List ℕ) → (text ≡ codes "moves" → ⊥) → (text ≡ codes "back" → ⊥) → (text ≡ codes "place" → ⊥) → (text ≡ codes "state" → ⊥) → (text ≡ codes "key" → ⊥) → (text ≡ codes "values" → ⊥) → (text ≡ codes "board" → ⊥) → (text ≡ codes "names" → ⊥) → (text ≡ codes "shape" → ⊥) → (text ≡ codes "pack" → ⊥) → (text ≡ codes "quit" → ⊥) → (question : Question) → IsPlain question → SpellsQuestion text question → ⊥
+pub no_plain : (text : List ℕ) → (text ≡ codes "moves" → ⊥) → (text ≡ codes "back" → ⊥) → (text ≡ codes "place" → ⊥) → (text ≡ codes "state" → ⊥) → (text ≡ codes "key" → ⊥) → (text ≡ codes "values" → ⊥) → (text ≡ codes "board" → ⊥) → (text ≡ codes "names" → ⊥) → (text ≡ codes "shape" → ⊥) → (text ≡ codes "quit" → ⊥) → (question : Question) → IsPlain question → SpellsQuestion text question → ⊥
 unfolding question_text
-no_plain text moves back place state key values board names shape pack quit (Moves None) plain h = moves h.is
-no_plain text moves back place state key values board names shape pack quit (Back None) plain h = back h.is
-no_plain text moves back place state key values board names shape pack quit Place plain h = place h.is
-no_plain text moves back place state key values board names shape pack quit State plain h = state h.is
-no_plain text moves back place state key values board names shape pack quit Key plain h = key h.is
-no_plain text moves back place state key values board names shape pack quit Values plain h = values h.is
-no_plain text moves back place state key values board names shape pack quit Board plain h = board h.is
-no_plain text moves back place state key values board names shape pack quit Names plain h = names h.is
-no_plain text moves back place state key values board names shape pack quit Shape plain h = shape h.is
-no_plain text moves back place state key values board names shape pack quit Pack plain h = pack h.is
-no_plain text moves back place state key values board names shape pack quit Quit plain h = quit h.is
-no_plain text moves back place state key values board names shape pack quit (Moves (Some max)) plain h = absurd plain
-no_plain text moves back place state key values board names shape pack quit (Back (Some many)) plain h = absurd plain
-no_plain text moves back place state key values board names shape pack quit (Make pairs) plain h = absurd plain
-no_plain text moves back place state key values board names shape pack quit (Heard pairs) plain h = absurd plain
-no_plain text moves back place state key values board names shape pack quit (Random seed count) plain h = absurd plain
-no_plain text moves back place state key values board names shape pack quit (Search seed count) plain h = absurd plain
-no_plain text moves back place state key values board names shape pack quit (Sample seed most) plain h = absurd plain
-no_plain text moves back place state key values board names shape pack quit (Unpack digits) plain h = absurd plain
+no_plain text moves back place state key values board names shape quit (Moves None) plain h = moves h.is
+no_plain text moves back place state key values board names shape quit (Back None) plain h = back h.is
+no_plain text moves back place state key values board names shape quit Place plain h = place h.is
+no_plain text moves back place state key values board names shape quit State plain h = state h.is
+no_plain text moves back place state key values board names shape quit Key plain h = key h.is
+no_plain text moves back place state key values board names shape quit Values plain h = values h.is
+no_plain text moves back place state key values board names shape quit Board plain h = board h.is
+no_plain text moves back place state key values board names shape quit Names plain h = names h.is
+no_plain text moves back place state key values board names shape quit Shape plain h = shape h.is
+no_plain text moves back place state key values board names shape quit Quit plain h = quit h.is
+no_plain text moves back place state key values board names shape quit (Moves (Some max)) plain h = absurd plain
+no_plain text moves back place state key values board names shape quit (Back (Some many)) plain h = absurd plain
+no_plain text moves back place state key values board names shape quit (Make pairs) plain h = absurd plain
+no_plain text moves back place state key values board names shape quit (Heard pairs) plain h = absurd plain
+no_plain text moves back place state key values board names shape quit (Random seed count) plain h = absurd plain
+no_plain text moves back place state key values board names shape quit (Search seed count) plain h = absurd plain
+no_plain text moves back place state key values board names shape quit (Sample seed most) plain h = absurd plain
 
 -- no question where it is none of one word, and none of a word with a number or with pairs
-pub no_question : (text : List ℕ) → ((question : Question) → IsPlain question → SpellsQuestion text question → ⊥) → ((count : ℕ) → IsCount count → text ≡ codes "moves " ++ decimal count → ⊥) → ((count : ℕ) → IsCount count → text ≡ codes "back " ++ decimal count → ⊥) → ((pairs : List (ℕ × ℕ)) → ArePairs pairs → length pairs ≤ 200 → text ≡ codes "heard " ++ pairs_text pairs → ⊥) → ((pairs : List (ℕ × ℕ)) → ArePairs pairs → length pairs ≤ 200 → text ≡ codes "make " ++ pairs_text pairs → ⊥) → ((seed count : ℕ) → SpellsChance (codes "random ") text seed count → ⊥) → ((seed count : ℕ) → SpellsChance (codes "search ") text seed count → ⊥) → ((seed count : ℕ) → SpellsChance (codes "sample ") text seed count → ⊥) → ((digits : List ℕ) → AreHexDigits digits → text ≡ codes "unpack " ++ digits → ⊥) → (question : Question) → SpellsQuestion text question → ⊥
+pub no_question : (text : List ℕ) → ((question : Question) → IsPlain question → SpellsQuestion text question → ⊥) → ((count : ℕ) → IsCount count → text ≡ codes "moves " ++ decimal count → ⊥) → ((count : ℕ) → IsCount count → text ≡ codes "back " ++ decimal count → ⊥) → ((pairs : List (ℕ × ℕ)) → ArePairs pairs → length pairs ≤ 200 → text ≡ codes "heard " ++ pairs_text pairs → ⊥) → ((pairs : List (ℕ × ℕ)) → ArePairs pairs → length pairs ≤ 200 → text ≡ codes "make " ++ pairs_text pairs → ⊥) → ((seed count : ℕ) → SpellsChance (codes "random ") text seed count → ⊥) → ((seed count : ℕ) → SpellsChance (codes "search ") text seed count → ⊥) → ((seed count : ℕ) → SpellsChance (codes "sample ") text seed count → ⊥) → (question : Question) → SpellsQuestion text question → ⊥
 unfolding question_text
-no_question text plain moves back heard make random search sample unpack (Moves None) h = plain (Moves None) tt h
-no_question text plain moves back heard make random search sample unpack (Back None) h = plain (Back None) tt h
-no_question text plain moves back heard make random search sample unpack Place h = plain Place tt h
-no_question text plain moves back heard make random search sample unpack State h = plain State tt h
-no_question text plain moves back heard make random search sample unpack Key h = plain Key tt h
-no_question text plain moves back heard make random search sample unpack Values h = plain Values tt h
-no_question text plain moves back heard make random search sample unpack Board h = plain Board tt h
-no_question text plain moves back heard make random search sample unpack Names h = plain Names tt h
-no_question text plain moves back heard make random search sample unpack Shape h = plain Shape tt h
-no_question text plain moves back heard make random search sample unpack Pack h = plain Pack tt h
-no_question text plain moves back heard make random search sample unpack Quit h = plain Quit tt h
-no_question text plain moves back heard make random search sample unpack (Unpack digits) h = unpack digits.now h.has h.is
-no_question text plain moves back heard make random search sample unpack (Moves (Some max)) h = moves max h.has h.is
-no_question text plain moves back heard make random search sample unpack (Back (Some many)) h = back many h.has h.is
-no_question text plain moves back heard make random search sample unpack (Heard pairs) h = heard pairs h.has.0 h.has.1 h.is
-no_question text plain moves back heard make random search sample unpack (Make pairs) h = make pairs h.has.0 h.has.1 h.is
-no_question text plain moves back heard make random search sample unpack (Random seed count) h = random seed count (record { seeded = h.has.0; counted = h.has.1; is = h.is })
-no_question text plain moves back heard make random search sample unpack (Search seed count) h = search seed count (record { seeded = h.has.0; counted = h.has.1; is = h.is })
-no_question text plain moves back heard make random search sample unpack (Sample seed most) h = sample seed most (record { seeded = h.has.0; counted = h.has.1; is = h.is })
+no_question text plain moves back heard make random search sample (Moves None) h = plain (Moves None) tt h
+no_question text plain moves back heard make random search sample (Back None) h = plain (Back None) tt h
+no_question text plain moves back heard make random search sample Place h = plain Place tt h
+no_question text plain moves back heard make random search sample State h = plain State tt h
+no_question text plain moves back heard make random search sample Key h = plain Key tt h
+no_question text plain moves back heard make random search sample Values h = plain Values tt h
+no_question text plain moves back heard make random search sample Board h = plain Board tt h
+no_question text plain moves back heard make random search sample Names h = plain Names tt h
+no_question text plain moves back heard make random search sample Shape h = plain Shape tt h
+no_question text plain moves back heard make random search sample Quit h = plain Quit tt h
+no_question text plain moves back heard make random search sample (Moves (Some max)) h = moves max h.has h.is
+no_question text plain moves back heard make random search sample (Back (Some many)) h = back many h.has h.is
+no_question text plain moves back heard make random search sample (Heard pairs) h = heard pairs h.has.0 h.has.1 h.is
+no_question text plain moves back heard make random search sample (Make pairs) h = make pairs h.has.0 h.has.1 h.is
+no_question text plain moves back heard make random search sample (Random seed count) h = random seed count (record { seeded = h.has.0; counted = h.has.1; is = h.is })
+no_question text plain moves back heard make random search sample (Search seed count) h = search seed count (record { seeded = h.has.0; counted = h.has.1; is = h.is })
+no_question text plain moves back heard make random search sample (Sample seed most) h = sample seed most (record { seeded = h.has.0; counted = h.has.1; is = h.is })
 
 pub spells_moves : (text : List ℕ) (count : ℕ) → IsCount count → text ≡ codes "moves " ++ decimal count → SpellsQuestion text (Moves (Some count))
 unfolding question_text
@@ -85,10 +80,6 @@ spells_search text seed count h = record { has = (h.seeded, h.counted); is = h.i
 pub spells_sample : (text : List ℕ) (seed most : ℕ) → SpellsChance (codes "sample ") text seed most → SpellsQuestion text (Sample seed most)
 unfolding question_text
 spells_sample text seed most h = record { has = (h.seeded, h.counted); is = h.is }
-
-pub spells_unpack : (text : List ℕ) (digits : Bor (List ℕ)) → AreHexDigits digits.now → text ≡ codes "unpack " ++ digits.now → SpellsQuestion text (Unpack digits)
-unfolding question_text
-spells_unpack text digits has is = record { has = has; is = is }
 
 -- what stands after the same word
 pub after_word : (text word rest more : List ℕ) → text ≡ word ++ rest → text ≡ word ++ more → rest ≡ more
@@ -134,7 +125,3 @@ no_chance_space word line fields cut lacks seed count h =
 pub chance_parts : (word line fields before after : List ℕ) → line ≡ word ++ fields → fields ≡ before ++ 32 ∷ after → LacksByte 32 before → (seed count : ℕ) → SpellsChance word line seed count → (before ≡ decimal seed) × (after ≡ decimal count)
 chance_parts word line fields before after cut parts lacks seed count h =
     cut_fields fields before after parts lacks seed (decimal count) h.seeded (after_chance word line fields seed count cut h.is)
-
-pub some_bytes : (n : ℕ) → (n == 0) ≡ false → 0 < n
-some_bytes zero none = cc
-some_bytes (suc n) none = omega arith

@@ -1,19 +1,16 @@
 -- What a session answers to a question, and why it refuses one.
 use Rattle.std.specs.Prelude.{◌≡◌, ◌≢◌, ℕ, ◌+◌, ◌<◌, ◌≤◌, List, [], ◌∷◌, ◌++◌, length, take, All, AllPairs, Contains, Bool, false, Option, Some, None}
-use Rattle.std.specs.Borrow.{Bor}
-use Rattle.rbg_rules.specs.Meaning.{AbstractGame, AbstractPlace, AbstractAction, IsLegal, Legal, Finished, list_moves, IsPlaceOf, IsHeavyToFind, IsHeavyToTry, IsTooHard}
+use Rattle.rbg_rules.specs.Meaning.{AbstractGame, AbstractPlace, AbstractAction, IsLegal, Legal, Finished, list_moves, IsHeavyToFind, IsHeavyToTry, IsTooHard}
 use Rattle.rbg_moves.specs.Listing.{IsListed}
 use Rattle.rbg_moves.specs.Settling.{IsEndless, MeetsHeavy}
 use Rattle.rbg_questions.specs.declared.question.Question.{Question}
-use Rattle.rbg_questions.specs.declared.question.Question.TheVariants.{Moves, Make, Back, Heard, Place, State, Key, Values, Board, Names, Shape, Random, Search, Sample, Pack, Unpack, Quit}
+use Rattle.rbg_questions.specs.declared.question.Question.TheVariants.{Moves, Make, Back, Heard, Place, State, Key, Values, Board, Names, Shape, Random, Search, Sample, Quit}
 use Rattle.rbg_questions.specs.declared.refusal.Refusal.{Refusal}
-use Rattle.rbg_questions.specs.declared.refusal.Refusal.TheVariants.{Long, Illegal, Start, NoPlace, Over, Keeper, Memory}
+use Rattle.rbg_questions.specs.declared.refusal.Refusal.TheVariants.{Long, Form, Illegal, Start, Over, Keeper, Memory}
 use Rattle.rbg_questions.specs.Limits.{longest_line}
 use Rattle.rbg_questions.specs.Questions.{SpellsQuestion}
-use Rattle.rbg_questions.specs.Misfits.{IsMisfit}
-use Rattle.rbg_questions.specs.Packing.{packed_of, packed_text}
 use Rattle.rbg_questions.specs.Keys.{key_of}
-use Rattle.rbg_questions.specs.Answers.{Answer, moves, to_move, finished, state, key, values, board, names, shape, by_chance, searched, sampled, packed, farewell, answer_text, refusal_text}
+use Rattle.rbg_questions.specs.Answers.{Answer, moves, to_move, finished, state, key, values, board, names, shape, by_chance, searched, sampled, farewell, answer_text, refusal_text}
 use Rattle.rbg_questions.specs.Sessions.{AbstractSession, Leads}
 use Rattle.rbg_questions.specs.Chance.{Counted, AreTallied, IsUnplayed}
 use Rattle.rbg_questions.specs.Searching.{AreSearched, IsSampled, IsUnsampled, IsUnsearched, Searched}
@@ -38,10 +35,6 @@ pub record HasMoves (game : AbstractGame) (place : AbstractPlace) (count : ℕ) 
 abbrev pub heard_to : AbstractSession → AbstractPlace → AbstractSession
 heard_to session to = record session { heard = to; before = []; place = to }
 
--- the session where that place is unpacked: moves count from there, and none was made
-abbrev pub placed_at : AbstractSession → AbstractPlace → AbstractSession
-placed_at session place = record session { origin = place; heard = place; before = []; place = place }
-
 -- the session after a move to that place
 abbrev pub moved_to : AbstractSession → AbstractPlace → AbstractSession
 moved_to session to = record session { before = session.before ++ session.place ∷ []; place = to }
@@ -49,8 +42,6 @@ moved_to session to = record session { before = session.before ++ session.place 
 -- So many moves are undone: the new place is the one before them, and as many places stood before it as then.
 pub record GoesBack (old : AbstractSession) (many : ℕ) (new : AbstractSession) : Type 0 where
   pub game : new.game ≡ old.game
-  pub origin : new.origin ≡ old.origin
-  pub heard : new.heard ≡ old.heard
   pub later : List AbstractPlace
   pub places : old.before ≡ new.before ++ new.place ∷ later
   pub all : many ≡ length later + 1
@@ -76,8 +67,6 @@ undone (Some many) = many
 --   plays: so many matches were played by chance, and how many of them ended in which way.
 --   searches: so many matches were played after each legal move, and how they ended.
 --   samples: one match was played by chance, of at most so many moves; its moves, and how play stands after them.
---   packs: the bytes of the place.
---   unpacks: a place of the game is unpacked, and play stands there; how play stands there.
 --   ends: nothing.
 pub data Answers (old : AbstractSession) : Question → (new : AbstractSession) → Answer → Type 0 where
   lists : {max : ℕ} {all : List (List (ℕ × ℕ))} {cut : Bool} →
@@ -126,13 +115,6 @@ pub data Answers (old : AbstractSession) : Question → (new : AbstractSession) 
       IsSampled old.game old.place most moves to →
       StandsAt old.game to standing →
       Answers old (Sample seed most) old (sampled moves standing)
-  packs :
-      Answers old Pack old (packed (packed_of old.place))
-  unpacks : {text : Bor (List ℕ)} {place : AbstractPlace} {answer : Answer} →
-      IsPlaceOf old.game place →
-      text.now ≡ packed_text place →
-      StandsAt old.game place answer →
-      Answers old (Unpack text) (placed_at old place) answer
   ends :
       Answers old Quit old farewell
 
@@ -151,8 +133,6 @@ pub data Answers (old : AbstractSession) : Question → (new : AbstractSession) 
 --   unplayed: a match by chance isn't played to its end.
 --   unsearched: the matches after each move aren't all played.
 --   unsampled: the match isn't played, or how play stands after it isn't told.
---   not_packed: no place of the game is packed so.
---   heavy_where_unpacked: the question whether play is finished there is above the limits.
 --   no_memory: it says nothing of the question.
 pub data IsRefused (session : AbstractSession) : Question → Refusal → Type 0 where
   illegal : {pairs : List (ℕ × ℕ)} →
@@ -204,14 +184,6 @@ pub data IsRefused (session : AbstractSession) : Question → Refusal → Type 0
   unsampled : {seed most : ℕ} {refusal : Refusal} →
       IsUnsampled session.game session.place most refusal →
       IsRefused session (Sample seed most) refusal
-  not_packed : {text : Bor (List ℕ)} →
-      ((place : AbstractPlace) → IsPlaceOf session.game place → text.now ≢ packed_text place) →
-      IsRefused session (Unpack text) NoPlace
-  heavy_where_unpacked : {text : Bor (List ℕ)} {place : AbstractPlace} →
-      IsPlaceOf session.game place →
-      text.now ≡ packed_text place →
-      IsHeavyToFind session.game place →
-      IsRefused session (Unpack text) Over
   no_memory : {question : Question} →
       IsRefused session question Memory
 
@@ -225,18 +197,17 @@ pub record AnswersIn
     pub told : after ≡ before ++ answer_text answer
 
 -- Why a session refuses a line.
---   too_long: it has more than 65,536 bytes.
---   no_question: it is not too long, and no question, for this reason.
+--   too_long: it has more than 4,096 bytes.
+--   no_question: it is not too long, and no question.
 --   refused: it is a question that is refused.
 pub data IsLineRefused (session : AbstractSession) (line : List ℕ) : Refusal → Type 0 where
   too_long :
       longest_line < length line →
       IsLineRefused session line Long
-  no_question : {refusal : Refusal} →
+  no_question :
       length line ≤ longest_line →
       ((question : Question) → ¬ SpellsQuestion line question) →
-      IsMisfit line refusal →
-      IsLineRefused session line refusal
+      IsLineRefused session line Form
   refused : {question : Question} {refusal : Refusal} →
       SpellsQuestion line question →
       IsRefused session question refusal →

@@ -2,11 +2,10 @@
 -- until their numbers of matches add up to the first line's.
 use Rattle.std.specs.Prelude.{ℕ, Bool, true, false, List, [], ◌++◌, length, Option, Some, None, codes, decimal}
 use Rattle.std.specs.List.{flat_map}
-use Rattle.hex.specs.Hex.{encode_lower}
 use Rattle.rbg_wire.specs.Lines.{line_of}
 use Rattle.rbg_wire.specs.Messages.{pairs_text}
 use Rattle.rbg_questions.specs.declared.refusal.Refusal.{Refusal}
-use Rattle.rbg_questions.specs.declared.refusal.Refusal.TheVariants.{Long, Empty, Return, Word, Form, Illegal, Start, NoPlace, Over, Keeper, Memory}
+use Rattle.rbg_questions.specs.declared.refusal.Refusal.TheVariants.{Long, Form, Illegal, Start, Over, Keeper, Memory}
 use Rattle.rbg_rules.specs.Meaning.{AbstractAction, AbstractGame}
 use Rattle.rbg_questions.specs.Chance.{Counted}
 pub use Rattle.rbg_questions.specs.Fields.{names_text, numbers_text}
@@ -28,7 +27,6 @@ use Rattle.rbg_questions.specs.declared.standing.Standing.TheVariants.{ToMove, F
 --   by_chance: so many matches were played, and how many of them ended in which way.
 --   searched: each legal move, with how matches after it ended, and for how many players.
 --   sampled: the moves of a match, and how play stands after them.
---   packed: the bytes of the place.
 --   farewell: nothing, at the end of a session.
 pub data Answer : Type 0 where
   moves : (all : List (List (ℕ × ℕ))) → (cut : Bool) → Answer
@@ -42,7 +40,6 @@ pub data Answer : Type 0 where
   by_chance : (matches : ℕ) → (counted : List Counted) → Answer
   searched : (players : ℕ) → (all : List Searched) → Answer
   sampled : (made : List (List (ℕ × ℕ))) → (standing : Answer) → Answer
-  packed : List ℕ → Answer
   farewell : Answer
 
 abbrev pub cut_text : Bool → List ℕ
@@ -86,19 +83,14 @@ answer_text (shape game actions) = layout_text game ++ flat_map action_line acti
 answer_text (searched players all) = line_of (codes "search " ++ decimal (length all)) ++ flat_map (searched_line players) all
 answer_text (sampled made standing) =
     line_of (codes "sample " ++ decimal (length made)) ++ flat_map (λ pairs. line_of (pairs_text pairs)) made ++ answer_text standing
-answer_text (packed bytes) = line_of (codes "pack " ++ encode_lower bytes)
 answer_text farewell = []
 
 -- the word of a refusal
 abbrev pub refusal_word : Refusal → List ℕ
 refusal_word Long = codes "long"
-refusal_word Empty = codes "empty"
-refusal_word Return = codes "return"
-refusal_word Word = codes "word"
 refusal_word Form = codes "form"
 refusal_word Illegal = codes "illegal"
 refusal_word Start = codes "start"
-refusal_word NoPlace = codes "place"
 refusal_word Over = codes "over"
 refusal_word Keeper = codes "keeper"
 refusal_word Memory = codes "memory"

@@ -1,9 +1,7 @@
 -- What a session of questions is, and what it answers. Each file builds on those above it.
 pub mod Limits
 pub mod Keys
-pub mod Packing
 pub mod Questions
-pub mod Misfits
 pub mod Sessions
 pub mod Chance
 pub mod Fields
@@ -13,7 +11,6 @@ pub mod Counting
 pub mod Searching
 pub mod Answers
 pub mod Answering
-pub mod Laws
 pub mod internal
 -- Why sequences of moves are not counted.
 pub mod Refusals

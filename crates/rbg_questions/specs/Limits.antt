@@ -17,6 +17,6 @@ IsSeed n = n < 2 ^ 64
 abbrev pub most_played : ℕ
 most_played = 10000
 
--- the most bytes of a line that is read as a question. The longest question, a place to unpack, has fewer.
+-- the most bytes of a line that is read as a question. The longest question has fewer.
 abbrev pub longest_line : ℕ
-longest_line = 65536
+longest_line = 4096

@@ -1,11 +1,9 @@
 -- Questions. Each has one spelling.
-use Rattle.std.specs.Prelude.{◌≡◌, ℕ, ◌<◌, ◌≤◌, List, ◌++◌, length, true, Some, None, codes, decimal}
-use Rattle.std.specs.Char.{is_ascii_hexdigit}
-use Rattle.std.specs.List.{list_all}
+use Rattle.std.specs.Prelude.{◌≡◌, ℕ, ◌≤◌, List, ◌++◌, length, Some, None, codes, decimal}
 use Rattle.rbg_base.specs.Move.{most_pairs}
 use Rattle.rbg_wire.specs.Messages.{ArePairs, pairs_text}
 use Rattle.rbg_questions.specs.declared.question.Question.{Question}
-use Rattle.rbg_questions.specs.declared.question.Question.TheVariants.{Moves, Make, Back, Heard, Place, State, Key, Values, Board, Names, Shape, Random, Search, Sample, Pack, Unpack, Quit}
+use Rattle.rbg_questions.specs.declared.question.Question.TheVariants.{Moves, Make, Back, Heard, Place, State, Key, Values, Board, Names, Shape, Random, Search, Sample, Quit}
 use Rattle.rbg_questions.specs.Limits.{IsCount, IsSeed}
 
 -- the words of a question, with a space between them
@@ -26,16 +24,10 @@ question_text (Random seed count) = codes "random " ++ decimal seed ++ codes " "
 question_text Shape = codes "shape"
 question_text (Search seed count) = codes "search " ++ decimal seed ++ codes " " ++ decimal count
 question_text (Sample seed most) = codes "sample " ++ decimal seed ++ codes " " ++ decimal most
-question_text Pack = codes "pack"
-question_text (Unpack text) = codes "unpack " ++ text.now
 question_text Quit = codes "quit"
 
--- The text has hexadecimal digits alone, and some.
-abbrev pub AreHexDigits : List ℕ → Type 0
-AreHexDigits text = (0 < length text) × (list_all is_ascii_hexdigit text ≡ true)
-
 -- a question that has a spelling: its number of moves or matches is 1 to 1,000,000, it begins chance with a number below
--- 2^64, it has as many pairs as a move may have, and a place to unpack is in hexadecimal digits
+-- 2^64, and it has as many pairs as a move may have
 abbrev pub QuestionHasSpelling : Question → Type 0
 QuestionHasSpelling (Moves (Some max)) = IsCount max
 QuestionHasSpelling (Make pairs) = ArePairs pairs × (length pairs ≤ most_pairs)
@@ -53,8 +45,6 @@ QuestionHasSpelling Values = Unit {0}
 QuestionHasSpelling Board = Unit {0}
 QuestionHasSpelling Names = Unit {0}
 QuestionHasSpelling Shape = Unit {0}
-QuestionHasSpelling Pack = Unit {0}
-QuestionHasSpelling (Unpack text) = AreHexDigits text.now
 QuestionHasSpelling Quit = Unit {0}
 
 -- the text is that of this question

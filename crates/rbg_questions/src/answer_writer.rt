@@ -113,13 +113,9 @@ pub fn write_refusal(refusal: Refusal, out: &mut Vec<u8>) -> Result<(), Memory>
 {
     match refusal {
         Refusal::Long => out.extend_from_slice(b"error long\n"),
-        Refusal::Empty => out.extend_from_slice(b"error empty\n"),
-        Refusal::Return => out.extend_from_slice(b"error return\n"),
-        Refusal::Word => out.extend_from_slice(b"error word\n"),
         Refusal::Form => out.extend_from_slice(b"error form\n"),
         Refusal::Illegal => out.extend_from_slice(b"error illegal\n"),
         Refusal::Start => out.extend_from_slice(b"error start\n"),
-        Refusal::NoPlace => out.extend_from_slice(b"error place\n"),
         Refusal::Over => out.extend_from_slice(b"error over\n"),
         Refusal::Keeper => out.extend_from_slice(b"error keeper\n"),
         Refusal::Memory => out.extend_from_slice(b"error memory\n"),

@@ -7,7 +7,7 @@ pub const MAX_COUNT: u64 = 1_000_000;
 
 /// A question, or an order, to a session.
 #[derive(Drop)]
-pub enum Question<'a> {
+pub enum Question {
     /// `moves` or `moves <max>`: the legal moves, or at most so many of them.
     Moves { max: Option<u64> },
     /// `make <pairs>`: makes the move of these pairs, and the keeper's moves after it.
@@ -37,10 +37,6 @@ pub enum Question<'a> {
     Search { seed: u64, count: u64 },
     /// `sample <seed> <moves>`: plays one match of at most so many moves by chance from here, and tells the moves.
     Sample { seed: u64, most: u64 },
-    /// `pack`: the place as text.
-    Pack,
-    /// `unpack <digits>`: stands at the place of these digits. Moves that are heard count from there.
-    Unpack { text: &'a [u8] },
     /// `quit`: ends the session.
     Quit,
 }

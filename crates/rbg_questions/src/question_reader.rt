@@ -1,12 +1,10 @@
 //! The calls that read a question. They allocate nothing.
 ghost use Rattle.std.specs.Prelude.{◌≡◌, ◌≤◌, ◌↔◌, ◌++◌, ℕ, List, IfSome, IfNone, IsTrue, length, decimal};
-ghost use Rattle.std.specs.Char.{is_ascii_hexdigit};
-ghost use Rattle.std.specs.List.{list_all};
 ghost use Rattle.rbg_base.specs.Move.{most_pairs};
 ghost use Rattle.rbg_wire.specs.Messages.{ArePairs, pairs_text};
 ghost use Rattle.rbg_questions.specs.declared.question.Question.{Question as AnyQuestion};
 ghost use Rattle.rbg_questions.specs.Limits.{IsCount};
-ghost use Rattle.rbg_questions.specs.Questions.{AreHexDigits, SpellsQuestion};
+ghost use Rattle.rbg_questions.specs.Questions.{SpellsQuestion};
 ghost use Rattle.rbg_questions.specs.internal.Reading.{IsPlain, SpellsChance};
 
 use crate::question::{MAX_COUNT, Question};
@@ -23,7 +21,7 @@ struct Chance {
 /// The question of which the whole text is the spelling.
 ///
 /// Returns None if it is that of no question, as where a number of moves is above 1,000,000.
-pub fn read_question(line: &[u8]) -> Option<Question<'_>>
+pub fn read_question(line: &[u8]) -> Option<Question>
     ensures found { IfSome result (SpellsQuestion line.now) }
     ensures none { IfNone result ((question : AnyQuestion)
         → SpellsQuestion line.now question
@@ -59,16 +57,13 @@ pub fn read_question(line: &[u8]) -> Option<Question<'_>>
     if let Some(pairs) = pairs_after(b"heard ", line) {
         return Some(Question::Heard { pairs });
     }
-    if let Some(pairs) = pairs_after(b"make ", line) {
-        return Some(Question::Make { pairs });
-    }
-    let text = digits_after(b"unpack ", line)?;
-    Some(Question::Unpack { text })
+    let pairs = pairs_after(b"make ", line)?;
+    Some(Question::Make { pairs })
 }
 
 /// The question that is a single word.
 #[tactic(auto, using(rbg_wire::proofs::ByteLemmas::same_bytes), unfolding(crate::specs::Questions::question_text))]
-fn plain_question(line: &[u8]) -> Option<Question<'_>>
+fn plain_question(line: &[u8]) -> Option<Question>
     ensures found { IfSome result (SpellsQuestion line.now) }
     ensures none { IfNone result ((question : AnyQuestion)
         → IsPlain question
@@ -93,8 +88,6 @@ fn plain_question(line: &[u8]) -> Option<Question<'_>>
         Some(Question::Names)
     } else if line == b"shape".as_slice() {
         Some(Question::Shape)
-    } else if line == b"pack".as_slice() {
-        Some(Question::Pack)
     } else if line == b"quit".as_slice() {
         Some(Question::Quit)
     } else {
@@ -153,33 +146,4 @@ fn pairs_after(word: &[u8], line: &[u8]) -> Option<Move>
 {
     let text = after_text(word, line)?;
     read_pairs(text).ok()
-}
-
-/// The hexadecimal digits after a word.
-fn digits_after<'a>(word: &[u8], line: &'a [u8]) -> Option<&'a [u8]>
-    ensures found { IfSome result (λ digits. AreHexDigits digits.now
-        × (line.now ≡ word.now ++ digits.now)) }
-    ensures none { IfNone result ((digits : List ℕ)
-        → AreHexDigits digits
-        → line.now ≡ word.now ++ digits
-        → ⊥) }
-{
-    let digits = after_text(word, line)?;
-    if !are_hex_digits(digits) {
-        return None;
-    }
-    Some(digits)
-}
-
-/// Whether these are hexadecimal digits, and some.
-fn are_hex_digits(text: &[u8]) -> bool
-    ensures { IsTrue result ↔ AreHexDigits text.now }
-{
-    !text.is_empty() && are_all_hex_digits(text)
-}
-
-fn are_all_hex_digits(text: &[u8]) -> bool
-    ensures { result ≡ list_all is_ascii_hexdigit text.now }
-{
-    text.iter().all(|digit| digit.is_ascii_hexdigit())
 }

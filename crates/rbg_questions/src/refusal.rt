@@ -6,22 +6,14 @@ use rbg_moves::{Over, Unsettled};
 /// Why a question has no answer. The session is as before.
 #[derive(Clone, Copy)]
 pub enum Refusal {
-    /// `long`: the line has more than 65,536 bytes.
+    /// `long`: the line has more than 4,096 bytes.
     Long,
-    /// `empty`: the line is empty.
-    Empty,
-    /// `return`: the line ends with a carriage return.
-    Return,
-    /// `word`: the line begins with no word of a question.
-    Word,
-    /// `form`: the line is no question, though it begins with the word of one.
+    /// `form`: the line is no question.
     Form,
     /// `illegal`: the move isn't legal.
     Illegal,
     /// `start`: fewer moves were made than are to be undone.
     Start,
-    /// `place`: the digits are those of no place of the game.
-    NoPlace,
     /// `over`: a question about a place is above the limits.
     Over,
     /// `keeper`: the keeper is to move after 1,000 of its moves in a row.

@@ -17,11 +17,8 @@ use crate::answer_writer::{
 };
 use crate::chance::play_matches;
 use crate::keys::key_at;
-use crate::misfit::misfit_of;
 use crate::names_writer::write_names;
 use crate::ordering::write_in_order;
-use crate::packing::{pack, place_in};
-use crate::packing_writer::write_pack;
 use crate::question::Question;
 use crate::question_reader::read_question;
 use crate::refusal::Refusal;
@@ -40,14 +37,13 @@ use std::marker::Model;
 use std::mem::replace;
 
 /// The most bytes of a line that is read as a question.
-pub const MAX_LINE: usize = 65_536;
+pub const MAX_LINE: usize = 4096;
 
 /// The places that play has reached, from the start on or from the place that was heard of last. Contracts see the game,
-/// the place from which the moves count, the one that was heard of last, the last place and those before it.
+/// that place, the last place and those before it.
 pub struct Session {
     alloc: Global,
     game: PlayedGame,
-    origin: Place,
     heard: Place,
     before: Vec<Place>,
     place: Place,
@@ -59,10 +55,9 @@ impl Model for Session {
 
     ghost coded = { coded_session };
 
-    ghost view = { λ s. record { game = s.game; origin = s.origin; heard = s.heard; before = s.before.items; place = s.place } };
+    ghost view = { λ s. record { game = s.game; heard = s.heard; before = s.before.items; place = s.place } };
 
-    ghost invariant = { λ s. AreReached s.game s.origin s.before.items s.place
-        × IsHeardPlace s.game s.origin s.heard };
+    ghost invariant = { λ s. AreReached s.game s.before.items s.place × IsHeardPlace s.game s.heard };
 }
 
 /// Written out, so that letting a session go is one call in the proofs of those who hold one, not a step for each part.
@@ -71,7 +66,6 @@ impl Drop for Session {
         let Session {
             alloc: _,
             game: _,
-            origin: _,
             heard: _,
             before: _,
             place: _,
@@ -83,7 +77,7 @@ impl Drop for Session {
 /// The place to which the keeper's first moves lead.
 fn first_place(game: &PlayedGame, workspace: &mut Workspace) -> Result<Place, Unsettled>
     ensures place { IfOk result (λ place. Settles game.now (beginning_of game.now) place) }
-    ensures reached { IfOk result (AreReached game.now (beginning_of game.now) []) }
+    ensures reached { IfOk result (AreReached game.now []) }
     ensures heavy { result ≡ Err Heavy → MeetsHeavy game.now (beginning_of game.now) }
     ensures endless { result ≡ Err Endless → IsEndless game.now (beginning_of game.now) }
 {
@@ -96,7 +90,6 @@ impl Session {
     /// A session at the place to which the keeper's first moves lead.
     pub fn new(alloc: Global, game: Game) -> Result<Session, Unsettled>
         ensures game { IfOk result (λ session. session.game ≡ game) }
-        ensures origin { IfOk result (λ session. session.origin ≡ beginning_of game) }
         ensures heard { IfOk result (λ session. session.heard ≡ beginning_of game) }
         ensures before { IfOk result (λ session. session.before ≡ []) }
         ensures place { IfOk result (λ session.
@@ -106,13 +99,11 @@ impl Session {
     {
         let game = PlayedGame::new(alloc, game)?;
         let mut workspace = Workspace::new(alloc);
-        let origin = game.start()?;
         let heard = game.start()?;
         let place = first_place(&game, &mut workspace)?;
         Ok(Session {
             alloc,
             game,
-            origin,
             heard,
             before: Vec::new(alloc),
             place,
@@ -123,8 +114,7 @@ impl Session {
     /// How many moves of players can be undone.
     pub fn moves_made(&self) -> usize
         ensures count { result ≡ length self.now.before }
-        ensures led { HasLedTo self.now.game self.now.origin self.now.before
-            self.now.place }
+        ensures led { HasLedTo self.now.game self.now.before self.now.place }
     {
         self.before.len()
     }
@@ -156,12 +146,12 @@ impl Session {
         }
         match read_question(line) {
             Some(question) => self.answer(&question, out),
-            None => Err(misfit_of(line)),
+            None => Err(Refusal::Form),
         }
     }
 
     /// Answers a question: appends the lines of the answer to `out`. Where the question is refused, nothing has changed.
-    pub fn answer(&mut self, question: &Question<'_>, out: &mut Vec<u8>) -> Result<(), Refusal>
+    pub fn answer(&mut self, question: &Question, out: &mut Vec<u8>) -> Result<(), Refusal>
         requires { QuestionHasSpelling question.now }
         ensures answers { OnOk result (AnswersIn self.old question.now self.new out.old.items
             out.new.items) }
@@ -184,8 +174,6 @@ impl Session {
             Question::Random { seed, count } => self.play_by_chance(*seed, *count, out),
             Question::Search { seed, count } => self.search_moves(*seed, *count, out),
             Question::Sample { seed, most } => self.play_sample(*seed, *most, out),
-            Question::Pack => self.tell_packed(out),
-            Question::Unpack { text } => self.stand_at(text, out),
             Question::Quit => Ok(()),
         }
     }
@@ -366,36 +354,6 @@ impl Session {
         ensures { Tells self.now questions.Shape out.old.items out.new.items result }
     {
         write_shape(self.game.as_game(), out)?;
-        Ok(())
-    }
-
-    #[tactic(auto, using(crate::proofs::OutOfMemory::memory_refused))]
-    fn tell_packed(&self, out: &mut Vec<u8>) -> Result<(), Refusal>
-        ensures { Tells self.now questions.Pack out.old.items out.new.items result }
-    {
-        let bytes = pack(self.alloc, self.game.as_game(), &self.place)?;
-        write_pack(self.alloc, bytes.as_slice(), out)?;
-        Ok(())
-    }
-
-    /// Stands at the place of these digits.
-    #[tactic(auto, using(crate::proofs::OutOfMemory::memory_refused))]
-    fn stand_at(&mut self, text: &[u8], out: &mut Vec<u8>) -> Result<(), Refusal>
-        ensures answers { OnOk result (AnswersIn self.old (questions.Unpack text.entry) self.new
-            out.old.items out.new.items) }
-        ensures refused { IfErr result (IsRefused self.old (questions.Unpack text.entry)) }
-        ensures kept { OnErr result (self.new ≡ self.old) }
-        ensures out { OnErr result (out.new.items ≡ out.old.items) }
-    {
-        let place = place_in(self.alloc, &self.game, text)?;
-        let standing = standing_at(&self.game, &place, &mut self.workspace)?;
-        let origin = self.workspace.copy_of(&place)?;
-        let heard = self.workspace.copy_of(&place)?;
-        write_standing(&standing, out)?;
-        self.before.clear();
-        self.workspace.keep(replace(&mut self.origin, origin));
-        self.workspace.keep(replace(&mut self.heard, heard));
-        self.workspace.keep(replace(&mut self.place, place));
         Ok(())
     }
 

@@ -1,14 +1,13 @@
 //! The lines of a game for a page, and its text after them.
 
-use crate::board_lines::push_edges;
+use crate::board_lines::{push_edges, push_layout};
 use rbg_base::{Direction, Memory, Piece, Player, Position, Variable};
-use rbg_drawing::push_plan;
 use rbg_game::LoadedGame;
 use rbg_rules::{Action, Game};
 use rbg_wire::put_number;
 
-/// Appends all that a page learns of a game: how often its file has changed, the file, its names, its bounds, its edges,
-/// what each position does and how its board is drawn; and then its text, as it is.
+/// Appends all that a page learns of a game: how often its file has changed, the file, its names, its bounds, its board and
+/// what each position does; and then its text, as it is.
 pub fn push_game(
     loaded: &LoadedGame,
     version: u64,
@@ -20,7 +19,6 @@ pub fn push_game(
     out.extend_from_slice(b"\n")?;
     push_file(file, out)?;
     push_parts(loaded, out)?;
-    push_plan(*out.allocator(), loaded, text, out)?;
     out.extend_from_slice(b"text\n")?;
     out.extend_from_slice(text)
 }
@@ -41,6 +39,7 @@ fn push_parts(loaded: &LoadedGame, out: &mut Vec<u8>) -> Result<(), Memory> {
     push_variables(game, out)?;
     push_bounds(game, out)?;
     push_directions(game, out)?;
+    push_layout(&loaded.layout, out)?;
     push_edges(game, out)?;
     push_actions(game, out)
 }

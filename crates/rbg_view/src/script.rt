@@ -5,6 +5,12 @@
 pub const BOARD_SCRIPT: &[u8] = b"'use strict';
 const RbgBoard = (() => {
   const LINE = String.fromCharCode(10);
+  const TURNS = {
+    left: ['x', -1], right: ['x', 1], west: ['x', -1], east: ['x', 1], w: ['x', -1], e: ['x', 1], l: ['x', -1], r: ['x', 1],
+    up: ['y', -1], down: ['y', 1], u: ['y', -1], d: ['y', 1], forward: ['y', -1], backward: ['y', 1],
+    north: ['n', -1], south: ['n', 1], n: ['n', -1], s: ['n', 1],
+    above: ['z', -1], below: ['z', 1], front: ['z', -1], behind: ['z', 1], out: ['z', -1], in: ['z', 1], higher: ['z', -1], lower: ['z', 1],
+  };
   const CHESS = { k: 0, g: 0, q: 1, r: 2, u: 2, b: 3, n: 4, p: 5, king: 0, queen: 1, rook: 2, bishop: 3, knight: 4, pawn: 5 };
   const NAMED = { queen: 0x265B, king: 0x265A, rook: 0x265C, bishop: 0x265D, knight: 0x265E, pawn: 0x265F, arrow: 0x2715, cross: 0x2715, ring: 0x25CB, wall: 0x25A6, crown: 0x265B, castle: 0x2612, block: 0x25A6 };
   const COLOURS = {
@@ -15,54 +21,176 @@ const RbgBoard = (() => {
   const SPARE = ['#fbfbf6', '#2b2b2b', '#c8382b', '#2f62b5', '#2c8439', '#f0c330', '#7b3fa0', '#e07f1f'];
   const words = text => text.split(' ').filter(word => word !== '');
 
-  /* What the lines of a game say, and after the line `text` its description. */
-  const read = given => {
-    const end = given.indexOf(LINE + 'text' + LINE);
-    const text = given.slice(end + 6);
-    const of = {};
+  /* The lines that tell a game, and behind the line `text` its description. */
+  const read = told => {
+    const end = told.indexOf(LINE + 'text' + LINE);
+    const lines = told.slice(0, end).split(LINE);
+    const text = told.slice(end + 6);
+    const told_of = {};
     const edges = [];
-    for (const line of given.slice(0, end).split(LINE)) {
+    for (const line of lines) {
       const [word, ...rest] = line.split(' ');
       if (word === 'edges') edges.push(rest.map(to => to === '-' ? -1 : Number(to)));
-      else of[word] = rest;
+      else told_of[word] = rest;
     }
+    const [kind, ...parts] = told_of.board;
     const comments = text.split(LINE).map(line => line.trim()).filter(line => line.startsWith('//')).map(line => line.slice(2).trim());
-    const file = of.file.join(' ');
+    const file = told_of.file.join(' ');
     const first = comments[0] || '';
     const title = first.split('. ')[0].split(', ')[0].split(': ')[0].replace(/[.]$/, '');
     return {
-      version: Number(of.version), file, text,
+      version: Number(told_of.version), file, text, comments,
       title: text.trimStart().startsWith('//') && title !== '' && title.length < 60 ? title : file.split('/').pop().replace(/[.]rbg$/, ''),
-      players: of.players, pieces: of.pieces, variables: of.variables, bounds: of.bounds.map(Number),
-      directions: of.directions, layout: of.places ? layoutOf(of) : graphLayout(of.squares, edges), signs: signsOf(comments, of.pieces),
-      actions: of.actions.map(word => word === '-' ? null : { kind: word[0], of: Number(word.slice(1)) }),
+      players: told_of.players, pieces: told_of.pieces, variables: told_of.variables, bounds: told_of.bounds.map(Number),
+      directions: told_of.directions, edges, kind,
+      rows: kind === 'graph' ? [] : parts.map(Number), names: kind === 'graph' ? parts : [],
+      actions: told_of.actions.map(word => word === '-' ? null : { kind: word[0], of: Number(word.slice(1)) }),
     };
   };
 
-  /* The signs that the comment lines `// piece ..` give to pieces. */
-  const signsOf = (comments, pieces) => {
-    const signs = new Map();
-    for (const comment of comments) {
+  /* What the comment lines `// layout ..` and `// piece ..` say. */
+  const saidOf = game => {
+    const said = { slanted: false, points: false, places: new Map(), signs: new Map() };
+    for (const comment of game.comments) {
       const [word, ...rest] = words(comment);
-      if (word === 'piece' && rest.length > 0 && rest.length < 3 && pieces.includes(rest[0])) signs.set(rest[0], rest[1] || '');
+      if (word === 'layout') {
+        if (rest.length === 1 && rest[0] === 'slanted') said.slanted = true;
+        else if (rest.length === 1 && rest[0] === 'points') said.points = true;
+        else for (let at = 0; at + 2 < rest.length; at += 3) said.places.set(rest[at], [Number(rest[at + 1]), Number(rest[at + 2].replace(/[,;]$/, ''))]);
+      }
+      if (word === 'piece' && rest.length > 0 && rest.length < 3 && game.pieces.includes(rest[0])) said.signs.set(rest[0], rest[1] || '');
     }
-    return signs;
+    return said;
   };
 
-  /* The list cut into groups of so many. */
-  const groups = (list, size) => Array.from({ length: Math.floor(list.length / size) }, (_, at) => list.slice(at * size, at * size + size));
+  const letters = column => column < 26 ? String.fromCharCode(97 + column) : letters(Math.floor(column / 26) - 1) + letters(column % 26);
 
-  /* Where squares are, what they are called, and what is drawn between and beside them. */
-  const layoutOf = of => ({
-    shape: of.shape[0], names: of.squares, places: groups(of.places.map(Number), 2),
-    dark: Array.from(of.dark[0], digit => digit === '1'), lines: groups(of.lines.map(Number), 2),
-    edgeNames: groups(of.labels, 3).map(([x, y, name]) => [Number(x), Number(y), name]), frame: of.frame.map(Number),
-  });
+  const rowsLayout = (game, said) => {
+    const places = [];
+    const names = [];
+    const edgeNames = [];
+    const widest = Math.max(...game.rows);
+    const hexes = game.kind === 'hexagon' || said.slanted;
+    const high = hexes ? 8.66 : 10;
+    const cells = [];
+    game.rows.forEach((length, row) => {
+      const shift = game.kind === 'hexagon' ? (widest - length) * 5 : said.slanted ? row * 5 : 0;
+      const level = game.rows.length - row;
+      for (let column = 0; column < length; column += 1) {
+        places.push([shift + column * 10, row * high]);
+        names.push(game.kind === 'hexagon' ? letters(level - 1) + (column + 1) : letters(column) + level);
+        cells.push([column, row]);
+      }
+      edgeNames.push([shift - 7.5, row * high, game.kind === 'hexagon' ? letters(level - 1) : String(level)]);
+    });
+    if (game.kind === 'rectangle') {
+      const shift = said.slanted ? (game.rows.length - 1) * 5 : 0;
+      for (let column = 0; column < widest; column += 1) edgeNames.push([shift + column * 10, game.rows.length * high - 10 + 17.5 - 10 + (hexes ? 1 : 0), letters(column)]);
+    }
+    const even = game.rows.every(length => length === widest);
+    const dark = game.kind === 'rectangle' && !hexes && !said.points && even && game.players.length === 2
+      ? cells.map(([column, row]) => (column + row) % 2 === 1) : [];
+    return { places, names, edgeNames, lines: said.points ? gridLines(game, places) : [], shape: hexes ? 'hexagon' : said.points ? 'point' : 'square', dark };
+  };
+
+  const gridLines = (game, places) => {
+    const lines = [];
+    let start = 0;
+    game.rows.forEach((length, row) => {
+      for (let column = 0; column < length; column += 1) {
+        if (column + 1 < length) lines.push([start + column, start + column + 1]);
+        if (row + 1 < game.rows.length && column < game.rows[row + 1]) lines.push([start + column, start + length + column]);
+      }
+      start += length;
+    });
+    return lines;
+  };
+
+  /* The axes of a graph's directions, by their names. */
+  const axesOf = game => {
+    const plain = game.directions.map(name => TURNS[name] || TURNS[name.toLowerCase()]);
+    const flat = plain.some(turn => turn && turn[0] === 'n');
+    const tall = plain.some(turn => turn && turn[0] === 'y');
+    return plain.map(turn => {
+      if (!turn) return null;
+      if (turn[0] === 'n') return ['y', turn[1]];
+      if (turn[0] === 'y' && flat && tall) return ['z', turn[1]];
+      return turn;
+    });
+  };
+
+  /* Numbers along an axis: vertices that other axes join have one number, and those that this axis joins follow one another. */
+  const ranksOf = (game, axes, axis) => {
+    const count = game.names.length;
+    const parent = Array.from({ length: count }, (_, at) => at);
+    const find = at => { while (parent[at] !== at) { parent[at] = parent[parent[at]]; at = parent[at]; } return at; };
+    axes.forEach((turn, direction) => {
+      if (turn && turn[0] !== axis) game.edges[direction].forEach((to, from) => { if (to >= 0) parent[find(from)] = find(to); });
+    });
+    const after = new Map();
+    const before = new Map();
+    const add = (map, from, to) => { if (!map.has(from)) map.set(from, new Set()); map.get(from).add(to); };
+    axes.forEach((turn, direction) => {
+      if (turn && turn[0] === axis) game.edges[direction].forEach((to, from) => {
+        if (to < 0) return;
+        const [low, high] = turn[1] > 0 ? [find(from), find(to)] : [find(to), find(from)];
+        add(after, low, high);
+        add(before, high, low);
+      });
+    });
+    const longest = map => {
+      const depth = new Map();
+      const open = new Set();
+      const visit = at => {
+        if (depth.has(at)) return depth.get(at);
+        if (open.has(at)) throw new RangeError('a circle');
+        open.add(at);
+        let most = 0;
+        for (const next of map.get(at) || []) most = Math.max(most, visit(next) + 1);
+        open.delete(at);
+        depth.set(at, most);
+        return most;
+      };
+      return Array.from({ length: count }, (_, at) => visit(find(at)));
+    };
+    const low = longest(before);
+    const high = longest(after);
+    const most = Math.max(...low);
+    return { ranks: low.map((rank, at) => (rank + most - high[at]) / 2), most };
+  };
+
+  /* Places by directions with names, or null where they don't tell apart all vertices. */
+  const placesByNames = game => {
+    const axes = axesOf(game);
+    if (!axes.some(turn => turn && turn[0] === 'x') || !axes.some(turn => turn && turn[0] === 'y')) return null;
+    const joined = new Set();
+    game.edges.forEach((ends, direction) => { if (axes[direction]) ends.forEach((to, from) => { if (to >= 0) { joined.add(from); joined.add(to); } }); });
+    if (joined.size < game.names.length) return null;
+    let across;
+    let down;
+    let deep;
+    try {
+      across = ranksOf(game, axes, 'x');
+      down = ranksOf(game, axes, 'y');
+      deep = axes.some(turn => turn && turn[0] === 'z') ? ranksOf(game, axes, 'z') : null;
+    } catch (error) {
+      return null;
+    }
+    const floors = deep ? [...new Set(deep.ranks)].sort((one, two) => one - two) : [0];
+    const abreast = Math.ceil(Math.sqrt(floors.length));
+    const places = across.ranks.map((x, at) => {
+      const floor = deep ? floors.indexOf(deep.ranks[at]) : 0;
+      return [(x + floor % abreast * (across.most + 2)) * 10, (down.ranks[at] + Math.floor(floor / abreast) * (down.most + 2)) * 10];
+    });
+    if (new Set(places.map(String)).size < places.length) return null;
+    return { places, drawn: axes.map(turn => turn !== null && turn[0] !== 'z') };
+  };
 
   /* A way through all vertices along one direction, as a circle or as rows to and fro. */
-  const placesByWay = (count, edges) => {
-    for (let direction = 0; direction < edges.length; direction += 1) {
-      const ends = edges[direction];
+  const placesByWay = game => {
+    const count = game.names.length;
+    for (let direction = 0; direction < game.directions.length; direction += 1) {
+      const ends = game.edges[direction];
       const begun = ends.map(() => true);
       ends.forEach((to, from) => { if (to >= 0 && to !== from) begun[to] = false; });
       const first = Math.max(begun.findIndex(is => is), 0);
@@ -78,15 +206,16 @@ const RbgBoard = (() => {
         const wide = Math.max(3, Math.ceil(Math.sqrt(count * 1.6)));
         way.forEach((vertex, at) => { const row = Math.floor(at / wide); const column = at % wide; places[vertex] = [(row % 2 === 0 ? column : wide - 1 - column) * 10, row * 13]; });
       }
-      return { places, drawn: [ends] };
+      return { places, drawn: game.directions.map((_, at) => at === direction) };
     }
     return null;
   };
 
   /* Places that keep neighbours near: how far two vertices are apart is how many edges lie between them. */
-  const placesByEdges = (count, edges) => {
+  const placesByEdges = game => {
+    const count = game.names.length;
     const near = Array.from({ length: count }, () => new Set());
-    edges.forEach(ends => ends.forEach((to, from) => { if (to >= 0 && to !== from) { near[from].add(to); near[to].add(from); } }));
+    game.edges.forEach(ends => ends.forEach((to, from) => { if (to >= 0 && to !== from) { near[from].add(to); near[to].add(from); } }));
     const far = near.map((_, from) => {
       const steps = Array(count).fill(-1);
       steps[from] = 0;
@@ -114,22 +243,28 @@ const RbgBoard = (() => {
         if (weight > 0) places[one] = [x / weight, y / weight];
       }
     }
-    return { places: places.map(([x, y]) => [x * 13, y * 13]), drawn: edges };
+    return { places: places.map(([x, y]) => [x * 13, y * 13]), drawn: game.directions.map(() => true) };
   };
 
-  /* The layout of a graph whose vertices neither comments nor the names of directions place. */
-  const graphLayout = (names, edges) => {
-    const { places, drawn } = placesByWay(names.length, edges) || placesByEdges(names.length, edges);
+  const graphLayout = (game, said) => {
+    let made = null;
+    if (said.places.size > 0) {
+      const places = game.names.map(name => said.places.get(name));
+      if (places.every(place => place && place.every(Number.isFinite))) made = { places: places.map(([x, y]) => [x * 10, y * 10]), drawn: game.directions.map(name => said.places.size > 0 && name !== 'around') };
+    }
+    made = made || placesByNames(game) || placesByWay(game) || placesByEdges(game);
     const lines = [];
     const seen = new Set();
-    drawn.forEach(ends => ends.forEach((to, from) => {
-      const key = Math.min(from, to) + ' ' + Math.max(from, to);
-      if (to >= 0 && to !== from && !seen.has(key)) { seen.add(key); lines.push([from, to]); }
-    }));
-    const [left, top] = [0, 1].map(axis => Math.min(...places.map(place => place[axis])) - 8);
-    const [right, bottom] = [0, 1].map(axis => Math.max(...places.map(place => place[axis])) + 8);
-    return { shape: 'round', names, places, dark: [], lines, edgeNames: [], frame: [left, top, right - left, bottom - top] };
+    game.edges.forEach((ends, direction) => {
+      if (made.drawn[direction]) ends.forEach((to, from) => {
+        const key = Math.min(from, to) + ' ' + Math.max(from, to);
+        if (to >= 0 && to !== from && !seen.has(key)) { seen.add(key); lines.push([from, to]); }
+      });
+    });
+    return { places: made.places, names: game.names, edgeNames: [], lines, shape: 'round', dark: [] };
   };
+
+  const layoutOf = (game, said) => game.kind === 'graph' ? graphLayout(game, said) : rowsLayout(game, said);
 
   /* Whose each piece is, or 0: that of the player whose name it begins, or with whose first letter it begins if there are
      pieces of other players with the same rest; else that of the one player whose moves were seen to put it; where none
@@ -191,7 +326,7 @@ const RbgBoard = (() => {
   };
 
   /* How each piece looks: its owner, its colour, its sign, and whether it is drawn. */
-  const looksOf = (game, seen) => {
+  const looksOf = (game, said, seen) => {
     const owners = ownersOf(game, seen);
     const colours = coloursOf(game);
     const kinds = game.pieces.map((_, piece) => kindOf(game, piece, owners[piece]));
@@ -207,8 +342,8 @@ const RbgBoard = (() => {
       if (alone) sign = '';
       if (isChess && owner > 0 && kind in CHESS) { sign = String.fromCodePoint(0x265A + CHESS[kind]); shape = 'sign'; }
       else if (NAMED[kind]) { sign = String.fromCodePoint(NAMED[kind]); shape = owner > 0 && !alone ? 'disc' : 'sign'; }
-      if (game.signs.has(name)) { sign = game.signs.get(name); shape = [...sign].some(one => one.codePointAt(0) > 0x2000) ? 'sign' : shape; }
-      const hidden = (game.signs.has(name) && sign === '') || ((name === 'e' || name === 'empty') && !game.signs.has(name));
+      if (said.signs.has(name)) { sign = said.signs.get(name); shape = [...sign].some(one => one.codePointAt(0) > 0x2000) ? 'sign' : shape; }
+      const hidden = (said.signs.has(name) && sign === '') || ((name === 'e' || name === 'empty') && !said.signs.has(name));
       return { name, owner, kind, sign, shape, hidden, colour: owner > 0 ? colours[owner - 1] : '#a99b82' };
     });
   };
@@ -254,15 +389,20 @@ const RbgBoard = (() => {
 
   /* Makes the drawing of a game's board. */
   const draw = game => {
-    const { layout } = game;
+    const said = saidOf(game);
+    const layout = layoutOf(game, said);
     const seen = game.pieces.map(() => new Set());
-    let looks = looksOf(game, seen);
-    const [, , width, height] = layout.frame;
-    const svg = make('svg', { class: 'board', viewBox: layout.frame.join(' '), role: 'group', 'aria-label': 'board' });
+    let looks = looksOf(game, said, seen);
+    const all = [...layout.places, ...layout.edgeNames];
+    const [left, top] = [0, 1].map(axis => Math.min(...all.map(place => place[axis])) - (layout.edgeNames.length > 0 && axis === 0 ? 2 : 6));
+    const [right, bottom] = [0, 1].map(axis => Math.max(...all.map(place => place[axis])) + (layout.shape === 'round' ? 8 : axis === 1 && layout.edgeNames.length > 0 && game.kind === 'rectangle' ? 2 : 6));
+    const svg = make('svg', { class: 'board', viewBox: [left, top, right - left, bottom - top].join(' '), role: 'group', 'aria-label': 'board' });
+    const width = right - left;
+    const height = bottom - top;
     const lines = make('path', { class: 'edges', d: layout.lines.map(([from, to]) => 'M' + layout.places[from].map(part => part.toFixed(1)).join(' ') + 'L' + layout.places[to].map(part => part.toFixed(1)).join(' ')).join('') }, svg);
     for (const [x, y, name] of layout.edgeNames) make('text', { class: 'name', x, y }, svg).textContent = name;
     const kept = make('g', { class: layout.shape === 'round' ? 'graph' : layout.shape === 'point' ? 'points' : 'rows' }, svg);
-    const isLabelled = layout.shape === 'round' && (layout.names.length <= 30 || (layout.names.length <= 150 && layout.names.every(name => name.length < 4)));
+    const isLabelled = layout.shape === 'round' && (game.names.length <= 30 || (game.names.length <= 150 && game.names.every(name => name.length < 4)));
     const cells = layout.places.map(([x, y], vertex) => {
       const group = make('g', { transform: 'translate(' + x.toFixed(2) + ' ' + y.toFixed(2) + ')', 'data-vertex': vertex, class: layout.dark[vertex] ? 'dark' : '' }, kept);
       putCell(layout.shape, group);
@@ -291,7 +431,7 @@ const RbgBoard = (() => {
       const fresh = changed.filter(({ is }) => !seen[is].has(player));
       if (fresh.length === 0 || player === 0) return;
       for (const { is } of fresh) seen[is].add(player);
-      looks = looksOf(game, seen);
+      looks = looksOf(game, said, seen);
       drawn.looks = looks;
       for (const cell of cells) cell.held = -1;
     };

@@ -202,17 +202,12 @@ const RbgPlay = (() => {
     return made;
   };
 
-  /* Buttons: for moves that have the same squares, and for those that have none. Those that read alike show their pairs too. */
+  /* Buttons: for moves that have the same squares, and for those that have none. */
   const showChoices = fits => {
     const box = get('choices');
     box.replaceChildren();
     const done = fits.filter(move => move.clicks.length === chosen.length);
-    const choices = done.map(move => choice(move, done));
-    const labels = choices.map(made => made.textContent);
-    choices.forEach((made, index) => {
-      if (labels.filter(label => label === labels[index]).length > 1) made.append(' (' + made.dataset.pairs + ')');
-      box.append(made);
-    });
+    if (chosen.length > 0 || done.length > 0) for (const move of done) box.append(choice(move, done));
     if (chosen.length > 0) box.append(button('Take back', () => { chosen = []; show(); }));
   };
 
@@ -404,7 +399,7 @@ const RbgPlay = (() => {
     drawing.svg.style.width = 'min(' + (100 * zoom).toFixed(0) + '%, ' + (78 * zoom * shape).toFixed(1) + 'vh)';
   };
 
-  /* Sides: a person, random moves, or playouts. */
+  /* Sides: a person, chance, or playouts. */
   const isPerson = player => { const side = get('side-' + player); return !side || side.value === 'person'; };
   const showSides = () => {
     const kept = Array.from(get('sides').querySelectorAll('select')).map(side => side.value);
@@ -412,7 +407,7 @@ const RbgPlay = (() => {
       const label = document.createElement('label');
       const side = document.createElement('select');
       side.id = 'side-' + (index + 1);
-      for (const [value, text] of [['person', 'a person'], ['random', 'random'], ['think', 'playouts']]) side.append(new Option(text, value));
+      for (const [value, text] of [['person', 'a person'], ['random', 'chance'], ['think', 'playouts']]) side.append(new Option(text, value));
       side.value = kept[index] || 'person';
       side.onchange = () => { thinking += 1; chosen = []; show(); goOn(); };
       label.append(name + ' ', side);

@@ -15,7 +15,6 @@ complete -c rbg_author -n '__fish_seen_subcommand_from playouts' -l record -r -d
 complete -c rbg_author -n __fish_use_subcommand -a moves -d 'List the legal moves by what they change, first moves or those after a record'
 complete -c rbg_author -n __fish_use_subcommand -a show -d 'Show the moves of a record, a script or a list, each with the board after it'
 complete -c rbg_author -n '__fish_seen_subcommand_from show' -l last -d 'Show only the last move and the board after it'
-complete -c rbg_author -n __fish_use_subcommand -a board -d 'Print a picture of the empty board, an SVG with numbers, names and directions'
 complete -c rbg_author -n __fish_use_subcommand -a page -d 'Make a page for a browser of a record, a script or a list of moves'
 complete -c rbg_author -n __fish_use_subcommand -a play -d 'Serve a page to play the game by hand in a browser, and print its link'
 complete -c rbg_author -n '__fish_seen_subcommand_from play' -l port -x -d 'The port of 127.0.0.1 [default: one that is free]'

@@ -8,8 +8,7 @@ HINT = re.compile(r"#\[(inline\(always\)|inline\(never\)|inline|cold)\]")
 FUNCTION = re.compile(r'(?:pub(?:\([^)]*\))? )?(?:const )?(?:unsafe )?(?:final )?(?:extern "C" )?fn (\w+)')
 NAMED = re.compile(r'define .*?@"?([^"(]+)"?\(')
 WORDS = {"inline(always)": "alwaysinline", "inline(never)": "noinline", "inline": "inlinehint", "cold": "cold"}
-# What a proved program doesn't do: checks, stops where a proof says that none comes, and filling memory before it is written.
-CHECK = re.compile(r'  call void @("rattle-llvm-checks::|llvm\.trap\(\)|llvm\.memset\.p0\.i64\(.* i8 -86,)')
+FILLED = "i8 -86"  # what fills memory before it is written
 
 Hints = dict[tuple[str, str], list[str]]
 
@@ -60,7 +59,7 @@ def stripped(lines: Iterable[str], hints: Hints) -> Iterator[str]:
     ['define i32 @"a::f"(i32 %x) #0 {', '}']
     """
     for line in lines:
-        if CHECK.match(line):
+        if 'call void @"rattle-llvm-checks::' in line or "@llvm.memset.p0.i64" in line and FILLED in line:
             continue
         if named := NAMED.match(line):
             line = line.replace(" #0 {", f"{hint(named[1], hints)} #0 {{")

@@ -1,23 +1,21 @@
 -- What holds of the places of each session.
-use Rattle.std.specs.Prelude.{◌≢◌, ℕ, List, All}
+use Rattle.std.specs.Prelude.{ℕ, List, All}
 use Rattle.rbg_rules.specs.Meaning.{AbstractGame, AbstractPlace, Legal, IsPlaceOf, IsHeavyToFind, IsHeavyToTry, IsTooHard, list_moves}
 use Rattle.rbg_moves.specs.Settling.{IsEndless, MeetsHeavy}
 use Rattle.rbg_questions.specs.declared.refusal.Refusal.{Refusal}
-use Rattle.rbg_questions.specs.declared.refusal.Refusal.TheVariants.{Illegal, NoPlace, Over, Keeper, Memory}
-use Rattle.rbg_questions.specs.Packing.{packed_text}
+use Rattle.rbg_questions.specs.declared.refusal.Refusal.TheVariants.{Illegal, Over, Keeper, Memory}
 use Rattle.rbg_questions.specs.Sessions.{AreHeard, HasLedTo}
 
--- The origin and the places are of the game, and play has led through them from there.
-pub record AreReached (game : AbstractGame) (origin : AbstractPlace) (before : List AbstractPlace) (place : AbstractPlace) : Type 0 where
-  pub start : IsPlaceOf game origin
+-- The places are of the game, and play has led through them.
+pub record AreReached (game : AbstractGame) (before : List AbstractPlace) (place : AbstractPlace) : Type 0 where
   pub earlier : All (IsPlaceOf game) before
   pub here : IsPlaceOf game place
-  pub led : HasLedTo game origin before place
+  pub led : HasLedTo game before place
 
--- The place is of the game, and the moves that were heard lead there from the origin.
-pub record IsHeardPlace (game : AbstractGame) (origin place : AbstractPlace) : Type 0 where
+-- The place is of the game, and the moves that were heard lead there.
+pub record IsHeardPlace (game : AbstractGame) (place : AbstractPlace) : Type 0 where
   pub fits : IsPlaceOf game place
-  pub heard : AreHeard game origin place
+  pub heard : AreHeard game place
 
 -- Why the legal moves aren't listed.
 pub data IsUnlisted (game : AbstractGame) (place : AbstractPlace) : Refusal → Type 0 where
@@ -29,11 +27,6 @@ pub data IsUnfollowed (game : AbstractGame) (from : AbstractPlace) (pairs : List
   not_legal : ((to : AbstractPlace) → ¬ Legal game from pairs to) → IsUnfollowed game from pairs Illegal
   hard_to_try : IsHeavyToTry game from pairs → IsUnfollowed game from pairs Over
   lost : IsUnfollowed game from pairs Memory
-
--- Why no place is unpacked.
-pub data IsNotUnpacked (game : AbstractGame) (text : List ℕ) : Refusal → Type 0 where
-  no_place : ((place : AbstractPlace) → IsPlaceOf game place → text ≢ packed_text place) → IsNotUnpacked game text NoPlace
-  no_bytes : IsNotUnpacked game text Memory
 
 -- Why how play stands isn't told.
 pub data IsUntold (game : AbstractGame) (place : AbstractPlace) : Refusal → Type 0 where

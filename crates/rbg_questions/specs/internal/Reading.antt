@@ -2,7 +2,7 @@
 use Rattle.std.specs.Prelude.{◌≡◌, ℕ, ◌++◌, List, codes, decimal, Some}
 use Rattle.rbg_questions.specs.Limits.{IsCount, IsSeed}
 use Rattle.rbg_questions.specs.declared.question.Question.{Question}
-use Rattle.rbg_questions.specs.declared.question.Question.TheVariants.{Moves, Make, Back, Heard, Random, Search, Sample, Unpack}
+use Rattle.rbg_questions.specs.declared.question.Question.TheVariants.{Moves, Make, Back, Heard, Random, Search, Sample}
 
 -- the question is a single word
 abbrev pub IsPlain : Question → Type 0
@@ -13,7 +13,6 @@ IsPlain (Heard pairs) = ⊥
 IsPlain (Random seed count) = ⊥
 IsPlain (Search seed count) = ⊥
 IsPlain (Sample seed most) = ⊥
-IsPlain (Unpack text) = ⊥
 IsPlain _ = Unit {0}
 
 -- the text is the word, and then the seed with which chance begins, and how many matches or moves are played

@@ -12,4 +12,4 @@ returns-in_err-_made-clause-stuck c =
     passed_on c.from_residual-in_err-_made.result c.in_err-_made.field-0.0 _ c.from_residual-in_err-_made.ensures.1 (copy_stuck _ _ _ c.in_ok-copy.ensures c.in_err-_made.ensures.stuck)
 
 pub returns-clause-played : goal.returns-clause-played
-returns-clause-played c = copy_played _ _ _ _ _ c.in_ok-copy.ensures c.in_ok-_made.ensures.plays c.in_ok-_made.ensures.before c.in_ok-_made.ensures.game c.in_ok-_made.ensures.origin
+returns-clause-played c = copy_played _ _ _ _ _ c.in_ok-copy.ensures c.in_ok-_made.ensures.plays c.in_ok-_made.ensures.before c.in_ok-_made.ensures.game

@@ -1,8 +1,8 @@
 -- A description by the board alone, or by the rest of the rules.
 use Rattle.std.proofs.Common.{◌≡◌, [], sym, subst, Option, Some, IfSome}
 use Rattle.rbg_position.specs.declared.continued.Setup.{Setup}
-use Rattle.rbg_position.specs.Positions.Describes.{by_board, by_rest}
-use Rattle.rbg_position.specs.Positions.{Describes}
+use Rattle.rbg_position.specs.Described.Describes.{by_board, by_rest}
+use Rattle.rbg_position.specs.Described.{Describes}
 use Rattle.rbg_position.specs.Refusals.IsUndescribed.{otherwise}
 use Rattle.rbg_position.specs.Refusals.BeginsOtherwise.{unsettled}
 use Rattle.rbg_position.specs.Refusals.IsUnsettled.{no_memory}
@@ -22,4 +22,4 @@ returns-in_err-new-in-Err-clause-refused c =
     passed_on c.from_residual.result Memory _ c.from_residual.ensures.1 (otherwise (unsettled no_memory))
 
 pub returns-in-Some-clause-described : goal.returns-in-Some-clause-described
-returns-in-Some-clause-described c = by_rest (found _ c.in-Some.new _ c.in-Some.is c.in_ok-new-in-Err.ensures)
+returns-in-Some-clause-described c = by_rest c.in-Err.ensures.refused (found _ c.in-Some.new _ c.in-Some.is c.in_ok-new-in-Err.ensures)

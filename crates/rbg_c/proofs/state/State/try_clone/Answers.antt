@@ -3,4 +3,4 @@ use Rattle.rbg_c.proofs.Places.{copied_state}
 use Rattle.rbg_c.proofs.state.State.try_clone.Goals as goal
 
 pub invariant_of-result : goal.invariant_of-result
-invariant_of-result c = copied_state _ _ _ _ _ c.self.invariant c.in_ok-game.ensures c.in_ok-origin.ensures c.new.ensures.items c.in_ok-place.ensures
+invariant_of-result c = copied_state _ _ _ _ c.self.invariant c.in_ok-game.ensures c.new.ensures.items c.in_ok-place.ensures

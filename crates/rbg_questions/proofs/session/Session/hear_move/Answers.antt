@@ -16,8 +16,8 @@ returns-in_err-standing-clause-refused c =
 
 pub invariant_of-self-2 : goal.invariant_of-self-2
 invariant_of-self-2 c =
-    reached_heard _ _ _ _ _ _ _ c.clear.ensures.items c.in_ok-place.ensures.copy c.replace-2.ensures.after c.replace.ensures.after c.self.invariant.0.start c.in_ok-heard.ensures.in_game
-    (heard_next _ _ _ _ _ c.self.invariant.1 c.in_ok-heard.ensures.legal)
+    reached_heard _ _ _ _ _ _ c.clear.ensures.items c.in_ok-place.ensures.copy c.replace-2.ensures.after c.replace.ensures.after c.in_ok-heard.ensures.in_game
+    (heard_next _ _ _ _ c.self.invariant.1 c.in_ok-heard.ensures.legal)
 
 pub returns-clause-answers : goal.returns-clause-answers
 returns-clause-answers c =

@@ -16,7 +16,7 @@ returns-in_err-standing-clause-refused c =
 
 pub invariant_of-self-2 : goal.invariant_of-self-2
 invariant_of-self-2 c =
-    (reached_made _ _ _ _ _ _ _ _ _ _ c.self.invariant.0 c.in_ok-to.ensures.leads c.in_ok-to.ensures.in_game c.reserve.ensures.items c.replace.ensures.value c.replace.ensures.after c.push_reserved.ensures.items, c.self.invariant.1)
+    (reached_made _ _ _ _ _ _ _ _ _ c.self.invariant.0 c.in_ok-to.ensures.leads c.in_ok-to.ensures.in_game c.reserve.ensures.items c.replace.ensures.value c.replace.ensures.after c.push_reserved.ensures.items, c.self.invariant.1)
 
 pub returns-clause-answers : goal.returns-clause-answers
 returns-clause-answers c =

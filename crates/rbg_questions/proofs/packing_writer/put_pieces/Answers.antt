@@ -1,6 +1,0 @@
--- If an item is not written, the bytes from before the first one are still there.
-use Rattle.rbg_wire.proofs.Kept.{broken_off}
-use Rattle.rbg_questions.proofs.packing_writer.put_pieces.Goals as goal
-
-pub returns-in_err-put_two : goal.returns-in_err-put_two
-returns-in_err-put_two c = broken_off _ _ _ _ _ _ c.from_residual.result c.from_residual.ensures.1 c.loop-piece.invariant c.put_two.ensures.kept
