@@ -6,8 +6,8 @@ use Rattle.rbg_grammar.proofs.Common.{is_formed_action, is_formed_expression, Sp
 use Rattle.rbg_grammar.specs.Views.{name_of, expression_of as spelt_expression_of, action_of as spelt_action_of}
 use Rattle.rbg_grammar.specs.declared.expression.Expression.{Expression as SyntaxExpression}
 use Rattle.rbg_grammar.specs.declared.names.Name.{Name}
-use Rattle.rbg_grammar.specs.declared.rule.Action.{Action as SyntaxAction}
-use Rattle.rbg_grammar.specs.declared.rule.Action as actions
+use Rattle.rbg_grammar.specs.declared.rule.ParsedAction.{ParsedAction}
+use Rattle.rbg_grammar.specs.declared.rule.ParsedAction as actions
 use Rattle.rbg_grammar.proofs.Trees.{action_of-Shift, action_of-On, action_of-Off, action_of-Assign, action_of-Compare, action_of-Switch}
 use Rattle.rbg_rules.specs.Meaning.{switch, skip, act, most_positions, most_nested_patterns, positions_of, positions_inside, action_of, action_at, shows_pattern, arithmetic_of, expression_of}
 use Rattle.rbg_rules.specs.declared.arithmetic.Arithmetic.{Arithmetic}
@@ -21,26 +21,26 @@ use Rattle.rbg_game.specs.internal.Actions.{is_spelt_pattern, IsPlayer, player_n
 use Rattle.rbg_game.proofs.Lists.{slice_get-last}
 
 -- What a spelt action of each kind is.
-is_shift : (a : SyntaxAction) (n : Name) → a ≡ actions.Shift n → spelt_action_of a ≡ SpeltAction.shift (name_of n)
+is_shift : (a : ParsedAction) (n : Name) → a ≡ actions.Shift n → spelt_action_of a ≡ SpeltAction.shift (name_of n)
 is_shift a n is = ap spelt_action_of is ∙ action_of-Shift n
 
-is_on : (a : SyntaxAction) (v : Vec Name Global) (ns : List Name) → a ≡ actions.On v → ns ≡ v.items → spelt_action_of a ≡ SpeltAction.on (map name_of ns)
+is_on : (a : ParsedAction) (v : Vec Name Global) (ns : List Name) → a ≡ actions.On v → ns ≡ v.items → spelt_action_of a ≡ SpeltAction.on (map name_of ns)
 is_on a v ns is same = ap spelt_action_of is ∙ action_of-On v ∙ ap (λ (l : List Name). SpeltAction.on (map name_of l)) (sym same)
 
-is_off : (a : SyntaxAction) (n : Name) → a ≡ actions.Off n → spelt_action_of a ≡ SpeltAction.off (name_of n)
+is_off : (a : ParsedAction) (n : Name) → a ≡ actions.Off n → spelt_action_of a ≡ SpeltAction.off (name_of n)
 is_off a n is = ap spelt_action_of is ∙ action_of-Off n
 
-is_assign : (a : SyntaxAction) (n : Name) (e : SyntaxExpression) → a ≡ actions.Assign n e → spelt_action_of a ≡ SpeltAction.assign (name_of n) (spelt_expression_of e)
+is_assign : (a : ParsedAction) (n : Name) (e : SyntaxExpression) → a ≡ actions.Assign n e → spelt_action_of a ≡ SpeltAction.assign (name_of n) (spelt_expression_of e)
 is_assign a n e is = ap spelt_action_of is ∙ action_of-Assign n e
 
-is_compare : (a : SyntaxAction) (e : SyntaxExpression) (r : Relation) (f : SyntaxExpression) → a ≡ actions.Compare e r f → spelt_action_of a ≡ SpeltAction.compare (spelt_expression_of e) r (spelt_expression_of f)
+is_compare : (a : ParsedAction) (e : SyntaxExpression) (r : Relation) (f : SyntaxExpression) → a ≡ actions.Compare e r f → spelt_action_of a ≡ SpeltAction.compare (spelt_expression_of e) r (spelt_expression_of f)
 is_compare a e r f is = ap spelt_action_of is ∙ action_of-Compare e r f
 
-is_switch : (a : SyntaxAction) (at : ℕ) (player : Option Name) → a ≡ actions.Switch at player → spelt_action_of a ≡ SpeltAction.switch at (option_map name_of player)
+is_switch : (a : ParsedAction) (at : ℕ) (player : Option Name) → a ≡ actions.Switch at player → spelt_action_of a ≡ SpeltAction.switch at (option_map name_of player)
 is_switch a at player is = ap spelt_action_of is ∙ action_of-Switch at player
 
 -- A name that isn't found, or an expression with a fault, is the action's fault.
-module _ (names : Names) (left : ℕ) (a : SyntaxAction) (error : NumberingError) where
+module _ (names : Names) (left : ℕ) (a : ParsedAction) (error : NumberingError) where
   pub shift_fault : (n : Name) → a ≡ actions.Shift n → HasLookUpFault names.directions (name_of n ∷ []) error → HasActionFault names left (spelt_action_of a) error
   shift_fault n is h = subst (λ s. HasActionFault names left s error) (sym (is_shift a n is)) (of_use shifts h)
 
@@ -67,21 +67,21 @@ player_fault names left at None _ (not_there h) = absurd (let within = h.stands.
 player_fault names left at None _ look_up_memory = no_memory
 player_fault names left at (Some n) e h = of_use gives_turn h
 
-pub switch_fault : (names : Names) (left : ℕ) (a : SyntaxAction) (e : NumberingError) (at : ℕ) (player : Option Name) → a ≡ actions.Switch at player → HasLookUpFault names.players (player_names (option_map name_of player)) e → HasActionFault names left (spelt_action_of a) e
+pub switch_fault : (names : Names) (left : ℕ) (a : ParsedAction) (e : NumberingError) (at : ℕ) (player : Option Name) → a ≡ actions.Switch at player → HasLookUpFault names.players (player_names (option_map name_of player)) e → HasActionFault names left (spelt_action_of a) e
 switch_fault names left a e at player is h = subst (λ (s : SpeltAction). HasActionFault names left s e) (sym (is_switch a at player is)) (player_fault names left at (option_map name_of player) e h)
 
-pub switch_inside : (names : Names) (left : ℕ) (a : SyntaxAction) (at : ℕ) (player : Option Name) → a ≡ actions.Switch at player → left < most_nested_patterns → HasActionFault names left (spelt_action_of a) (SwitchInPattern at)
+pub switch_inside : (names : Names) (left : ℕ) (a : ParsedAction) (at : ℕ) (player : Option Name) → a ≡ actions.Switch at player → left < most_nested_patterns → HasActionFault names left (spelt_action_of a) (SwitchInPattern at)
 switch_inside names left a at player is few = subst (λ (s : SpeltAction). HasActionFault names left s (SwitchInPattern at)) (sym (is_switch a at player is)) (of_switch few)
 
 -- Well-formed actions have well-formed expressions.
-pub value_formed : (a : SyntaxAction) (n : Name) (e : SyntaxExpression) → a ≡ actions.Assign n e → is_formed_action (spelt_action_of a) ≡ true → is_formed_expression (spelt_expression_of e) ≡ true
+pub value_formed : (a : ParsedAction) (n : Name) (e : SyntaxExpression) → a ≡ actions.Assign n e → is_formed_action (spelt_action_of a) ≡ true → is_formed_expression (spelt_expression_of e) ≡ true
 value_formed a n e is formed = sym (ap is_formed_action (is_assign a n e is)) ∙ formed
 
-pub sides_formed : (a : SyntaxAction) (e : SyntaxExpression) (r : Relation) (f : SyntaxExpression) → a ≡ actions.Compare e r f → is_formed_action (spelt_action_of a) ≡ true → (is_formed_expression (spelt_expression_of e) ≡ true) × (is_formed_expression (spelt_expression_of f) ≡ true)
+pub sides_formed : (a : ParsedAction) (e : SyntaxExpression) (r : Relation) (f : SyntaxExpression) → a ≡ actions.Compare e r f → is_formed_action (spelt_action_of a) ≡ true → (is_formed_expression (spelt_expression_of e) ≡ true) × (is_formed_expression (spelt_expression_of f) ≡ true)
 sides_formed a e r f is formed = and_parts (is_formed_expression (spelt_expression_of e)) (is_formed_expression (spelt_expression_of f)) (sym (ap is_formed_action (is_compare a e r f is)) ∙ formed)
 
 -- The actions by numbers.
-module _ (names : Names) (left : ℕ) (a : SyntaxAction) where
+module _ (names : Names) (left : ℕ) (a : ParsedAction) where
   pub shift_made : (n : Name) (d : ℕ) → a ≡ actions.Shift n → IsNumberOf names.directions (name_of n) d → IsActionHere names left (spelt_action_of a) (Shift d)
   shift_made n d is number = subst (λ (s : SpeltAction). IsActionHere names left s (Shift d)) (sym (is_shift a n is)) (record { is_action = (d, number, refl); no_pattern = refl; lawful = tt })
 
@@ -103,7 +103,7 @@ player_made : (names : Names) (at : ℕ) (player : Option SpeltName) (n : ℕ) �
 player_made names at None n number = ap switch number
 player_made names at (Some name) n (k, number, next) = (k, number, ap switch next)
 
-pub switch_made : (names : Names) (left : ℕ) (a : SyntaxAction) (at : ℕ) (player : Option Name) (n : ℕ) → a ≡ actions.Switch at player → left ≡ most_nested_patterns → IsPlayer names.players (option_map name_of player) n → IsActionHere names left (spelt_action_of a) (Switch n)
+pub switch_made : (names : Names) (left : ℕ) (a : ParsedAction) (at : ℕ) (player : Option Name) (n : ℕ) → a ≡ actions.Switch at player → left ≡ most_nested_patterns → IsPlayer names.players (option_map name_of player) n → IsActionHere names left (spelt_action_of a) (Switch n)
 switch_made names left a at player n is outermost number =
     subst (λ (s : SpeltAction). IsActionHere names left s (Switch n)) (sym (is_switch a at player is)) (record { is_action = player_made names at (option_map name_of player) n number; no_pattern = refl; lawful = outermost })
 

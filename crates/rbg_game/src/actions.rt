@@ -13,7 +13,7 @@ use crate::arithmetic::number_expression;
 use crate::name_table::NameTable;
 use crate::numbering_error::NumberingError;
 use crate::tables::NameTables;
-use rbg_grammar::Name;
+use rbg_grammar::{Name, ParsedAction};
 use rbg_rules::Action;
 use rbg_rules::limits::{MAX_NESTED_PATTERNS, MAX_POSITIONS};
 use std::alloc::Global;
@@ -23,7 +23,7 @@ pub(crate) fn add_action(
     alloc: Global,
     names: &NameTables<'_>,
     patterns_left: usize,
-    action: &rbg_grammar::Action<'_>,
+    action: &ParsedAction<'_>,
     actions: &mut Vec<Action>,
 ) -> Result<u32, NumberingError>
     requires plain { is_spelt_pattern (spelt_action_of action.now) ≡ false }
@@ -72,7 +72,7 @@ fn number_action(
     alloc: Global,
     names: &NameTables<'_>,
     patterns_left: usize,
-    action: &rbg_grammar::Action<'_>,
+    action: &ParsedAction<'_>,
 ) -> Result<Action, NumberingError>
     requires plain { is_spelt_pattern (spelt_action_of action.now) ≡ false }
     requires formed { is_formed_action (spelt_action_of action.now) ≡ true }
@@ -84,20 +84,20 @@ fn number_action(
         (spelt_action_of action.now)) }
 {
     match action {
-        rbg_grammar::Action::Shift(direction) => Ok(Action::Shift {
+        ParsedAction::Shift(direction) => Ok(Action::Shift {
             direction: names.directions.find(direction)?,
         }),
-        rbg_grammar::Action::On(pieces) => Ok(Action::On {
+        ParsedAction::On(pieces) => Ok(Action::On {
             pieces: names.pieces.find_all(alloc, pieces)?,
         }),
-        rbg_grammar::Action::Off(piece) => Ok(Action::Off {
+        ParsedAction::Off(piece) => Ok(Action::Off {
             piece: names.pieces.find(piece)?,
         }),
-        rbg_grammar::Action::Assign { variable, value } => Ok(Action::Assign {
+        ParsedAction::Assign { variable, value } => Ok(Action::Assign {
             variable: names.variables.find(variable)?,
             value: number_expression(alloc, names, value)?,
         }),
-        rbg_grammar::Action::Compare {
+        ParsedAction::Compare {
             left,
             relation,
             right,
@@ -106,7 +106,7 @@ fn number_action(
             relation: *relation,
             right: number_expression(alloc, names, right)?,
         }),
-        rbg_grammar::Action::Switch { at, player } => {
+        ParsedAction::Switch { at, player } => {
             if patterns_left < MAX_NESTED_PATTERNS {
                 return Err(NumberingError::SwitchInPattern { at: *at });
             }
@@ -114,8 +114,9 @@ fn number_action(
                 player: number_of_player(names.players, player)?,
             })
         }
-        rbg_grammar::Action::PositivePattern { .. } | rbg_grammar::Action::NegativePattern { .. } =>
-            { unreachable!() }
+        ParsedAction::PositivePattern { .. } | ParsedAction::NegativePattern { .. } => {
+            unreachable!()
+        }
     }
 }
 

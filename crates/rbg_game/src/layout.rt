@@ -5,7 +5,7 @@ ghost use Rattle.rbg_game.specs.NameTables.{bytes_of};
 ghost use Rattle.rbg_game.specs.Descriptions.{vertex_names};
 ghost use Rattle.rbg_game.specs.Layouts.{IsLayoutOf};
 
-use rbg_grammar::{Board, Name, Vertex};
+use rbg_grammar::{Name, ParsedBoard, Vertex};
 use std::alloc::{AllocError, Global};
 
 /// The layout of a board, as its description writes it. Vertices are numbered in this order.
@@ -30,17 +30,17 @@ impl Drop for Layout {
 }
 
 /// The layout of a board.
-pub(crate) fn layout_of(alloc: Global, board: &Board<'_>) -> Result<Layout, AllocError>
+pub(crate) fn layout_of(alloc: Global, board: &ParsedBoard<'_>) -> Result<Layout, AllocError>
     ensures { IfOk result (IsLayoutOf (board_of board.now)) }
 {
     match board {
-        Board::Rectangle { rows, .. } => Ok(Layout::Rectangle {
+        ParsedBoard::Rectangle { rows, .. } => Ok(Layout::Rectangle {
             rows: row_lengths(alloc, rows)?,
         }),
-        Board::Hexagon { rows, .. } => Ok(Layout::Hexagon {
+        ParsedBoard::Hexagon { rows, .. } => Ok(Layout::Hexagon {
             rows: row_lengths(alloc, rows)?,
         }),
-        Board::Graph { vertices } => Ok(Layout::Graph {
+        ParsedBoard::Graph { vertices } => Ok(Layout::Graph {
             names: copy_names(alloc, vertices)?,
         }),
     }

@@ -10,6 +10,7 @@ ghost use Rattle.rbg_game.specs.internal.Steps.{AddsRule, AddsParts, HasFaultFro
 use crate::actions::{add_action, open_pattern};
 use crate::numbering_error::NumberingError;
 use crate::tables::NameTables;
+use rbg_grammar::{ParsedAction, ParsedRule};
 use rbg_rules::limits::{MAX_NESTED_PATTERNS, MAX_POSITIONS};
 use rbg_rules::{Action, Rule, Rules};
 use std::alloc::Global;
@@ -18,7 +19,7 @@ use std::alloc::Global;
 pub fn number_rules(
     alloc: Global,
     names: &NameTables<'_>,
-    rule: &rbg_grammar::Rule<'_>,
+    rule: &ParsedRule<'_>,
 ) -> Result<Rules, NumberingError>
     requires formed { is_formed (rule_of rule.now) ≡ true }
     requires limits { IsWithinLimits (names_of names.now) }
@@ -36,7 +37,7 @@ fn number_rule(
     alloc: Global,
     names: &NameTables<'_>,
     patterns_left: usize,
-    rule: &rbg_grammar::Rule<'_>,
+    rule: &ParsedRule<'_>,
     actions: &mut Vec<Action>,
 ) -> Result<Rule, NumberingError>
     requires formed { is_formed (rule_of rule.now) ≡ true }
@@ -49,16 +50,16 @@ fn number_rule(
         (length actions.old.items) (rule_of rule.now)) }
 {
     match rule {
-        rbg_grammar::Rule::Act(action) => number_act(alloc, names, patterns_left, action, actions),
-        rbg_grammar::Rule::Then(parts) => {
+        ParsedRule::Act(action) => number_act(alloc, names, patterns_left, action, actions),
+        ParsedRule::Then(parts) => {
             let parts = number_parts(alloc, names, patterns_left, parts, actions)?;
             Ok(Rule::Then(parts))
         }
-        rbg_grammar::Rule::Or(parts) => {
+        ParsedRule::Or(parts) => {
             let parts = number_parts(alloc, names, patterns_left, parts, actions)?;
             Ok(Rule::Or(parts))
         }
-        rbg_grammar::Rule::Star(part) => {
+        ParsedRule::Star(part) => {
             let part = number_rule(alloc, names, patterns_left, part, actions)?;
             Ok(Rule::Star(Box::new(alloc, part)?))
         }
@@ -71,7 +72,7 @@ fn number_parts(
     alloc: Global,
     names: &NameTables<'_>,
     patterns_left: usize,
-    parts: &[rbg_grammar::Rule<'_>],
+    parts: &[ParsedRule<'_>],
     actions: &mut Vec<Action>,
 ) -> Result<Vec<Rule>, NumberingError>
     requires formed { All (λ part. is_formed (rule_of part) ≡ true) parts.now }
@@ -98,7 +99,7 @@ fn number_act(
     alloc: Global,
     names: &NameTables<'_>,
     patterns_left: usize,
-    action: &rbg_grammar::Action<'_>,
+    action: &ParsedAction<'_>,
     actions: &mut Vec<Action>,
 ) -> Result<Rule, NumberingError>
     requires formed { is_formed_action (action_of action.now) ≡ true }
@@ -111,7 +112,7 @@ fn number_act(
         (length actions.old.items) (act (action_of action.now))) }
 {
     match action {
-        rbg_grammar::Action::PositivePattern { at, rule } => {
+        ParsedAction::PositivePattern { at, rule } => {
             let position = open_pattern(patterns_left, *at, Action::Positive, actions)?;
             let inside = number_rule(alloc, names, patterns_left - 1, rule, actions)?;
             Ok(Rule::Pattern {
@@ -119,7 +120,7 @@ fn number_act(
                 inside: Box::new(alloc, inside)?,
             })
         }
-        rbg_grammar::Action::NegativePattern { at, rule } => {
+        ParsedAction::NegativePattern { at, rule } => {
             let position = open_pattern(patterns_left, *at, Action::Negative, actions)?;
             let inside = number_rule(alloc, names, patterns_left - 1, rule, actions)?;
             Ok(Rule::Pattern {
@@ -127,12 +128,12 @@ fn number_act(
                 inside: Box::new(alloc, inside)?,
             })
         }
-        rbg_grammar::Action::Shift(_)
-        | rbg_grammar::Action::On(_)
-        | rbg_grammar::Action::Off(_)
-        | rbg_grammar::Action::Assign { .. }
-        | rbg_grammar::Action::Compare { .. }
-        | rbg_grammar::Action::Switch { .. } => {
+        ParsedAction::Shift(_)
+        | ParsedAction::On(_)
+        | ParsedAction::Off(_)
+        | ParsedAction::Assign { .. }
+        | ParsedAction::Compare { .. }
+        | ParsedAction::Switch { .. } => {
             let position = add_action(alloc, names, patterns_left, action, actions)?;
             Ok(Rule::Act(position))
         }

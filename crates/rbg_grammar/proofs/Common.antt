@@ -19,5 +19,5 @@ pub use Rattle.rbg_grammar.specs.declared.expression.Operand.{Operand}
 pub use Rattle.rbg_grammar.specs.declared.expression.Rank.{Rank}
 pub use Rattle.rbg_grammar.specs.declared.names.Name.{Name}
 pub use Rattle.rbg_grammar.specs.declared.names.Number.{Number}
-pub use Rattle.rbg_grammar.specs.declared.rule.Action.{Action}
-pub use Rattle.rbg_grammar.specs.declared.rule.Rule.{Rule}
+pub use Rattle.rbg_grammar.specs.declared.rule.ParsedAction.{ParsedAction}
+pub use Rattle.rbg_grammar.specs.declared.rule.ParsedRule.{ParsedRule}

@@ -1,24 +1,24 @@
 -- What the trees of the code mean, level by level.
 use Rattle.rbg_base.proofs.Common.{◌≡◌, ◌∙◌, ℕ, List, [], ◌∷◌, Option, length, map, option_map, rules, refl, arith, Vec, vec_len, length-map, Global, Box}
-use Rattle.rbg_grammar.proofs.Common.{in_sequence, in_choice, SpeltExpression, SpeltRule, SpeltAction, no_rules, no_operands, rules_after, operands_after, in_chain, name_of, number_of, expression_of, operand_of, action_of, rule_of, Name, Number, Expression, Operand, Rule, Action}
+use Rattle.rbg_grammar.proofs.Common.{in_sequence, in_choice, SpeltExpression, SpeltRule, SpeltAction, no_rules, no_operands, rules_after, operands_after, in_chain, name_of, number_of, expression_of, operand_of, action_of, rule_of, Name, Number, Expression, Operand, ParsedRule, ParsedAction}
 use Rattle.rbg_grammar.specs.declared.expression.Expression as expressions
 use Rattle.rbg_base.specs.declared.relation.Relation.{Relation}
-use Rattle.rbg_grammar.specs.declared.rule.Rule as rules'
-use Rattle.rbg_grammar.specs.declared.rule.Action as actions
+use Rattle.rbg_grammar.specs.declared.rule.ParsedRule as rules'
+use Rattle.rbg_grammar.specs.declared.rule.ParsedAction as actions
 
-pub rule_of-Act : (a : Action) → rule_of (rules'.Act a) ≡ SpeltRule.act (action_of a)
+pub rule_of-Act : (a : ParsedAction) → rule_of (rules'.Act a) ≡ SpeltRule.act (action_of a)
 unfolding rule_of action_of
 rule_of-Act a = search (rules, rules'.the_lemmas)
 
-pub rule_of-Then : (v : Vec Rule Global) → rule_of (rules'.Then v) ≡ SpeltRule.sequence (rules_after no_rules (map rule_of v.items))
+pub rule_of-Then : (v : Vec ParsedRule Global) → rule_of (rules'.Then v) ≡ SpeltRule.sequence (rules_after no_rules (map rule_of v.items))
 unfolding rule_of
 rule_of-Then v = search (rules, rules'.the_lemmas)
 
-pub rule_of-Or : (v : Vec Rule Global) → rule_of (rules'.Or v) ≡ SpeltRule.choice (rules_after no_rules (map rule_of v.items))
+pub rule_of-Or : (v : Vec ParsedRule Global) → rule_of (rules'.Or v) ≡ SpeltRule.choice (rules_after no_rules (map rule_of v.items))
 unfolding rule_of
 rule_of-Or v = search (rules, rules'.the_lemmas)
 
-pub rule_of-Star : (b : Box Rule Global) → rule_of (rules'.Star b) ≡ SpeltRule.star (rule_of b.value)
+pub rule_of-Star : (b : Box ParsedRule Global) → rule_of (rules'.Star b) ≡ SpeltRule.star (rule_of b.value)
 unfolding rule_of
 rule_of-Star b = search (rules, rules'.the_lemmas)
 
@@ -46,11 +46,11 @@ pub action_of-Switch : (at : ℕ) (o : Option Name) → action_of (actions.Switc
 unfolding action_of
 action_of-Switch at o = search (rules, actions.the_lemmas)
 
-pub action_of-PositivePattern : (at : ℕ) (b : Box Rule Global) → action_of (actions.PositivePattern at b) ≡ SpeltAction.positive at (rule_of b.value)
+pub action_of-PositivePattern : (at : ℕ) (b : Box ParsedRule Global) → action_of (actions.PositivePattern at b) ≡ SpeltAction.positive at (rule_of b.value)
 unfolding action_of rule_of
 action_of-PositivePattern at b = search (rules, actions.the_lemmas)
 
-pub action_of-NegativePattern : (at : ℕ) (b : Box Rule Global) → action_of (actions.NegativePattern at b) ≡ SpeltAction.negative at (rule_of b.value)
+pub action_of-NegativePattern : (at : ℕ) (b : Box ParsedRule Global) → action_of (actions.NegativePattern at b) ≡ SpeltAction.negative at (rule_of b.value)
 unfolding action_of rule_of
 action_of-NegativePattern at b = search (rules, actions.the_lemmas)
 
@@ -91,7 +91,7 @@ not_one f g none several (x ∷ y ∷ xs) other = several x y xs
 views_not_one : {A B : Type 0} (f : A → B) (v : Vec A Global) → (vec_len v ≡ 1 → ⊥) → length (map f v.items) ≡ 1 → ⊥
 views_not_one f v other one = other (omega (arith, one, length-map v.items f, v.ok.0))
 
-pub rule_of-in_sequence : (v : Vec Rule Global) → (vec_len v ≡ 1 → ⊥) → rule_of (rules'.Then v) ≡ in_sequence (map rule_of v.items)
+pub rule_of-in_sequence : (v : Vec ParsedRule Global) → (vec_len v ≡ 1 → ⊥) → rule_of (rules'.Then v) ≡ in_sequence (map rule_of v.items)
 rule_of-in_sequence v several = rule_of-Then v ∙ not_one (λ rs. SpeltRule.sequence (rules_after no_rules rs)) in_sequence refl (λ r s rs. refl) (map rule_of v.items) (views_not_one rule_of v several)
 
 pub ruleset sequences = (rule_of-in_sequence)
@@ -102,7 +102,7 @@ expression_of-in_chain v several =
 
 pub ruleset chains = (expression_of-in_chain)
 
-pub rule_of-in_choice : (v : Vec Rule Global) → (vec_len v ≡ 1 → ⊥) → rule_of (rules'.Or v) ≡ in_choice (map rule_of v.items)
+pub rule_of-in_choice : (v : Vec ParsedRule Global) → (vec_len v ≡ 1 → ⊥) → rule_of (rules'.Or v) ≡ in_choice (map rule_of v.items)
 rule_of-in_choice v several = rule_of-Or v ∙ not_one (λ rs. SpeltRule.choice (rules_after no_rules rs)) in_choice refl (λ r s rs. refl) (map rule_of v.items) (views_not_one rule_of v several)
 
 pub ruleset choices = (rule_of-in_choice)

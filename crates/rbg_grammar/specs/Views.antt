@@ -8,14 +8,14 @@ use Rattle.rbg_grammar.specs.declared.names.Number.{Number}
 use Rattle.rbg_grammar.specs.declared.description.Bounded.{Bounded}
 use Rattle.rbg_grammar.specs.declared.description.Edge.{Edge}
 use Rattle.rbg_grammar.specs.declared.description.Vertex.{Vertex}
-use Rattle.rbg_grammar.specs.declared.description.Board.{Board}
-use Rattle.rbg_grammar.specs.declared.description.Board.TheVariants.{Rectangle, Hexagon, Graph}
+use Rattle.rbg_grammar.specs.declared.description.ParsedBoard.{ParsedBoard}
+use Rattle.rbg_grammar.specs.declared.description.ParsedBoard.TheVariants.{Rectangle, Hexagon, Graph}
 use Rattle.rbg_grammar.specs.declared.expression.Expression.{Expression, fold-Expression}
 use Rattle.rbg_grammar.specs.declared.expression.Operand.{Operand}
 use Rattle.rbg_grammar.specs.declared.expression.Expression.TheOpen.{Expression-F, Operand-F}
-use Rattle.rbg_grammar.specs.declared.rule.Rule.{Rule, fold-Rule}
-use Rattle.rbg_grammar.specs.declared.rule.Action.{Action, fold-Action}
-use Rattle.rbg_grammar.specs.declared.rule.Action.TheOpen.{Action-F, Rule-F}
+use Rattle.rbg_grammar.specs.declared.rule.ParsedRule.{ParsedRule, fold-ParsedRule}
+use Rattle.rbg_grammar.specs.declared.rule.ParsedAction.{ParsedAction, fold-ParsedAction}
+use Rattle.rbg_grammar.specs.declared.rule.ParsedAction.TheOpen.{ParsedAction-F, ParsedRule-F}
 
 abbrev pub name_of : Name → SpeltName
 name_of n = record { text = n.text.now; at = n.at }
@@ -38,7 +38,7 @@ edge_of e = record { direction = name_of e.direction; target = name_of e.target 
 abbrev pub vertex_of : Vertex → SpeltVertex
 vertex_of v = record { name = name_of v.name; piece = name_of v.piece; edges = map edge_of v.edges.items }
 
-abbrev pub board_of : Board → SpeltBoard
+abbrev pub board_of : ParsedBoard → SpeltBoard
 board_of (Rectangle directions rows) = SpeltBoard.rectangle (map name_of directions.names) (map names_of rows.items)
 board_of (Hexagon directions rows) = SpeltBoard.hexagon (map name_of directions.names) (map names_of rows.items)
 board_of (Graph vertices) = SpeltBoard.graph (map vertex_of vertices.items)
@@ -61,30 +61,30 @@ abbrev pub operand_of : Operand → SpeltOperand
 operand_of o = (o.operator, expression_of o.value)
 
 -- one level of the rules, with each part already seen as what it spells
-abbrev pub action_step : Action-F SpeltAction SpeltRule → SpeltAction
-action_step (Action-F.Shift n) = SpeltAction.shift (name_of n)
-action_step (Action-F.On ns) = SpeltAction.on (map name_of ns.items)
-action_step (Action-F.Off n) = SpeltAction.off (name_of n)
-action_step (Action-F.Assign n e) = SpeltAction.assign (name_of n) (expression_of e)
-action_step (Action-F.Compare e r f) = SpeltAction.compare (expression_of e) r (expression_of f)
-action_step (Action-F.Switch at player) = SpeltAction.switch at (option_map name_of player)
-action_step (Action-F.PositivePattern at r) = SpeltAction.positive at r.value
-action_step (Action-F.NegativePattern at r) = SpeltAction.negative at r.value
+abbrev pub action_step : ParsedAction-F SpeltAction SpeltRule → SpeltAction
+action_step (ParsedAction-F.Shift n) = SpeltAction.shift (name_of n)
+action_step (ParsedAction-F.On ns) = SpeltAction.on (map name_of ns.items)
+action_step (ParsedAction-F.Off n) = SpeltAction.off (name_of n)
+action_step (ParsedAction-F.Assign n e) = SpeltAction.assign (name_of n) (expression_of e)
+action_step (ParsedAction-F.Compare e r f) = SpeltAction.compare (expression_of e) r (expression_of f)
+action_step (ParsedAction-F.Switch at player) = SpeltAction.switch at (option_map name_of player)
+action_step (ParsedAction-F.PositivePattern at r) = SpeltAction.positive at r.value
+action_step (ParsedAction-F.NegativePattern at r) = SpeltAction.negative at r.value
 
-abbrev pub rule_step : Rule-F SpeltAction SpeltRule → SpeltRule
-rule_step (Rule-F.Act a) = SpeltRule.act a
-rule_step (Rule-F.Then rs) = SpeltRule.sequence (rules_after no_rules rs.items)
-rule_step (Rule-F.Or rs) = SpeltRule.choice (rules_after no_rules rs.items)
-rule_step (Rule-F.Star r) = SpeltRule.star r.value
+abbrev pub rule_step : ParsedRule-F SpeltAction SpeltRule → SpeltRule
+rule_step (ParsedRule-F.Act a) = SpeltRule.act a
+rule_step (ParsedRule-F.Then rs) = SpeltRule.sequence (rules_after no_rules rs.items)
+rule_step (ParsedRule-F.Or rs) = SpeltRule.choice (rules_after no_rules rs.items)
+rule_step (ParsedRule-F.Star r) = SpeltRule.star r.value
 
-unfoldable pub action_of : Action → SpeltAction
-action_of = fold-Action SpeltAction SpeltRule action_step rule_step
+unfoldable pub action_of : ParsedAction → SpeltAction
+action_of = fold-ParsedAction SpeltAction SpeltRule action_step rule_step
 
-unfoldable pub rule_of : Rule → SpeltRule
-rule_of = fold-Rule SpeltAction SpeltRule action_step rule_step
+unfoldable pub rule_of : ParsedRule → SpeltRule
+rule_of = fold-ParsedRule SpeltAction SpeltRule action_step rule_step
 
 -- what the sections spell, from the trees of the code for them
-abbrev pub spelt : Vec Bounded Global → Vec Bounded Global → Vec Name Global → Board → Rule → SpeltDescription
+abbrev pub spelt : Vec Bounded Global → Vec Bounded Global → Vec Name Global → ParsedBoard → ParsedRule → SpeltDescription
 spelt players variables pieces board rules =
     record {
       players = map bounded_of players.items;

@@ -3,7 +3,7 @@ ghost use Rattle.rbg_grammar.specs.Formed.{IsWhole};
 ghost use Rattle.rbg_grammar.specs.Views.{spelt};
 
 use crate::names::{Name, Number};
-use crate::rule::Rule;
+use crate::rule::ParsedRule;
 
 /// What the sections of a source spell, which it borrows.
 ///
@@ -12,8 +12,8 @@ pub struct Description<'a> {
     pub(crate) players: Vec<Bounded<'a>>,
     pub(crate) variables: Vec<Bounded<'a>>,
     pub(crate) pieces: Vec<Name<'a>>,
-    pub(crate) board: Board<'a>,
-    pub(crate) rules: Rule<'a>,
+    pub(crate) board: ParsedBoard<'a>,
+    pub(crate) rules: ParsedRule<'a>,
     pub ghost whole: { IsWhole (spelt players variables pieces board rules) },
 }
 
@@ -36,8 +36,8 @@ pub struct DescriptionParts<'a> {
     pub players: Vec<Bounded<'a>>,
     pub variables: Vec<Bounded<'a>>,
     pub pieces: Vec<Name<'a>>,
-    pub board: Board<'a>,
-    pub rules: Rule<'a>,
+    pub board: ParsedBoard<'a>,
+    pub rules: ParsedRule<'a>,
 }
 
 impl<'a> Description<'a> {
@@ -88,14 +88,14 @@ impl<'a> Description<'a> {
     }
 
     /// The board by its generator.
-    pub fn board(&self) -> &Board<'a>
+    pub fn board(&self) -> &ParsedBoard<'a>
         ensures { board_of result.now ≡ (description_of self.now).board }
     {
         &self.board
     }
 
     /// The rules.
-    pub fn rules(&self) -> &Rule<'a>
+    pub fn rules(&self) -> &ParsedRule<'a>
         ensures { rule_of result.now ≡ (description_of self.now).rules }
     {
         &self.rules
@@ -131,7 +131,7 @@ pub struct Bounded<'a> {
 }
 
 /// The board by its generator.
-pub enum Board<'a> {
+pub enum ParsedBoard<'a> {
     /// Rows of pieces from top to bottom.
     Rectangle {
         directions: RectangleDirections<'a>,
@@ -148,18 +148,18 @@ pub enum Board<'a> {
 }
 
 /// Written by hand: dropping a board is then one call in the proofs of its owners, not a step for each part.
-impl Drop for Board<'_> {
+impl Drop for ParsedBoard<'_> {
     fn drop(self) {
         match self {
-            Board::Rectangle {
+            ParsedBoard::Rectangle {
                 directions: _,
                 rows: _,
             }
-            | Board::Hexagon {
+            | ParsedBoard::Hexagon {
                 directions: _,
                 rows: _,
             }
-            | Board::Graph { vertices: _ } => {}
+            | ParsedBoard::Graph { vertices: _ } => {}
         }
     }
 }

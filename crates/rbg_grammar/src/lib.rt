@@ -9,10 +9,10 @@ mod names;
 mod rule;
 
 pub use description::{
-    Board, Bounded, Description, DescriptionParts, Edge, HexagonDirections, RectangleDirections,
-    Vertex,
+    Bounded, Description, DescriptionParts, Edge, HexagonDirections, ParsedBoard,
+    RectangleDirections, Vertex,
 };
 pub use expression::{Expression, Operand, Rank};
 pub use names::{Name, Number};
 pub use rbg_base::Operator;
-pub use rule::{Action, Rule};
+pub use rule::{ParsedAction, ParsedRule};

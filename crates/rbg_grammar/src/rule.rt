@@ -6,21 +6,21 @@ use rbg_base::Relation;
 
 /// A regular expression over actions.
 #[cycle(rule)]
-pub enum Rule<'a> {
-    Act(Action<'a>),
+pub enum ParsedRule<'a> {
+    Act(ParsedAction<'a>),
     /// A sequence of at least two parts, or an assignment list of at least two assignments.
-    Then(Vec<Rule<'a>>),
+    Then(Vec<ParsedRule<'a>>),
     /// A sum of at least two parts.
-    Or(Vec<Rule<'a>>),
-    Star(Box<Rule<'a>>),
+    Or(Vec<ParsedRule<'a>>),
+    Star(Box<ParsedRule<'a>>),
 }
 
 /// Written by hand: dropping a rule is then one call in the proofs of its owners, not a step for each part.
-impl Drop for Rule<'_> {
+impl Drop for ParsedRule<'_> {
     #[cycle(rule)]
     fn drop(self) {
         match self {
-            Rule::Act(_) | Rule::Then(_) | Rule::Or(_) | Rule::Star(_) => {}
+            ParsedRule::Act(_) | ParsedRule::Then(_) | ParsedRule::Or(_) | ParsedRule::Star(_) => {}
         }
     }
 }
@@ -28,7 +28,7 @@ impl Drop for Rule<'_> {
 /// An action of the rules.
 #[cycle(rule)]
 #[derive(Drop)]
-pub enum Action<'a> {
+pub enum ParsedAction<'a> {
     /// `up`
     Shift(Name<'a>),
     /// `{x, y}`
@@ -54,11 +54,11 @@ pub enum Action<'a> {
     /// `{? M}`, with the offset of its `{`.
     PositivePattern {
         at: usize,
-        rule: Box<Rule<'a>>,
+        rule: Box<ParsedRule<'a>>,
     },
     /// `{! M}`, with the offset of its `{`.
     NegativePattern {
         at: usize,
-        rule: Box<Rule<'a>>,
+        rule: Box<ParsedRule<'a>>,
     },
 }

@@ -11,14 +11,14 @@ use crate::error::{Expectation, Reading};
 use crate::parser::Parser;
 use crate::sequences::in_sequence;
 use rbg_base::Relation;
-use rbg_grammar::{Action, Rule};
+use rbg_grammar::{ParsedAction, ParsedRule};
 use rbg_macro::{Symbol, TokenKind};
 use std::alloc::Global;
 
 impl<'a> Parser<'a> {
     /// A comparison.
     #[tactic(auto, using(rbg_grammar::proofs::Trees::inner_atoms), unfolding(rbg_grammar::specs::RuleReading::comparison_at, rbg_grammar::specs::Reading::after_at, rbg_grammar::specs::Reading::within_at))]
-    pub(crate) fn comparison(&mut self, alloc: Global, brackets: u8) -> Reading<Rule<'a>>
+    pub(crate) fn comparison(&mut self, alloc: Global, brackets: u8) -> Reading<ParsedRule<'a>>
         ensures { GivesWithin (λ r. (rule_of r, self.new)) result
             (within_at symbols.OpenBrace symbols.CloseBrace
             (after_at symbols.Dollar (comparison_at (sum_at brackets)))
@@ -30,7 +30,7 @@ impl<'a> Parser<'a> {
         let relation = self.relation()?;
         let right = self.sum(alloc, brackets)?;
         self.symbol(Symbol::CloseBrace, Expectation::Closing)?;
-        Ok(Rule::Act(Action::Compare {
+        Ok(ParsedRule::Act(ParsedAction::Compare {
             left,
             relation,
             right,
@@ -53,7 +53,7 @@ impl<'a> Parser<'a> {
 
     /// An off, or an assignment list: the sequence of its assignments.
     #[tactic(auto, unfolding(rbg_grammar::specs::RuleReading::in_brackets_at, rbg_grammar::specs::RuleReading::assignments_at, rbg_grammar::specs::Reading::within_at, rbg_grammar::specs::Reading::after_at))]
-    pub(crate) fn in_brackets(&mut self, alloc: Global, brackets: u8) -> Reading<Rule<'a>>
+    pub(crate) fn in_brackets(&mut self, alloc: Global, brackets: u8) -> Reading<ParsedRule<'a>>
         ensures { GivesWithin (λ r.
             (rule_of r, self.new)) result (in_brackets_at (sum_at brackets) self.old) }
     {
@@ -67,7 +67,7 @@ impl<'a> Parser<'a> {
         Ok(in_sequence(parts))
     }
 
-    fn assignments(&mut self, alloc: Global, brackets: u8) -> Reading<Vec<Rule<'a>>>
+    fn assignments(&mut self, alloc: Global, brackets: u8) -> Reading<Vec<ParsedRule<'a>>>
         ensures { GivesWithin (λ v. (map rule_of v.items, self.new)) result
             (separated_at symbols.Comma (assignment_at (sum_at brackets)) self.old) }
     {
@@ -82,14 +82,14 @@ impl<'a> Parser<'a> {
 
     /// An assignment.
     #[tactic(auto, using(rbg_grammar::proofs::Trees::inner_atoms), unfolding(rbg_grammar::specs::RuleReading::assignment_at, rbg_grammar::specs::Reading::after_at))]
-    fn assignment(&mut self, alloc: Global, brackets: u8) -> Reading<Rule<'a>>
+    fn assignment(&mut self, alloc: Global, brackets: u8) -> Reading<ParsedRule<'a>>
         ensures { GivesWithin (λ r.
             (rule_of r, self.new)) result (assignment_at (sum_at brackets) self.old) }
     {
         let variable = self.name()?;
         self.symbol(Symbol::Equals, Expectation::Equals)?;
         let value = self.sum(alloc, brackets)?;
-        Ok(Rule::Act(Action::Assign { variable, value }))
+        Ok(ParsedRule::Act(ParsedAction::Assign { variable, value }))
     }
 }
 

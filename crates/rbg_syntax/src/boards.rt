@@ -6,7 +6,7 @@ ghost use Rattle.rbg_grammar.specs.Views.{board_of, name_of};
 
 use crate::error::{Expectation, Reading};
 use crate::parser::Parser;
-use rbg_grammar::{Board, HexagonDirections, Name, RectangleDirections};
+use rbg_grammar::{HexagonDirections, Name, ParsedBoard, RectangleDirections};
 use rbg_macro::Symbol;
 use std::alloc::Global;
 
@@ -21,7 +21,7 @@ pub(crate) enum Generator {
 impl<'a> Parser<'a> {
     /// A board, by the name of its generator.
     #[tactic(auto, unfolding(rbg_grammar::specs::Reading::board_at))]
-    pub(crate) fn board(&mut self, alloc: Global) -> Reading<Board<'a>>
+    pub(crate) fn board(&mut self, alloc: Global) -> Reading<ParsedBoard<'a>>
         ensures { Gives (λ b. (board_of b, self.new)) result (board_at self.old) }
     {
         if self.next_is_word(b"rectangle") {
@@ -35,7 +35,12 @@ impl<'a> Parser<'a> {
 
     /// The board that a generator makes of what is in the parentheses after its name.
     #[tactic(auto, unfolding(rbg_grammar::specs::Reading::generated_at, rbg_grammar::specs::Reading::within_at))]
-    fn generated(&mut self, alloc: Global, generator: Generator, name: &[u8]) -> Reading<Board<'a>>
+    fn generated(
+        &mut self,
+        alloc: Global,
+        generator: Generator,
+        name: &[u8],
+    ) -> Reading<ParsedBoard<'a>>
         ensures { Gives (λ b. (board_of b, self.new)) result
             (generated_at name.now (contents_at generator) self.old) }
     {
@@ -46,7 +51,7 @@ impl<'a> Parser<'a> {
         Ok(board)
     }
 
-    fn contents(&mut self, alloc: Global, generator: Generator) -> Reading<Board<'a>>
+    fn contents(&mut self, alloc: Global, generator: Generator) -> Reading<ParsedBoard<'a>>
         ensures { Gives (λ b. (board_of b, self.new)) result (contents_at generator self.old) }
     {
         match generator {
@@ -57,7 +62,7 @@ impl<'a> Parser<'a> {
     }
 
     #[tactic(auto, using(rbg_grammar::proofs::PhraseLaws::row_takes_some), unfolding(rbg_grammar::specs::Reading::rectangle_at, rbg_grammar::specs::Reading::rows_at))]
-    fn rectangle(&mut self, alloc: Global) -> Reading<Board<'a>>
+    fn rectangle(&mut self, alloc: Global) -> Reading<ParsedBoard<'a>>
         ensures { Gives (λ b. (board_of b, self.new)) result (rectangle_at self.old) }
     {
         let names = [
@@ -66,14 +71,14 @@ impl<'a> Parser<'a> {
             self.direction()?,
             self.direction()?,
         ];
-        Ok(Board::Rectangle {
+        Ok(ParsedBoard::Rectangle {
             directions: RectangleDirections { names },
             rows: self.repeated(alloc)?,
         })
     }
 
     #[tactic(auto, using(rbg_grammar::proofs::PhraseLaws::row_takes_some), unfolding(rbg_grammar::specs::Reading::hexagon_at, rbg_grammar::specs::Reading::rows_at))]
-    fn hexagon(&mut self, alloc: Global) -> Reading<Board<'a>>
+    fn hexagon(&mut self, alloc: Global) -> Reading<ParsedBoard<'a>>
         ensures { Gives (λ b. (board_of b, self.new)) result (hexagon_at self.old) }
     {
         let names = [
@@ -84,18 +89,18 @@ impl<'a> Parser<'a> {
             self.direction()?,
             self.direction()?,
         ];
-        Ok(Board::Hexagon {
+        Ok(ParsedBoard::Hexagon {
             directions: HexagonDirections { names },
             rows: self.repeated(alloc)?,
         })
     }
 
     #[tactic(auto, using(rbg_grammar::proofs::PhraseLaws::vertex_takes_some), unfolding(rbg_grammar::specs::Reading::graph_at))]
-    fn graph(&mut self, alloc: Global) -> Reading<Board<'a>>
+    fn graph(&mut self, alloc: Global) -> Reading<ParsedBoard<'a>>
         ensures { Gives (λ b. (board_of b, self.new)) result (graph_at self.old) }
     {
         let vertices = self.repeated(alloc)?;
-        Ok(Board::Graph { vertices })
+        Ok(ParsedBoard::Graph { vertices })
     }
 
     /// The name of a direction, with its comma.

@@ -17,7 +17,7 @@ ghost use Rattle.rbg_grammar.specs.Views.{board_of, bounded_list_of, names_of, r
 use crate::error::{Expectation, Reading, SyntaxError};
 use crate::parser::Parser;
 use crate::sections::{find, refuse_twice};
-use rbg_grammar::{Board, Bounded, Description, DescriptionParts, Name, Rule};
+use rbg_grammar::{Bounded, Description, DescriptionParts, Name, ParsedBoard, ParsedRule};
 use rbg_macro::{Section, SectionKind, Source, Symbol};
 use std::alloc::Global;
 
@@ -134,7 +134,7 @@ fn read_variables(alloc: Global, section: Section<'_>) -> Reading<Vec<Bounded<'_
 }
 
 #[tactic(auto, using(crate::proofs::Answers::endings), unfolding(rbg_grammar::specs::Reading::whole_at))]
-fn read_board(alloc: Global, section: Section<'_>) -> Reading<Board<'_>>
+fn read_board(alloc: Global, section: Section<'_>) -> Reading<ParsedBoard<'_>>
     ensures { Gives board_of result (whole_at board_at section.entry.tokens) }
 {
     let mut parser = Parser::new(section);
@@ -144,7 +144,7 @@ fn read_board(alloc: Global, section: Section<'_>) -> Reading<Board<'_>>
 }
 
 #[tactic(auto, using(crate::proofs::Answers::endings), unfolding(rbg_grammar::specs::Reading::whole_at))]
-fn read_rules(alloc: Global, section: Section<'_>) -> Reading<Rule<'_>>
+fn read_rules(alloc: Global, section: Section<'_>) -> Reading<ParsedRule<'_>>
     ensures { GivesWithin rule_of result (whole_at (rules_at max_brackets) section.entry.tokens) }
 {
     let mut parser = Parser::new(section);

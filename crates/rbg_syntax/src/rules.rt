@@ -11,7 +11,7 @@ ghost use Rattle.rbg_grammar.specs.Views.{rule_of};
 use crate::error::{Expectation, Reading};
 use crate::parser::Parser;
 use crate::sequences::{in_sequence, only_part};
-use rbg_grammar::{Action, Rule};
+use rbg_grammar::{ParsedAction, ParsedRule};
 use rbg_macro::{Symbol, TokenKind};
 use std::alloc::Global;
 
@@ -25,7 +25,7 @@ pub(crate) enum Level {
 impl<'a> Parser<'a> {
     /// Rules.
     #[cycle(rules)]
-    pub(crate) fn rules(&mut self, alloc: Global, brackets: u8) -> Reading<Rule<'a>>
+    pub(crate) fn rules(&mut self, alloc: Global, brackets: u8) -> Reading<ParsedRule<'a>>
         ensures { GivesWithin (λ r. (rule_of r, self.new)) result (rules_at brackets self.old) }
     {
         self.list(alloc, Level::Sum, brackets)
@@ -33,7 +33,7 @@ impl<'a> Parser<'a> {
 
     /// Rules, or a sequence.
     #[cycle(rules)]
-    fn list(&mut self, alloc: Global, level: Level, brackets: u8) -> Reading<Rule<'a>>
+    fn list(&mut self, alloc: Global, level: Level, brackets: u8) -> Reading<ParsedRule<'a>>
         ensures { GivesWithin (λ r. (rule_of r, self.new)) result (list_at level brackets self.old) }
     {
         let first = self.part(alloc, level, brackets)?;
@@ -49,10 +49,10 @@ impl<'a> Parser<'a> {
     fn further(
         &mut self,
         alloc: Global,
-        first: Rule<'a>,
+        first: ParsedRule<'a>,
         level: Level,
         brackets: u8,
-    ) -> Reading<Vec<Rule<'a>>>
+    ) -> Reading<Vec<ParsedRule<'a>>>
         ensures { GivesWithin (λ v. (map rule_of v.items, self.new)) result
             (further_at (rule_of first.entry) (goes_on level) (further_part_at level brackets)
             self.old) }
@@ -78,7 +78,7 @@ impl<'a> Parser<'a> {
     /// A part after a first one: in a sum with its `+`.
     #[cycle(rules)]
     #[tactic(auto, unfolding(rbg_grammar::specs::Reading::after_at))]
-    fn further_part(&mut self, alloc: Global, level: Level, brackets: u8) -> Reading<Rule<'a>>
+    fn further_part(&mut self, alloc: Global, level: Level, brackets: u8) -> Reading<ParsedRule<'a>>
         ensures { GivesWithin (λ r. (rule_of r, self.new)) result
             (further_part_at level brackets self.old) }
     {
@@ -93,7 +93,7 @@ impl<'a> Parser<'a> {
 
     /// A part: a sequence in a sum, and an item in a sequence.
     #[cycle(rules)]
-    fn part(&mut self, alloc: Global, level: Level, brackets: u8) -> Reading<Rule<'a>>
+    fn part(&mut self, alloc: Global, level: Level, brackets: u8) -> Reading<ParsedRule<'a>>
         ensures { GivesWithin (λ r. (rule_of r, self.new)) result (part_at level brackets self.old) }
     {
         match level {
@@ -105,7 +105,7 @@ impl<'a> Parser<'a> {
     /// An atom, and the `*` after it if there is one.
     #[cycle(rules)]
     #[tactic(auto, using(rbg_grammar::proofs::Trees::stars), unfolding(rbg_grammar::specs::RuleReading::item_at))]
-    fn item(&mut self, alloc: Global, brackets: u8) -> Reading<Rule<'a>>
+    fn item(&mut self, alloc: Global, brackets: u8) -> Reading<ParsedRule<'a>>
         ensures { GivesWithin (λ r.
             (rule_of r, self.new)) result (item_at (atom_at brackets) self.old) }
     {
@@ -114,12 +114,12 @@ impl<'a> Parser<'a> {
             return Ok(rule);
         }
         self.symbol(Symbol::Star, Expectation::End)?;
-        Ok(Rule::Star(Box::new(alloc, rule)?))
+        Ok(ParsedRule::Star(Box::new(alloc, rule)?))
     }
 
     /// An atom.
     #[cycle(rules)]
-    fn atom(&mut self, alloc: Global, brackets: u8) -> Reading<Rule<'a>>
+    fn atom(&mut self, alloc: Global, brackets: u8) -> Reading<ParsedRule<'a>>
         ensures { GivesWithin (λ r. (rule_of r, self.new)) result (atom_at brackets self.old) }
     {
         if !self.next_is_opening() {
@@ -134,7 +134,7 @@ impl<'a> Parser<'a> {
     /// An atom in brackets, in which at most this many further ones may be open.
     #[cycle(rules)]
     #[tactic(auto, unfolding(rbg_grammar::specs::RuleReading::bracket_atom_at, rbg_grammar::specs::Reading::within_at))]
-    fn bracket_atom(&mut self, alloc: Global, brackets: u8) -> Reading<Rule<'a>>
+    fn bracket_atom(&mut self, alloc: Global, brackets: u8) -> Reading<ParsedRule<'a>>
         ensures { GivesWithin (λ r. (rule_of r, self.new)) result
             (bracket_atom_at (rules_at brackets) (sum_at brackets) self.old) }
     {
@@ -153,7 +153,7 @@ impl<'a> Parser<'a> {
     /// A pattern, a comparison or an on.
     #[cycle(rules)]
     #[tactic(auto, using(rbg_grammar::proofs::Trees::inner_atoms, crate::proofs::Parts::patterns), unfolding(rbg_grammar::specs::RuleReading::in_braces_at))]
-    fn in_braces(&mut self, alloc: Global, brackets: u8) -> Reading<Rule<'a>>
+    fn in_braces(&mut self, alloc: Global, brackets: u8) -> Reading<ParsedRule<'a>>
         ensures { GivesWithin (λ r. (rule_of r, self.new)) result
             (in_braces_at (rules_at brackets) (sum_at brackets) self.old) }
     {
@@ -163,12 +163,12 @@ impl<'a> Parser<'a> {
         if self.second_is(Symbol::Question) {
             let (at, rule) = self.pattern(alloc, Symbol::Question, brackets)?;
             let rule = Box::new(alloc, rule)?;
-            return Ok(Rule::Act(Action::PositivePattern { at, rule }));
+            return Ok(ParsedRule::Act(ParsedAction::PositivePattern { at, rule }));
         }
         if self.second_is(Symbol::Exclamation) {
             let (at, rule) = self.pattern(alloc, Symbol::Exclamation, brackets)?;
             let rule = Box::new(alloc, rule)?;
-            return Ok(Rule::Act(Action::NegativePattern { at, rule }));
+            return Ok(ParsedRule::Act(ParsedAction::NegativePattern { at, rule }));
         }
         self.on(alloc)
     }
@@ -176,7 +176,12 @@ impl<'a> Parser<'a> {
     /// The rules in a pattern that has this sign after its `{`, and the offset of that `{`.
     #[cycle(rules)]
     #[tactic(auto, unfolding(rbg_grammar::specs::RuleReading::pattern_at, rbg_grammar::specs::Reading::after_at))]
-    fn pattern(&mut self, alloc: Global, sign: Symbol, brackets: u8) -> Reading<(usize, Rule<'a>)>
+    fn pattern(
+        &mut self,
+        alloc: Global,
+        sign: Symbol,
+        brackets: u8,
+    ) -> Reading<(usize, ParsedRule<'a>)>
         ensures { GivesWithin (λ p. ((p.0, rule_of p.1), self.new)) result
             (pattern_at sign (rules_at brackets) self.old) }
     {
@@ -226,7 +231,7 @@ fn begins_atom(kind: TokenKind) -> bool
 }
 
 /// The parts as one rule.
-fn joined(level: Level, parts: Vec<Rule<'_>>) -> Rule<'_>
+fn joined(level: Level, parts: Vec<ParsedRule<'_>>) -> ParsedRule<'_>
     ensures { rule_of result ≡ joined level (map rule_of parts.entry.items) }
 {
     match level {
@@ -237,11 +242,11 @@ fn joined(level: Level, parts: Vec<Rule<'_>>) -> Rule<'_>
 
 /// The parts of a sum of rules as one rule. One part is that part.
 #[tactic(auto, using(rbg_grammar::proofs::Trees::choices))]
-fn in_choice(parts: Vec<Rule<'_>>) -> Rule<'_>
+fn in_choice(parts: Vec<ParsedRule<'_>>) -> ParsedRule<'_>
     ensures { rule_of result ≡ in_choice (map rule_of parts.entry.items) }
 {
     match only_part(parts) {
         Ok(part) => part,
-        Err(parts) => Rule::Or(parts),
+        Err(parts) => ParsedRule::Or(parts),
     }
 }

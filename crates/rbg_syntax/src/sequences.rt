@@ -3,7 +3,7 @@ ghost use Rattle.std.specs.Prelude.{◌≡◌, [], ◌∷◌, IfErr, IfOk, map, 
 ghost use Rattle.rbg_grammar.specs.Reading.{in_sequence};
 ghost use Rattle.rbg_grammar.specs.Views.{rule_of};
 
-use rbg_grammar::Rule;
+use rbg_grammar::ParsedRule;
 
 /// The only part, or all parts as an error if there isn't exactly one.
 pub(crate) fn only_part<T: Drop>(mut parts: Vec<T>) -> Result<T, Vec<T>>
@@ -22,11 +22,11 @@ pub(crate) fn only_part<T: Drop>(mut parts: Vec<T>) -> Result<T, Vec<T>>
 
 /// The parts of a sequence as one rule. One part is that part.
 #[tactic(auto, using(rbg_grammar::proofs::Trees::sequences))]
-pub(crate) fn in_sequence(parts: Vec<Rule<'_>>) -> Rule<'_>
+pub(crate) fn in_sequence(parts: Vec<ParsedRule<'_>>) -> ParsedRule<'_>
     ensures { rule_of result ≡ in_sequence (map rule_of parts.entry.items) }
 {
     match only_part(parts) {
         Ok(part) => part,
-        Err(parts) => Rule::Then(parts),
+        Err(parts) => ParsedRule::Then(parts),
     }
 }

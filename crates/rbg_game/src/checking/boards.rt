@@ -15,7 +15,7 @@ use crate::game_error::GameError;
 use crate::name_table::NameTable;
 use crate::numbering_error::NumberingError;
 use rbg_board::{Board, BoardError, MAX_VERTICES, hexagon, rectangle};
-use rbg_grammar::Name;
+use rbg_grammar::{Name, ParsedBoard};
 use rbg_rules::limits::{MAX_DIRECTIONS, MAX_PIECES};
 use std::alloc::Global;
 
@@ -116,7 +116,7 @@ fn number_parts(
 pub(crate) fn make_board(
     alloc: Global,
     pieces: &NameTable,
-    board: &rbg_grammar::Board<'_>,
+    board: &ParsedBoard<'_>,
 ) -> Result<NamedBoard, GameError>
     requires { length pieces.now ≤ MAX_PIECES }
     ensures board { IfOk result (λ b.
@@ -124,16 +124,16 @@ pub(crate) fn make_board(
     ensures fault { IfErr result (HasBoardFault pieces.now (board_of board.now)) }
 {
     match board {
-        rbg_grammar::Board::Rectangle { directions, rows } => {
+        ParsedBoard::Rectangle { directions, rows } => {
             let mut numbers = [0; 4];
             let parts = number_parts(alloc, pieces, &directions.names, &mut numbers, rows)?;
             named(parts.directions, rectangle(alloc, numbers, &parts.cells))
         }
-        rbg_grammar::Board::Hexagon { directions, rows } => {
+        ParsedBoard::Hexagon { directions, rows } => {
             let mut numbers = [0; 6];
             let parts = number_parts(alloc, pieces, &directions.names, &mut numbers, rows)?;
             named(parts.directions, hexagon(alloc, numbers, &parts.cells))
         }
-        rbg_grammar::Board::Graph { vertices } => make_graph(alloc, pieces, vertices),
+        ParsedBoard::Graph { vertices } => make_graph(alloc, pieces, vertices),
     }
 }

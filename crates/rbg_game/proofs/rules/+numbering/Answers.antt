@@ -1,6 +1,6 @@
 use Rattle.std.proofs.Common.{rules, ◌∙◌, ap, sym, inl, inr, refl, map, length, arith}
 use Rattle.rbg_grammar.proofs.Common.{is_formed, SpeltRule, no_rules, rules_after, rule_of, action_of}
-use Rattle.rbg_grammar.specs.declared.rule.Rule.{the_lemmas}
+use Rattle.rbg_grammar.specs.declared.rule.ParsedRule.{the_lemmas}
 use Rattle.rbg_grammar.proofs.Trees.{action_of-Shift, action_of-On, action_of-Off, action_of-Assign, action_of-Compare, action_of-Switch}
 use Rattle.rbg_rules.specs.declared.rule.Action.TheVariants.{Positive, Negative}
 use Rattle.rbg_game.proofs.NumberingCommon.{Memory, names_of, is_spelt_pattern, HasFaultFrom, from_memory}
