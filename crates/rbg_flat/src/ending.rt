@@ -52,7 +52,7 @@ impl Paths {
             return None;
         }
         let origin = Origin::Begin(Expr::Inside(pattern));
-        let (targets, ends) = self.leaps.leads(origin, vertex);
+        let (targets, ends) = self.leaps()?.leads(origin, vertex);
         let setting = Setting {
             game,
             paths: self,

@@ -25,7 +25,7 @@ use crate::sets::Sets;
 use crate::setting::Setting;
 use crate::words::{lowest, unit_word, without};
 use rbg_base::{Memory, Pair, Position, Vertex};
-use rbg_rules::Game;
+use rbg_rules::{Action, Game};
 use rbg_shifts::Origin;
 use rbg_state::SemiState;
 use std::alloc::Global;
@@ -247,9 +247,24 @@ impl Flat {
             (λ v p. IsLeap setting.now.game.now (start_of origin) vertex p v)
             (EndsAcross setting.now.game.now (start_of origin) vertex) }
     {
-        let (targets, ends) = setting.paths.leaps.leads(origin, vertex);
-        self.ends |= ends;
-        meet_targets(&mut self.sets, setting, targets);
+        match setting.paths.leaps() {
+            Some(leaps) => {
+                let (targets, ends) = leaps.leads(origin, vertex);
+                self.ends |= ends;
+                meet_targets(&mut self.sets, setting, targets);
+            }
+            None => self.lead_here(setting, origin, vertex),
+        }
+    }
+
+    /// Leads on to what comes next in the rules, at the same vertex.
+    #[inline(never)]
+    fn lead_here(&mut self, setting: &Setting, origin: Origin, vertex: Vertex)
+    {
+        let followers = setting.paths.followers(origin);
+        self.ends |= followers.ends;
+        let column = vertex as usize / 64;
+        meet_bits(&mut self.sets, setting, &followers.positions, column, unit_word(vertex % 64));
     }
 
     /// Tries a position at all vertices that are open at the latest waiting place, and leads on from those at which it
@@ -332,6 +347,10 @@ impl Flat {
             self.lead_still(setting, position, column, word);
             return;
         }
+        if setting.paths.leaps().is_none() {
+            self.lead_across(setting, position, column, word);
+            return;
+        }
         // an action stands there
         let _action = setting.game.action(position);
         let mut rest = word;
@@ -357,11 +376,30 @@ impl Flat {
     {
         // an action stands there
         let _action = setting.game.action(position);
-        let bit = lowest(word);
-        let vertex = column as Vertex * 64 + bit;
-        let (targets, may_end) = setting.paths.leaps.leads(Origin::After(position), vertex);
-        self.ends |= may_end;
-        meet_bits(&mut self.sets, setting, targets, column, word);
+        let followers = setting.paths.followers(Origin::After(position));
+        self.ends |= followers.ends;
+        meet_bits(&mut self.sets, setting, &followers.positions, column, word);
+    }
+
+    /// Leads on from a shift at each vertex of a word, to the vertex at the end of its edge.
+    #[inline(never)]
+    fn lead_across(&mut self, setting: &Setting, position: Position, column: usize, word: u64)
+    {
+        let Action::Shift { direction } = setting.game.action(position) else {
+            return;
+        };
+        let followers = setting.paths.followers(Origin::After(position));
+        let board = setting.game.board();
+        let mut rest = word;
+        while rest != 0 {
+            let bit = lowest(rest);
+            let vertex = column as Vertex * 64 + bit;
+            rest = without(rest, bit);
+            if let Some(to) = board.step(vertex, *direction) {
+                self.ends |= followers.ends;
+                meet_bits(&mut self.sets, setting, &followers.positions, to as usize / 64, unit_word(to % 64));
+            }
+        }
     }
 }
 

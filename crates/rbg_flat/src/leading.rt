@@ -84,12 +84,12 @@ pub(crate) fn meet_targets(sets: &mut Sets, setting: &Setting, targets: &[Target
     }
 }
 
-/// Meets the vertices of a word at the positions of targets.
+/// Meets the vertices of a word at the these positions.
 #[inline(always)]
 pub(crate) fn meet_bits(
     sets: &mut Sets,
     setting: &Setting,
-    targets: &[Target],
+    positions: &[Position],
     column: usize,
     word: u64,
 )
@@ -99,8 +99,8 @@ pub(crate) fn meet_bits(
     ensures { Meets sets.old sets.new (IsAmongBits targets.now column word)
         (IsToTryIn setting.now) }
 {
-    for target in targets {
-        let place = sets.place(target.position, column);
-        meet_at(sets, setting, place, target.position, column, word);
+    for position in positions {
+        let place = sets.place(*position, column);
+        meet_at(sets, setting, place, *position, column, word);
     }
 }

@@ -8,6 +8,7 @@ ghost use Rattle.rbg_flat.specs.Paths.{AreFacts, AreShown, ArePathsOf};
 ghost use Rattle.rbg_flat.specs.internal.Leading.{IsPositionIn};
 ghost use Rattle.rbg_flat.specs.internal.Shown.{ShowsFacts, HasNoPieces, HasPieces, shows_shift};
 
+use crate::followers::{Followers, all_followers, place_of};
 use crate::onward::{Onward, all_onward};
 use rbg_auto::{Expr, Steps};
 use rbg_base::{Memory, Piece, Position, Vertex};
@@ -50,9 +51,12 @@ pub(crate) struct Facts {
     pub other: Piece,
 }
 
-/// The leaps of a game, with the facts of each position, from 0 on.
+/// How flat parts of a game are led on: by its leaps, or step by step. The facts of each position, from 0 on, stand with it.
 pub struct Paths {
-    pub(crate) leaps: Leaps,
+    /// The leaps of the game; none where shifts are followed one by one.
+    leaps: Option<Leaps>,
+    /// What comes next at each place in the rules.
+    followers: Vec<Followers>,
     pub(crate) facts: Vec<Facts>,
     /// Whether a pattern stands at each position, from 0 on, whose inside begins with leaps to one vertex at each position,
     /// or with none, as far as was looked. It only tells where to look for a dead end: nothing rests on it. It is kept
@@ -70,6 +74,7 @@ impl Drop for Paths {
     fn drop(self) {
         let Paths {
             leaps: _,
+            followers: _,
             facts: _,
             narrow: _,
             plain: _,
@@ -79,26 +84,65 @@ impl Drop for Paths {
 }
 
 impl Paths {
-    /// The paths of a game, by the steps of its rules; none where it has no leaps.
-    pub fn new<S: Steps>(alloc: Global, game: &Game, steps: &S) -> Result<Option<Paths>, Memory>
+    /// The paths of a game, by the steps of its rules. A game that is too large has no leaps: there shifts are followed one by
+    /// one.
+    pub fn new<S: Steps>(alloc: Global, game: &Game, steps: &S) -> Result<Paths, Memory>
         requires { S.of_rules steps.now game.now.rules }
-        ensures made { IfOk result (λ made. IfSome made (ArePathsOf game.now)) }
-        ensures large { IfOk result (λ made. IfNone made (IsTooLarge game.now)) }
+        ensures { IfOk result (ArePathsOf game.now) }
     {
-        let Some(leaps) = leaps(alloc, game, steps)? else {
-            return Ok(None);
-        };
-        let facts = all_facts(alloc, game, steps)?;
+        let leaps = leaps(alloc, game, steps)?;
+        Paths::led_by(alloc, game, steps, leaps)
+    }
+
+    /// As `new`, with no leaps: shifts are followed one by one, whatever the size of the game.
+    pub fn stepwise<S: Steps>(alloc: Global, game: &Game, steps: &S) -> Result<Paths, Memory>
+        requires { S.of_rules steps.now game.now.rules }
+        ensures { IfOk result (ArePathsOf game.now) }
+    {
+        Paths::led_by(alloc, game, steps, None)
+    }
+
+    /// The paths of a game with these leaps, if there are any.
+    fn led_by<S: Steps>(
+        alloc: Global,
+        game: &Game,
+        steps: &S,
+        leaps: Option<Leaps>,
+    ) -> Result<Paths, Memory>
+        requires steps { S.of_rules steps.now game.now.rules }
+        requires leaps { IfSome leaps (AreLeapsOf game.now) }
+        ensures { IfOk result (ArePathsOf game.now) }
+    {
+        let followers = all_followers(alloc, game, steps)?;
+        let facts = all_facts(alloc, game, steps, leaps.is_some())?;
         let narrow = all_narrow(alloc, game, &leaps)?;
         let plain = all_plain(alloc, game, steps, &facts, &narrow)?;
         let onward = all_onward(alloc, game, steps)?;
-        Ok(Some(Paths {
+        Ok(Paths {
             leaps,
+            followers,
             facts,
             narrow,
             plain,
             onward,
-        }))
+        })
+    }
+
+    /// The leaps of the game, where there are any.
+    #[inline(always)]
+    pub(crate) fn leaps(&self) -> Option<&Leaps>
+    {
+        match &self.leaps {
+            Some(leaps) => Some(leaps),
+            None => None,
+        }
+    }
+
+    /// What comes next at a place in the rules.
+    #[inline(always)]
+    pub(crate) fn followers(&self, origin: Origin) -> &Followers
+    {
+        &self.followers[place_of(origin)]
     }
 
     /// The facts of a position. They are lent, since a copy would be read as one word, from which each field is cut.
@@ -137,7 +181,12 @@ impl Paths {
 }
 
 /// The facts of each position, from 0 on.
-fn all_facts<S: Steps>(alloc: Global, game: &Game, steps: &S) -> Result<Vec<Facts>, Memory>
+fn all_facts<S: Steps>(
+    alloc: Global,
+    game: &Game,
+    steps: &S,
+    leaping: bool,
+) -> Result<Vec<Facts>, Memory>
     requires { S.of_rules steps.now game.now.rules }
     ensures all { IfOk result (λ facts.
         length facts.items ≡ length (positions_of game.now.rules) + 1) }
@@ -148,7 +197,7 @@ fn all_facts<S: Steps>(alloc: Global, game: &Game, steps: &S) -> Result<Vec<Fact
     let mut facts = Vec::with_capacity(alloc, count)?;
     for index in 0..count {
         let position = index as Position;
-        facts.push(facts_at(game, position, steps.next(position)))?;
+        facts.push(facts_at(game, position, steps.next(position), leaping))?;
     }
     Ok(facts)
 }
@@ -163,9 +212,16 @@ fn flag_at(flags: &[bool], position: Position) -> bool {
 }
 
 /// Whether the inside of a pattern is narrow at its beginning, for each position, from 0 on.
-fn all_narrow(alloc: Global, game: &Game, leaps: &Leaps) -> Result<Vec<bool>, Memory> {
+fn all_narrow(
+    alloc: Global,
+    game: &Game,
+    leaps: &Option<Leaps>,
+) -> Result<Vec<bool>, Memory> {
     let count = game.positions() + 1;
     let mut narrow = vec![in alloc; false; count]?;
+    let Some(leaps) = leaps else {
+        return Ok(narrow);
+    };
     for index in 1..count {
         let position = index as Position;
         narrow[index] = game.is_pattern(position) && is_narrow_inside(game, leaps, position);
@@ -261,17 +317,21 @@ fn are_single(targets: &[Target]) -> bool {
 }
 
 /// The facts of a position, after which these come next. No action stands at position 0.
-fn facts_at(game: &Game, position: Position, next: &[Position]) -> Facts
+fn facts_at(game: &Game, position: Position, next: &[Position], leaping: bool) -> Facts
     requires lawful { IsGame game.now }
     requires there { position ≤ length (positions_of game.now.rules) }
     requires within { All (IsPositionIn game.now) next.now }
     ensures still { IsTrue result.still → All (λ q. ¬ IsShiftAt game.now.rules q) next.now }
     ensures shown { AreShown game.now.rules position result }
 {
-    let still = no_shift(game, next);
     if position == 0 {
-        return plain_facts(still, Kind::Plain, false);
+        return plain_facts(false, Kind::Plain, false);
     }
+    let still = if leaping {
+        no_shift(game, next)
+    } else {
+        !is_shift(game, position)
+    };
     facts_of(game.action(position), still)
 }
 
