@@ -84,7 +84,7 @@ pub(crate) fn meet_targets(sets: &mut Sets, setting: &Setting, targets: &[Target
     }
 }
 
-/// Meets the vertices of a word at the these positions.
+/// Meets the vertices of a word at these positions.
 #[inline(always)]
 pub(crate) fn meet_bits(
     sets: &mut Sets,
@@ -95,8 +95,8 @@ pub(crate) fn meet_bits(
 )
     requires ready { AreReady setting.now sets.old }
     requires column { column < row_words setting.now.game.now }
-    requires targets { All (λ t. IsPositionIn setting.now.game.now t.position) targets.now }
-    ensures { Meets sets.old sets.new (IsAmongBits targets.now column word)
+    requires positions { All (IsPositionIn setting.now.game.now) positions.now }
+    ensures { Meets sets.old sets.new (IsAmongBits positions.now column word)
         (IsToTryIn setting.now) }
 {
     for position in positions {

@@ -1,14 +1,18 @@
-//! The leaps of a game, and what flat parts need to know of each position.
+//! How the flat parts of a game are led on, and what they need to know of each position.
 ghost use Rattle.std.specs.Prelude.{◌≡◌, ℕ, ◌+◌, ◌≤◌, ◌<◌, ◌↔◌, All, Some, length, slice_get, true, IfOk, IfSome, IfNone, IsTrue};
-ghost use Rattle.rbg_rules.specs.Meaning.{AbstractGame, IsGame, positions_of};
+ghost use Rattle.rbg_rules.specs.Meaning.{AbstractGame, IsGame, IsStart, positions_of};
 ghost use Rattle.rbg_shifts.specs.Leaps.{IsShiftAt};
-ghost use Rattle.rbg_shifts.specs.Limits.{IsTooLarge};
+ghost use Rattle.rbg_auto.specs.Steps.{AreNext};
+ghost use Rattle.rbg_shifts.specs.Made.{AreLeapsOf};
+ghost use Rattle.rbg_shifts.specs.Origin.{start_of};
 ghost use Rattle.rbg_flat.specs.Onward.{IsOnward};
-ghost use Rattle.rbg_flat.specs.Paths.{AreFacts, AreShown, ArePathsOf};
+ghost use Rattle.rbg_flat.specs.Followers.{AreFollowers};
+ghost use Rattle.rbg_flat.specs.Paths.{AreFacts, AreShown, ArePathsOf, Stays, way_by, way_if, way_of};
+ghost use Rattle.rbg_flat.specs.Ways.{leaping, stepping};
 ghost use Rattle.rbg_flat.specs.internal.Leading.{IsPositionIn};
 ghost use Rattle.rbg_flat.specs.internal.Shown.{ShowsFacts, HasNoPieces, HasPieces, shows_shift};
 
-use crate::followers::{Followers, all_followers, place_of};
+use crate::followers::{Followers, StepTable};
 use crate::onward::{Onward, all_onward};
 use rbg_auto::{Expr, Steps};
 use rbg_base::{Memory, Piece, Position, Vertex};
@@ -56,7 +60,7 @@ pub struct Paths {
     /// The leaps of the game; none where shifts are followed one by one.
     leaps: Option<Leaps>,
     /// What comes next at each place in the rules.
-    followers: Vec<Followers>,
+    steps: StepTable,
     pub(crate) facts: Vec<Facts>,
     /// Whether a pattern stands at each position, from 0 on, whose inside begins with leaps to one vertex at each position,
     /// or with none, as far as was looked. It only tells where to look for a dead end: nothing rests on it. It is kept
@@ -74,7 +78,7 @@ impl Drop for Paths {
     fn drop(self) {
         let Paths {
             leaps: _,
-            followers: _,
+            steps: _,
             facts: _,
             narrow: _,
             plain: _,
@@ -113,14 +117,14 @@ impl Paths {
         requires leaps { IfSome leaps (AreLeapsOf game.now) }
         ensures { IfOk result (ArePathsOf game.now) }
     {
-        let followers = all_followers(alloc, game, steps)?;
-        let facts = all_facts(alloc, game, steps, leaps.is_some())?;
+        let table = StepTable::new(alloc, game, steps)?;
+        let facts = all_facts(alloc, game, steps, &leaps)?;
         let narrow = all_narrow(alloc, game, &leaps)?;
         let plain = all_plain(alloc, game, steps, &facts, &narrow)?;
         let onward = all_onward(alloc, game, steps)?;
         Ok(Paths {
             leaps,
-            followers,
+            steps: table,
             facts,
             narrow,
             plain,
@@ -131,6 +135,9 @@ impl Paths {
     /// The leaps of the game, where there are any.
     #[inline(always)]
     pub(crate) fn leaps(&self) -> Option<&Leaps>
+        ensures some { IfSome result (λ leaps. (way_of self.now ≡ leaping)
+            × ((game : AbstractGame) → ArePathsOf game self.now → AreLeapsOf game leaps.now)) }
+        ensures none { IfNone result (way_of self.now ≡ stepping) }
     {
         match &self.leaps {
             Some(leaps) => Some(leaps),
@@ -138,11 +145,20 @@ impl Paths {
         }
     }
 
+    /// Whether flat parts are led on by leaps. Else shifts are met one by one.
+    #[inline(always)]
+    pub fn has_leaps(&self) -> bool {
+        has_leaps(&self.leaps)
+    }
+
     /// What comes next at a place in the rules.
     #[inline(always)]
-    pub(crate) fn followers(&self, origin: Origin) -> &Followers
+    pub(crate) fn followers(&self, game: &Game, origin: Origin) -> &Followers
+        requires paths { ArePathsOf game.now self.now }
+        requires stands { IsStart game.now.rules (start_of origin) }
+        ensures { AreFollowers game.now (start_of origin) result.now }
     {
-        &self.followers[place_of(origin)]
+        self.steps.at(game, origin)
     }
 
     /// The facts of a position. They are lent, since a copy would be read as one word, from which each field is cut.
@@ -150,7 +166,7 @@ impl Paths {
     pub(crate) fn facts(&self, game: &Game, position: Position) -> &Facts
         requires paths { ArePathsOf game.now self.now }
         requires there { position ≤ length (positions_of game.now.rules) }
-        ensures { AreFacts game.now position result.now }
+        ensures { AreFacts (way_of self.now) game.now position result.now }
     {
         &self.facts[position as usize]
     }
@@ -185,21 +201,32 @@ fn all_facts<S: Steps>(
     alloc: Global,
     game: &Game,
     steps: &S,
-    leaping: bool,
+    leaps: &Option<Leaps>,
 ) -> Result<Vec<Facts>, Memory>
     requires { S.of_rules steps.now game.now.rules }
     ensures all { IfOk result (λ facts.
         length facts.items ≡ length (positions_of game.now.rules) + 1) }
     ensures told { IfOk result (λ facts. (p : ℕ) (told : Facts)
-        → slice_get facts.items p ≡ Some told → AreFacts game.now p told) }
+        → slice_get facts.items p ≡ Some told → AreFacts (way_by leaps.now) game.now p told) }
 {
     let count = game.positions() + 1;
     let mut facts = Vec::with_capacity(alloc, count)?;
+    let leaping = has_leaps(leaps);
     for index in 0..count {
         let position = index as Position;
         facts.push(facts_at(game, position, steps.next(position), leaping))?;
     }
     Ok(facts)
+}
+
+/// Whether there are leaps.
+fn has_leaps(leaps: &Option<Leaps>) -> bool
+    ensures { way_by leaps.now ≡ way_if result }
+{
+    match leaps {
+        Some(_) => true,
+        None => false,
+    }
 }
 
 /// The flag of a position; false where there is none.
@@ -316,23 +343,34 @@ fn are_single(targets: &[Target]) -> bool {
     true
 }
 
-/// The facts of a position, after which these come next. No action stands at position 0.
+/// The facts of a position, after which these come next, if flat parts are led on by leaps or step by step. No action
+/// stands at position 0.
 fn facts_at(game: &Game, position: Position, next: &[Position], leaping: bool) -> Facts
     requires lawful { IsGame game.now }
     requires there { position ≤ length (positions_of game.now.rules) }
-    requires within { All (IsPositionIn game.now) next.now }
-    ensures still { IsTrue result.still → All (λ q. ¬ IsShiftAt game.now.rules q) next.now }
+    requires next { AreNext game.now.rules position next.now }
+    ensures still { IsTrue result.still → Stays (way_if leaping) game.now.rules position }
     ensures shown { AreShown game.now.rules position result }
 {
     if position == 0 {
         return plain_facts(false, Kind::Plain, false);
     }
-    let still = if leaping {
+    let still = stays(game, position, next, leaping);
+    facts_of(game.action(position), still)
+}
+
+/// Whether one is led on from the same vertex where a position holds, after which these come next.
+fn stays(game: &Game, position: Position, next: &[Position], leaping: bool) -> bool
+    requires lawful { IsGame game.now }
+    requires position { IsPositionIn game.now position }
+    requires next { AreNext game.now.rules position next.now }
+    ensures { IsTrue result → Stays (way_if leaping) game.now.rules position }
+{
+    if leaping {
         no_shift(game, next)
     } else {
         !is_shift(game, position)
-    };
-    facts_of(game.action(position), still)
+    }
 }
 
 /// The facts of an action.

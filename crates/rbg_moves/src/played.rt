@@ -17,10 +17,9 @@ use arrayvec::ArrayVec;
 use rbg_auto::{Compact, Steps, compact};
 use rbg_base::{Memory, Move, Pair};
 use rbg_flat::Paths;
-use rbg_pairs::GameSteps;
 use rbg_rules::Game;
 use rbg_rules::limits::MAX_PLAYERS;
-use rbg_search::Over;
+use rbg_search::{GameSteps, Over};
 use std::alloc::Global;
 use std::marker::Model;
 

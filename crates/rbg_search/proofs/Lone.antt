@@ -4,7 +4,7 @@ use Rattle.rbg_rules.specs.Meaning.{positions_of, IsModifierAt, IsNumbered, IsGa
 use Rattle.rbg_auto.specs.Steps.{AreAllThatFollow}
 use Rattle.rbg_state.specs.History.{History}
 use Rattle.rbg_search.proofs.Common.{Searching, most_pairs_of, Deep, Memory, Wide, HasReached, IsAnswered, IsAsked, IsSpent, Finds}
-use Rattle.rbg_pairs.proofs.Common.{at_vertex, IsPositionOf, IsTrialAt}
+use Rattle.rbg_search.proofs.Along.{at_vertex, IsPositionOf, IsTrialAt}
 use Rattle.rbg_flat.specs.Onward.{IsAlone}
 use Rattle.rbg_search.proofs.Alone.{only_position, some_pair, alone_whole, alone_met, alone_pairs, alone_quiet, none_there}
 use Rattle.rbg_search.proofs.Takings.{own_part, candidates_met}

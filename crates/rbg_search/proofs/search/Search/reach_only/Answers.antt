@@ -3,7 +3,7 @@ use Rattle.rbg_rules.specs.Meaning.{positions_of, IsNumbered, Start, Ends, reach
 use Rattle.rbg_auto.specs.Steps.{AreAllThatFollow}
 use Rattle.rbg_state.specs.History.{History}
 use Rattle.rbg_search.proofs.Common.{Searching, most_pairs_of, Deep, Memory, Wide, HasReached, IsAsked, Finds}
-use Rattle.rbg_pairs.proofs.Common.{start_of, IsPositionOf, IsTrialAt}
+use Rattle.rbg_search.proofs.Along.{start_of, IsPositionOf, IsTrialAt}
 use Rattle.rbg_search.proofs.Lone.{few, asked, found}
 use Rattle.rbg_search.proofs.Fewness.{one_opened}
 use Rattle.rbg_search.proofs.Takings.{not_ok}

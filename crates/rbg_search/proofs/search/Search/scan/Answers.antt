@@ -1,6 +1,6 @@
 use Rattle.std.proofs.Common.{◌∙◌, ap, sym, subst}
 use Rattle.rbg_rules.specs.Meaning.{IsGame, inside, AbstractGame, beginning}
-use Rattle.rbg_pairs.specs.Closure.{at_vertex}
+use Rattle.rbg_search.specs.Closure.{at_vertex}
 use Rattle.rbg_search.proofs.Common.{Searching, IsTold}
 use Rattle.rbg_search.proofs.DeadEnds.{dead_told}
 use Rattle.rbg_search.proofs.search.Search.scan.Goals as goal
