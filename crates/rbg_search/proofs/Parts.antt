@@ -184,4 +184,7 @@ module _ (game : AbstractGame) (s : AbstractState) (f : Start) where
       );
     }
 
-
+-- The positions that follow stand in the rules.
+pub followers_within : (rules : Expression) → IsNumbered rules → (f : Start) (ps : List ℕ) → AreAllThatFollow rules f ps → All (IsPositionOf rules) ps
+followers_within rules numbered f ps follow =
+    All-weaker (Contains ps) (IsPositionOf rules) (λ p h. follower_position rules numbered f p ((follow.exact p).0 h)) ps (All-contains_itself ps)
