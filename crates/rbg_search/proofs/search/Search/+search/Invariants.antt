@@ -22,7 +22,7 @@ abbrev pub decreases-runs_after_one : goal.decreases-runs_after_one
 decreases-runs_after_one g l = l.nested * 1000000 + l.modifiers * 10 + 3
 
 abbrev pub invariant-flat_part-loop-vertex : goal.invariant-flat_part-loop-vertex
-invariant-flat_part-loop-vertex g l = FindsBySets (way_of l.fn.paths.now) l.fn.self l.self l.fn.state l.state (start_of l.fn.origin) l.flat.value
+invariant-flat_part-loop-vertex g l = FindsBySets (way_of l.fn.paths) l.fn.self l.self l.fn.state l.state (start_of l.fn.origin) l.flat.value
 
 abbrev pub decreases-flat_part-loop-vertex : goal.decreases-flat_part-loop-vertex
 decreases-flat_part-loop-vertex g l = weight l.flat.value.sets

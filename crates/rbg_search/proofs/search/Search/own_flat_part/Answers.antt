@@ -8,7 +8,7 @@ use Rattle.rbg_rules.specs.Meaning.{reach}
 use Rattle.rbg_search.proofs.search.Search.own_flat_part.Goals as goal
 
 pub flat_part-answer-requires-clause-paths : goal.flat_part-answer-requires-clause-paths
-flat_part-answer-requires-clause-paths g c = subst (λ (h : Searching). HoldsPathsOf h.game c.in_ok-held.held) (sym c.take_paths.ensures.kept) c.in_ok-held.ensures.paths
+flat_part-answer-requires-clause-paths g c = c.get.ensures c.take_paths.new.self.game (subst (λ (h : Searching). HoldsPathsOf h.game c.in_ok-held.held) (sym c.take_paths.ensures.kept) c.in_ok-held.ensures.paths)
 
 pub returns-in_err-held-clause-asked : goal.returns-in_err-held-clause-asked
 returns-in_err-held-clause-asked g c =
