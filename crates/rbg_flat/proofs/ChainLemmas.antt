@@ -6,7 +6,7 @@ use Rattle.rbg_rules.proofs.RunLemmas.{Runs_join}
 use Rattle.rbg_rules.proofs.PositionLemmas.{one_action_at}
 use Rattle.rbg_rules.proofs.LocalityLemmas.{locality_law}
 use Rattle.rbg_shifts.specs.Leaps.{IsShiftAt, Leads, stay, go, IsLeap, EndsAcross}
-use Rattle.rbg_flat.proofs.Common.{Way, leaping, stepping, Moves, stays, goes, IsOfPart, IsCandidate, MayCome, MayEnd, at_vertex, Holds, IsMet, first, then, EndsMet, ChainLaw}
+use Rattle.rbg_flat.proofs.Common.{Way, leaping, stepping, Moves, stays, goes, IsOfPart, IsCandidate, MayEnd, at_vertex, Holds, IsMet, first, then, EndsMet, ChainLaw}
 
 -- An action that is applied and is no modifier is a shift, or it is none and leaves all as it is.
 pub data QuietStep (game : AbstractGame) (q : ℕ) (s t : AbstractState) : Type 0 where
@@ -218,14 +218,22 @@ module _ (game : AbstractGame) (numbered : IsNumbered game.rules) where
   going s middle q quiet applied = by_step (quiet_step q s middle quiet applied)
     where
       by_step : QuietStep game q s middle → (u : ℕ) × (middle ≡ at_vertex s u) × Going s q u
-      by_step (shifts d u stands leads same) = (u, same, record {
-        holds = record { to = u; quiet = quiet; applies = subst (λ (t : AbstractState). Applies game q s t) same applied };
-        moves = goes d stands leads;
-      })
-      by_step (holds plain same) = (s.vertex, same, record {
-        holds = record { to = s.vertex; quiet = quiet; applies = subst (λ (t : AbstractState). Applies game q s t) same applied };
-        moves = stays plain;
-      })
+      by_step (shifts d u stands leads same) = (
+        u,
+        same,
+        record {
+          holds = record { to = u; quiet = quiet; applies = subst (λ (t : AbstractState). Applies game q s t) same applied };
+          moves = goes d stands leads;
+        },
+      )
+      by_step (holds plain same) = (
+        s.vertex,
+        same,
+        record {
+          holds = record { to = s.vertex; quiet = quiet; applies = subst (λ (t : AbstractState). Applies game q s t) same applied };
+          moves = stays plain;
+        },
+      )
 
   -- What is met from after an action that leads on is met from before it.
   before_going : (s : AbstractState) (f : Start) (q u w p : ℕ) → Follows game.rules f (q ∷ []) → Going s q u → IsMet stepping game (at_vertex s u) (after q) w p → IsMet stepping game s f w p

@@ -1,7 +1,7 @@
 -- How a flat part that is being found goes on by the sets that hold it.
 use Rattle.rbg_base.proofs.Common.{◌≡◌, ℕ, ◌+◌, ◌*◌, ◌/◌, ◌%◌, ◌<◌, ◌≤◌, ◌⊎◌, inl, inr, List, Bool, true, false, get_or, refl, sym, subst, arith, bit_at, IsTrue, ◌↔◌, bit_at-zero, ℕ_discrete, cases_lt}
 use Rattle.rbg_flat.proofs.Common.{Way, IsFirstLead, EndsFirst, IsToTry, Holds, first, IsBegun, LearnsEnd, SetsOfVertices, IsMarked, IsOpen, IsInWord, Meets, ClosesWord, HasBitAt, weight}
-use Rattle.rbg_rules.specs.Meaning.{shift, on, off, assignment, comparison, switch, positive, negative, Expression, IsStart, IsActionAt, arithmetic_of, IsGame, IsModifierAt, IsNumbered, AbstractGame, AbstractState, IsStateOf, Start, after, Applies}
+use Rattle.rbg_rules.specs.Meaning.{shift, on, off, assignment, comparison, switch, positive, negative, Expression, IsStart, IsActionAt, arithmetic_of, IsGame, AbstractGame, AbstractState, IsStateOf, Start, after}
 use Rattle.rbg_rules.specs.declared.rule.Action.{Action}
 use Rattle.rbg_rules.specs.declared.rule.Action.TheVariants.{Shift, On, Off, Assign, Compare, Switch, Positive, Negative}
 use Rattle.rbg_flat.proofs.ToTry.{holds_to_try}

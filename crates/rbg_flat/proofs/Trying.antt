@@ -1,6 +1,6 @@
 -- A word of vertices is taken from what is open, and led on from where the action holds.
 use Rattle.rbg_base.proofs.Common.{◌≡◌, ℕ, ◌+◌, ◌*◌, ◌/◌, ◌%◌, ◌<◌, ◌⊎◌, inl, inr, List, Bool, true, get_or, refl, sym, ap, subst, ◌∙◌, arith, ◌↔◌, bit_at, bit_at-zero}
-use Rattle.rbg_rules.specs.Meaning.{IsGame, IsModifierAt, AbstractGame, AbstractState, IsStateOf, Applies, Start, after}
+use Rattle.rbg_rules.specs.Meaning.{IsGame, AbstractGame, AbstractState, IsStateOf, Start}
 use Rattle.rbg_flat.proofs.Common.{Way, IsLead, EndsLead, Holds, IsMet, then, EndsMet, IsBegun, LearnsEnd, LeadsFrom, EndsFrom, AreOn, IsOnBoard, IsToTry, SetsOfVertices, IsMarked, IsOpen, IsInWord, Meets, ClosesWord, HasBitAt}
 use Rattle.rbg_flat.proofs.Meetings.{meets_none}
 use Rattle.rbg_flat.proofs.Takings.{bit_decided}

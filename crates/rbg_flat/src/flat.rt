@@ -487,7 +487,9 @@ impl Flat {
         // an action stands there, and a bit is set
         let _action = setting.game.action(position);
         let _bit = lowest(word);
-        let followers = setting.paths.followers(setting.game, Origin::After(position));
+        let followers = setting
+            .paths
+            .followers(setting.game, Origin::After(position));
         self.ends |= followers.ends;
         meet_bits(&mut self.sets, setting, &followers.positions, column, word);
     }

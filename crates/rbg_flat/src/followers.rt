@@ -31,11 +31,7 @@ pub struct StepTable {
 
 impl StepTable {
     /// What comes next at each place in the rules of a game, by their steps.
-    pub(crate) fn new<S: Steps>(
-        alloc: Global,
-        game: &Game,
-        steps: &S,
-    ) -> Result<StepTable, Memory>
+    pub(crate) fn new<S: Steps>(alloc: Global, game: &Game, steps: &S) -> Result<StepTable, Memory>
         requires { S.of_rules steps.now game.now.rules }
         ensures { IfOk result (AreStepsOf game.now) }
     {

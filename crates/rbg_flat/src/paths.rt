@@ -239,11 +239,7 @@ fn flag_at(flags: &[bool], position: Position) -> bool {
 }
 
 /// Whether the inside of a pattern is narrow at its beginning, for each position, from 0 on.
-fn all_narrow(
-    alloc: Global,
-    game: &Game,
-    leaps: &Option<Leaps>,
-) -> Result<Vec<bool>, Memory> {
+fn all_narrow(alloc: Global, game: &Game, leaps: &Option<Leaps>) -> Result<Vec<bool>, Memory> {
     let count = game.positions() + 1;
     let mut narrow = vec![in alloc; false; count]?;
     let Some(leaps) = leaps else {

@@ -1,5 +1,5 @@
 use Rattle.rbg_base.proofs.Common.{ap, ◌∙◌, ℕ, length, arith, length_push}
-use Rattle.rbg_rules.specs.Meaning.{after, beginning, inside}
+use Rattle.rbg_rules.specs.Meaning.{after}
 use Rattle.rbg_flat.proofs.Common.{AreFollowers, Followers}
 use Rattle.rbg_flat.proofs.Stills.{told_more}
 use Rattle.rbg_flat.proofs.followers.all_after.Goals as goal

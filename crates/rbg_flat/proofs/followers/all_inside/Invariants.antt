@@ -1,6 +1,6 @@
 -- What was told so far is so.
 use Rattle.rbg_base.proofs.Common.{◌≡◌, ℕ, length, slice_get, Some}
-use Rattle.rbg_rules.specs.Meaning.{after, beginning, inside}
+use Rattle.rbg_rules.specs.Meaning.{beginning, inside}
 use Rattle.rbg_flat.proofs.Common.{AreFollowers, Followers}
 use Rattle.rbg_flat.proofs.followers.all_inside.Given as goal
 

@@ -1,4 +1,4 @@
-use Rattle.std.proofs.Common.{true, false, ap, sym, ◌∙◌, subst, Bool, IsTrue}
+use Rattle.std.proofs.Common.{sym, subst, Bool}
 use Rattle.rbg_flat.proofs.Common.{Stays, way_if}
 use Rattle.rbg_flat.proofs.Stills.{next_within, still_by}
 use Rattle.rbg_flat.proofs.paths.stays.Goals as goal

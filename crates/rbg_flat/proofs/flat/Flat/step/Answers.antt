@@ -1,4 +1,4 @@
-use Rattle.std.proofs.Common.{ℕ, ◌/◌, ◌%◌, List, [], subst, sym}
+use Rattle.std.proofs.Common.{ℕ, List, [], subst, sym}
 use Rattle.rbg_auto.specs.Steps.{AreAllThatFollow}
 use Rattle.rbg_rules.specs.Meaning.{Ends}
 use Rattle.rbg_shifts.proofs.Common.{start_of}

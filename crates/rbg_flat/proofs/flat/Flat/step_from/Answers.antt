@@ -1,4 +1,4 @@
-use Rattle.std.proofs.Common.{sym, ◌∙◌}
+use Rattle.std.proofs.Common.{sym}
 use Rattle.rbg_flat.proofs.Common.{IsToTryIn}
 use Rattle.rbg_flat.proofs.Stills.{across_ends, across_meets, nowhere_ends, nowhere_meets}
 use Rattle.rbg_flat.proofs.flat.Flat.step_from.Goals as goal
