@@ -1,5 +1,5 @@
 -- Each step of a search that asks, by what it began with.
-use Rattle.rbg_base.proofs.Common.{◌≡◌, ◌≢◌, ℕ, suc, ◌+◌, ◌-◌, ◌<◌, ◌≤◌, List, [], ◌∷◌, ◌++◌, length, get_or, take, Bool, false, sym, ap, ◌∙◌, subst, arith, All, Contains, Some, slice_get, Result, Ok, Err, IsErrAnd, get_or_default, All-contains, slice_get_within, get_or_from_slice_get}
+use Rattle.rbg_base.proofs.Common.{◌≡◌, ◌≢◌, ℕ, suc, ◌+◌, ◌-◌, ◌<◌, ◌≤◌, List, [], ◌∷◌, ◌++◌, length, get_or, take, Bool, false, sym, ap, ◌∙◌, subst, arith, All, Contains, Result, Ok, Err, IsErrAnd, get_or_default}
 use Rattle.rbg_rules.specs.Meaning.{IsPatternAt, inside, Start, beginning, after, AbstractGame, AbstractState, Applies, IsGame, Question, reach, pattern, IsDeep}
 use Rattle.rbg_state.specs.History.{History}
 use Rattle.rbg_search.proofs.Along.{IsFlatPart, at_vertex, IsReached}

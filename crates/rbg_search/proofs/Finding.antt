@@ -1,11 +1,11 @@
 -- A search that finds a flat part, step by step.
-use Rattle.std.proofs.Common.{◌≡◌, ℕ, suc, ◌+◌, ◌<◌, ◌≤◌, length, List, [], ◌∷◌, ◌++◌, Bool, take, refl, sym, ap, ◌∙◌, subst, arith, Contains, Result, Ok, Err, IsOk, IsErrAnd, Some, slice_get, IsTrue, ◌↔◌}
-use Rattle.rbg_rules.specs.Meaning.{IsGame, IsStart, IsPatternAt, inside, IsStateOf, Start, beginning, Applies, reach, pattern}
+use Rattle.std.proofs.Common.{◌≡◌, ℕ, suc, ◌+◌, ◌<◌, ◌≤◌, length, List, [], ◌∷◌, ◌++◌, Bool, sym, ap, ◌∙◌, subst, arith, Contains, Result, Ok, Err, IsOk, IsErrAnd}
+use Rattle.rbg_rules.specs.Meaning.{IsGame, IsStart, IsPatternAt, inside, IsStateOf, Start, beginning, reach, pattern}
 use Rattle.rbg_state.specs.History.{History}
 use Rattle.rbg_search.proofs.Along.{at_vertex, IsReached, NestsFrom}
-use Rattle.rbg_search.proofs.Common.{CountsForced, Searching, HasPart, CountsTaken, most_pairs_of, IsCounted, IsAsked, Finds, IsSpent, IsSpentButOne, AreMany, CountsPart, Over, Deep, Wide, Memory}
+use Rattle.rbg_search.proofs.Common.{CountsForced, Searching, HasPart, CountsTaken, IsCounted, IsAsked, Finds, IsSpent, IsSpentButOne, Over, Deep, Wide, Memory}
 use Rattle.rbg_search.proofs.Asking.{room_twice, reached_nests, some_nested}
-use Rattle.rbg_search.proofs.Counted.{memory_not_deep, memory_not_wide, counted_as, asked_only, onward_search, search_before}
+use Rattle.rbg_search.proofs.Counted.{memory_not_deep, memory_not_wide, counted_as, asked_only, onward_search}
 use Rattle.rbg_search.proofs.CountedSteps.{AskStep, ask_step_at, given_up, not_memory}
 use Rattle.rbg_search.proofs.Countings.{asked_begin, asked_weaker}
 use Rattle.rbg_search.proofs.Forcing.{asks_begin, asks_end, asks_still}

@@ -1,7 +1,7 @@
 -- How a flat part is found, pair by pair.
-use Rattle.rbg_base.proofs.Common.{◌≡◌, ◌≢◌, ℕ, ◌+◌, ◌<◌, ◌⊎◌, List, [], ◌∷◌, ◌++◌, length, get_or, take, Bool, true, false, ◌||◌, refl, sym, ap, ◌∙◌, subst, inl, inr, arith, take_more, take-append-le, slice_get_within, get_or_from_slice_get, Some, slice_get, All, AllPairs, Contains, Decides, All-nil, All-push, All-append, All-weaker, All-contains, All-contains_itself, Contains-append_left, Contains-push, Contains-push_cases, Contains-get_or, Decides-or}
+use Rattle.rbg_base.proofs.Common.{◌≡◌, ◌≢◌, ℕ, ◌⊎◌, List, [], ◌∷◌, ◌++◌, get_or, Bool, true, false, ◌||◌, refl, sym, subst, inl, inr, arith, All, AllPairs, Contains, Decides, All-nil, All-push, All-append, All-weaker, All-contains, All-contains_itself, Contains-append_left, Contains-push, Contains-push_cases, Contains-get_or, Decides-or}
 use Rattle.std.proofs.lemmas.List.Quantifiers.{all_pairs_push}
-use Rattle.rbg_rules.specs.Meaning.{Expression, IsNumbered, positions_of, Start, after, Follows, Ends, AbstractGame, AbstractState}
+use Rattle.rbg_rules.specs.Meaning.{Expression, IsNumbered, Start, after, Follows, Ends, AbstractGame, AbstractState}
 use Rattle.rbg_auto.specs.Steps.{AreAllThatFollow}
 use Rattle.rbg_search.proofs.Along.{IsFlatPart, at_vertex, Leads, IsReached, first, then, IsFound, LeadsToEnd, EndsFlat, MeetsAll, IsPositionOf, IsTrialAt, SomeLeadsToEnd, IsPart}
 use Rattle.rbg_state.specs.declared.state.trials.Trial.TheVariants.{Invalid, Modifies, LeadsTo}

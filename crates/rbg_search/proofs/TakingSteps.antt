@@ -1,9 +1,9 @@
 -- Each step of a search that counts pairs, by what it began with.
-use Rattle.rbg_base.proofs.Common.{◌≡◌, ℕ, ◌+◌, ◌<◌, ◌≤◌, List, length, get_or, take, Bool, false, sym, subst, Contains, get_or_default, All-contains, All-contains_itself, All-take}
+use Rattle.rbg_base.proofs.Common.{◌≡◌, ℕ, ◌+◌, ◌<◌, List, length, get_or, Bool, false, sym, subst, get_or_default}
 use Rattle.rbg_rules.specs.Meaning.{IsPatternAt, inside, Start, beginning, after, AbstractState, Applies, IsGame, reach, pattern}
 use Rattle.rbg_state.specs.History.{History}
 use Rattle.rbg_search.proofs.Along.{IsFlatPart, at_vertex, IsReached}
-use Rattle.rbg_search.proofs.Common.{GoesOn, Searching, HasPart, CountsPairs, CountsTaken, most_pairs_of, AreMany, StandsInPattern, GoesAfter}
+use Rattle.rbg_search.proofs.Common.{GoesOn, Searching, CountsPairs, CountsTaken, StandsInPattern, GoesAfter}
 use Rattle.rbg_search.proofs.Counted.{found_after, search_before, onward_search}
 use Rattle.rbg_search.proofs.Countings.{goes_after}
 use Rattle.rbg_search.proofs.Takings.{is_candidate, no_shift, any_part, pattern_part, after_part, takes_then, takes_part_of}

@@ -1,5 +1,5 @@
 -- How many pairs of a vertex and a position a search takes: those that its flat parts meet, each when it is met.
-use Rattle.std.specs.Prelude.{◌≡◌, ◌≢◌, ℕ, ◌+◌, ◌*◌, ◌≤◌, ◌⊎◌, List, [], ◌∷◌, ◌++◌, length, sum, All, AllPairs, Contains}
+use Rattle.std.specs.Prelude.{◌≡◌, ◌≢◌, ℕ, ◌+◌, ◌*◌, ◌≤◌, ◌⊎◌, List, [], ◌∷◌, length, sum, All, AllPairs, Contains}
 use Rattle.rbg_rules.specs.Meaning.{IsPatternAt, inside, positions_of, Start, beginning, after, Follows, AbstractGame, AbstractState, Question, pattern}
 use Rattle.rbg_shifts.specs.Leaps.{IsShiftAt}
 use Rattle.rbg_flat.specs.Candidates.{IsCandidate, MayCome}

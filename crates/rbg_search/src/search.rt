@@ -717,13 +717,8 @@ impl<'a, S: Steps> Search<'a, S> {
     {
         let mark = state.mark();
         self.apply_at(state, pair.vertex, pair.position);
-        let runs = self.word_runs(
-            paths,
-            state,
-            Origin::After(pair.position),
-            nested,
-            modifiers - 1,
-        );
+        let origin = Origin::After(pair.position);
+        let runs = self.word_runs(paths, state, origin, nested, modifiers - 1);
         state.undo_to(mark);
         Ok(runs?)
     }

@@ -1,9 +1,8 @@
-use Rattle.rbg_base.proofs.Common.{rules, ◌≡◌, ℕ, ◌^◌, ◌<◌, ◌≤◌, List, length, take, Bool, sym, ap, ◌∙◌, subst, arith, [], ◌∷◌, ◌++◌, ◌-◌, refl, false, true, IsTrue, ◌↔◌, All, Contains, All-contains}
+use Rattle.rbg_base.proofs.Common.{rules, ◌≡◌, ℕ, ◌<◌, ◌≤◌, List, sym, ap, subst, arith, [], ◌∷◌, ◌++◌, ◌-◌, refl, false, true, IsTrue, ◌↔◌, All, All-contains}
 use Rattle.rbg_rules.specs.Meaning.{inside, IsPatternAt, Start, beginning, after, AbstractState, IsStateOf, Applies, SomeWordRuns, pattern, IsStart}
-use Rattle.rbg_state.specs.History.{History}
 use Rattle.rbg_search.proofs.Along.{start_of, at_vertex, NestsFrom}
 use Rattle.rbg_flat.specs.Paths.{ArePathsOf}
-use Rattle.rbg_search.proofs.Common.{HasSetsFor, IsWhole, IsToBeAsked, IsReady, RunsAfterPair, SomeRunsAfter, StandsInPattern, CountsForced, RanAfter, Deep, Wide, Memory, Searching}
+use Rattle.rbg_search.proofs.Common.{HasSetsFor, IsWhole, IsToBeAsked, IsReady, RunsAfterPair, SomeRunsAfter, StandsInPattern, CountsForced, RanAfter, Deep, Wide, Searching}
 use Rattle.rbg_search.proofs.Asking.{back, mark_within, given_room, runs_one, runs_here, runs_there}
 use Rattle.rbg_search.proofs.Afters.{all_ready}
 use Rattle.rbg_search.proofs.Turns.{turn_fewer, turn_after, turn_there, turn_end, turn_some, none_of_all, ran_permuted}

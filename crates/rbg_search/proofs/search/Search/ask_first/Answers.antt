@@ -1,6 +1,4 @@
-use Rattle.std.proofs.Common.{◌≡◌, ap, sym, subst}
 use Rattle.rbg_rules.specs.Meaning.{beginning, inside, pattern}
-use Rattle.rbg_search.specs.Searching.{Searching}
 use Rattle.rbg_search.proofs.Along.{at_vertex}
 use Rattle.rbg_search.proofs.Asks.{asked_before, asked_same, nothing_asked}
 use Rattle.rbg_search.proofs.search.Search.ask_first.Goals as goal

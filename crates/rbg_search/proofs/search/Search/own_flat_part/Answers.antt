@@ -1,9 +1,8 @@
-use Rattle.std.proofs.Common.{◌≡◌, ap, sym, subst}
-use Rattle.rbg_rules.specs.Meaning.{IsStart, IsStateOf}
+use Rattle.std.proofs.Common.{sym, subst}
 use Rattle.rbg_search.specs.Searching.{Searching}
 use Rattle.rbg_search.specs.internal.Held.{HoldsPathsOf}
-use Rattle.rbg_search.proofs.Along.{start_of, NestsFrom}
-use Rattle.rbg_search.proofs.Asks.{asked_before, asked_same, found_same, found_since, nothing_asked}
+use Rattle.rbg_search.proofs.Along.{start_of}
+use Rattle.rbg_search.proofs.Asks.{asked_before, asked_same, nothing_asked}
 use Rattle.rbg_rules.specs.Meaning.{reach}
 use Rattle.rbg_search.proofs.search.Search.own_flat_part.Goals as goal
 
